@@ -1,0 +1,13 @@
+-- The steps of a move, each a change of one node.
+use Rattle.std.specs.Prelude.{ℕ, List, [], ◌∷◌, ◌++◌, Option, Some, None, slice_index_or, slice_set}
+use Rattle.moo_forest.specs.Forest.{Links, alone, above_of, below_of, without}
+
+-- x stands last in the list of its new place
+abbrev pub with_newest : List Links → ℕ → Option ℕ → List Links
+with_newest nodes x None = nodes
+with_newest nodes x (Some up) = slice_set nodes up (record { above = above_of nodes up; below = below_of nodes up ++ x ∷ [] })
+
+-- x has left the list of its old place
+abbrev pub with_taken_out : List Links → ℕ → Option ℕ → List Links
+with_taken_out nodes x None = nodes
+with_taken_out nodes x (Some up) = slice_set nodes up (record { above = above_of nodes up; below = without x (below_of nodes up) })

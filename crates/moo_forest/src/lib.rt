@@ -1,0 +1,166 @@
+//! Forests: trees of numbered nodes, each with the list of its children in order.
+//! The world has two: what an object inherits from, and where it is.
+#![tactic(auto)]
+
+ghost use Rattle.std.specs.Prelude.{◌≡◌, ◌+◌, ◌<◌, ◌++◌, ◌∷◌, [], ◌↔◌, Option, length, IsTrue, IfOk, OnOk, OnErr, IsOk, true, false, vec_len, slice_index_or, take, ◌-◌};
+ghost use Rattle.std.specs.Option.{ForSome};
+ghost use Rattle.moo_forest.specs.Forest.{Links, alone, above_of, below_of, is_within, moved, IsForest};
+ghost use Rattle.moo_forest.specs.Steps.{with_newest, with_taken_out};
+
+mod node;
+
+use node::Node;
+use std::alloc::{AllocError, Global};
+use std::marker::Model;
+
+/// Nodes numbered from 0. Going up from any of them ends, and each stands in the list of the node
+/// right above it, once, and in no other.
+#[derive(Drop)]
+pub struct Forest {
+    nodes: Vec<Node>,
+}
+
+impl Model for Forest {
+    ghost use Rattle.std.specs.Prelude.{List};
+    ghost use Rattle.moo_forest.specs.Forest.{Links, IsForest};
+
+    ghost Value = { List Links };
+
+    ghost view = { λ f. f.nodes.items };
+
+    ghost invariant = { λ f. IsForest f.nodes.items };
+}
+
+impl Forest {
+    pub fn new(alloc: Global) -> Self
+        ensures { result ≡ [] }
+    {
+        Forest {
+            nodes: Vec::new(alloc),
+        }
+    }
+
+    /// What every forest keeps.
+    pub fn is_forest(&self)
+        ensures { IsForest self.now }
+    {
+        let _nodes = &self.nodes;
+    }
+
+    pub fn len(&self) -> usize
+        ensures { result ≡ length self.now }
+    {
+        self.nodes.len()
+    }
+
+    /// Adds a node that is joined to none.
+    pub fn add(&mut self, alloc: Global) -> Result<(), AllocError>
+        ensures ok { OnOk result (self.new ≡ self.old ++ alone ∷ []) }
+        ensures err { OnErr result (self.new ≡ self.old) }
+    {
+        self.nodes.push(Node::alone(alloc))?;
+        Ok(())
+    }
+
+    /// The node right above.
+    pub fn above(&self, x: usize) -> Option<usize>
+        requires { x < length self.now }
+        ensures value { result ≡ above_of self.now x }
+        ensures within { ForSome result (λ up. up < length self.now) }
+    {
+        self.nodes[x].above()
+    }
+
+    /// The nodes right below, the newest last.
+    pub fn below(&self, x: usize) -> &[usize]
+        requires { x < length self.now }
+        ensures { result.now ≡ below_of self.now x }
+    {
+        self.nodes[x].below()
+    }
+
+    /// Whether `x` is `top` or stands below it.
+    pub fn is_within(&self, x: usize, top: usize) -> bool
+        requires { x < length self.now }
+        ensures { result ≡ is_within self.now x top }
+    {
+        if x == top {
+            return true;
+        }
+        let mut at = x;
+        for _ in 0..self.nodes.len() {
+            match self.nodes[at].above() {
+                Some(up) => at = up,
+                None => return false,
+            }
+            if at == top {
+                return true;
+            }
+        }
+        false
+    }
+
+    /// Moves a node, which becomes the newest in its new place. Nothing changes where it is there
+    /// already.
+    pub fn move_to(&mut self, x: usize, to: Option<usize>) -> Result<(), AllocError>
+        requires node { x < length self.old }
+        requires place { ForSome to (λ up. up < length self.old) }
+        requires apart { ForSome to (λ up. is_within self.old up x ≡ false) }
+        ensures ok { OnOk result (self.new ≡ moved self.old x to) }
+        ensures err { OnErr result (self.new ≡ self.old) }
+    {
+        let from = self.nodes[x].above();
+        if from == to {
+            return Ok(());
+        }
+        put_below(&mut self.nodes, x, to)?;
+        take_out(&mut self.nodes, x, from);
+        self.nodes[x].set_above(to);
+        Ok(())
+    }
+
+    /// Adds a node below another, or one that is joined to none.
+    pub fn add_below(&mut self, alloc: Global, to: Option<usize>) -> Result<(), AllocError>
+        requires { ForSome to (λ up. up < length self.old) }
+        ensures ok { OnOk result (self.new ≡ moved (self.old ++ alone ∷ []) (length self.old) to) }
+        ensures err { OnErr result (self.new ≡ self.old) }
+    {
+        let x = self.nodes.len();
+        self.add(alloc)?;
+        if let Err(fault) = self.move_to(x, to) {
+            self.remove_last();
+            return Err(fault);
+        }
+        Ok(())
+    }
+
+    /// Takes the last node away, which is joined to none.
+    pub fn remove_last(&mut self)
+        requires { slice_index_or self.old (length self.old - 1) alone ≡ alone }
+        ensures { self.new ≡ take (length self.old - 1) self.old }
+    {
+        let _last = self.nodes.pop();
+    }
+}
+
+// Puts a node last in the list of another.
+fn put_below(nodes: &mut Vec<Node>, x: usize, to: Option<usize>) -> Result<(), AllocError>
+    requires { ForSome to (λ up. up < vec_len nodes.old) }
+    ensures ok { OnOk result (nodes.new.items ≡ with_newest nodes.old.items x to) }
+    ensures err { OnErr result (nodes.new.items ≡ nodes.old.items) }
+{
+    if let Some(up) = to {
+        nodes[up].add_below(x)?;
+    }
+    Ok(())
+}
+
+// Takes a node out of the list of another.
+fn take_out(nodes: &mut Vec<Node>, x: usize, from: Option<usize>)
+    requires { ForSome from (λ up. up < vec_len nodes.old) }
+    ensures { nodes.new.items ≡ with_taken_out nodes.old.items x from }
+{
+    if let Some(up) = from {
+        nodes[up].remove_below(x);
+    }
+}

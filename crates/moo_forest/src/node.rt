@@ -1,0 +1,69 @@
+ghost use Rattle.std.specs.Prelude.{◌≡◌, ◌∷◌, ◌++◌, [], OnOk, OnErr};
+ghost use Rattle.moo_forest.specs.Forest.{Links, alone, without};
+
+use std::alloc::{AllocError, Global};
+use std::marker::Model;
+
+/// What a node is joined to.
+#[derive(Drop)]
+pub struct Node {
+    above: Option<usize>,
+    below: Vec<usize>,
+}
+
+impl Model for Node {
+    ghost use Rattle.moo_forest.specs.Forest.{Links};
+
+    ghost Value = { Links };
+
+    ghost view = { λ n. record { above = n.above; below = n.below.items } };
+}
+
+impl Node {
+    pub fn alone(alloc: Global) -> Self
+        ensures { result ≡ alone }
+    {
+        Node {
+            above: None,
+            below: Vec::new(alloc),
+        }
+    }
+
+    pub fn above(&self) -> Option<usize>
+        ensures { result ≡ self.now.above }
+    {
+        self.above
+    }
+
+    pub fn below(&self) -> &[usize]
+        ensures { result.now ≡ self.now.below }
+    {
+        &self.below
+    }
+
+    pub fn set_above(&mut self, to: Option<usize>)
+        ensures { self.new ≡ record self.old { above = to } }
+    {
+        self.above = to;
+    }
+
+    pub fn add_below(&mut self, x: usize) -> Result<(), AllocError>
+        ensures ok { OnOk result (self.new ≡ record self.old { below = self.old.below ++ x ∷ [] }) }
+        ensures err { OnErr result (self.new ≡ self.old) }
+    {
+        self.below.push(x)?;
+        Ok(())
+    }
+
+    pub fn remove_below(&mut self, x: usize)
+        ensures { self.new ≡ record self.old { below = without x self.old.below } }
+    {
+        remove_all(&mut self.below, x);
+    }
+}
+
+fn remove_all(xs: &mut Vec<usize>, x: usize)
+    ensures { xs.new.items ≡ without x xs.old.items }
+{
+    xs.retain(|y| x != *y);
+}

@@ -1,0 +1,2 @@
+//! What the operators of the language give for values.
+#![tactic(auto)]

@@ -1,0 +1,4 @@
+//! Programs as trees.
+#![tactic(auto)]
+
+pub mod operator;

@@ -1,0 +1,9 @@
+use Rattle.std.proofs.Common.{length, ◌-◌}
+use Rattle.moo_token.proofs.Strings.{HasRead}
+use Rattle.moo_token.proofs.scan.unquoted.Given as goal
+
+abbrev pub invariant-loop-index : goal.invariant-loop-index
+invariant-loop-index l = HasRead l.bytes l.text.items l.index l.taken
+
+abbrev pub decreases-loop-index : goal.decreases-loop-index
+decreases-loop-index l = length l.bytes - l.index

@@ -1,0 +1,43 @@
+-- Keywords and error names: words that are no names, in any case.
+use Rattle.std.specs.Prelude.{ℕ, List, [], ◌∷◌, Option, find, codes}
+use Rattle.std.specs.Str.{str_eq_ignore_ascii_case}
+use Rattle.moo_value.specs.declared.error_code.ErrorCode.{ErrorCode}
+use Rattle.moo_value.specs.declared.error_code.ErrorCode.TheVariants as error
+use Rattle.moo_value.specs.Errors.{error_name}
+use Rattle.moo_token.specs.declared.keyword.Keyword.{Keyword}
+use Rattle.moo_token.specs.declared.keyword.Keyword.TheVariants.{If, Else, ElseIf, EndIf, For, In, EndFor, While, EndWhile, Fork, EndFork, Return, Try, EndTry, Except, Finally, Any, Break, Continue}
+
+abbrev pub keyword_text : Keyword → List ℕ
+keyword_text If = codes "if"
+keyword_text Else = codes "else"
+keyword_text ElseIf = codes "elseif"
+keyword_text EndIf = codes "endif"
+keyword_text For = codes "for"
+keyword_text In = codes "in"
+keyword_text EndFor = codes "endfor"
+keyword_text While = codes "while"
+keyword_text EndWhile = codes "endwhile"
+keyword_text Fork = codes "fork"
+keyword_text EndFork = codes "endfork"
+keyword_text Return = codes "return"
+keyword_text Try = codes "try"
+keyword_text EndTry = codes "endtry"
+keyword_text Except = codes "except"
+keyword_text Finally = codes "finally"
+keyword_text Any = codes "any"
+keyword_text Break = codes "break"
+keyword_text Continue = codes "continue"
+
+abbrev pub all_keywords : List Keyword
+all_keywords = If ∷ Else ∷ ElseIf ∷ EndIf ∷ For ∷ In ∷ EndFor ∷ While ∷ EndWhile ∷ Fork ∷ EndFork ∷ Return ∷ Try ∷ EndTry ∷ Except ∷ Finally ∷ Any ∷ Break ∷ Continue ∷ []
+
+abbrev pub all_errors : List ErrorCode
+all_errors = error.NoError ∷ error.TypeMismatch ∷ error.Division ∷ error.Permission ∷ error.PropertyNotFound ∷ error.VerbNotFound ∷ error.VariableNotFound ∷ error.InvalidIndirection ∷ error.RecursiveMove ∷ error.MaximumRecursion ∷ error.Range ∷ error.Arguments ∷ error.NotAccepted ∷ error.InvalidArgument ∷ error.Quota ∷ error.Float ∷ []
+
+-- the keyword that the word is, in any case
+unfoldable pub keyword_of : List ℕ → Option Keyword
+keyword_of word = find (λ k. str_eq_ignore_ascii_case (keyword_text k) word) all_keywords
+
+-- the error whose name the word is, in any case
+unfoldable pub error_of : List ℕ → Option ErrorCode
+error_of word = find (λ e. str_eq_ignore_ascii_case (error_name e) word) all_errors

@@ -1,0 +1,178 @@
+//! The token at the front of bytes.
+ghost use Rattle.std.specs.Prelude.{◌≡◌, ◌<◌, ◌≤◌, ◌+◌, length, false, IfOk, IfSome};
+ghost use Rattle.std.specs.List.{prefix_len};
+ghost use Rattle.moo_token.specs.Tokens.{begins_name, is_digit, continues_name, word, wrapped, begins_fraction, integer_at, number_at, object_at, unquoted, token_at};
+
+use crate::keyword::{Keyword, error_of};
+use crate::sign::sign_at;
+use crate::token::Token;
+use moo_value::MooStr;
+use std::alloc::{AllocError, Global};
+
+fn begins_name(b: u8) -> bool
+    ensures { result ≡ begins_name b }
+{
+    b.is_ascii_uppercase() || b.is_ascii_lowercase() || b == b'_'
+}
+
+fn continues_name(b: u8) -> bool
+    ensures { result ≡ continues_name b }
+{
+    begins_name(b) || b.is_ascii_digit()
+}
+
+/// How many bytes at the front can go on with a name.
+fn name_length(bytes: &[u8]) -> usize
+    ensures is { result ≡ prefix_len continues_name bytes.now }
+    ensures fits { result ≤ length bytes.now }
+{
+    bytes.iter().take_while(|b| continues_name(**b)).count()
+}
+
+/// How many digits stand at the front.
+fn digits_length(bytes: &[u8]) -> usize
+    ensures is { result ≡ prefix_len is_digit bytes.now }
+    ensures fits { result ≤ length bytes.now }
+{
+    bytes.iter().take_while(|b| b.is_ascii_digit()).count()
+}
+
+/// The number that digits write, modulo 2^32 with a sign.
+fn wrapped(digits: &[u8]) -> i32
+    ensures { result ≡ wrapped digits.now }
+{
+    let mut number: u32 = 0;
+    for digit in digits {
+        let digit = u32::from(digit.saturating_sub(b'0'));
+        number = number.wrapping_mul(10).wrapping_add(digit);
+    }
+    number.cast_signed()
+}
+
+#[tactic(auto, unfolding(crate::specs::Tokens::begins_fraction))]
+fn begins_fraction(bytes: &[u8]) -> bool
+    ensures { result ≡ begins_fraction bytes.now }
+{
+    match bytes {
+        [] => false,
+        [b'E' | b'e', ..] => true,
+        [b'.', b'.', ..] => false,
+        [first, ..] => *first == b'.',
+    }
+}
+
+/// The integer at the front, and its length.
+#[tactic(auto, unfolding(crate::specs::Tokens::integer_at))]
+fn integer_at(bytes: &[u8]) -> Option<(Token, usize)>
+    requires { 0 < prefix_len is_digit bytes.now }
+    ensures is { result ≡ integer_at bytes.now }
+    ensures fits { IfSome result (λ t. (0 < t.1) × (t.1 ≤ length bytes.now)) }
+{
+    let length = digits_length(bytes);
+    if begins_fraction(&bytes[length..]) {
+        return None;
+    }
+    Some((Token::Integer(wrapped(&bytes[..length])), length))
+}
+
+/// The object number behind a `#`, and its length.
+#[tactic(auto, unfolding(crate::specs::Tokens::object_at))]
+fn object_at(bytes: &[u8]) -> Option<(i32, usize)>
+    ensures is { result ≡ object_at bytes.now }
+    ensures fits { IfSome result (λ o. o.1 ≤ length bytes.now) }
+{
+    let (first, digits) = bytes.split_first()?;
+    if *first == b'-' {
+        let (number, length) = number_at(digits)?;
+        return Some((number.wrapping_neg(), 1 + length));
+    }
+    number_at(bytes)
+}
+
+/// The number at the front, and how many digits it has.
+#[tactic(auto, unfolding(crate::specs::Tokens::number_at))]
+fn number_at(bytes: &[u8]) -> Option<(i32, usize)>
+    ensures is { result ≡ number_at bytes.now }
+    ensures fits { IfSome result (λ o. o.1 ≤ length bytes.now) }
+{
+    let length = digits_length(bytes);
+    if length == 0 {
+        return None;
+    }
+    Some((wrapped(&bytes[..length]), length))
+}
+
+fn copied(alloc: Global, bytes: &[u8]) -> Result<MooStr, AllocError>
+    ensures { IfOk result (λ s. s ≡ bytes.now) }
+{
+    MooStr::try_from_bytes(alloc, bytes).map_err(|_| AllocError)
+}
+
+fn shared(alloc: Global, bytes: Vec<u8>) -> Result<MooStr, AllocError>
+    ensures { IfOk result (λ s. s ≡ bytes.items) }
+{
+    MooStr::try_from_vec(alloc, bytes).map_err(|_| AllocError)
+}
+
+/// The token that a word is.
+fn word(alloc: Global, bytes: &[u8]) -> Result<Token, AllocError>
+    ensures { IfOk result (λ t. t ≡ word bytes.now) }
+{
+    if let Some(keyword) = Keyword::of(bytes) {
+        return Ok(Token::Keyword(keyword));
+    }
+    if let Some(error) = error_of(bytes) {
+        return Ok(Token::Error(error));
+    }
+    Ok(Token::Name(copied(alloc, bytes)?))
+}
+
+/// The string behind its opening quote, and the number of bytes up to and with its closing quote.
+fn unquoted(alloc: Global, bytes: &[u8]) -> Result<Option<(MooStr, usize)>, AllocError>
+    ensures is { IfOk result (λ found. found ≡ unquoted false bytes.now) }
+    ensures fits { IfOk result (λ found. IfSome found (λ s. s.1 ≤ length bytes.now)) }
+{
+    let mut text = Vec::new(alloc);
+    let mut taken = false;
+    let mut index = 0;
+    while index < bytes.len() {
+        let byte = bytes[index];
+        index += 1;
+        if taken {
+            text.push(byte)?;
+            taken = false;
+        } else if byte == b'"' {
+            return Ok(Some((shared(alloc, text)?, index)));
+        } else if byte == b'\\' {
+            taken = true;
+        } else {
+            text.push(byte)?;
+        }
+    }
+    Ok(None)
+}
+
+/// The token at the front, and its length.
+#[tactic(auto, unfolding(crate::specs::Tokens::token_at))]
+pub fn token_at(alloc: Global, bytes: &[u8]) -> Result<Option<(Token, usize)>, AllocError>
+    ensures is { IfOk result (λ found. found ≡ token_at bytes.now) }
+    ensures fits { IfOk result (λ found. IfSome found (λ t. (0 < t.1) × (t.1 ≤ length bytes.now))) }
+{
+    let Some((first, rest)) = bytes.split_first() else {
+        return Ok(None);
+    };
+    if begins_name(*first) {
+        let length = name_length(bytes);
+        return Ok(Some((word(alloc, &bytes[..length])?, length)));
+    }
+    if first.is_ascii_digit() {
+        return Ok(integer_at(bytes));
+    }
+    if *first == b'#' {
+        return Ok(object_at(rest).map(|(number, length)| (Token::Object(number), 1 + length)));
+    }
+    if *first == b'"' {
+        return Ok(unquoted(alloc, rest)?.map(|(string, length)| (Token::Str(string), 1 + length)));
+    }
+    Ok(sign_at(bytes).map(|(sign, length)| (Token::Sign(sign), length)))
+}

@@ -1,9 +1,8 @@
 -- Ways up in a forest.
-use Rattle.std.proofs.Common.{◌≡◌, ◌≢◌, ℕ, zero, suc, ◌+◌, ◌-◌, ◌<◌, ◌≤◌, List, [], ◌∷◌, ◌++◌, Option, Some, None, Bool, true, false, cond, not, eqb, refl, sym, ◌∙◌, ap, inl, inr, ⊎_elim, arith, length, get_or, take}
-use Rattle.std.specs.List.{filter, count_by, list_any, IsDistinct, AllByRecursion}
+use Rattle.std.proofs.Common.{◌≡◌, ℕ, zero, suc, ◌+◌, ◌-◌, ◌<◌, ◌≤◌, List, [], ◌∷◌, ◌++◌, Some, None, true, false, eqb, refl, sym, ◌∙◌, ap, ⊎_elim, arith, length, get_or, take}
+use Rattle.std.specs.List.{count_by, list_any, IsDistinct, AllByRecursion}
 use Rattle.std.proofs.lemmas.List.{get_or_past, get_or_append_left, get_or-append_right, get_or-take, length-take}
-use Rattle.std.proofs.lemmas.Bool.{cases_Bool, eqb-true, eqb-false, eq-eqb, ne_eqb, or_left, or_right, or_parts, or_cases, or_from, cases_lt, cases_eq, false≢true, both_ways}
-use Rattle.std.proofs.lemmas.Option.{same_Some, none-some}
+use Rattle.std.proofs.lemmas.Bool.{cases_Bool, eqb-true, eq-eqb, ne_eqb, or_parts, or_cases, or_from, cases_lt, cases_eq, false≢true}
 use Rattle.std.proofs.lemmas.Map.Steps.{length-le_from_distinct_below}
 use Rattle.moo_forest.specs.Forest.{Links, alone, above_of, below_of, IsWayUp, climb, ancestors, times_below, IsForest, is_within}
 

@@ -1,13 +1,12 @@
 -- What a move leaves.
-use Rattle.std.proofs.Common.{◌≡◌, ◌≢◌, ℕ, zero, suc, ◌+◌, ◌-◌, ◌<◌, ◌≤◌, List, [], ◌∷◌, ◌++◌, Option, Some, None, Bool, true, false, cond, not, eqb, refl, sym, ◌∙◌, ap, inl, inr, ⊎_elim, arith, length, get_or, set, map, subst}
-use Rattle.std.specs.List.{filter, count_by, list_any, range_with_len}
-use Rattle.std.specs.Option.{option_eq, ForSome}
+use Rattle.std.proofs.Common.{◌≡◌, ◌≢◌, ℕ, ◌<◌, ◌≤◌, List, [], ◌∷◌, ◌++◌, Option, Some, None, true, false, cond, eqb, refl, sym, ◌∙◌, ap, ⊎_elim, arith, length, get_or, set, map}
+use Rattle.std.specs.List.{count_by, list_any, range_with_len}
+use Rattle.std.specs.Option.{option_eq}
 use Rattle.std.proofs.lemmas.List.{get_or_read, get_or_past, get_or-set_same, get_or-set_other, length-set, append-nil}
 use Rattle.std.proofs.lemmas.List.FromFn.{get_or-map-range_with_len, length-map-range_with_len, fill_by_all}
 use Rattle.std.proofs.lemmas.List.Sums.{sum_by-append}
-use Rattle.std.proofs.lemmas.Bool.{cases_Bool, eqb-true, eqb-false, eq-eqb, ne_eqb, or_left, or_right, or_parts, or_cases, or_from, cases_lt, cases_eq, false≢true, both_ways}
-use Rattle.std.proofs.lemmas.Option.{same_Some, none-some}
-use Rattle.moo_forest.specs.Forest.{Links, alone, above_of, below_of, IsWayUp, climb, ancestors, times_below, IsForest, without, newest_at, links_once_moved, moved, is_within}
+use Rattle.std.proofs.lemmas.Bool.{cases_Bool, eqb-true, eqb-false, eq-eqb, ne_eqb, or_parts, or_from, cases_lt, cases_eq, false≢true}
+use Rattle.moo_forest.specs.Forest.{Links, alone, above_of, below_of, IsWayUp, ancestors, times_below, IsForest, without, newest_at, links_once_moved, moved, is_within}
 use Rattle.moo_forest.specs.Steps.{with_newest, with_taken_out}
 use Rattle.moo_forest.proofs.Counting.{count-cons, count_without_itself, count_without_other, without_absent}
 use Rattle.moo_forest.proofs.Climbing.{way_up_is_ancestors, way_up_within, forest_added, links_added, above_within, IsExact, forest_from, way_up_along}

@@ -1,6 +1,6 @@
 -- The steps of a move, each a change of one node.
-use Rattle.std.specs.Prelude.{ℕ, List, [], ◌∷◌, ◌++◌, Option, Some, None, slice_index_or, slice_set}
-use Rattle.moo_forest.specs.Forest.{Links, alone, above_of, below_of, without}
+use Rattle.std.specs.Prelude.{ℕ, List, [], ◌∷◌, ◌++◌, Option, Some, None, slice_set}
+use Rattle.moo_forest.specs.Forest.{Links, above_of, below_of, without}
 
 -- x stands last in the list of its new place
 abbrev pub with_newest : List Links → ℕ → Option ℕ → List Links

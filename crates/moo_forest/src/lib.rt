@@ -8,10 +8,12 @@ ghost use Rattle.moo_forest.specs.Forest.{Links, alone, above_of, below_of, is_w
 ghost use Rattle.moo_forest.specs.Steps.{with_newest, with_taken_out};
 
 mod node;
+mod walk;
 
 use node::Node;
 use std::alloc::{AllocError, Global};
 use std::marker::Model;
+pub use walk::Step;
 
 /// Nodes numbered from 0. Going up from any of them ends, and each stands in the list of the node
 /// right above it, once, and in no other.

@@ -1,4 +1,4 @@
-use Rattle.std.proofs.Common.{sym, ◌∙◌, ap}
+use Rattle.std.proofs.Common.{sym, ◌∙◌}
 use Rattle.moo_forest.proofs.Climbing.{above_within}
 use Rattle.moo_forest.proofs.Moving.{above_read}
 use Rattle.moo_forest.proofs.Forest.above.Goals as goal

@@ -1,7 +1,7 @@
-use Rattle.std.proofs.Common.{◌≡◌, ◌<◌, ◌-◌, ◌+◌, Some, None, sym, ◌∙◌, ap, arith, length, suc, eqb}
+use Rattle.std.proofs.Common.{◌≡◌, ◌<◌, Some, None, sym, ◌∙◌, ap, arith, length}
 use Rattle.std.proofs.lemmas.List.{get_or_read}
 use Rattle.std.proofs.lemmas.Bool.{ne_eqb, or_from}
-use Rattle.moo_forest.specs.Forest.{Links, alone, above_of}
+use Rattle.moo_forest.specs.Forest.{alone, above_of}
 use Rattle.moo_forest.proofs.Climbing.{any_step, any_none, above_within}
 use Rattle.moo_forest.proofs.Forest.is_within.Goals as goal
 use Rattle.moo_forest.proofs.Forest.is_within.Goals.{In-Some, In-None}

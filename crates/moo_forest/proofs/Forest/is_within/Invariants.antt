@@ -1,6 +1,6 @@
-use Rattle.std.proofs.Common.{◌≡◌, ◌<◌, ◌-◌, ◌≤◌, eqb, length}
+use Rattle.std.proofs.Common.{◌≡◌, ◌<◌, ◌-◌, eqb, length}
 use Rattle.std.specs.List.{list_any}
-use Rattle.moo_forest.specs.Forest.{above_of, climb, ancestors, IsForest}
+use Rattle.moo_forest.specs.Forest.{above_of, climb, ancestors}
 use Rattle.moo_forest.proofs.Forest.is_within.Given as goal
 
 -- what is still to be met decides

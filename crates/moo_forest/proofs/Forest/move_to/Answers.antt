@@ -1,6 +1,5 @@
-use Rattle.std.proofs.Common.{◌≡◌, ◌<◌, Option, Some, sym, ◌∙◌, ap, arith, length, eqb, set, cond, false}
-use Rattle.std.specs.Option.{option_eq}
-use Rattle.moo_forest.specs.Forest.{Links, alone, above_of, moved, IsForest}
+use Rattle.std.proofs.Common.{◌≡◌, sym, ◌∙◌, ap, arith, length, set}
+use Rattle.moo_forest.specs.Forest.{moved}
 use Rattle.moo_forest.proofs.Climbing.{above_within}
 use Rattle.moo_forest.proofs.Moving.{moved_in_steps, moved_elsewhere, forest_relinked, relinked, length_newest, above_read}
 use Rattle.moo_forest.proofs.Forest.move_to.Goals as goal

@@ -2,3 +2,6 @@
 #![tactic(auto)]
 
 pub mod operator;
+mod tree;
+
+pub use tree::{Expr, Item, Literal, Stmt};

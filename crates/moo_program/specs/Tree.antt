@@ -1,0 +1,49 @@
+-- Programs as trees, without where their parts lie in memory.
+use Rattle.std.specs.Prelude.{ℕ, List}
+use Rattle.moo_value.specs.Tree
+use Rattle.moo_program.specs.declared.operator.UnaryOperator.{UnaryOperator}
+use Rattle.moo_program.specs.declared.operator.BinaryOperator.{BinaryOperator}
+use Rattle.moo_program.specs.declared.operator.LogicOperator.{LogicOperator}
+use Rattle.moo_program.specs.declared.tree.Literal.{Literal}
+use Rattle.moo_program.specs.declared.tree.Literal.TheVariants.{Integer, Object, Error, Str}
+
+mutual
+  pub data Expr : Type 0 where
+    literal : Literal → Expr
+    -- its name, as it is spelled
+    variable : List ℕ → Expr
+    -- `$`
+    length_mark : Expr
+    unary : UnaryOperator → Expr → Expr
+    binary : BinaryOperator → Expr → Expr → Expr
+    logic : LogicOperator → Expr → Expr → Expr
+    -- a ? b | c
+    conditional : Expr → Expr → Expr → Expr
+    -- a[b]
+    index : Expr → Expr → Expr
+    -- a[b..c]
+    range : Expr → Expr → Expr → Expr
+    list : Items → Expr
+
+  -- the items of a list
+  pub data Items : Type 0 where
+    no_items : Items
+    element : Expr → Items → Items
+    -- @a
+    splice : Expr → Items → Items
+
+pub data Stmt : Type 0 where
+  return_nothing : Stmt
+  returns : Expr → Stmt
+
+-- statements, one after another
+pub data Block : Type 0 where
+  no_statement : Block
+  then : Stmt → Block → Block
+
+-- the value that a literal is
+abbrev pub literal_value : Literal → Tree.Tree
+literal_value (Integer n) = Tree.integer n
+literal_value (Object n) = Tree.object n
+literal_value (Error e) = Tree.error e
+literal_value (Str s) = Tree.string s

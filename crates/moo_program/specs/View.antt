@@ -1,0 +1,41 @@
+-- The trees that the program's types stand for.
+use Rattle.std.specs.Prelude.{Box, List, [], ◌∷◌}
+use Rattle.std.specs.Global.{Global}
+use Rattle.moo_program.specs.Tree
+use Rattle.moo_program.specs.Tree.{Items, Block}
+use Rattle.moo_program.specs.declared.tree.Expr.{Expr, Literal, Variable, Length, Unary', Binary', Logic', Conditional', Index', Range', List', Row_of-Item, end_of-Item, more_of-Item}
+use Rattle.moo_program.specs.declared.tree.Item.{Item, Element', Splice'}
+use Rattle.moo_program.specs.declared.tree.Stmt.{Stmt}
+use Rattle.moo_program.specs.declared.tree.Stmt.TheVariants.{Return}
+
+abbrev mutual
+  pub tree : Expr → Tree.Expr
+  tree (Literal l) = Tree.literal l
+  tree (Variable s) = Tree.variable s
+  tree Length = Tree.length_mark
+  tree (Unary' o p a) = Tree.unary o (tree a)
+  tree (Binary' o p a q b) = Tree.binary o (tree a) (tree b)
+  tree (Logic' o p a q b) = Tree.logic o (tree a) (tree b)
+  tree (Conditional' p a q b r c) = Tree.conditional (tree a) (tree b) (tree c)
+  tree (Index' p a q b) = Tree.index (tree a) (tree b)
+  tree (Range' p a q b r c) = Tree.range (tree a) (tree b) (tree c)
+  tree (List' shape xs) = Tree.list (row xs)
+
+  pub row : {m : _} → Row_of-Item m → Items
+  row end_of-Item = Tree.no_items
+  row (more_of-Item x xs) = with_item x (row xs)
+
+  pub with_item : Item → Items → Items
+  with_item (Element' p e) xs = Tree.element (tree e) xs
+  with_item (Splice' p e) xs = Tree.splice (tree e) xs
+
+-- the items, in front of others
+abbrev pub in_front : List Item → Items → Items
+in_front [] xs = xs
+in_front (x ∷ front) xs = with_item x (in_front front xs)
+
+abbrev pub items_of : List Item → Items
+items_of items = in_front items Tree.no_items
+
+abbrev pub root : Box Expr Global → Tree.Expr
+root b = tree b.value

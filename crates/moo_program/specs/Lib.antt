@@ -1,2 +1,4 @@
 pub mod Tree
 pub mod View
+pub mod Listing
+pub mod Limits

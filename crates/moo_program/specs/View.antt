@@ -1,5 +1,5 @@
 -- The trees that the program's types stand for.
-use Rattle.std.specs.Prelude.{Box, List, [], ◌∷◌}
+use Rattle.std.specs.Prelude.{Box, List, [], ◌∷◌, Some, None}
 use Rattle.std.specs.Global.{Global}
 use Rattle.moo_program.specs.Tree
 use Rattle.moo_program.specs.Tree.{Items, Block}
@@ -39,3 +39,11 @@ items_of items = in_front items Tree.no_items
 
 abbrev pub root : Box Expr Global → Tree.Expr
 root b = tree b.value
+
+abbrev pub statement : Stmt → Tree.Stmt
+statement (Return None) = Tree.return_nothing
+statement (Return (Some e)) = Tree.returns (root e)
+
+abbrev pub block : List Stmt → Block
+block [] = Tree.no_statement
+block (s ∷ ss) = Tree.then (statement s) (block ss)

@@ -1,0 +1,49 @@
+-- The limits of a program.
+use Rattle.std.specs.Prelude.{ℕ, List, ◌+◌, ◌≤◌, ◌<◌, max, length, All}
+use Rattle.moo_value.specs.Size.{weight_limit}
+use Rattle.moo_program.specs.Tree.{Expr, literal, variable, length_mark, unary, binary, logic, conditional, index, range, list, Items, no_items, element, splice, Stmt, return_nothing, returns, Block, no_statement, then}
+use Rattle.moo_program.specs.Listing.{listing}
+
+abbrev mutual
+  -- the most nodes on a path from the expression down to a leaf, both counted
+  pub height : Expr → ℕ
+  height (literal l) = 1
+  height (variable s) = 1
+  height length_mark = 1
+  height (unary o a) = 1 + height a
+  height (binary o a b) = 1 + max (height a) (height b)
+  height (logic o a b) = 1 + max (height a) (height b)
+  height (conditional a b c) = 1 + max (height a) (max (height b) (height c))
+  height (index a b) = 1 + max (height a) (height b)
+  height (range a b c) = 1 + max (height a) (max (height b) (height c))
+  height (list xs) = 1 + items_height xs
+
+  -- the greatest height of an item
+  pub items_height : Items → ℕ
+  items_height no_items = 0
+  items_height (element a xs) = max (height a) (items_height xs)
+  items_height (splice a xs) = max (height a) (items_height xs)
+
+abbrev pub statement_height : Stmt → ℕ
+statement_height return_nothing = 1
+statement_height (returns a) = 1 + height a
+
+-- the most nodes on a path, from a statement of the program down to a leaf
+abbrev pub block_height : Block → ℕ
+block_height no_statement = 0
+block_height (then s ss) = max (statement_height s) (block_height ss)
+
+abbrev pub most_nodes : ℕ
+most_nodes = 100
+
+abbrev pub most_brackets : ℕ
+most_brackets = 200
+
+-- a line that a string can hold
+abbrev pub FitsLine : List ℕ → Type 0
+FitsLine line = length line < weight_limit
+
+-- at most 100 nodes on a path, and each line of the full listing is short enough for a string
+pub record IsWithinLimits (b : Block) : Type 0 where
+  pub nodes : block_height b ≤ most_nodes
+  pub lines : All FitsLine (listing b)

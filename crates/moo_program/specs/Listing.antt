@@ -1,0 +1,85 @@
+-- The full listing of a program: its lines, with all the parentheses.
+use Rattle.std.specs.Prelude.{ℕ, List, [], ◌∷◌, ◌++◌, Bool, true, false, codes}
+use Rattle.moo_value.specs.Text.{literal as text_of}
+use Rattle.moo_program.specs.declared.operator.UnaryOperator.{UnaryOperator}
+use Rattle.moo_program.specs.declared.operator.UnaryOperator.TheVariants.{Not, Negate}
+use Rattle.moo_program.specs.declared.operator.BinaryOperator.{BinaryOperator}
+use Rattle.moo_program.specs.declared.operator.BinaryOperator.TheVariants.{Add, Subtract, Multiply, Divide, Remainder, Power, Equal, NotEqual, Less, LessOrEqual, Greater, GreaterOrEqual, In}
+use Rattle.moo_program.specs.declared.operator.LogicOperator.{LogicOperator}
+use Rattle.moo_program.specs.declared.operator.LogicOperator.TheVariants.{And, Or}
+use Rattle.moo_program.specs.declared.tree.Literal.TheVariants.{Integer}
+use Rattle.moo_program.specs.Tree.{Expr, literal, variable, length_mark, unary, binary, logic, conditional, index, range, list, Items, no_items, element, splice, Stmt, return_nothing, returns, Block, no_statement, then, literal_value}
+
+abbrev pub unary_sign : UnaryOperator → List ℕ
+unary_sign Not = codes "!"
+unary_sign Negate = codes "-"
+
+abbrev pub binary_sign : BinaryOperator → List ℕ
+binary_sign Add = codes "+"
+binary_sign Subtract = codes "-"
+binary_sign Multiply = codes "*"
+binary_sign Divide = codes "/"
+binary_sign Remainder = codes "%"
+binary_sign Power = codes "^"
+binary_sign Equal = codes "=="
+binary_sign NotEqual = codes "!="
+binary_sign Less = codes "<"
+binary_sign LessOrEqual = codes "<="
+binary_sign Greater = codes ">"
+binary_sign GreaterOrEqual = codes ">="
+binary_sign In = codes "in"
+
+abbrev pub logic_sign : LogicOperator → List ℕ
+logic_sign And = codes "&&"
+logic_sign Or = codes "||"
+
+-- an operator or a conditional: it stands in parentheses as an operand
+abbrev pub is_compound : Expr → Bool
+is_compound (unary o a) = true
+is_compound (binary o a b) = true
+is_compound (logic o a b) = true
+is_compound (conditional a b c) = true
+is_compound _ = false
+
+-- an integer literal stands in parentheses too, where it is indexed
+abbrev pub is_compound_base : Expr → Bool
+is_compound_base (literal (Integer n)) = true
+is_compound_base e = is_compound e
+
+-- a text in parentheses, or bare
+abbrev pub in_parentheses : Bool → List ℕ → List ℕ
+in_parentheses true text = codes "(" ++ text ++ codes ")"
+in_parentheses false text = text
+
+-- what stands behind an item: a comma, a blank and the items that follow, if any do
+abbrev pub further : Items → List ℕ → List ℕ
+further no_items text = text
+further (element a xs) text = codes ", " ++ text
+further (splice a xs) text = codes ", " ++ text
+
+abbrev mutual
+  pub listed : Expr → List ℕ
+  listed (literal l) = text_of (literal_value l)
+  listed (variable s) = s
+  listed length_mark = codes "$"
+  listed (unary o a) = unary_sign o ++ in_parentheses (is_compound a) (listed a)
+  listed (binary o a b) = in_parentheses (is_compound a) (listed a) ++ codes " " ++ binary_sign o ++ codes " " ++ in_parentheses (is_compound b) (listed b)
+  listed (logic o a b) = in_parentheses (is_compound a) (listed a) ++ codes " " ++ logic_sign o ++ codes " " ++ in_parentheses (is_compound b) (listed b)
+  listed (conditional a b c) = in_parentheses (is_compound a) (listed a) ++ codes " ? " ++ in_parentheses (is_compound b) (listed b) ++ codes " | " ++ in_parentheses (is_compound c) (listed c)
+  listed (index a b) = in_parentheses (is_compound_base a) (listed a) ++ codes "[" ++ listed b ++ codes "]"
+  listed (range a b c) = in_parentheses (is_compound_base a) (listed a) ++ codes "[" ++ listed b ++ codes ".." ++ listed c ++ codes "]"
+  listed (list xs) = codes "{" ++ listed_items xs ++ codes "}"
+
+  pub listed_items : Items → List ℕ
+  listed_items no_items = []
+  listed_items (element a xs) = listed a ++ further xs (listed_items xs)
+  listed_items (splice a xs) = codes "@" ++ listed a ++ further xs (listed_items xs)
+
+abbrev pub listed_statement : Stmt → List ℕ
+listed_statement return_nothing = codes "return;"
+listed_statement (returns a) = codes "return " ++ listed a ++ codes ";"
+
+-- the lines of a program
+abbrev pub listing : Block → List (List ℕ)
+listing no_statement = []
+listing (then s ss) = listed_statement s ∷ listing ss

@@ -1,11 +1,11 @@
 -- What stands at the front of a line's rest decides how it is read.
 use Rattle.std.proofs.Common.{ℕ, suc, List, [], ◌∷◌, ◌≡◌, refl, sym, ap, subst, Bool, true, false, drop, Some, None, nat_eq, ◌||◌, ◌⊎◌, inl, inr, arith}
 use Rattle.moo_token.specs.declared.token.Token.{Token}
+use Rattle.moo_token.specs.declared.token.Token.TheVariants.{Bad}
 use Rattle.moo_token.specs.declared.token.Spot.{Spot}
 use Rattle.moo_token.specs.Signs.{sign_at}
 use Rattle.moo_token.specs.Tokens.{token_at}
-use Rattle.moo_token.specs.Lexing.{begins_blank, begins_comment, ends_comment, Place, outside, commented, Lexes, text_end, line_end, blank, token, comment, comment_goes_on, comment_end}
-use Rattle.moo_token.specs.Passing.{NoTokens}
+use Rattle.moo_token.specs.Lexing.{begins_blank, begins_comment, ends_comment, Ending, complete, broken, unclosed, Place, outside, commented, Lexes, text_end, line_end, blank, token, comment, comment_goes_on, comment_end, no_token, never_closed}
 
 either : (a b : Bool) → (a || b) ≡ true → (a ≡ true) ⊎ (b ≡ true)
 either true b h = inl refl
@@ -46,10 +46,10 @@ space_or_tab b bs (inl e) = rw (same_byte b 32 e) (at_space bs)
 space_or_tab b bs (inr e) = rw (same_byte b 9 e) (at_tab bs)
 
 -- no token begins with a blank
-pub no_token : (bs : List ℕ) → begins_blank bs ≡ true → token_at bs ≡ None
+pub no_token_at_blank : (bs : List ℕ) → begins_blank bs ≡ true → token_at bs ≡ None
 unfolding begins_blank
-no_token [] h = no_token_at_end
-no_token (b ∷ bs) h = space_or_tab b bs (either (nat_eq b 32) (nat_eq b 9) h)
+no_token_at_blank [] h = no_token_at_end
+no_token_at_blank (b ∷ bs) h = space_or_tab b bs (either (nat_eq b 32) (nat_eq b 9) h)
 
 space_no_comment : (cs : List ℕ) → begins_comment (32 ∷ cs) ≡ false
 unfolding begins_comment
@@ -66,93 +66,94 @@ no_comment_cases b bs (inl e) = rw (same_byte b 32 e) (space_no_comment bs)
 no_comment_cases b bs (inr e) = rw (same_byte b 9 e) (tab_no_comment bs)
 
 -- no comment begins with a blank
-pub no_comment : (bs : List ℕ) → begins_blank bs ≡ true → begins_comment bs ≡ false
+pub no_comment_at_blank : (bs : List ℕ) → begins_blank bs ≡ true → begins_comment bs ≡ false
 unfolding begins_blank
-no_comment [] h = no_comment_at_end
-no_comment (b ∷ bs) h = no_comment_cases b bs (either (nat_eq b 32) (nat_eq b 9) h)
+no_comment_at_blank [] h = no_comment_at_end
+no_comment_at_blank (b ∷ bs) h = no_comment_cases b bs (either (nat_eq b 32) (nat_eq b 9) h)
 
 -- so each place of a text goes on in one way
-pub dead_blank : {n : ℕ} {bs : List ℕ} {below : List (List ℕ)} → begins_blank bs ≡ true → NoTokens outside n (drop 1 bs) below → (ts : List Spot) → Lexes outside n bs below ts → ⊥
-dead_blank e dead ts text_end = let f = no_blank_at_end in cc
-dead_blank e dead ts (line_end d) = let f = no_blank_at_end in cc
-dead_blank e dead ts (blank f d) = dead ts d
-dead_blank {bs = bs} e dead ts (token c t d) = let f = no_token bs e in cc
-dead_blank {bs = bs} e dead ts (comment c d) = let f = no_comment bs e in cc
+pub after_blank : {e : Ending} {n : ℕ} {bs : List ℕ} {below : List (List ℕ)} {ts : List Spot} → begins_blank bs ≡ true → Lexes e outside n bs below ts → Lexes e outside n (drop 1 bs) below ts
+after_blank h text_end = let f = no_blank_at_end in cc
+after_blank h (line_end d) = let f = no_blank_at_end in cc
+after_blank h (blank f d) = d
+after_blank {bs = bs} h (token c t d) = let f = no_token_at_blank bs h in cc
+after_blank {bs = bs} h (comment c d) = let f = no_comment_at_blank bs h in cc
+after_blank h (no_token f c t) = cc
 
-pub dead_comment : {n : ℕ} {bs : List ℕ} {below : List (List ℕ)} → begins_comment bs ≡ true → NoTokens commented n (drop 2 bs) below → (ts : List Spot) → Lexes outside n bs below ts → ⊥
-dead_comment e dead ts text_end = let f = no_comment_at_end in cc
-dead_comment e dead ts (line_end d) = let f = no_comment_at_end in cc
-dead_comment {bs = bs} e dead ts (blank f d) = let f = no_comment bs f in cc
-dead_comment e dead ts (token c t d) = cc
-dead_comment e dead ts (comment c d) = dead ts d
+pub after_comment : {e : Ending} {n : ℕ} {bs : List ℕ} {below : List (List ℕ)} {ts : List Spot} → begins_comment bs ≡ true → Lexes e outside n bs below ts → Lexes e (commented n) n (drop 2 bs) below ts
+after_comment h text_end = let f = no_comment_at_end in cc
+after_comment h (line_end d) = let f = no_comment_at_end in cc
+after_comment {bs = bs} h (blank f d) = let g = no_comment_at_blank bs f in cc
+after_comment h (token c t d) = cc
+after_comment h (comment c d) = d
+after_comment h (no_token f c t) = cc
 
-pub dead_token : {n : ℕ} {bs : List ℕ} {below : List (List ℕ)} {x : Token} {k : ℕ} → begins_comment bs ≡ false → token_at bs ≡ Some (x, k) → NoTokens outside n (drop k bs) below → (ts : List Spot) → Lexes outside n bs below ts → ⊥
-dead_token e s dead ts text_end = let f = no_token_at_end in cc
-dead_token e s dead ts (line_end d) = let f = no_token_at_end in cc
-dead_token {bs = bs} e s dead ts (blank f d) = let f = no_token bs f in cc
-dead_token {n = n} {bs = bs} {below = below} {x = x} {k = k} e s dead _ (token {ts = vs} {x = y} {k = m} c t d) =
-    let pair : ◌≡◌ {A = Token × ℕ} (x, k) (y, m) = cc in
-    let length : k ≡ m = ap (λ (t : Token × ℕ). t.1) pair in
-    dead vs (subst (λ k. Lexes outside n (drop k bs) below vs) (sym length) d)
-dead_token e s dead ts (comment c d) = cc
+-- the tokens begin with x, and the others follow behind it
+pub record GoesOnWith (e : Ending) (n : ℕ) (x : Token) (rest : List ℕ) (below : List (List ℕ)) (ts : List Spot) : Type 0 where
+  pub others : List Spot
+  pub is : ts ≡ record { token = x; line = n } ∷ others
+  pub lexes : Lexes e outside n rest below others
 
-pub stuck : {n : ℕ} {b : ℕ} {bs : List ℕ} → begins_blank (b ∷ bs) ≡ false → begins_comment (b ∷ bs) ≡ false → token_at (b ∷ bs) ≡ None → (below : List (List ℕ)) (ts : List Spot) → Lexes outside n (b ∷ bs) below ts → ⊥
-stuck e f g below ts (blank h d) = cc
-stuck e f g below ts (token c t d) = cc
-stuck e f g below ts (comment c d) = cc
-
-pub dead_comment_end : {n : ℕ} {bs : List ℕ} {below : List (List ℕ)} → ends_comment bs ≡ true → NoTokens outside n (drop 2 bs) below → (ts : List Spot) → Lexes commented n bs below ts → ⊥
-dead_comment_end e dead ts (line_end d) = let f = no_comment_end_at_end in cc
-dead_comment_end e dead ts (comment_goes_on f d) = cc
-dead_comment_end e dead ts (comment_end f d) = dead ts d
-
-pub dead_in_comment : {n : ℕ} {b : ℕ} {bs : List ℕ} {below : List (List ℕ)} → ends_comment (b ∷ bs) ≡ false → NoTokens commented n bs below → (ts : List Spot) → Lexes commented n (b ∷ bs) below ts → ⊥
-dead_in_comment e dead ts (comment_goes_on f d) = dead ts d
-dead_in_comment e dead ts (comment_end f d) = cc
-
-pub dead_line : {p : Place} {n : ℕ} {line : List ℕ} {below : List (List ℕ)} → NoTokens p (suc n) line below → (ts : List Spot) → Lexes p n [] (line ∷ below) ts → ⊥
-dead_line dead ts (line_end d) = dead ts d
-dead_line dead ts (blank e d) = let f = no_blank_at_end in cc
-dead_line dead ts (token c t d) = let f = no_token_at_end in cc
-dead_line dead ts (comment c d) = let f = no_comment_at_end in cc
-dead_line dead ts (comment_end e d) = let f = no_comment_end_at_end in cc
-
-pub unclosed_comment : {n : ℕ} (ts : List Spot) → Lexes commented n [] [] ts → ⊥
-unclosed_comment ts (comment_end e d) = let f = no_comment_end_at_end in cc
-
--- a text has at most one list of tokens
-pub one_lexing : {p : Place} {n : ℕ} {bs : List ℕ} {below : List (List ℕ)} {ts us : List Spot} → Lexes p n bs below ts → Lexes p n bs below us → ts ≡ us
-one_lexing text_end text_end = refl
-one_lexing text_end (blank e d) = let f = no_blank_at_end in cc
-one_lexing text_end (token c t d) = let f = no_token_at_end in cc
-one_lexing text_end (comment c d) = let f = no_comment_at_end in cc
-one_lexing (line_end d) (line_end e) = one_lexing d e
-one_lexing (line_end d) (blank e f) = let f = no_blank_at_end in cc
-one_lexing (line_end d) (token c t e) = let f = no_token_at_end in cc
-one_lexing (line_end d) (comment c e) = let f = no_comment_at_end in cc
-one_lexing (line_end d) (comment_end c e) = let f = no_comment_end_at_end in cc
-one_lexing (blank e d) text_end = let f = no_blank_at_end in cc
-one_lexing (blank e d) (line_end f) = let f = no_blank_at_end in cc
-one_lexing (blank e d) (blank f g) = one_lexing d g
-one_lexing {bs = bs} (blank e d) (token c t f) = let f = no_token bs e in cc
-one_lexing {bs = bs} (blank e d) (comment c f) = let f = no_comment bs e in cc
-one_lexing (token c t d) text_end = let f = no_token_at_end in cc
-one_lexing (token c t d) (line_end e) = let f = no_token_at_end in cc
-one_lexing {bs = bs} (token c t d) (blank e f) = let f = no_token bs e in cc
-one_lexing {n = n} {bs = bs} {below = below} (token {ts = us} {x = x} {k = k} c t d) (token {ts = vs} {x = y} {k = m} e f g) =
+pub after_token : {e : Ending} {n : ℕ} {bs : List ℕ} {below : List (List ℕ)} {ts : List Spot} {x : Token} {k : ℕ} → begins_comment bs ≡ false → token_at bs ≡ Some (x, k) → Lexes e outside n bs below ts → GoesOnWith e n x (drop k bs) below ts
+after_token h s text_end = let f = no_token_at_end in cc
+after_token h s (line_end d) = let f = no_token_at_end in cc
+after_token {bs = bs} h s (blank f d) = let g = no_token_at_blank bs f in cc
+after_token {e = e} {n = n} {bs = bs} {below = below} {x = x} {k = k} h s (token {ts = vs} {x = y} {k = m} c t d) =
     let pair : ◌≡◌ {A = Token × ℕ} (x, k) (y, m) = cc in
     let head : x ≡ y = ap (λ (t : Token × ℕ). t.0) pair in
     let length : k ≡ m = ap (λ (t : Token × ℕ). t.1) pair in
-    let rest : us ≡ vs = one_lexing d (subst (λ k. Lexes outside n (drop k bs) below vs) (sym length) g) in
-    rw (head, rest)
-one_lexing (token c t d) (comment e f) = cc
-one_lexing (comment c d) text_end = let f = no_comment_at_end in cc
-one_lexing (comment c d) (line_end e) = let f = no_comment_at_end in cc
-one_lexing {bs = bs} (comment c d) (blank e f) = let f = no_comment bs e in cc
-one_lexing (comment c d) (token e t f) = cc
-one_lexing (comment c d) (comment e f) = one_lexing d f
-one_lexing (comment_goes_on c d) (comment_goes_on e f) = one_lexing d f
-one_lexing (comment_goes_on c d) (comment_end e f) = cc
-one_lexing (comment_end c d) (line_end e) = let f = no_comment_end_at_end in cc
-one_lexing (comment_end c d) (comment_goes_on e f) = cc
-one_lexing (comment_end c d) (comment_end e f) = one_lexing d f
+    record {
+      others = vs;
+      is = rw head refl;
+      lexes = subst (λ k. Lexes e outside n (drop k bs) below vs) (sym length) d;
+    }
+after_token h s (comment c d) = cc
+after_token h s (no_token f c t) = cc
+
+pub at_no_token : {e : Ending} {n b : ℕ} {bs : List ℕ} {below : List (List ℕ)} {ts : List Spot} → begins_blank (b ∷ bs) ≡ false → begins_comment (b ∷ bs) ≡ false → token_at (b ∷ bs) ≡ None → Lexes e outside n (b ∷ bs) below ts → (e ≡ broken) × (ts ≡ record { token = Bad; line = n } ∷ [])
+at_no_token f g h (blank i d) = cc
+at_no_token f g h (token c t d) = cc
+at_no_token f g h (comment c d) = cc
+at_no_token f g h (no_token i c t) = (refl, refl)
+
+pub after_comment_end : {e : Ending} {k n : ℕ} {bs : List ℕ} {below : List (List ℕ)} {ts : List Spot} → ends_comment bs ≡ true → Lexes e (commented k) n bs below ts → Lexes e outside n (drop 2 bs) below ts
+after_comment_end h (line_end d) = let f = no_comment_end_at_end in cc
+after_comment_end h (comment_goes_on f d) = cc
+after_comment_end h (comment_end f d) = d
+after_comment_end h never_closed = let f = no_comment_end_at_end in cc
+
+pub in_comment : {e : Ending} {k n b : ℕ} {bs : List ℕ} {below : List (List ℕ)} {ts : List Spot} → ends_comment (b ∷ bs) ≡ false → Lexes e (commented k) n (b ∷ bs) below ts → Lexes e (commented k) n bs below ts
+in_comment h (comment_goes_on f d) = d
+in_comment h (comment_end f d) = cc
+
+pub after_line : {e : Ending} {p : Place} {n : ℕ} {line : List ℕ} {below : List (List ℕ)} {ts : List Spot} → Lexes e p n [] (line ∷ below) ts → Lexes e p (suc n) line below ts
+after_line (line_end d) = d
+after_line (blank h d) = let f = no_blank_at_end in cc
+after_line (token c t d) = let f = no_token_at_end in cc
+after_line (comment c d) = let f = no_comment_at_end in cc
+after_line (comment_end h d) = let f = no_comment_end_at_end in cc
+
+pub at_text_end : {e : Ending} {n : ℕ} {ts : List Spot} → Lexes e outside n [] [] ts → (e ≡ complete) × (ts ≡ [])
+at_text_end text_end = (refl, refl)
+at_text_end (blank h d) = let f = no_blank_at_end in cc
+at_text_end (token c t d) = let f = no_token_at_end in cc
+at_text_end (comment c d) = let f = no_comment_at_end in cc
+
+pub at_open_end : {e : Ending} {k n : ℕ} {ts : List Spot} → Lexes e (commented k) n [] [] ts → (e ≡ unclosed) × (ts ≡ record { token = Bad; line = k } ∷ [])
+at_open_end (comment_end h d) = let f = no_comment_end_at_end in cc
+at_open_end never_closed = (refl, refl)
+
+-- and it is read in one way
+pub one_lexing : {e f : Ending} {p : Place} {n : ℕ} {bs : List ℕ} {below : List (List ℕ)} {ts us : List Spot} → Lexes e p n bs below ts → Lexes f p n bs below us → (e ≡ f) × (ts ≡ us)
+one_lexing text_end d = let a = at_text_end d in (sym a.0, sym a.1)
+one_lexing (line_end c) d = one_lexing c (after_line d)
+one_lexing (blank h c) d = one_lexing c (after_blank h d)
+one_lexing (token h t c) d =
+    let a = after_token h t d in
+    let b = one_lexing c a.lexes in
+    (b.0, rw (a.is, b.1) refl)
+one_lexing (comment h c) d = one_lexing c (after_comment h d)
+one_lexing (comment_goes_on h c) d = one_lexing c (in_comment h d)
+one_lexing (comment_end h c) d = one_lexing c (after_comment_end h d)
+one_lexing (no_token h i t) d = let a = at_no_token h i t d in (sym a.0, sym a.1)
+one_lexing never_closed d = let a = at_open_end d in (sym a.0, sym a.1)

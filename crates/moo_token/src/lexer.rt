@@ -1,22 +1,13 @@
 //! The tokens of a text.
-ghost use Rattle.std.specs.Prelude.{◌≡◌, ◌<◌, ◌≤◌, ◌++◌, ◌∷◌, [], length, drop, IsTrue, IfOk, OnOk, IfErr};
-ghost use Rattle.moo_token.specs.Lexing.{begins_blank, begins_comment, ends_comment, commented, IsTokens};
-ghost use Rattle.moo_token.specs.Passing.{place, Passes, Fails, HasNoTokens};
+ghost use Rattle.std.specs.Prelude.{◌≡◌, ◌<◌, ◌≤◌, ◌++◌, ◌∷◌, [], length, drop, IsTrue, IfOk, IfSome, MatchOption, OnOk, MatchBool};
+ghost use Rattle.moo_value.specs.Size.{IsString};
+ghost use Rattle.moo_token.specs.Lexing.{begins_blank, begins_comment, ends_comment, IsReading};
+ghost use Rattle.moo_token.specs.Passing.{place, Passes, Stops};
 
 use crate::scan::token_at;
-use crate::token::{FaultKind, LexFault, Spot, Token};
+use crate::token::{Spot, Token};
 use moo_value::MooStr;
 use std::alloc::{AllocError, Global};
-
-impl From<AllocError> for FaultKind {
-    ghost use Rattle.moo_token.specs.declared.token.FaultKind.TheVariants.{Memory};
-
-    ghost from_gives = { λ e f. f ≡ Memory };
-
-    fn from(_error: AllocError) -> FaultKind {
-        FaultKind::Memory
-    }
-}
 
 #[tactic(auto, unfolding(crate::specs::Lexing::begins_blank))]
 fn begins_blank(bytes: &[u8]) -> bool
@@ -50,90 +41,89 @@ fn ends_comment(bytes: &[u8]) -> bool
     }
 }
 
-/// Passes what stands at the front of a line's rest: a blank, a part of a comment or a token. Tells its length.
+/// Passes what stands at the front of a line's rest: a blank, a part of a comment or a token. Tells its length, or
+/// `None` where no token stands there, which ends the spots with `Bad`.
 fn pass(
     alloc: Global,
     number: usize,
     rest: &[u8],
     opened: &mut Option<usize>,
     spots: &mut Vec<Spot>,
-) -> Result<usize, FaultKind>
-    requires { 0 < length rest.now }
-    ensures fits { IfOk result (λ k. (0 < k) × (k ≤ length rest.now)) }
-    ensures passes { IfOk result (λ k. Passes number (place opened.old) rest.now spots.old.items (place opened.new) (drop k rest.now) spots.new.items) }
-    ensures bad { IfErr result (λ kind. kind ≡ FaultKind.BadToken → Fails number (place opened.old) rest.now spots.old.items) }
+) -> Result<Option<usize>, AllocError>
+    requires left { 0 < length rest.now }
+    requires string { IsString rest.now }
+    ensures fits { IfOk result (λ found. IfSome found (λ k. (0 < k) × (k ≤ length rest.now))) }
+    ensures reads { IfOk result (λ found. MatchOption found (Stops number (place opened.old) rest.now spots.old.items spots.new.items) (λ k. Passes number (place opened.old) rest.now spots.old.items (place opened.new) (drop k rest.now) spots.new.items)) }
 {
     if opened.is_some() {
         if !ends_comment(rest) {
-            return Ok(1);
+            return Ok(Some(1));
         }
         *opened = None;
-        return Ok(2);
+        return Ok(Some(2));
     }
     if begins_blank(rest) {
-        return Ok(1);
+        return Ok(Some(1));
     }
     if begins_comment(rest) {
         *opened = Some(number);
-        return Ok(2);
+        return Ok(Some(2));
     }
     let Some((token, length)) = token_at(alloc, rest)? else {
-        return Err(FaultKind::BadToken);
+        keep(spots, Token::Bad, number)?;
+        return Ok(None);
     };
     keep(spots, token, number)?;
-    Ok(length)
+    Ok(Some(length))
 }
 
-fn keep(spots: &mut Vec<Spot>, token: Token, line: usize) -> Result<(), FaultKind>
-    ensures kept { OnOk result (spots.new.items ≡ spots.old.items ++ record { token = token; line = line } ∷ []) }
-    ensures err { IfErr result (λ kind. kind ≡ FaultKind.Memory) }
+fn keep(spots: &mut Vec<Spot>, token: Token, line: usize) -> Result<(), AllocError>
+    ensures { OnOk result (spots.new.items ≡ spots.old.items ++ record { token = token; line = line } ∷ []) }
 {
     match spots.push(Spot { token, line }) {
         Ok(()) => Ok(()),
-        Err(_) => Err(FaultKind::Memory),
+        Err(_) => Err(AllocError),
     }
 }
 
-/// Passes a line.
+/// Passes a line, and tells whether it could be passed whole. If not, the spots end with `Bad`.
 fn pass_line(
     alloc: Global,
     number: usize,
     line: &[u8],
     opened: &mut Option<usize>,
     spots: &mut Vec<Spot>,
-) -> Result<(), FaultKind>
-    ensures passes { OnOk result (Passes number (place opened.old) line.now spots.old.items (place opened.new) [] spots.new.items) }
-    ensures bad { IfErr result (λ kind. kind ≡ FaultKind.BadToken → Fails number (place opened.old) line.now spots.old.items) }
+) -> Result<bool, AllocError>
+    requires { IsString line.now }
+    ensures { IfOk result (λ whole. MatchBool whole (Passes number (place opened.old) line.now spots.old.items (place opened.new) [] spots.new.items) (Stops number (place opened.old) line.now spots.old.items spots.new.items)) }
 {
     let mut rest = line;
     while !rest.is_empty() {
-        match pass(alloc, number, rest, opened, spots) {
-            Ok(length) => rest = &rest[length..],
-            Err(kind) => return Err(kind),
-        }
+        let Some(length) = pass(alloc, number, rest, opened, spots)? else {
+            return Ok(false);
+        };
+        rest = &rest[length..];
     }
-    Ok(())
+    Ok(true)
 }
 
-/// The tokens of the text of these lines.
-pub fn tokens(alloc: Global, lines: &[MooStr]) -> Result<Vec<Spot>, LexFault>
-    ensures tokens { IfOk result (λ spots. IsTokens lines.now spots.items) }
-    ensures bad { IfErr result (λ fault. fault.kind ≡ FaultKind.BadToken → HasNoTokens lines.now) }
+/// The tokens of the text of these lines, each with its line. Where the text has none, its tokens up to the first place
+/// where none stands, or up to a comment that is never closed, and there `Bad` as the last.
+pub fn tokens(alloc: Global, lines: &[MooStr]) -> Result<Vec<Spot>, AllocError>
+    ensures { IfOk result (λ spots. IsReading lines.now spots.items) }
 {
     let mut spots = Vec::new(alloc);
     let mut opened = None;
     let mut number = 0;
     for line in lines {
         number += 1;
-        if let Err(kind) = pass_line(alloc, number, line.as_bytes(), &mut opened, &mut spots) {
-            return Err(LexFault { line: number, kind });
+        if !pass_line(alloc, number, line.as_bytes(), &mut opened, &mut spots)? {
+            return Ok(spots);
         }
     }
-    if let Some(line) = opened {
-        return Err(LexFault {
-            line,
-            kind: FaultKind::BadToken,
-        });
-    }
+    let Some(line) = opened else {
+        return Ok(spots);
+    };
+    keep(&mut spots, Token::Bad, line)?;
     Ok(spots)
 }

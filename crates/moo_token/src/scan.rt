@@ -1,12 +1,13 @@
 //! The token at the front of bytes.
 ghost use Rattle.std.specs.Prelude.{◌≡◌, ◌<◌, ◌≤◌, ◌+◌, length, false, IfOk, IfSome};
 ghost use Rattle.std.specs.List.{prefix_len};
+ghost use Rattle.moo_value.specs.Size.{IsString};
 ghost use Rattle.moo_token.specs.Tokens.{begins_name, is_digit, continues_name, word, wrapped, begins_fraction, integer_at, number_at, object_at, unquoted, token_at};
 
 use crate::keyword::{Keyword, error_of};
 use crate::sign::sign_at;
 use crate::token::Token;
-use moo_value::MooStr;
+use moo_value::{MooStr, ValueFault};
 use std::alloc::{AllocError, Global};
 
 fn begins_name(b: u8) -> bool
@@ -102,20 +103,33 @@ fn number_at(bytes: &[u8]) -> Option<(i32, usize)>
     Some((wrapped(&bytes[..length]), length))
 }
 
+/// The string of bytes that are part of a string.
 fn copied(alloc: Global, bytes: &[u8]) -> Result<MooStr, AllocError>
+    requires { IsString bytes.now }
     ensures { IfOk result (λ s. s ≡ bytes.now) }
 {
-    MooStr::try_from_bytes(alloc, bytes).map_err(|_| AllocError)
+    match MooStr::try_from_bytes(alloc, bytes) {
+        Ok(string) => Ok(string),
+        Err(ValueFault::Memory) => Err(AllocError),
+        Err(ValueFault::BadByte | ValueFault::TooHeavy) => unreachable!(),
+    }
 }
 
-fn shared(alloc: Global, bytes: Vec<u8>) -> Result<MooStr, AllocError>
+/// The same of bytes that need no copy.
+fn owned(alloc: Global, bytes: Vec<u8>) -> Result<MooStr, AllocError>
+    requires { IsString bytes.items }
     ensures { IfOk result (λ s. s ≡ bytes.items) }
 {
-    MooStr::try_from_vec(alloc, bytes).map_err(|_| AllocError)
+    match MooStr::try_from_vec(alloc, bytes) {
+        Ok(string) => Ok(string),
+        Err(ValueFault::Memory) => Err(AllocError),
+        Err(ValueFault::BadByte | ValueFault::TooHeavy) => unreachable!(),
+    }
 }
 
 /// The token that a word is.
 fn word(alloc: Global, bytes: &[u8]) -> Result<Token, AllocError>
+    requires { IsString bytes.now }
     ensures { IfOk result (λ t. t ≡ word bytes.now) }
 {
     if let Some(keyword) = Keyword::of(bytes) {
@@ -129,6 +143,7 @@ fn word(alloc: Global, bytes: &[u8]) -> Result<Token, AllocError>
 
 /// The string behind its opening quote, and the number of bytes up to and with its closing quote.
 fn unquoted(alloc: Global, bytes: &[u8]) -> Result<Option<(MooStr, usize)>, AllocError>
+    requires { IsString bytes.now }
     ensures is { IfOk result (λ found. found ≡ unquoted false bytes.now) }
     ensures fits { IfOk result (λ found. IfSome found (λ s. s.1 ≤ length bytes.now)) }
 {
@@ -142,7 +157,7 @@ fn unquoted(alloc: Global, bytes: &[u8]) -> Result<Option<(MooStr, usize)>, Allo
             text.push(byte)?;
             taken = false;
         } else if byte == b'"' {
-            return Ok(Some((shared(alloc, text)?, index)));
+            return Ok(Some((owned(alloc, text)?, index)));
         } else if byte == b'\\' {
             taken = true;
         } else {
@@ -155,6 +170,7 @@ fn unquoted(alloc: Global, bytes: &[u8]) -> Result<Option<(MooStr, usize)>, Allo
 /// The token at the front, and its length.
 #[tactic(auto, unfolding(crate::specs::Tokens::token_at))]
 pub fn token_at(alloc: Global, bytes: &[u8]) -> Result<Option<(Token, usize)>, AllocError>
+    requires { IsString bytes.now }
     ensures is { IfOk result (λ found. found ≡ token_at bytes.now) }
     ensures fits { IfOk result (λ found. IfSome found (λ t. (0 < t.1) × (t.1 ≤ length bytes.now))) }
 {

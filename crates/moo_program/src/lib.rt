@@ -3,7 +3,9 @@
 
 mod limits;
 pub mod operator;
+mod program;
 mod tree;
 
 pub use limits::{MOST_BRACKETS, MOST_NODES};
+pub use program::Program;
 pub use tree::{Expr, Item, Literal, Stmt};

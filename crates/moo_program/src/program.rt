@@ -1,0 +1,58 @@
+//! Programs.
+ghost use Rattle.std.specs.Prelude.{◌≡◌, IfOk};
+ghost use Rattle.moo_program.specs.View.{block};
+ghost use Rattle.moo_program.specs.Limits.{IsWithinLimits};
+
+use crate::tree::Stmt;
+use std::alloc::{AllocError, Global};
+use std::marker::Model;
+use std::rc::Rc;
+
+/// A program within the limits, which doesn't change. A clone shares its statements.
+#[derive(Drop)]
+pub struct Program {
+    statements: Rc<Vec<Stmt>>,
+}
+
+impl Model for Program {
+    ghost use Rattle.std.specs.Coded.{codes};
+    ghost use Rattle.moo_program.specs.Tree.{Block};
+    ghost use Rattle.moo_program.specs.Code.{block_code};
+    ghost use Rattle.moo_program.specs.View.{block};
+    ghost use Rattle.moo_program.specs.Limits.{IsWithinLimits};
+
+    ghost Value = { Block };
+
+    ghost coded = { block_code (Prim.hlevel codes) };
+
+    ghost view = { λ p. block p.statements.value.items };
+
+    ghost invariant = { λ p. IsWithinLimits (block p.statements.value.items) };
+}
+
+impl Program {
+    /// The program of these statements, which the caller has found to be within the limits.
+    pub fn try_new(alloc: Global, statements: Vec<Stmt>) -> Result<Program, AllocError>
+        requires { IsWithinLimits (block statements.items) }
+        ensures { IfOk result (λ p. p ≡ block statements.items) }
+    {
+        let statements = Rc::new(alloc, statements)?;
+        Ok(Program { statements })
+    }
+
+    /// The same program, with its statements shared.
+    pub fn try_clone(&self) -> Result<Program, AllocError>
+        ensures { IfOk result (λ p. p ≡ self.now) }
+    {
+        let statements = self.statements.clone()?;
+        Ok(Program { statements })
+    }
+
+    /// The statements, one after another.
+    pub fn statements(&self) -> &[Stmt]
+        ensures statements { block result.now ≡ self.now }
+        ensures limits { IsWithinLimits self.now }
+    {
+        self.statements.as_slice()
+    }
+}

@@ -126,7 +126,7 @@ forest_relinked nodes x to f node place apart =
 
 -- the steps of the code
 
-above_with : (nodes : List Links) (i : ℕ) (links : Links) (y : ℕ) → links.above ≡ above_of nodes i → above_of (set nodes i links) y ≡ above_of nodes y
+pub above_with : (nodes : List Links) (i : ℕ) (links : Links) (y : ℕ) → links.above ≡ above_of nodes i → above_of (set nodes i links) y ≡ above_of nodes y
 above_with nodes i links y same =
     ⊎_elim
     (λ e. ⊎_elim
@@ -139,7 +139,7 @@ above_with nodes i links y same =
     (λ ne. ap (λ n. n.above) (get_or-set_other nodes i y links alone ne))
     (cases_eq y i)
 
-below_with : (nodes : List Links) (i : ℕ) (links : Links) (y : ℕ) → i < length nodes → below_of (set nodes i links) y ≡ cond (eqb y i) links.below (below_of nodes y)
+pub below_with : (nodes : List Links) (i : ℕ) (links : Links) (y : ℕ) → i < length nodes → below_of (set nodes i links) y ≡ cond (eqb y i) links.below (below_of nodes y)
 below_with nodes i links y h =
     ⊎_elim
     (λ e. let same = eqb-true y i e in
@@ -152,7 +152,7 @@ pub length_newest : (nodes : List Links) (x : ℕ) (to : Option ℕ) → length 
 length_newest nodes x None = refl
 length_newest nodes x (Some up) = length-set nodes up _
 
-length_taken_out : (nodes : List Links) (x : ℕ) (from : Option ℕ) → length (with_taken_out nodes x from) ≡ length nodes
+pub length_taken_out : (nodes : List Links) (x : ℕ) (from : Option ℕ) → length (with_taken_out nodes x from) ≡ length nodes
 length_taken_out nodes x None = refl
 length_taken_out nodes x (Some up) = length-set nodes up _
 
@@ -160,7 +160,7 @@ above_newest : (nodes : List Links) (x : ℕ) (to : Option ℕ) (y : ℕ) → ab
 above_newest nodes x None y = refl
 above_newest nodes x (Some up) y = above_with nodes up _ y refl
 
-above_taken_out : (nodes : List Links) (x : ℕ) (from : Option ℕ) (y : ℕ) → above_of (with_taken_out nodes x from) y ≡ above_of nodes y
+pub above_taken_out : (nodes : List Links) (x : ℕ) (from : Option ℕ) (y : ℕ) → above_of (with_taken_out nodes x from) y ≡ above_of nodes y
 above_taken_out nodes x None y = refl
 above_taken_out nodes x (Some up) y = above_with nodes up _ y refl
 
@@ -174,7 +174,7 @@ below_newest nodes x (Some up) y place =
     (cases_Bool (eqb y up))
 
 -- x stands in no list but that of the node above it
-absent_elsewhere : (nodes : List Links) (x y : ℕ) → IsExact nodes → times_below (above_of nodes x) y ≡ 0 → without x (below_of nodes y) ≡ below_of nodes y
+pub absent_elsewhere : (nodes : List Links) (x y : ℕ) → IsExact nodes → times_below (above_of nodes x) y ≡ 0 → without x (below_of nodes y) ≡ below_of nodes y
 absent_elsewhere nodes x y exact none = without_absent x (below_of nodes y) (exact y x ∙ none)
 
 -- after both steps each list is as the move has it
@@ -197,14 +197,14 @@ below_steps nodes x to (Some q) y exact place out is ne =
     rw e (below_newest nodes x to y place ∙ ap (λ xs. xs ++ newest_at to x y) (sym absent)))
     (cases_Bool (eqb y q))
 
-joined : Option ℕ → List ℕ → Links
+pub joined : Option ℕ → List ℕ → Links
 joined a b = record { above = a; below = b }
 
-links_same : (a b : Links) → a.above ≡ b.above → a.below ≡ b.below → a ≡ b
+pub links_same : (a b : Links) → a.above ≡ b.above → a.below ≡ b.below → a ≡ b
 unfolding joined
 links_same a b p q = ap (λ u. joined u a.below) p ∙ ap (λ v. joined b.above v) q
 
-above_set : (nodes : List Links) (i : ℕ) (links : Links) (y : ℕ) → i < length nodes → above_of (set nodes i links) y ≡ cond (eqb y i) links.above (above_of nodes y)
+pub above_set : (nodes : List Links) (i : ℕ) (links : Links) (y : ℕ) → i < length nodes → above_of (set nodes i links) y ≡ cond (eqb y i) links.above (above_of nodes y)
 above_set nodes i links y h =
     ⊎_elim
     (λ e. let same = eqb-true y i e in

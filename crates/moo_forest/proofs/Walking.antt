@@ -103,7 +103,7 @@ module _ (nodes : List Links) (f : IsForest nodes) (x i : ℕ) (walk : List Step
       let same = flip_eqb y x in
       omega (arith, c, up, part, rest, more, same)
 
-none_counted : (x : ℕ) (ys : List ℕ) → list_any (eqb x) ys ≡ false → count_by (eqb x) ys ≡ 0
+pub none_counted : (x : ℕ) (ys : List ℕ) → list_any (eqb x) ys ≡ false → count_by (eqb x) ys ≡ 0
 none_counted x ys none = ⊎_elim (λ h. absurd (false≢true (sym none ∙ counted_if_any x ys h))) (λ h. omega arith) (cases_lt 0 (count_by (eqb x) ys))
 
 once_more : (nodes : List Links) (x y : ℕ) (ys : List ℕ) → IsWayUp nodes y ys → count_by (eqb x) ys ≡ cond (list_any (eqb x) ys) 1 0 → count_by (eqb x) (y ∷ ys) ≡ cond (list_any (eqb x) (y ∷ ys)) 1 0
@@ -151,7 +151,7 @@ seldom_distinct (y ∷ ys) few =
     let none : count_by (eqb y) ys ≡ 0 = omega (arith, more, one, here) in
     (absent y ys none, seldom_distinct ys (λ z. let step = count-cons z y ys in let whole = few z in omega (arith, step, whole)))
 
-any_counted : (x : ℕ) (ys : List ℕ) → list_any (eqb x) ys ≡ true → 0 < count_by (eqb x) ys
+pub any_counted : (x : ℕ) (ys : List ℕ) → list_any (eqb x) ys ≡ true → 0 < count_by (eqb x) ys
 any_counted x [] h = absurd (false≢true h)
 any_counted x (y ∷ ys) h =
     let more = count-cons x y ys in

@@ -7,6 +7,7 @@ ghost use Rattle.std.specs.Option.{ForSome};
 ghost use Rattle.moo_forest.specs.Forest.{Links, alone, above_of, below_of, is_within, moved, IsForest};
 ghost use Rattle.moo_forest.specs.Steps.{with_newest, with_taken_out};
 
+mod dissolve;
 mod node;
 mod walk;
 

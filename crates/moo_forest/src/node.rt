@@ -55,6 +55,23 @@ impl Node {
         Ok(())
     }
 
+    /// Adds several, in their order.
+    pub fn add_all_below(&mut self, xs: &[usize]) -> Result<(), AllocError>
+        ensures ok { OnOk result (self.new ≡ record self.old { below = self.old.below ++ xs.now }) }
+        ensures err { OnErr result (self.new ≡ self.old) }
+    {
+        self.below.extend_from_slice(xs)?;
+        Ok(())
+    }
+
+    /// Joins the node to none.
+    pub fn leave_all(&mut self)
+        ensures { self.new ≡ alone }
+    {
+        self.above = None;
+        self.below.clear();
+    }
+
     pub fn remove_below(&mut self, x: usize)
         ensures { self.new ≡ record self.old { below = without x self.old.below } }
     {

@@ -1,0 +1,58 @@
+//! A node taken out of its forest, and those right below it given to another.
+
+ghost use Rattle.std.specs.Prelude.{◌≡◌, ◌<◌, OnOk, OnErr, length, vec_len, false};
+ghost use Rattle.std.specs.Option.{ForSome};
+ghost use Rattle.std.specs.List.{All};
+ghost use Rattle.moo_forest.specs.Forest.{is_within, dissolved};
+ghost use Rattle.moo_forest.specs.Steps.{with_all_newest, with_all_joined};
+
+use crate::node::Node;
+use crate::{Forest, take_out};
+use std::alloc::{AllocError, Global};
+
+impl Forest {
+    /// Joins a node to none. Those right below it go to the heir, last in its list and in their
+    /// order, or where there is no heir to none.
+    pub fn dissolve(
+        &mut self,
+        alloc: Global,
+        x: usize,
+        heir: Option<usize>,
+    ) -> Result<(), AllocError>
+        requires node { x < length self.old }
+        requires place { ForSome heir (λ up. up < length self.old) }
+        requires apart { ForSome heir (λ up. is_within self.old up x ≡ false) }
+        ensures ok { OnOk result (self.new ≡ dissolved self.old x heir) }
+        ensures err { OnErr result (self.new ≡ self.old) }
+    {
+        let from = self.nodes[x].above();
+        let below = Vec::from_slice(alloc, self.nodes[x].below())?;
+        put_all_below(&mut self.nodes, &below, heir)?;
+        join_all(&mut self.nodes, &below, heir);
+        take_out(&mut self.nodes, x, from);
+        self.nodes[x].leave_all();
+        Ok(())
+    }
+}
+
+// Puts nodes last in the list of another.
+fn put_all_below(nodes: &mut Vec<Node>, xs: &[usize], to: Option<usize>) -> Result<(), AllocError>
+    requires { ForSome to (λ up. up < vec_len nodes.old) }
+    ensures ok { OnOk result (nodes.new.items ≡ with_all_newest nodes.old.items xs.now to) }
+    ensures err { OnErr result (nodes.new.items ≡ nodes.old.items) }
+{
+    if let Some(up) = to {
+        nodes[up].add_all_below(xs)?;
+    }
+    Ok(())
+}
+
+// Puts another node right above each of these.
+fn join_all(nodes: &mut Vec<Node>, xs: &[usize], to: Option<usize>)
+    requires { All (λ x. x < vec_len nodes.old) xs.now }
+    ensures { nodes.new.items ≡ with_all_joined nodes.old.items xs.now to }
+{
+    for x in xs {
+        nodes[*x].set_above(to);
+    }
+}

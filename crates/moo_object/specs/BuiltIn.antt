@@ -1,0 +1,15 @@
+-- The built-in properties and their names.
+use Rattle.std.specs.Prelude.{ℕ, List, codes}
+use Rattle.moo_object.specs.declared.built_in_property.BuiltInProperty.{BuiltInProperty}
+use Rattle.moo_object.specs.declared.built_in_property.BuiltInProperty.TheVariants as property
+
+abbrev pub built_in_name : BuiltInProperty → List ℕ
+built_in_name property.Name = codes "name"
+built_in_name property.Owner = codes "owner"
+built_in_name property.Location = codes "location"
+built_in_name property.Contents = codes "contents"
+built_in_name property.Programmer = codes "programmer"
+built_in_name property.Wizard = codes "wizard"
+built_in_name property.Read = codes "r"
+built_in_name property.Write = codes "w"
+built_in_name property.Fertile = codes "f"

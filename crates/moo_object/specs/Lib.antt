@@ -1,0 +1,5 @@
+pub mod Names
+pub mod Cells
+pub mod Flags
+pub mod BuiltIn
+pub mod Objects

@@ -1,0 +1,182 @@
+// The cells of properties.
+ghost use Rattle.std.specs.Prelude.{◌≡◌, IfOk, None, Some};
+ghost use Rattle.std.specs.Option.{option_copied, option_map};
+ghost use Rattle.moo_value.specs.Compare.{folded};
+ghost use Rattle.moo_value.specs.View.{tree};
+ghost use Rattle.moo_object.specs.Cells.{is_key, is_named, key_of, cleared, own_cell, emptied, with_info, renamed};
+
+use crate::name::same_name;
+use moo_value::{MooStr, Value};
+use std::alloc::AllocError;
+use std::marker::Model;
+
+/// Who may do what with a property, beside its owner and wizards: read it, write it, and own the cells of new
+/// descendants.
+#[derive(Clone, Copy, Debug, PartialEq, Eq)]
+pub struct PropPerms {
+    pub read: bool,
+    pub write: bool,
+    pub change_owner: bool,
+}
+
+/// The cell that an object has for a definition: clear, or with a value.
+#[derive(Drop)]
+pub struct PropCell {
+    definer: usize,
+    name: MooStr,
+    owner: i32,
+    perms: PropPerms,
+    value: Option<Value>,
+}
+
+impl Model for PropCell {
+    ghost use Rattle.moo_object.specs.Cells.{Cell};
+    ghost use Rattle.std.specs.Option.{option_map};
+    ghost use Rattle.moo_value.specs.Compare.{folded};
+    ghost use Rattle.moo_value.specs.View.{tree};
+    ghost use Rattle.std.specs.Coded.{codes};
+    ghost use Rattle.moo_value.specs.TreeCode.{tree_code};
+
+    ghost Value = { Cell };
+
+    ghost coded = { Prim.hlevel (codes, tree_code) };
+
+    ghost view = { λ c. record {
+      definer = c.definer;
+      name = folded c.name;
+      owner = c.owner;
+      perms = c.perms;
+      value = option_map tree c.value;
+    } };
+}
+
+impl PropCell {
+    /// The cell of an object's own definition.
+    pub fn defined(
+        definer: usize,
+        name: MooStr,
+        value: Value,
+        owner: i32,
+        perms: PropPerms,
+    ) -> PropCell
+        ensures { result ≡ own_cell definer (folded name) (tree value) owner perms }
+    {
+        PropCell {
+            definer,
+            name,
+            owner,
+            perms,
+            value: Some(value),
+        }
+    }
+
+    /// The number of the object that has the definition.
+    pub fn definer(&self) -> usize
+        ensures { result ≡ self.now.definer }
+    {
+        self.definer
+    }
+
+    /// Whether this is the cell for a definition.
+    pub fn is_for(&self, definer: usize, name: &[u8]) -> bool
+        ensures { result ≡ is_key (definer, folded name.now) self.now }
+    {
+        self.definer == definer && same_name(self.name.as_bytes(), name)
+    }
+
+    /// Whether this is the cell of a name.
+    pub fn is_named(&self, name: &[u8]) -> bool
+        ensures { result ≡ is_named (folded name.now) self.now }
+    {
+        same_name(self.name.as_bytes(), name)
+    }
+
+    /// Whether this and another are cells for the same definition.
+    pub fn has_key_of(&self, other: &PropCell) -> bool
+        ensures { result ≡ is_key (key_of other.now) self.now }
+    {
+        self.is_for(other.definer, other.name.as_bytes())
+    }
+
+    pub fn owner(&self) -> i32
+        ensures { result ≡ self.now.owner }
+    {
+        self.owner
+    }
+
+    pub fn perms(&self) -> PropPerms
+        ensures { result ≡ self.now.perms }
+    {
+        self.perms
+    }
+
+    /// The value, if the cell is not clear.
+    pub fn value(&self) -> Option<&Value>
+        ensures { option_map tree (option_copied result) ≡ self.now.value }
+    {
+        self.value.as_ref()
+    }
+
+    /// The clear cell that a new descendant with this owner gets from its parent's cell.
+    pub fn cleared(&self, owner: i32) -> Result<PropCell, AllocError>
+        ensures { IfOk result (λ c. c ≡ cleared owner self.now) }
+    {
+        Ok(PropCell {
+            definer: self.definer,
+            name: self.name.try_clone()?,
+            owner: if self.perms.change_owner {
+                owner
+            } else {
+                self.owner
+            },
+            perms: self.perms,
+            value: None,
+        })
+    }
+
+    /// The same cell. A string or a list in it is shared.
+    pub fn try_clone(&self) -> Result<PropCell, AllocError>
+        ensures { IfOk result (λ c. c ≡ self.now) }
+    {
+        let value = match &self.value {
+            Some(value) => Some(value.try_clone()?),
+            None => None,
+        };
+        Ok(PropCell {
+            definer: self.definer,
+            name: self.name.try_clone()?,
+            owner: self.owner,
+            perms: self.perms,
+            value,
+        })
+    }
+
+    /// Gives the cell a value.
+    pub fn set_value(&mut self, value: Value)
+        ensures { self.new ≡ record self.old { value = Some (tree value) } }
+    {
+        self.value = Some(value);
+    }
+
+    /// Takes the value away.
+    pub fn clear(&mut self)
+        ensures { self.new ≡ emptied self.old }
+    {
+        self.value = None;
+    }
+
+    /// Gives the cell another owner and other permissions.
+    pub fn set_info(&mut self, owner: i32, perms: PropPerms)
+        ensures { self.new ≡ with_info owner perms self.old }
+    {
+        self.owner = owner;
+        self.perms = perms;
+    }
+
+    /// Gives the cell another name.
+    pub fn set_name(&mut self, name: MooStr)
+        ensures { self.new ≡ renamed (folded name) self.old }
+    {
+        self.name = name;
+    }
+}

@@ -1,0 +1,90 @@
+// The flags of an object.
+ghost use Rattle.std.specs.Prelude.{◌≡◌, ◌≤◌, ◌+◌, ◌*◌};
+ghost use Rattle.moo_object.specs.Flags.{bit, flags_number, no_flags};
+
+/// The flags of an object. The two obsolete ones mean nothing, and are kept.
+#[derive(Clone, Copy, Debug, PartialEq, Eq)]
+pub struct Flags {
+    pub player: bool,
+    pub programmer: bool,
+    pub wizard: bool,
+    pub obsolete_8: bool,
+    pub read: bool,
+    pub write: bool,
+    pub obsolete_64: bool,
+    pub fertile: bool,
+}
+
+impl Flags {
+    /// No flag set.
+    pub fn none() -> Flags
+        ensures { result ≡ no_flags }
+    {
+        Flags {
+            player: false,
+            programmer: false,
+            wizard: false,
+            obsolete_8: false,
+            read: false,
+            write: false,
+            obsolete_64: false,
+            fertile: false,
+        }
+    }
+
+    /// The flags as bits: 1 player, 2 programmer, 4 wizard, 16 read, 32 write, 128 fertile, and 8 and 64 obsolete.
+    pub fn number(self) -> u8
+        ensures { result ≡ flags_number self }
+    {
+        let low = bit(self.player, 1)
+            + bit(self.programmer, 2)
+            + bit(self.wizard, 4)
+            + bit(self.obsolete_8, 8);
+        low + bit(self.read, 16)
+            + bit(self.write, 32)
+            + bit(self.obsolete_64, 64)
+            + bit(self.fertile, 128)
+    }
+
+    /// The flags that have this number.
+    pub fn from_number(number: u8) -> Flags
+        ensures { flags_number result ≡ number }
+    {
+        let mut bits = number;
+        let player = take_bit(&mut bits);
+        let programmer = take_bit(&mut bits);
+        let wizard = take_bit(&mut bits);
+        let obsolete_8 = take_bit(&mut bits);
+        let read = take_bit(&mut bits);
+        let write = take_bit(&mut bits);
+        let obsolete_64 = take_bit(&mut bits);
+        let fertile = take_bit(&mut bits);
+        Flags {
+            player,
+            programmer,
+            wizard,
+            obsolete_8,
+            read,
+            write,
+            obsolete_64,
+            fertile,
+        }
+    }
+}
+
+/// What a bit adds to a number.
+pub(crate) fn bit(is_set: bool, weight: u8) -> u8
+    ensures value { result ≡ bit is_set weight }
+    ensures bound { result ≤ weight }
+{
+    if is_set { weight } else { 0 }
+}
+
+/// Takes the lowest bit off.
+pub(crate) fn take_bit(bits: &mut u8) -> bool
+    ensures { bits.old ≡ bit result 1 + 2 * bits.new }
+{
+    let is_set = *bits % 2 == 1;
+    *bits /= 2;
+    is_set
+}

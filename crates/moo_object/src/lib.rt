@@ -1,0 +1,18 @@
+//! One object of the world by itself, and the names that go with it.
+#![tactic(auto)]
+
+mod built_in_property;
+mod cell;
+mod flags;
+mod name;
+mod object;
+mod row;
+mod verb;
+
+pub use built_in_property::{BuiltInProperty, built_in};
+pub use cell::{PropCell, PropPerms};
+pub use flags::Flags;
+pub use name::same_name;
+pub use object::Object;
+pub use row::{Row, cell_at, cell_named, cell_with_key_of};
+pub use verb::{ObjectSpecifier, Preposition, PrepositionSpecifier, Verb, VerbArgs, VerbPerms};

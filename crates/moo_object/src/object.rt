@@ -1,0 +1,268 @@
+// An object by itself.
+ghost use Rattle.std.specs.Prelude.{◌≡◌, IfOk, None, Some, ◌++◌, ◌==◌, filter, [], ◌∷◌, ◌-◌, take, length, OnOk, OnErr, not, map};
+ghost use Rattle.std.specs.List.{list_any};
+ghost use Rattle.moo_value.specs.Compare.{folded};
+ghost use Rattle.moo_value.specs.View.{tree};
+ghost use Rattle.moo_object.specs.Names.{same_name};
+ghost use Rattle.moo_object.specs.Flags.{no_flags};
+ghost use Rattle.moo_object.specs.Cells.{Cell, is_key, cleared, key_of, with_value, at_key, emptied, with_info};
+ghost use Rattle.moo_object.specs.Objects.{fitted_cell, fitted_row};
+
+use crate::cell::{PropCell, PropPerms};
+use crate::flags::Flags;
+use crate::name::same_name;
+use crate::row::{Row, cell_with_key_of};
+use crate::verb::Verb;
+use moo_value::{MooStr, Value};
+use std::alloc::{AllocError, Global};
+use std::marker::Model;
+
+/// An object, but for what it is joined to: its parent, its place, its children and its contents.
+#[derive(Drop)]
+pub struct Object {
+    name: MooStr,
+    owner: i32,
+    flags: Flags,
+    verbs: Vec<Verb>,
+    defined: Vec<MooStr>,
+    cells: Row,
+}
+
+impl Model for Object {
+    ghost use Rattle.moo_object.specs.Objects.{Object as Contents};
+    ghost use Rattle.std.specs.Coded.{codes};
+    ghost use Rattle.moo_value.specs.TreeCode.{tree_code};
+
+    ghost Value = { Contents };
+
+    ghost coded = { Prim.hlevel (codes, tree_code) };
+
+    ghost view = { λ o. record {
+      name = o.name;
+      owner = o.owner;
+      flags = o.flags;
+      verbs = o.verbs.items;
+      defined = o.defined.items;
+      cells = o.cells;
+    } };
+}
+
+impl Object {
+    /// An object without verbs, definitions and cells.
+    pub fn new(alloc: Global, name: MooStr, owner: i32, flags: Flags) -> Object
+        ensures { result ≡ record { name = name; owner = owner; flags = flags; verbs = []; defined = []; cells = [] } }
+    {
+        Object {
+            name,
+            owner,
+            flags,
+            verbs: Vec::new(alloc),
+            defined: Vec::new(alloc),
+            cells: Row::new(alloc),
+        }
+    }
+
+    /// A new object under a parent with these cells: it has an empty name and no flags, and its cells are clear.
+    pub fn child(alloc: Global, owner: i32, above: &[PropCell]) -> Result<Object, AllocError>
+        ensures { IfOk result (λ o. o ≡ record { name = []; owner = owner; flags = no_flags; verbs = []; defined = []; cells = map (cleared owner) above.now }) }
+    {
+        let mut cells = Vec::new(alloc);
+        for cell in above {
+            cells.push(cell.cleared(owner)?)?;
+        }
+        Ok(Object {
+            name: empty_name(alloc)?,
+            owner,
+            flags: Flags::none(),
+            verbs: Vec::new(alloc),
+            defined: Vec::new(alloc),
+            cells: Row::from_cells(cells),
+        })
+    }
+
+    pub fn name(&self) -> &MooStr
+        ensures { result.now ≡ self.now.name }
+    {
+        &self.name
+    }
+
+    pub fn owner(&self) -> i32
+        ensures { result ≡ self.now.owner }
+    {
+        self.owner
+    }
+
+    pub fn flags(&self) -> Flags
+        ensures { result ≡ self.now.flags }
+    {
+        self.flags
+    }
+
+    /// The names of the object's own definitions, in order, as they are spelled.
+    pub fn defined(&self) -> &[MooStr]
+        ensures { result.now ≡ self.now.defined }
+    {
+        &self.defined
+    }
+
+    /// The cells, in the order of definitions.
+    pub fn cells(&self) -> &[PropCell]
+        ensures { result.now ≡ self.now.cells }
+    {
+        self.cells.as_slice()
+    }
+
+    /// The verbs, in order.
+    pub fn verbs(&self) -> &[Verb]
+        ensures { result.now ≡ self.now.verbs }
+    {
+        &self.verbs
+    }
+
+    pub fn set_name(&mut self, name: MooStr)
+        ensures { self.new ≡ record self.old { name = name } }
+    {
+        self.name = name;
+    }
+
+    pub fn set_owner(&mut self, owner: i32)
+        ensures { self.new ≡ record self.old { owner = owner } }
+    {
+        self.owner = owner;
+    }
+
+    pub fn set_flags(&mut self, flags: Flags)
+        ensures { self.new ≡ record self.old { flags = flags } }
+    {
+        self.flags = flags;
+    }
+
+    /// Gives the object other cells.
+    pub fn set_cells(&mut self, cells: Row)
+        ensures { self.new ≡ record self.old { cells = cells } }
+    {
+        self.cells = cells;
+    }
+
+    /// The cell for what a definition's cell on the parent is for: the one there is, or a clear one.
+    pub fn fitted_cell(&self, above: &PropCell) -> Result<PropCell, AllocError>
+        ensures { IfOk result (λ c. c ≡ fitted_cell self.now above.now) }
+    {
+        match cell_with_key_of(self.cells.as_slice(), above) {
+            Some(cell) => cell.try_clone(),
+            None => above.cleared(self.owner),
+        }
+    }
+
+    /// The cells under a parent with these cells, for the object of this number.
+    pub fn fitted_row(
+        &self,
+        alloc: Global,
+        number: usize,
+        above: &[PropCell],
+    ) -> Result<Row, AllocError>
+        ensures { IfOk result (λ row. row ≡ fitted_row number self.now above.now) }
+    {
+        let mut row = Vec::new(alloc);
+        for cell in self.cells.as_slice() {
+            if cell.definer() == number {
+                row.push(cell.try_clone()?)?;
+            }
+        }
+        for cell in above {
+            row.push(self.fitted_cell(cell)?)?;
+        }
+        Ok(Row::from_cells(row))
+    }
+
+    /// Sets the value of the cell of a name.
+    pub fn set_value(&mut self, name: &[u8], value: Value)
+        ensures { self.new ≡ record self.old { cells = with_value (folded name.now) (tree value) self.old.cells } }
+    {
+        self.cells.set_value(name, value);
+    }
+
+    /// Makes the cell for a definition clear.
+    pub fn clear_value(&mut self, definer: usize, name: &[u8])
+        ensures { self.new ≡ record self.old { cells = map (at_key (definer, folded name.now) emptied) self.old.cells } }
+    {
+        self.cells.clear(definer, name);
+    }
+
+    /// Gives the cell for a definition another owner and other permissions.
+    pub fn set_cell_info(&mut self, definer: usize, name: &[u8], owner: i32, perms: PropPerms)
+        ensures { self.new ≡ record self.old { cells = map (at_key (definer, folded name.now) (with_info owner perms)) self.old.cells } }
+    {
+        self.cells.set_info(definer, name, owner, perms);
+    }
+
+    /// Adds a definition with its cell, each behind the others.
+    pub fn define(&mut self, name: MooStr, cell: PropCell) -> Result<(), AllocError>
+        ensures ok { OnOk result (self.new ≡ record self.old { defined = self.old.defined ++ name ∷ []; cells = self.old.cells ++ cell ∷ [] }) }
+        ensures err { OnErr result (self.new ≡ self.old) }
+    {
+        self.defined.push(name)?;
+        if let Err(fault) = self.cells.push(cell) {
+            let _name = self.defined.pop();
+            return Err(fault);
+        }
+        Ok(())
+    }
+
+    /// Takes the last definition and the last cell away.
+    pub fn undefine(&mut self)
+        ensures { self.new ≡ record self.old { defined = take (length self.old.defined - 1) self.old.defined; cells = take (length self.old.cells - 1) self.old.cells } }
+    {
+        let _name = self.defined.pop();
+        self.cells.pop();
+    }
+
+    /// Whether the object itself defines a property of this name.
+    pub fn defines(&self, name: &[u8]) -> bool
+        ensures { result ≡ list_any (λ n. same_name (folded name.now) (folded n)) self.now.defined }
+    {
+        defines_name(&self.defined, name)
+    }
+
+    /// Takes the object's cell for a definition away.
+    pub fn lose(&mut self, definer: usize, name: &[u8])
+        ensures { self.new ≡ record self.old { cells = filter (λ c. not (is_key (definer, folded name.now) c)) self.old.cells } }
+    {
+        self.cells.lose(definer, name);
+    }
+
+    /// Takes the object's cells for all definitions of an object away.
+    pub fn lose_all_of(&mut self, definer: usize)
+        ensures { self.new ≡ record self.old { cells = filter (λ c. not (c.definer == definer)) self.old.cells } }
+    {
+        self.cells.lose_all_of(definer);
+    }
+
+    /// Takes a name out of those that the object defines.
+    pub fn forget(&mut self, name: &[u8])
+        ensures { self.new ≡ record self.old { defined = filter (λ n. not (same_name (folded name.now) (folded n))) self.old.defined } }
+    {
+        forget_name(&mut self.defined, name);
+    }
+}
+
+fn defines_name(defined: &[MooStr], name: &[u8]) -> bool
+    ensures { result ≡ list_any (λ n. same_name (folded name.now) (folded n)) defined.now }
+{
+    defined
+        .iter()
+        .any(|other| same_name(name, other.as_bytes()))
+}
+
+fn forget_name(names: &mut Vec<MooStr>, name: &[u8])
+    ensures { names.new.items ≡ filter (λ n. not (same_name (folded name.now) (folded n))) names.old.items }
+{
+    names.retain(|other| !same_name(name, other.as_bytes()));
+}
+
+/// The name of a new object.
+fn empty_name(alloc: Global) -> Result<MooStr, AllocError>
+    ensures { IfOk result (λ name. name ≡ []) }
+{
+    MooStr::try_from_bytes(alloc, b"").map_err(|_| AllocError)
+}

@@ -1,0 +1,186 @@
+// The cells of an object.
+ghost use Rattle.std.specs.Prelude.{◌≡◌, [], ◌∷◌, ◌++◌, ◌-◌, ◌==◌, OnOk, OnErr, take, length, filter, map, not};
+ghost use Rattle.std.specs.Option.{option_copied};
+ghost use Rattle.moo_value.specs.Compare.{folded};
+ghost use Rattle.moo_value.specs.View.{tree};
+ghost use Rattle.moo_object.specs.Cells.{Cell, with_value, is_key, key_of, cell_at, cell_named, at_key, emptied, with_info};
+
+use crate::cell::{PropCell, PropPerms};
+use moo_value::Value;
+use std::alloc::{AllocError, Global};
+use std::marker::Model;
+
+/// The cells of an object, in the order of definitions: its own, then its parent's, and so on.
+#[derive(Drop)]
+pub struct Row {
+    cells: Vec<PropCell>,
+}
+
+impl Model for Row {
+    ghost use Rattle.std.specs.Prelude.{List};
+    ghost use Rattle.moo_object.specs.Cells.{Cell};
+    ghost use Rattle.std.specs.Coded.{codes};
+    ghost use Rattle.moo_value.specs.TreeCode.{tree_code};
+
+    ghost Value = { List Cell };
+
+    ghost coded = { Prim.hlevel (codes, tree_code) };
+
+    ghost view = { λ r. r.cells.items };
+}
+
+impl Row {
+    pub fn new(alloc: Global) -> Self
+        ensures { result ≡ [] }
+    {
+        Row {
+            cells: Vec::new(alloc),
+        }
+    }
+
+    pub fn from_cells(cells: Vec<PropCell>) -> Self
+        ensures { result ≡ cells.items }
+    {
+        Row { cells }
+    }
+
+    pub fn as_slice(&self) -> &[PropCell]
+        ensures { result.now ≡ self.now }
+    {
+        &self.cells
+    }
+
+    /// Adds a cell behind the others.
+    pub fn push(&mut self, cell: PropCell) -> Result<(), AllocError>
+        ensures ok { OnOk result (self.new ≡ self.old ++ cell ∷ []) }
+        ensures err { OnErr result (self.new ≡ self.old) }
+    {
+        self.cells.push(cell)?;
+        Ok(())
+    }
+
+    /// Takes the last cell away.
+    pub fn pop(&mut self)
+        ensures { self.new ≡ take (length self.old - 1) self.old }
+    {
+        let _cell = self.cells.pop();
+    }
+
+    /// Takes the cell for a definition away.
+    pub fn lose(&mut self, definer: usize, name: &[u8])
+        ensures { self.new ≡ filter (λ c. not (is_key (definer, folded name.now) c)) self.old }
+    {
+        lose_cell(&mut self.cells, definer, name);
+    }
+
+    /// Takes the cells for all definitions of an object away.
+    pub fn lose_all_of(&mut self, definer: usize)
+        ensures { self.new ≡ filter (λ c. not (c.definer == definer)) self.old }
+    {
+        lose_cells_of(&mut self.cells, definer);
+    }
+
+    /// Sets the value of the cell of a name.
+    pub fn set_value(&mut self, name: &[u8], value: Value)
+        ensures { self.new ≡ with_value (folded name.now) (tree value) self.old }
+    {
+        set_named(&mut self.cells, name, value);
+    }
+
+    /// Makes the cell for a definition clear.
+    pub fn clear(&mut self, definer: usize, name: &[u8])
+        ensures { self.new ≡ map (at_key (definer, folded name.now) emptied) self.old }
+    {
+        clear_cell(&mut self.cells, definer, name);
+    }
+
+    /// Gives the cell for a definition another owner and other permissions.
+    pub fn set_info(&mut self, definer: usize, name: &[u8], owner: i32, perms: PropPerms)
+        ensures { self.new ≡ map (at_key (definer, folded name.now) (with_info owner perms)) self.old }
+    {
+        set_cell_info(&mut self.cells, definer, name, owner, perms);
+    }
+}
+
+/// The cell for a definition.
+pub fn cell_at<'a>(cells: &'a [PropCell], definer: usize, name: &[u8]) -> Option<&'a PropCell>
+    ensures { option_copied result ≡ cell_at cells.now (definer, folded name.now) }
+{
+    cells.iter().find(|cell| cell.is_for(definer, name))
+}
+
+/// The cell for the definition that another cell is for.
+pub fn cell_with_key_of<'a>(cells: &'a [PropCell], other: &PropCell) -> Option<&'a PropCell>
+    ensures { option_copied result ≡ cell_at cells.now (key_of other.now) }
+{
+    cells.iter().find(|cell| cell.has_key_of(other))
+}
+
+/// The cell of a name.
+pub fn cell_named<'a>(cells: &'a [PropCell], name: &[u8]) -> Option<&'a PropCell>
+    ensures { option_copied result ≡ cell_named cells.now (folded name.now) }
+{
+    cells.iter().find(|cell| cell.is_named(name))
+}
+
+// Sets the value of the first cell that has the name.
+fn set_named(cells: &mut Vec<PropCell>, name: &[u8], value: Value)
+    ensures { cells.new.items ≡ with_value (folded name.now) (tree value) cells.old.items }
+{
+    for i in 0..cells.len() {
+        if cells[i].is_named(name) {
+            cells[i].set_value(value);
+            return;
+        }
+    }
+}
+
+fn lose_cell(cells: &mut Vec<PropCell>, definer: usize, name: &[u8])
+    ensures { cells.new.items ≡ filter (λ c. not (is_key (definer, folded name.now) c)) cells.old.items }
+{
+    cells.retain(|cell| !cell.is_for(definer, name));
+}
+
+fn lose_cells_of(cells: &mut Vec<PropCell>, definer: usize)
+    ensures { cells.new.items ≡ filter (λ c. not (c.definer == definer)) cells.old.items }
+{
+    cells.retain(|cell| cell.definer() != definer);
+}
+
+fn clear_cell(cells: &mut Vec<PropCell>, definer: usize, name: &[u8])
+    ensures { cells.new.items ≡ map (at_key (definer, folded name.now) emptied) cells.old.items }
+{
+    for i in 0..cells.len() {
+        clear_if_for(&mut cells[i], definer, name);
+    }
+}
+
+fn clear_if_for(cell: &mut PropCell, definer: usize, name: &[u8])
+    ensures { cell.new ≡ at_key (definer, folded name.now) emptied cell.old }
+{
+    if cell.is_for(definer, name) {
+        cell.clear();
+    }
+}
+
+fn set_cell_info(
+    cells: &mut Vec<PropCell>,
+    definer: usize,
+    name: &[u8],
+    owner: i32,
+    perms: PropPerms,
+)
+    ensures { cells.new.items ≡ map (at_key (definer, folded name.now) (with_info owner perms)) cells.old.items }
+{
+    for i in 0..cells.len() {
+        set_info_if_for(&mut cells[i], definer, name, owner, perms);
+    }
+}
+
+fn set_info_if_for(cell: &mut PropCell, definer: usize, name: &[u8], owner: i32, perms: PropPerms)
+    ensures { cell.new ≡ at_key (definer, folded name.now) (with_info owner perms) cell.old }
+{
+    if cell.is_for(definer, name) {
+        cell.set_info(owner, perms);
+    }
+}

@@ -1,7 +1,9 @@
 //! What holds of the tokens of every text.
-ghost use Rattle.std.specs.Prelude.{◌≡◌, ℕ, List};
+ghost use Rattle.std.specs.Prelude.{◌≡◌, ◌⊎◌, ◌++◌, ◌∷◌, [], ℕ, List, All, take};
 ghost use Rattle.moo_token.specs.declared.token.Spot.{Spot};
-ghost use Rattle.moo_token.specs.Lexing.{IsTokens, IsReading};
+ghost use Rattle.moo_token.specs.declared.token.Token.TheVariants.{Bad};
+ghost use Rattle.moo_token.specs.Lexing.{IsTokens, IsBroken, IsReading, HasNoTokens};
+ghost use Rattle.moo_token.specs.Reading.{IsSound, EndsInBad, IsOnLine};
 
 /// A text has at most one list of tokens.
 pub fn one_token_list()
@@ -11,4 +13,29 @@ pub fn one_token_list()
 /// And a reader finds one list of spots in it.
 pub fn one_reading()
     ensures { (lines : List (List ℕ)) (ts us : List Spot) → IsReading lines ts → IsReading lines us → ts ≡ us }
+{}
+
+/// A reader finds the tokens of a text, none of them bad; or the text has none, and only the last spot is bad.
+pub fn tokens_or_bad()
+    ensures { (lines : List (List ℕ)) (spots : List Spot) → IsReading lines spots → (IsTokens lines spots × All IsSound spots) ⊎ (HasNoTokens lines × EndsInBad spots) }
+{}
+
+/// A bad token is the last, and the text has no tokens.
+pub fn bad_is_last()
+    ensures { (lines : List (List ℕ)) (before after : List Spot) (s : Spot) → IsReading lines (before ++ s ∷ after) → s.token ≡ Bad → (after ≡ []) × HasNoTokens lines }
+{}
+
+/// Two texts with the same lines up to that of a token have the same tokens up to it, whatever stands below.
+pub fn same_lines_same_tokens()
+    ensures { (lines others : List (List ℕ)) (before after us : List Spot) (s : Spot) → IsReading lines (before ++ s ∷ after) → IsSound s → take s.line others ≡ take s.line lines → IsReading others us → (rest : List Spot) × (us ≡ before ++ s ∷ rest) }
+{}
+
+/// A text with the same lines up to one where no token stands at some place has no tokens either, but the same spots.
+pub fn same_lines_same_fault()
+    ensures { (lines others : List (List ℕ)) (before : List Spot) (n : ℕ) → IsBroken lines (before ++ record { token = Bad; line = n } ∷ []) → take n others ≡ take n lines → IsBroken others (before ++ record { token = Bad; line = n } ∷ []) }
+{}
+
+/// Spots stand on lines of the text.
+pub fn lines_within()
+    ensures { (lines : List (List ℕ)) (spots : List Spot) → IsReading lines spots → All (IsOnLine lines) spots }
 {}

@@ -8,7 +8,7 @@ loop-rest-init c = (stays _ _ _ _, c.requires)
 pub loop-rest-preserved : goal.loop-rest-preserved
 loop-rest-preserved c = (
   goes_rest _ _ c.loop-rest.invariant.0 (rw c.in-Some.is at c.in_ok-length.ensures.reads),
-  string_of_rest _ _ c.loop-rest.invariant.1
+  string_of_rest _ _ c.loop-rest.invariant.1,
 )
 
 pub returns-in_default : goal.returns-in_default

@@ -8,7 +8,7 @@ loop-index-init c = (begins _ _ c.new-text.ensures.items, keeps_none _ c.new-tex
 pub loop-index-preserved-then-taken : goal.loop-index-preserved-then-taken
 loop-index-preserved-then-taken c = (
   takes _ _ _ _ _ c.loop-index-test.true c.if-taken.true c.in_ok-push.ensures.items c.loop-index.invariant.0,
-  keeps _ _ _ _ c.requires c.loop-index-test.true c.in_ok-push.ensures.items c.loop-index.invariant.1
+  keeps _ _ _ _ c.requires c.loop-index-test.true c.in_ok-push.ensures.items c.loop-index.invariant.1,
 )
 
 pub owned-requires : goal.owned-requires
@@ -20,13 +20,13 @@ returns-then-byte-eq34-clause-is c = closes _ _ _ _ _ c.loop-index-test.true c.i
 pub loop-index-preserved-then-byte-eq92 : goal.loop-index-preserved-then-byte-eq92
 loop-index-preserved-then-byte-eq92 c = (
   escapes _ _ _ _ c.loop-index-test.true c.if-taken.false c.if-byte-eq34.false c.if-byte-eq92.true c.loop-index.invariant.0,
-  keeps_on _ _ c.loop-index.invariant.1
+  keeps_on _ _ c.loop-index.invariant.1,
 )
 
 pub loop-index-preserved : goal.loop-index-preserved
 loop-index-preserved c = (
   puts _ _ _ _ _ c.loop-index-test.true c.if-taken.false c.if-byte-eq34.false c.if-byte-eq92.false c.in_ok-push-2.ensures.items c.loop-index.invariant.0,
-  keeps _ _ _ _ c.requires c.loop-index-test.true c.in_ok-push-2.ensures.items c.loop-index.invariant.1
+  keeps _ _ _ _ c.requires c.loop-index-test.true c.in_ok-push-2.ensures.items c.loop-index.invariant.1,
 )
 
 pub returns-clause-is : goal.returns-clause-is

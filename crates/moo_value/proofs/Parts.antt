@@ -6,24 +6,24 @@ use Rattle.moo_value.specs.Tree.{Tree, list_of}
 use Rattle.moo_value.specs.Size.{list_weight, list_depth, IsWithinLimits}
 use Rattle.moo_value.specs.View.{tree, trees}
 
-list_weight-take : (k : ℕ) (ts : List Tree) → list_weight (take k ts) ≤ list_weight ts
+pub list_weight-take : (k : ℕ) (ts : List Tree) → list_weight (take k ts) ≤ list_weight ts
 list_weight-take zero [] = omega arith
 list_weight-take zero (t ∷ ts) = omega arith
 list_weight-take (suc k) [] = omega arith
 list_weight-take (suc k) (t ∷ ts) = omega (arith, list_weight-take k ts)
 
-list_weight-drop : (k : ℕ) (ts : List Tree) → list_weight (drop k ts) ≤ list_weight ts
+pub list_weight-drop : (k : ℕ) (ts : List Tree) → list_weight (drop k ts) ≤ list_weight ts
 list_weight-drop zero ts = omega arith
 list_weight-drop (suc k) [] = omega arith
 list_weight-drop (suc k) (t ∷ ts) = omega (arith, list_weight-drop k ts)
 
-list_depth-take : (k : ℕ) (ts : List Tree) → list_depth (take k ts) ≤ list_depth ts
+pub list_depth-take : (k : ℕ) (ts : List Tree) → list_depth (take k ts) ≤ list_depth ts
 list_depth-take zero [] = omega arith
 list_depth-take zero (t ∷ ts) = omega arith
 list_depth-take (suc k) [] = omega arith
 list_depth-take (suc k) (t ∷ ts) = omega (arith, list_depth-take k ts)
 
-list_depth-drop : (k : ℕ) (ts : List Tree) → list_depth (drop k ts) ≤ list_depth ts
+pub list_depth-drop : (k : ℕ) (ts : List Tree) → list_depth (drop k ts) ≤ list_depth ts
 list_depth-drop zero ts = omega arith
 list_depth-drop (suc k) [] = omega arith
 list_depth-drop (suc k) (t ∷ ts) = omega (arith, list_depth-drop k ts)

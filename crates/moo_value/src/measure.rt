@@ -1,0 +1,83 @@
+// The weight and the depth of the list of some values.
+ghost use Rattle.std.specs.Prelude.{◌≡◌, ◌≤◌, ◌+◌, ◌++◌, IfSome, IfNone};
+ghost use Rattle.moo_value.specs.Tree.{list_of};
+ghost use Rattle.moo_value.specs.Size.{list_weight, list_depth, IsWithinLimits, IsStored, weight_limit, depth_limit};
+ghost use Rattle.moo_value.specs.Inner.{IsMeasuredList};
+ghost use Rattle.moo_value.specs.View.{trees};
+
+use crate::limits::{DEPTH_LIMIT, WEIGHT_LIMIT};
+use crate::value::Value;
+
+/// The weight and the depth of a list.
+#[derive(Clone, Copy)]
+pub(crate) struct Measure {
+    pub(crate) weight: u32,
+    pub(crate) depth: u32,
+}
+
+// `None` where the list of these values is too heavy or too deep.
+pub(crate) fn measured(elements: &[Value]) -> Option<Measure>
+    ensures some { IfSome result (λ m. IsMeasuredList m.weight m.depth (trees elements.now)) }
+    ensures none { IfNone result (¬ IsWithinLimits (list_of (trees elements.now))) }
+{
+    let mut weight: u32 = 1;
+    for element in elements {
+        weight += element.weight();
+        if weight > WEIGHT_LIMIT {
+            return None;
+        }
+    }
+    let depth = list_depth(elements);
+    if depth > DEPTH_LIMIT {
+        return None;
+    }
+    Some(Measure { weight, depth })
+}
+
+// How deep the list of these values is.
+pub(crate) fn list_depth(elements: &[Value]) -> u32
+    ensures depth { result ≡ list_depth (trees elements.now) }
+    ensures limit { result ≤ 1 + depth_limit }
+{
+    let mut depth: u32 = 1;
+    for element in elements {
+        depth = depth.max(element.depth() + 1);
+    }
+    depth
+}
+
+// `None` where the list of these values in a row is too heavy. It is never too deep.
+pub(crate) fn measured_in_a_row(
+    front: &[Value],
+    middle: &[Value],
+    back: &[Value],
+) -> Option<Measure>
+    requires front { IsStored (list_of (trees front.now)) }
+    requires middle { IsStored (list_of (trees middle.now)) }
+    requires back { IsStored (list_of (trees back.now)) }
+    ensures some { IfSome result (λ m. IsMeasuredList m.weight m.depth (trees front.now ++ trees middle.now ++ trees back.now)) }
+    ensures none { IfNone result (¬ IsWithinLimits (list_of (trees front.now ++ trees middle.now ++ trees back.now))) }
+{
+    let weight = list_weight(front) + list_weight(middle) + list_weight(back) - 2;
+    if weight > WEIGHT_LIMIT {
+        return None;
+    }
+    let depth = list_depth(front)
+        .max(list_depth(middle))
+        .max(list_depth(back));
+    Some(Measure { weight, depth })
+}
+
+// What the list of these values weighs.
+fn list_weight(elements: &[Value]) -> u32
+    requires { IsStored (list_of (trees elements.now)) }
+    ensures weight { result ≡ list_weight (trees elements.now) }
+    ensures limit { result ≤ weight_limit }
+    ensures one { 1 ≤ result }
+{
+    let mut total: u32 = 1;
+    for element in elements {
+        total += element.weight();
+    }
+    total
+}

@@ -1,0 +1,3 @@
+pub mod Wrapping
+pub mod Equality
+pub mod Lists

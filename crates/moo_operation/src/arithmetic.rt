@@ -1,0 +1,95 @@
+//! Arithmetic on integers, modulo 2^32.
+ghost use Rattle.std.specs.Prelude.{◌≡◌, ◌+ℤ◌, ◌-ℤ◌, ◌*ℤ◌, neg_ℤ};
+ghost use Rattle.std.specs.Int.{int_wrap, w32};
+ghost use Rattle.moo_operation.specs.Answer.{Gives};
+ghost use Rattle.moo_operation.specs.Arithmetic.{quotient, remainder, power, inverse_power};
+
+use crate::fault::OperationFault;
+use moo_value::{ErrorCode, Value};
+
+/// `-a`.
+pub fn negated(a: i32) -> i32
+    ensures { result ≡ int_wrap w32 (neg_ℤ a) }
+{
+    a.wrapping_neg()
+}
+
+/// `a + b`.
+pub fn sum(a: i32, b: i32) -> i32
+    ensures { result ≡ int_wrap w32 (a +ℤ b) }
+{
+    a.wrapping_add(b)
+}
+
+/// `a - b`.
+pub fn difference(a: i32, b: i32) -> i32
+    ensures { result ≡ int_wrap w32 (a -ℤ b) }
+{
+    a.wrapping_sub(b)
+}
+
+/// `a * b`.
+pub fn product(a: i32, b: i32) -> i32
+    ensures { result ≡ int_wrap w32 (a *ℤ b) }
+{
+    a.wrapping_mul(b)
+}
+
+/// `a / b`, truncated towards zero. The least integer by -1 gives itself.
+pub fn quotient(a: i32, b: i32) -> Result<Value, OperationFault>
+    ensures { Gives result (quotient a b) }
+{
+    if b == 0 {
+        return Err(OperationFault::Raise(ErrorCode::Division));
+    }
+    Ok(Value::Int(wrapped_quotient(a, b)))
+}
+
+/// `a % b`, which has the sign of `a`.
+pub fn remainder(a: i32, b: i32) -> Result<Value, OperationFault>
+    ensures { Gives result (remainder a b) }
+{
+    if b == 0 {
+        return Err(OperationFault::Raise(ErrorCode::Division));
+    }
+    Ok(Value::Int(a.wrapping_rem(b)))
+}
+
+/// `a ^ b`.
+pub fn power(a: i32, b: i32) -> Result<Value, OperationFault>
+    ensures { Gives result (power a b) }
+{
+    if b < 0 {
+        return inverse_power(a, b.unsigned_abs());
+    }
+    Ok(Value::Int(wrapped_power(a, b as u32)))
+}
+
+// `a` to the power -n.
+fn inverse_power(a: i32, n: u32) -> Result<Value, OperationFault>
+    ensures { Gives result (inverse_power a n) }
+{
+    match a {
+        0 => Err(OperationFault::Raise(ErrorCode::Division)),
+        1 => Ok(Value::Int(1)),
+        -1 if n % 2 == 0 => Ok(Value::Int(1)),
+        -1 => Ok(Value::Int(-1)),
+        _ => Ok(Value::Int(0)),
+    }
+}
+
+ghost use Rattle.std.specs.Prelude.{int_div};
+ghost use Rattle.std.specs.Int.{int_pow, IsNonZero};
+
+fn wrapped_quotient(a: i32, b: i32) -> i32
+    requires { IsNonZero w32 b }
+    ensures { result ≡ int_wrap w32 (int_div a b) }
+{
+    a.wrapping_div(b)
+}
+
+fn wrapped_power(a: i32, n: u32) -> i32
+    ensures { result ≡ int_wrap w32 (int_pow a n) }
+{
+    a.wrapping_pow(n)
+}

@@ -1,0 +1,73 @@
+//! Truth, equality, order, and the place of an element.
+ghost use Rattle.std.specs.Prelude.{◌≡◌, ◌<◌, length, position, Some, None, IfOk, IfErr, IfSome};
+ghost use Rattle.moo_value.specs.View.{tree};
+ghost use Rattle.moo_value.specs.Compare.{order};
+ghost use Rattle.moo_operation.specs.Answer.{Gives};
+ghost use Rattle.moo_operation.specs.Truth.{is_true, is_decided, equal, truth_value};
+ghost use Rattle.moo_operation.specs.Comparison.{place_in};
+
+use crate::fault::{OperationFault, TYPE_MISMATCH};
+use crate::made::number_of;
+use moo_program::operator::LogicOperator;
+use moo_value::Value;
+use std::cmp::Ordering;
+
+/// Whether a value counts as true.
+pub fn is_true(value: &Value) -> bool
+    ensures { result ≡ is_true (tree value.now) }
+{
+    value.is_true()
+}
+
+/// Whether the first operand decides, so that it is the operator's value and the second operand is not evaluated.
+pub fn is_decided(operator: LogicOperator, first: &Value) -> bool
+    ensures { result ≡ is_decided operator (tree first.now) }
+{
+    match operator {
+        LogicOperator::And => !is_true(first),
+        LogicOperator::Or => is_true(first),
+    }
+}
+
+/// Whether two values are equal as `==` has it, letters folded.
+pub fn is_equal(a: &Value, b: &Value) -> bool
+    ensures { result ≡ equal (tree a.now) (tree b.now) }
+{
+    moo_value::equal(a, b)
+}
+
+/// 1 or 0.
+pub(crate) fn truth_value(test: bool) -> Value
+    ensures { tree result ≡ truth_value test }
+{
+    Value::Int(i32::from(test))
+}
+
+/// How two values are ordered; values without an order raise E_TYPE.
+pub(crate) fn ordering(a: &Value, b: &Value) -> Result<Ordering, OperationFault>
+    ensures ok { IfOk result (λ o. order (tree a.now) (tree b.now) ≡ Some o) }
+    ensures no_memory { IfErr result (λ fault. fault ≡ TYPE_MISMATCH) }
+    ensures err { IfErr result (λ _. order (tree a.now) (tree b.now) ≡ None) }
+{
+    moo_value::order(a, b).ok_or(TYPE_MISMATCH)
+}
+
+/// The first place of an equal element, 0 for none.
+pub(crate) fn place_in(value: &Value, list: &Value) -> Result<Value, OperationFault>
+    ensures { Gives result (place_in (tree value.now) (tree list.now)) }
+{
+    let Value::List(list) = list else {
+        return Err(TYPE_MISMATCH);
+    };
+    match position(value, list.elements()) {
+        Some(index) => Ok(number_of(index + 1)),
+        None => Ok(Value::Int(0)),
+    }
+}
+
+fn position(value: &Value, elements: &[Value]) -> Option<usize>
+    ensures value { result ≡ position (λ v. equal (tree value.now) (tree v)) elements.now }
+    ensures bound { IfSome result (λ k. k < length elements.now) }
+{
+    elements.iter().position(|element| is_equal(value, element))
+}

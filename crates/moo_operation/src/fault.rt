@@ -1,0 +1,14 @@
+//! Why an operation gives no value.
+
+use moo_value::ErrorCode;
+
+/// Why an operation gives no value.
+#[derive(Clone, Copy, Debug, PartialEq, Eq)]
+pub enum OperationFault {
+    /// The operation raises this error.
+    Raise(ErrorCode),
+    /// Memory for the value was refused.
+    Memory,
+}
+
+pub(crate) const TYPE_MISMATCH: OperationFault = OperationFault::Raise(ErrorCode::TypeMismatch);

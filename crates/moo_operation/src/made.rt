@@ -1,0 +1,49 @@
+//! Values that are made, within the limits of weight and depth.
+ghost use Rattle.std.specs.Prelude.{◌≡◌, ◌≤◌, pos, Ok};
+ghost use Rattle.moo_value.specs.Tree.{integer};
+ghost use Rattle.moo_value.specs.Size.{weight_limit};
+ghost use Rattle.moo_value.specs.View.{tree, trees};
+ghost use Rattle.moo_operation.specs.Answer.{Gives};
+ghost use Rattle.moo_operation.specs.Places.{made_list};
+
+use crate::fault::OperationFault;
+use moo_value::{ErrorCode, ListFault, MooList, Value};
+use std::alloc::{AllocError, Global};
+
+/// The list of these values.
+pub fn list(alloc: Global, values: Vec<Value>) -> Result<Value, OperationFault>
+    ensures { Gives result (made_list (trees values.items)) }
+{
+    match MooList::try_from_vec(alloc, values) {
+        Ok(list) => Ok(Value::List(list)),
+        Err(ListFault::TooLarge) => Err(OperationFault::Raise(ErrorCode::Quota)),
+        Err(ListFault::Memory) => Err(OperationFault::Memory),
+    }
+}
+
+/// A count of bytes or elements of a value.
+pub(crate) fn number_of(count: usize) -> Value
+    requires { count ≤ weight_limit }
+    ensures { tree result ≡ integer (pos count) }
+{
+    Value::Int(count as i32)
+}
+
+/// The same value. Memory is wanting only for a string or a list.
+pub(crate) fn shared(value: &Value) -> Result<Value, OperationFault>
+    ensures { Gives result (Ok (tree value.now)) }
+{
+    match value {
+        Value::Int(number) => Ok(Value::Int(*number)),
+        Value::Obj(number) => Ok(Value::Obj(*number)),
+        Value::Err(error) => Ok(Value::Err(*error)),
+        Value::Str(string) => match string.try_clone() {
+            Ok(string) => Ok(Value::Str(string)),
+            Err(AllocError) => Err(OperationFault::Memory),
+        },
+        Value::List(list) => match list.try_clone() {
+            Ok(list) => Ok(Value::List(list)),
+            Err(AllocError) => Err(OperationFault::Memory),
+        },
+    }
+}

@@ -1,2 +1,5 @@
 pub mod Names
 mod Rows
+mod Fitting
+mod Patterns
+mod Verbs

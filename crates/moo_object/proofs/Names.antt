@@ -1,6 +1,5 @@
 -- The test of two names is equality.
-use Rattle.std.proofs.Common.{inl, inr, ◌≡◌, ℕ, List, Bool, true, false, map, sym, ◌∙◌, ap, rules, IsTrue}
-use Rattle.std.specs.Bool.{Decides}
+use Rattle.std.proofs.Common.{inl, inr, ◌≡◌, ℕ, List, Bool, true, false, sym, ◌∙◌, rules, IsTrue}
 use Rattle.std.proofs.lemmas.Bool.{cases_Bool, false≢true}
 use Rattle.std.proofs.lemmas.Slice.Eq.{bytes_eq-Decides}
 use Rattle.moo_value.specs.Compare.{folded}

@@ -1,5 +1,5 @@
 -- The cells of properties.
-use Rattle.std.specs.Prelude.{ℕ, ℤ, List, [], ◌∷◌, Option, Some, None, Bool, ◌&&◌, ◌==◌, if◌then◌else◌, map}
+use Rattle.std.specs.Prelude.{ℕ, ℤ, List, [], ◌∷◌, Option, Some, None, Bool, ◌&&◌, ◌==◌, if◌then◌else◌}
 use Rattle.std.specs.List.{find}
 use Rattle.moo_value.specs.Tree.{Tree}
 use Rattle.moo_object.specs.declared.cell.PropPerms.{PropPerms}

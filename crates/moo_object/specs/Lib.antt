@@ -2,4 +2,6 @@ pub mod Names
 pub mod Cells
 pub mod Flags
 pub mod BuiltIn
+pub mod Patterns
+pub mod Verbs
 pub mod Objects

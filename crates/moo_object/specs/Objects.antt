@@ -1,5 +1,5 @@
 -- An object by itself, and its cells under a parent.
-use Rattle.std.specs.Prelude.{ℕ, ◌==◌, ℤ, List, [], ◌++◌, Option, map, filter}
+use Rattle.std.specs.Prelude.{ℕ, ◌==◌, ℤ, List, ◌++◌, map, filter}
 use Rattle.std.specs.Option.{unwrap_or}
 use Rattle.moo_object.specs.declared.flags.Flags.{Flags}
 use Rattle.moo_object.specs.declared.verb.Verb.{Verb}

@@ -4,8 +4,10 @@
 mod built_in_property;
 mod cell;
 mod flags;
+pub mod laws;
 mod name;
 mod object;
+mod pattern;
 mod row;
 mod verb;
 
@@ -14,5 +16,8 @@ pub use cell::{PropCell, PropPerms};
 pub use flags::Flags;
 pub use name::same_name;
 pub use object::Object;
+pub use pattern::{fits, fits_names, has_word};
 pub use row::{Row, cell_at, cell_named, cell_with_key_of};
-pub use verb::{ObjectSpecifier, Preposition, PrepositionSpecifier, Verb, VerbArgs, VerbPerms};
+pub use verb::{
+    Need, ObjectSpecifier, Preposition, PrepositionSpecifier, Verb, VerbArgs, VerbPerms,
+};

@@ -1,6 +1,9 @@
 // An object by itself.
 ghost use Rattle.std.specs.Prelude.{◌≡◌, IfOk, None, Some, ◌++◌, ◌==◌, filter, [], ◌∷◌, ◌-◌, take, length, OnOk, OnErr, not, map};
-ghost use Rattle.std.specs.List.{list_any};
+ghost use Rattle.std.specs.Prelude.{◌<◌, slice_get, position};
+ghost use Rattle.std.specs.Option.{option_copied};
+ghost use Rattle.std.specs.List.{list_any, remove};
+ghost use Rattle.moo_object.specs.Verbs.{fits_verb, changed_at, with_verb_info, with_args, with_program};
 ghost use Rattle.moo_value.specs.Compare.{folded};
 ghost use Rattle.moo_value.specs.View.{tree};
 ghost use Rattle.moo_object.specs.Names.{same_name};
@@ -12,7 +15,8 @@ use crate::cell::{PropCell, PropPerms};
 use crate::flags::Flags;
 use crate::name::same_name;
 use crate::row::{Row, cell_with_key_of};
-use crate::verb::Verb;
+use crate::verb::{Need, Verb, VerbArgs, VerbPerms};
+use moo_program::Program;
 use moo_value::{MooStr, Value};
 use std::alloc::{AllocError, Global};
 use std::marker::Model;
@@ -32,10 +36,11 @@ impl Model for Object {
     ghost use Rattle.moo_object.specs.Objects.{Object as Contents};
     ghost use Rattle.std.specs.Coded.{codes};
     ghost use Rattle.moo_value.specs.TreeCode.{tree_code};
+    ghost use Rattle.moo_program.specs.Code.{block_code};
 
     ghost Value = { Contents };
 
-    ghost coded = { Prim.hlevel (codes, tree_code) };
+    ghost coded = { Prim.hlevel (codes, tree_code, block_code (Prim.hlevel codes)) };
 
     ghost view = { λ o. record {
       name = o.name;
@@ -117,6 +122,61 @@ impl Object {
         ensures { result.now ≡ self.now.verbs }
     {
         &self.verbs
+    }
+
+    /// The verb at a place, which counts from 0.
+    pub fn verb(&self, index: usize) -> Option<&Verb>
+        ensures { option_copied result ≡ slice_get self.now.verbs index }
+    {
+        self.verbs.get(index)
+    }
+
+    /// The place of the first verb that a name fits. For a call only verbs that can be executed count.
+    pub fn verb_position(&self, need: Need, name: &[u8]) -> Option<usize>
+        ensures { result ≡ position (fits_verb need name.now) self.now.verbs }
+    {
+        self.verbs.iter().position(|verb| verb.fits(need, name))
+    }
+
+    /// Adds a verb behind the others.
+    pub fn add_verb(&mut self, verb: Verb) -> Result<(), AllocError>
+        ensures ok { OnOk result (self.new ≡ record self.old { verbs = self.old.verbs ++ verb ∷ [] }) }
+        ensures err { OnErr result (self.new ≡ self.old) }
+    {
+        self.verbs.push(verb)?;
+        Ok(())
+    }
+
+    /// Takes the verb at a place away.
+    pub fn delete_verb(&mut self, index: usize)
+        requires { index < length self.old.verbs }
+        ensures { self.new ≡ record self.old { verbs = remove self.old.verbs index } }
+    {
+        let _verb = self.verbs.remove(index);
+    }
+
+    /// Gives the verb at a place other names, another owner and other permissions.
+    pub fn set_verb_info(&mut self, index: usize, names: MooStr, owner: i32, perms: VerbPerms)
+        requires { index < length self.old.verbs }
+        ensures { self.new ≡ record self.old { verbs = changed_at index (with_verb_info names owner perms) self.old.verbs } }
+    {
+        change_info(&mut self.verbs, index, names, owner, perms);
+    }
+
+    /// Says for which commands the verb at a place is.
+    pub fn set_verb_args(&mut self, index: usize, args: VerbArgs)
+        requires { index < length self.old.verbs }
+        ensures { self.new ≡ record self.old { verbs = changed_at index (with_args args) self.old.verbs } }
+    {
+        change_args(&mut self.verbs, index, args);
+    }
+
+    /// Gives the verb at a place another program, or none.
+    pub fn set_program(&mut self, index: usize, program: Option<Program>)
+        requires { index < length self.old.verbs }
+        ensures { self.new ≡ record self.old { verbs = changed_at index (with_program program) self.old.verbs } }
+    {
+        change_program(&mut self.verbs, index, program);
     }
 
     pub fn set_name(&mut self, name: MooStr)
@@ -265,4 +325,25 @@ fn empty_name(alloc: Global) -> Result<MooStr, AllocError>
     ensures { IfOk result (λ name. name ≡ []) }
 {
     MooStr::try_from_bytes(alloc, b"").map_err(|_| AllocError)
+}
+
+fn change_info(verbs: &mut Vec<Verb>, index: usize, names: MooStr, owner: i32, perms: VerbPerms)
+    requires { index < length verbs.old.items }
+    ensures { verbs.new.items ≡ changed_at index (with_verb_info names owner perms) verbs.old.items }
+{
+    verbs[index].set_info(names, owner, perms);
+}
+
+fn change_args(verbs: &mut Vec<Verb>, index: usize, args: VerbArgs)
+    requires { index < length verbs.old.items }
+    ensures { verbs.new.items ≡ changed_at index (with_args args) verbs.old.items }
+{
+    verbs[index].set_args(args);
+}
+
+fn change_program(verbs: &mut Vec<Verb>, index: usize, program: Option<Program>)
+    requires { index < length verbs.old.items }
+    ensures { verbs.new.items ≡ changed_at index (with_program program) verbs.old.items }
+{
+    verbs[index].set_program(program);
 }

@@ -1,8 +1,7 @@
 -- What a reader of a text finds: all of it, and what it says of texts that begin with the same lines.
-use Rattle.std.proofs.Common.{ℕ, suc, List, [], ◌∷◌, ◌++◌, ◌≡◌, ◌≢◌, ◌+◌, ◌-◌, ◌≤◌, ◌⊎◌, inl, inr, refl, sym, ◌∙◌, ap, subst, Some, take, length, arith}
+use Rattle.std.proofs.Common.{ℕ, suc, List, [], ◌∷◌, ◌++◌, ◌≡◌, ◌+◌, ◌-◌, ◌≤◌, ◌⊎◌, inl, inr, refl, sym, ◌∙◌, ap, subst, take, length, arith}
 use Rattle.std.specs.Prelude.{All}
 use Rattle.std.proofs.lemmas.List.Elements.{All-nil, All-cons, All-head, All-tail, All-weaker}
-use Rattle.moo_token.specs.declared.token.Token.{Token}
 use Rattle.moo_token.specs.declared.token.Token.TheVariants.{Bad}
 use Rattle.moo_token.specs.declared.token.Spot.{Spot}
 use Rattle.moo_token.specs.Lexing.{Ending, complete, broken, unclosed, Place, outside, commented, Lexes, text_end, line_end, blank, token, comment, comment_goes_on, comment_end, no_token, never_closed, IsTokens, IsBroken, IsReading, HasNoTokens}

@@ -1,8 +1,11 @@
 //! What holds of the tokens of every text.
-ghost use Rattle.std.specs.Prelude.{◌≡◌, ◌⊎◌, ◌++◌, ◌∷◌, [], ℕ, List, All, take};
+ghost use Rattle.std.specs.Prelude.{◌≡◌, ◌⊎◌, ◌++◌, ◌∷◌, [], ℕ, List, All, take, length, false};
 ghost use Rattle.moo_token.specs.declared.token.Spot.{Spot};
+ghost use Rattle.moo_token.specs.declared.token.Token.{Token};
 ghost use Rattle.moo_token.specs.declared.token.Token.TheVariants.{Bad};
-ghost use Rattle.moo_token.specs.Lexing.{IsTokens, IsBroken, IsReading, HasNoTokens};
+ghost use Rattle.moo_token.specs.Tokens.{token_at};
+ghost use Rattle.moo_token.specs.Spelling.{spell, HasSpelling, joins};
+ghost use Rattle.moo_token.specs.Lexing.{begins_comment, IsTokens, IsBroken, IsReading, HasNoTokens};
 ghost use Rattle.moo_token.specs.Reading.{IsSound, EndsInBad, IsOnLine};
 
 /// A text has at most one list of tokens.
@@ -38,4 +41,10 @@ pub fn same_lines_same_fault()
 /// Spots stand on lines of the text.
 pub fn lines_within()
     ensures { (lines : List (List ℕ)) (spots : List Spot) → IsReading lines spots → All (IsOnLine lines) spots }
+{}
+
+/// A token that is written is read back, where no byte behind it joins it. Nor does a comment begin there.
+pub fn spelling_is_read()
+    ensures token { (x : Token) (rest : List ℕ) → HasSpelling x → joins x rest ≡ false → token_at (spell x ++ rest) ≡ Some (x, length (spell x)) }
+    ensures no_comment { (x : Token) (rest : List ℕ) → HasSpelling x → joins x rest ≡ false → begins_comment (spell x ++ rest) ≡ false }
 {}

@@ -1,0 +1,21 @@
+-- What a disk in memory shows of its crash set.
+use Rattle.std.proofs.Common.{◌≡◌, inl, inr, ⊎_elim, ℕ, List, Option, Bool, false, Result, Ok, Err, OnOk, is_err}
+use Rattle.moo_disk.specs.Disk.{Gains}
+use Rattle.moo_disk.specs.CrashSet.{crash_view, view_with}
+use Rattle.moo_disk.specs.declared.crash_set.CrashSet.{CrashSet}
+
+-- what a set gains, a disk with that set gains
+pub shown_gains : (P Q : List ℕ → Type 0) (old new : CrashSet) (main main' : List ℕ) (spare spare' : Option (List ℕ)) (stable stable' : Bool)
+    → ((c : List ℕ) → P c → Q c) → Gains P (crash_view old) (crash_view new)
+    → Gains Q (view_with main spare stable old.base.items old.later.items old.starts.items old.first)
+    (view_with main' spare' stable' new.base.items new.later.items new.starts.items new.first)
+shown_gains P Q old new main main' spare spare' stable stable' more gains = record {
+  later = gains.later;
+  now = λ c left. ⊎_elim (λ was. inl was) (λ p. inr (more c p)) (gains.now c left);
+  since = λ t c le left. ⊎_elim (λ was. inl was) (λ p. inr (more c p)) (gains.since t c le left);
+  remembers = gains.remembers;
+}
+
+pub when_not_err : {T E P : Type 0} (r : Result T E) → is_err r ≡ false → OnOk r P → P
+when_not_err (Ok x) is p = p
+when_not_err (Err e) is p = cc

@@ -1,5 +1,7 @@
 -- The built-in properties and their names.
-use Rattle.std.specs.Prelude.{ℕ, List, codes}
+use Rattle.std.specs.Prelude.{ℕ, List, [], ◌∷◌, codes, Option}
+use Rattle.std.specs.List.{find}
+use Rattle.moo_object.specs.Names.{same_name}
 use Rattle.moo_object.specs.declared.built_in_property.BuiltInProperty.{BuiltInProperty}
 use Rattle.moo_object.specs.declared.built_in_property.BuiltInProperty.TheVariants as property
 
@@ -13,3 +15,12 @@ built_in_name property.Wizard = codes "wizard"
 built_in_name property.Read = codes "r"
 built_in_name property.Write = codes "w"
 built_in_name property.Fertile = codes "f"
+
+abbrev pub all_built_in : List BuiltInProperty
+all_built_in =
+    property.Name ∷ property.Owner ∷ property.Location ∷ property.Contents ∷ property.Programmer ∷ property.Wizard ∷ property.Read
+    ∷ property.Write ∷ property.Fertile ∷ []
+
+-- the built-in property of a name whose letters are folded
+abbrev pub built_in_of : List ℕ → Option BuiltInProperty
+built_in_of name = find (λ property. same_name name (built_in_name property)) all_built_in

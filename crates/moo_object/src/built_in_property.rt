@@ -21,7 +21,7 @@ pub enum BuiltInProperty {
 }
 
 ghost use Rattle.moo_object.specs.declared.built_in_property.BuiltInProperty.{BuiltInProperty};
-ghost use Rattle.moo_object.specs.BuiltIn.{built_in_name};
+ghost use Rattle.moo_object.specs.BuiltIn.{built_in_name, built_in_of};
 
 const ALL: [BuiltInProperty; 9] = [
     BuiltInProperty::Name,
@@ -57,6 +57,7 @@ impl BuiltInProperty {
 
 /// The built-in property of this name, whatever the case of its letters.
 pub fn built_in(name: &[u8]) -> Option<BuiltInProperty>
+    ensures value { result ≡ built_in_of (folded name.now) }
     ensures found { IfSome result (λ property. folded name.now ≡ built_in_name property) }
     ensures none { IfNone result ((property : BuiltInProperty) → folded name.now ≢ built_in_name property) }
 {

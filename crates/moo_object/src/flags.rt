@@ -32,6 +32,42 @@ impl Flags {
         }
     }
 
+    pub fn with_player(self, player: bool) -> Flags
+        ensures { result ≡ record self { player = player } }
+    {
+        Flags { player, ..self }
+    }
+
+    pub fn with_programmer(self, programmer: bool) -> Flags
+        ensures { result ≡ record self { programmer = programmer } }
+    {
+        Flags { programmer, ..self }
+    }
+
+    pub fn with_wizard(self, wizard: bool) -> Flags
+        ensures { result ≡ record self { wizard = wizard } }
+    {
+        Flags { wizard, ..self }
+    }
+
+    pub fn with_read(self, read: bool) -> Flags
+        ensures { result ≡ record self { read = read } }
+    {
+        Flags { read, ..self }
+    }
+
+    pub fn with_write(self, write: bool) -> Flags
+        ensures { result ≡ record self { write = write } }
+    {
+        Flags { write, ..self }
+    }
+
+    pub fn with_fertile(self, fertile: bool) -> Flags
+        ensures { result ≡ record self { fertile = fertile } }
+    {
+        Flags { fertile, ..self }
+    }
+
     /// The flags as bits: 1 player, 2 programmer, 4 wizard, 16 read, 32 write, 128 fertile, and 8 and 64 obsolete.
     pub fn number(self) -> u8
         ensures { result ≡ flags_number self }

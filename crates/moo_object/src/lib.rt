@@ -15,7 +15,7 @@ pub use built_in_property::{BuiltInProperty, built_in};
 pub use cell::{PropCell, PropPerms};
 pub use flags::Flags;
 pub use name::same_name;
-pub use object::Object;
+pub use object::{MOST_CELLS, MOST_VERBS, Object};
 pub use pattern::{fits, fits_names, has_word};
 pub use row::{Row, cell_at, cell_named, cell_with_key_of};
 pub use verb::{

@@ -1,6 +1,6 @@
 // An object by itself.
 ghost use Rattle.std.specs.Prelude.{◌≡◌, IfOk, None, Some, ◌++◌, ◌==◌, filter, [], ◌∷◌, ◌-◌, take, length, OnOk, OnErr, not, map};
-ghost use Rattle.std.specs.Prelude.{◌<◌, slice_get, position};
+ghost use Rattle.std.specs.Prelude.{◌<◌, slice_get, slice_set, position, nat_le};
 ghost use Rattle.std.specs.Option.{option_copied};
 ghost use Rattle.std.specs.List.{list_any, remove};
 ghost use Rattle.moo_object.specs.Verbs.{fits_verb, changed_at, with_verb_info, with_args, with_program};
@@ -8,8 +8,8 @@ ghost use Rattle.moo_value.specs.Compare.{folded};
 ghost use Rattle.moo_value.specs.View.{tree};
 ghost use Rattle.moo_object.specs.Names.{same_name};
 ghost use Rattle.moo_object.specs.Flags.{no_flags};
-ghost use Rattle.moo_object.specs.Cells.{Cell, is_key, cleared, key_of, with_value, at_key, emptied, with_info};
-ghost use Rattle.moo_object.specs.Objects.{fitted_cell, fitted_row};
+ghost use Rattle.moo_object.specs.Cells.{Cell, is_key, cleared, key_of, with_value, at_key, emptied, with_info, renamed};
+ghost use Rattle.moo_object.specs.Objects.{fitted_cell, fitted_row, most_verbs, most_cells};
 
 use crate::cell::{PropCell, PropPerms};
 use crate::flags::Flags;
@@ -20,6 +20,12 @@ use moo_program::Program;
 use moo_value::{MooStr, Value};
 use std::alloc::{AllocError, Global};
 use std::marker::Model;
+
+/// How many verbs an object has at most.
+pub const MOST_VERBS: usize = 1_000_000;
+
+/// How many properties an object has at most, inherited ones too.
+pub const MOST_CELLS: usize = 1_000_000;
 
 /// An object, but for what it is joined to: its parent, its place, its children and its contents.
 #[derive(Drop)]
@@ -129,6 +135,20 @@ impl Object {
         ensures { option_copied result ≡ slice_get self.now.verbs index }
     {
         self.verbs.get(index)
+    }
+
+    /// Whether the object has as many verbs as an object may have.
+    pub fn is_full_of_verbs(&self) -> bool
+        ensures { result ≡ nat_le most_verbs (length self.now.verbs) }
+    {
+        self.verbs.len() >= MOST_VERBS
+    }
+
+    /// Whether the object has as many properties, inherited ones too, as an object may have.
+    pub fn is_full_of_cells(&self) -> bool
+        ensures { result ≡ nat_le most_cells (length self.now.cells) }
+    {
+        self.cells.as_slice().len() >= MOST_CELLS
     }
 
     /// The place of the first verb that a name fits. For a call only verbs that can be executed count.
@@ -284,6 +304,38 @@ impl Object {
         defines_name(&self.defined, name)
     }
 
+    /// The place of the object's own definition of this name.
+    pub fn definition_position(&self, name: &[u8]) -> Option<usize>
+        ensures { result ≡ position (λ n. same_name (folded name.now) (folded n)) self.now.defined }
+    {
+        position_of_name(&self.defined, name)
+    }
+
+    /// Gives the definition at a place another name. The cells for it keep theirs.
+    pub fn rename_definition(&mut self, index: usize, name: MooStr)
+        requires { index < length self.old.defined }
+        ensures { self.new ≡ record self.old { defined = slice_set self.old.defined index name } }
+    {
+        put_name(&mut self.defined, index, name);
+    }
+
+    /// The cells, with another name in the cell for a definition.
+    pub fn renamed_row(
+        &self,
+        alloc: Global,
+        definer: usize,
+        name: &[u8],
+        new_name: &MooStr,
+    ) -> Result<Row, AllocError>
+        ensures { IfOk result (λ row. row ≡ map (at_key (definer, folded name.now) (renamed (folded new_name.now))) self.now.cells) }
+    {
+        let mut row = Vec::new(alloc);
+        for cell in self.cells.as_slice() {
+            row.push(renamed_cell(cell, definer, name, new_name)?)?;
+        }
+        Ok(Row::from_cells(row))
+    }
+
     /// Takes the object's cell for a definition away.
     pub fn lose(&mut self, definer: usize, name: &[u8])
         ensures { self.new ≡ record self.old { cells = filter (λ c. not (is_key (definer, folded name.now) c)) self.old.cells } }
@@ -346,4 +398,35 @@ fn change_program(verbs: &mut Vec<Verb>, index: usize, program: Option<Program>)
     ensures { verbs.new.items ≡ changed_at index (with_program program) verbs.old.items }
 {
     verbs[index].set_program(program);
+}
+
+fn position_of_name(defined: &[MooStr], name: &[u8]) -> Option<usize>
+    ensures { result ≡ position (λ n. same_name (folded name.now) (folded n)) defined.now }
+{
+    defined
+        .iter()
+        .position(|other| same_name(name, other.as_bytes()))
+}
+
+fn put_name(names: &mut Vec<MooStr>, index: usize, name: MooStr)
+    requires { index < length names.old.items }
+    ensures { names.new.items ≡ slice_set names.old.items index name }
+{
+    names[index] = name;
+}
+
+/// The cell, with another name where it is for the definition.
+fn renamed_cell(
+    cell: &PropCell,
+    definer: usize,
+    name: &[u8],
+    new_name: &MooStr,
+) -> Result<PropCell, AllocError>
+    ensures { IfOk result (λ c. c ≡ at_key (definer, folded name.now) (renamed (folded new_name.now)) cell.now) }
+{
+    let mut copy = cell.try_clone()?;
+    if cell.is_for(definer, name) {
+        copy.set_name(new_name.try_clone()?);
+    }
+    Ok(copy)
 }

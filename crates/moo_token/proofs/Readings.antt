@@ -5,9 +5,10 @@ use Rattle.std.proofs.lemmas.List.Elements.{All-nil, All-cons, All-head, All-tai
 use Rattle.moo_token.specs.declared.token.Token.TheVariants.{Bad}
 use Rattle.moo_token.specs.declared.token.Spot.{Spot}
 use Rattle.moo_token.specs.Lexing.{Ending, complete, broken, unclosed, Place, outside, commented, Lexes, text_end, line_end, blank, token, comment, comment_goes_on, comment_end, no_token, never_closed, IsTokens, IsBroken, IsReading, HasNoTokens}
+use Rattle.moo_token.specs.Spelling.{HoldsName}
 use Rattle.moo_token.specs.Reading.{IsSound, EndsInBad, IsOnLine}
 use Rattle.moo_token.proofs.LexingLemmas.{no_blank_at_end, no_token_at_end, no_comment_at_end, after_blank, after_comment, after_token, after_comment_end, in_comment, after_line, one_lexing}
-use Rattle.moo_token.proofs.SoundTokens.{token_sound}
+use Rattle.moo_token.proofs.ReadTokens.{token_sound, token_holds_name}
 
 pub one_token_list : (lines : List (List ℕ)) (ts us : List Spot) → IsTokens lines ts → IsTokens lines us → ts ≡ us
 one_token_list lines ts us c d = (one_lexing c d).1
@@ -234,3 +235,22 @@ from_first (comment c d) = let f = no_comment_at_end in cc
 
 pub lines_within : (lines : List (List ℕ)) (spots : List Spot) → IsReading lines spots → All (IsOnLine lines) spots
 lines_within lines spots r = from_first r.lexes
+
+HoldsNameAt : Spot → Type 0
+HoldsNameAt s = HoldsName s.token
+
+hold_names : {e : Ending} {p : Place} {n : ℕ} {bs : List ℕ} {below : List (List ℕ)} {ts : List Spot} → Lexes e p n bs below ts → All HoldsNameAt ts
+unfolding HoldsNameAt
+hold_names text_end = All-nil HoldsNameAt
+hold_names (line_end d) = hold_names d
+hold_names (blank h d) = hold_names d
+hold_names (token h t d) = All-cons HoldsNameAt _ _ (token_holds_name _ _ _ t) (hold_names d)
+hold_names (comment h d) = hold_names d
+hold_names (comment_goes_on h d) = hold_names d
+hold_names (comment_end h d) = hold_names d
+hold_names (no_token h c t) = All-cons HoldsNameAt _ [] tt (All-nil HoldsNameAt)
+hold_names never_closed = All-cons HoldsNameAt _ [] tt (All-nil HoldsNameAt)
+
+pub names_are_names : (lines : List (List ℕ)) (spots : List Spot) → IsReading lines spots → All (λ s. HoldsName s.token) spots
+unfolding HoldsNameAt
+names_are_names lines spots r = hold_names r.lexes

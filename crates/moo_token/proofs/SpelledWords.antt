@@ -27,7 +27,7 @@ front_length p (x ∷ xs) rest h e =
     let more : prefix_len p (xs ++ rest) ≡ length xs = front_length p xs rest passes.1 e in
     rw (passes.0, more) (omega arith)
 
-begins_continues : (b : ℕ) → begins_name b ≡ true → continues_name b ≡ true
+pub begins_continues : (b : ℕ) → begins_name b ≡ true → continues_name b ≡ true
 begins_continues b h = rw h refl
 
 slash_begins_none : (b : ℕ) → begins_name b ≡ true → nat_eq b 47 ≡ false

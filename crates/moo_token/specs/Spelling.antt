@@ -23,6 +23,11 @@ is_word (b ∷ bs) = begins_name b && list_all continues_name bs
 unfoldable pub is_name : List ℕ → Bool
 is_name word = is_word word && is_none (keyword_of word) && is_none (error_of word)
 
+-- if the token is a name, then what it holds is one
+abbrev pub HoldsName : Token → Type 0
+HoldsName (token.Name s) = is_name s ≡ true
+HoldsName x = Unit {0}
+
 -- a keyword in lower case, but `ANY` in capitals
 abbrev pub spelled_keyword : Keyword → List ℕ
 spelled_keyword Any = codes "ANY"

@@ -4,7 +4,7 @@ ghost use Rattle.moo_token.specs.declared.token.Spot.{Spot};
 ghost use Rattle.moo_token.specs.declared.token.Token.{Token};
 ghost use Rattle.moo_token.specs.declared.token.Token.TheVariants.{Bad};
 ghost use Rattle.moo_token.specs.Tokens.{token_at};
-ghost use Rattle.moo_token.specs.Spelling.{spell, HasSpelling, joins};
+ghost use Rattle.moo_token.specs.Spelling.{spell, HasSpelling, HoldsName, joins};
 ghost use Rattle.moo_token.specs.Lexing.{begins_comment, IsTokens, IsBroken, IsReading, HasNoTokens};
 ghost use Rattle.moo_token.specs.Reading.{IsSound, EndsInBad, IsOnLine};
 
@@ -41,6 +41,11 @@ pub fn same_lines_same_fault()
 /// Spots stand on lines of the text.
 pub fn lines_within()
     ensures { (lines : List (List ℕ)) (spots : List Spot) → IsReading lines spots → All (IsOnLine lines) spots }
+{}
+
+/// A name is a word that is neither a keyword nor an error's name.
+pub fn names_are_names()
+    ensures { (lines : List (List ℕ)) (spots : List Spot) → IsReading lines spots → All (λ s. HoldsName s.token) spots }
 {}
 
 /// A token that is written is read back, where no byte behind it joins it. Nor does a comment begin there.

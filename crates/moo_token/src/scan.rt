@@ -1,7 +1,8 @@
 //! The token at the front of bytes.
 ghost use Rattle.std.specs.Prelude.{◌≡◌, ◌<◌, ◌≤◌, ◌+◌, length, false, IfOk, IfSome};
-ghost use Rattle.std.specs.List.{prefix_len};
+ghost use Rattle.std.specs.List.{prefix_len, list_all};
 ghost use Rattle.moo_value.specs.Size.{IsString};
+ghost use Rattle.moo_token.specs.Spelling.{is_word, is_name};
 ghost use Rattle.moo_token.specs.Tokens.{begins_name, is_digit, continues_name, word, wrapped, begins_fraction, integer_at, number_at, object_at, unquoted, token_at};
 
 use crate::keyword::{Keyword, error_of};
@@ -20,6 +21,29 @@ fn continues_name(b: u8) -> bool
     ensures { result ≡ continues_name b }
 {
     begins_name(b) || b.is_ascii_digit()
+}
+
+fn all_continue(bytes: &[u8]) -> bool
+    ensures { result ≡ list_all continues_name bytes.now }
+{
+    bytes.iter().all(|b| continues_name(*b))
+}
+
+fn is_word(bytes: &[u8]) -> bool
+    ensures { result ≡ is_word bytes.now }
+{
+    match bytes {
+        [] => false,
+        [first, rest @ ..] => begins_name(*first) && all_continue(rest),
+    }
+}
+
+/// Whether the bytes are a name: a letter or `_`, then letters, digits and `_`, and neither a keyword nor an error's name.
+#[tactic(auto, unfolding(crate::specs::Spelling::is_name))]
+pub fn is_name(bytes: &[u8]) -> bool
+    ensures { result ≡ is_name bytes.now }
+{
+    is_word(bytes) && Keyword::of(bytes).is_none() && error_of(bytes).is_none()
 }
 
 /// How many bytes at the front can go on with a name.

@@ -40,6 +40,52 @@ pub enum Sign {
     Caret,
 }
 
+impl Sign {
+    ghost use Rattle.moo_token.specs.Spelling.{sign_text};
+
+    /// How the sign is written.
+    pub fn text(self) -> &'static str
+        ensures { result.now ≡ sign_text self }
+    {
+        match self {
+            Sign::LeftParen => "(",
+            Sign::RightParen => ")",
+            Sign::LeftBrace => "{",
+            Sign::RightBrace => "}",
+            Sign::LeftBracket => "[",
+            Sign::RightBracket => "]",
+            Sign::Comma => ",",
+            Sign::Dot => ".",
+            Sign::DotDot => "..",
+            Sign::Colon => ":",
+            Sign::Semicolon => ";",
+            Sign::Question => "?",
+            Sign::Pipe => "|",
+            Sign::OrOr => "||",
+            Sign::AndAnd => "&&",
+            Sign::Assign => "=",
+            Sign::Equal => "==",
+            Sign::Arrow => "=>",
+            Sign::Backquote => "`",
+            Sign::Quote => "'",
+            Sign::Bang => "!",
+            Sign::NotEqual => "!=",
+            Sign::Less => "<",
+            Sign::LessEqual => "<=",
+            Sign::Greater => ">",
+            Sign::GreaterEqual => ">=",
+            Sign::Dollar => "$",
+            Sign::At => "@",
+            Sign::Plus => "+",
+            Sign::Minus => "-",
+            Sign::Star => "*",
+            Sign::Slash => "/",
+            Sign::Percent => "%",
+            Sign::Caret => "^",
+        }
+    }
+}
+
 fn sign_of_two(a: u8, b: u8) -> Option<Sign>
     ensures { result ≡ sign_of_two a b }
 {

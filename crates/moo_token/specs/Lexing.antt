@@ -36,14 +36,20 @@ pub data Ending : Type 0 where
 -- At this place of line n, with these bytes left of the line and these lines below it, these tokens follow, and so they
 -- end. Where they do not end with the text, the last is `Bad`, on the line of the fault: that of the comment's `/*`.
 pub data Lexes : Ending → Place → ℕ → List ℕ → List (List ℕ) → List Spot → Type 0 where
+  -- the text ends between tokens
   text_end : {n : ℕ} → Lexes complete outside n [] [] []
+  -- a line's end separates, and stands in a comment too
   line_end : {e : Ending} {p : Place} {n : ℕ} {line : List ℕ} {below : List (List ℕ)} {ts : List Spot} → Lexes e p (suc n) line below ts → Lexes e p n [] (line ∷ below) ts
   blank : {e : Ending} {n : ℕ} {bs : List ℕ} {below : List (List ℕ)} {ts : List Spot} → begins_blank bs ≡ true → Lexes e outside n (drop 1 bs) below ts → Lexes e outside n bs below ts
+  -- the longest token, which ends on its line
   token : {e : Ending} {n : ℕ} {bs : List ℕ} {below : List (List ℕ)} {ts : List Spot} {x : Token} {k : ℕ} → begins_comment bs ≡ false → token_at bs ≡ Some (x, k) → Lexes e outside n (drop k bs) below ts → Lexes e outside n bs below (record { token = x; line = n } ∷ ts)
+  -- from `/*` to the first `*/` behind it
   comment : {e : Ending} {n : ℕ} {bs : List ℕ} {below : List (List ℕ)} {ts : List Spot} → begins_comment bs ≡ true → Lexes e (commented n) n (drop 2 bs) below ts → Lexes e outside n bs below ts
   comment_goes_on : {e : Ending} {k n : ℕ} {b : ℕ} {bs : List ℕ} {below : List (List ℕ)} {ts : List Spot} → ends_comment (b ∷ bs) ≡ false → Lexes e (commented k) n bs below ts → Lexes e (commented k) n (b ∷ bs) below ts
   comment_end : {e : Ending} {k n : ℕ} {bs : List ℕ} {below : List (List ℕ)} {ts : List Spot} → ends_comment bs ≡ true → Lexes e outside n (drop 2 bs) below ts → Lexes e (commented k) n bs below ts
+  -- what stands here is none of these
   no_token : {n : ℕ} {b : ℕ} {bs : List ℕ} {below : List (List ℕ)} → begins_blank (b ∷ bs) ≡ false → begins_comment (b ∷ bs) ≡ false → token_at (b ∷ bs) ≡ None → Lexes broken outside n (b ∷ bs) below (record { token = Bad; line = n } ∷ [])
+  -- the text ends in a comment
   never_closed : {k n : ℕ} → Lexes unclosed (commented k) n [] [] (record { token = Bad; line = k } ∷ [])
 
 -- the text of these lines has these tokens

@@ -1,4 +1,4 @@
--- What a reader of tokens knows on its way.
+-- What the reader of tokens knows on its way: words of private clauses alone.
 use Rattle.std.specs.Prelude.{ℕ, List, [], ◌++◌, Option, Some, None}
 use Rattle.moo_token.specs.declared.token.Spot.{Spot}
 use Rattle.moo_token.specs.Lexing.{Ending, Place, outside, commented, Lexes, IsReading}

@@ -1,3 +1,4 @@
 pub mod Wrapping
 pub mod Equality
 pub mod Lists
+pub mod Replaced

@@ -14,7 +14,8 @@ use Rattle.moo_value.specs.View.{tree, trees}
 use Rattle.moo_operation.specs.Truth.{equal}
 use Rattle.moo_operation.specs.Comparison.{place_in, place_value}
 use Rattle.moo_operation.specs.Places.{or_range, at_place, part, index_of, range_of}
-use Rattle.moo_operation.specs.Bounds.{before_place, bounds}
+use Rattle.moo_operation.specs.Assignment.{before_place}
+use Rattle.moo_operation.specs.Bounds.{bounds}
 
 -- a list has fewer elements than it weighs
 weight-positive : (t : Tree) → 1 ≤ weight t

@@ -3,23 +3,16 @@ use Rattle.std.specs.Prelude.{◌≡◌, Result, Ok, Err, IsOkAnd, nat_le, ◌&&
 use Rattle.moo_value.specs.declared.value.Value.{Value}
 use Rattle.moo_value.specs.declared.error_code.ErrorCode.{ErrorCode}
 use Rattle.moo_value.specs.declared.error_code.ErrorCode.TheVariants.{Quota}
-use Rattle.moo_value.specs.Tree.{Tree, integer, object, error, string, list}
+use Rattle.moo_value.specs.Tree.{Tree}
 use Rattle.moo_value.specs.Size.{weight, depth, weight_limit, depth_limit}
 use Rattle.moo_value.specs.View.{tree}
+use Rattle.moo_value.specs.Faults.{TakesMemory}
 use Rattle.moo_operation.specs.declared.fault.OperationFault.{OperationFault}
 use Rattle.moo_operation.specs.declared.fault.OperationFault.TheVariants.{Raise, Memory}
 
 -- the value, or E_QUOTA where it is too heavy or too deep
 abbrev pub limited : Tree → Result Tree ErrorCode
 limited t = if nat_le (weight t) weight_limit && nat_le (depth t) depth_limit then Ok t else Err Quota
-
--- strings and lists, which stand in memory of their own
-abbrev pub TakesMemory : Tree → Type 0
-TakesMemory (integer i) = ⊥
-TakesMemory (object o) = ⊥
-TakesMemory (error e) = ⊥
-TakesMemory (string s) = Unit {0}
-TakesMemory (list es) = Unit {0}
 
 -- the operation gives this error, or a value for which memory was wanting
 abbrev pub IsRefused : OperationFault → Result Tree ErrorCode → Type 0

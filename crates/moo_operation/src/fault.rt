@@ -12,3 +12,5 @@ pub enum OperationFault {
 }
 
 pub(crate) const TYPE_MISMATCH: OperationFault = OperationFault::Raise(ErrorCode::TypeMismatch);
+
+pub(crate) const RANGE: OperationFault = OperationFault::Raise(ErrorCode::Range);

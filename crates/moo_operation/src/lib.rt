@@ -2,12 +2,14 @@
 #![tactic(auto)]
 
 mod arithmetic;
+mod assignment;
 mod comparison;
 mod fault;
 mod made;
 mod operator;
 mod place;
 
+pub use assignment::{index_refusal, with_index, with_range};
 pub use comparison::{is_decided, is_equal, is_true};
 pub use fault::OperationFault;
 pub use made::list;

@@ -33,17 +33,8 @@ pub(crate) fn number_of(count: usize) -> Value
 pub(crate) fn shared(value: &Value) -> Result<Value, OperationFault>
     ensures { Gives result (Ok (tree value.now)) }
 {
-    match value {
-        Value::Int(number) => Ok(Value::Int(*number)),
-        Value::Obj(number) => Ok(Value::Obj(*number)),
-        Value::Err(error) => Ok(Value::Err(*error)),
-        Value::Str(string) => match string.try_clone() {
-            Ok(string) => Ok(Value::Str(string)),
-            Err(AllocError) => Err(OperationFault::Memory),
-        },
-        Value::List(list) => match list.try_clone() {
-            Ok(list) => Ok(Value::List(list)),
-            Err(AllocError) => Err(OperationFault::Memory),
-        },
+    match value.try_clone() {
+        Ok(same) => Ok(same),
+        Err(AllocError) => Err(OperationFault::Memory),
     }
 }

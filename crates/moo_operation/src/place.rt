@@ -1,18 +1,17 @@
 //! Parts of strings and lists by their places, which are counted from 1.
-ghost use Rattle.std.specs.Prelude.{◌≡◌, ◌≤◌, ◌<◌, length, slice_range, Ok, Err, IfOk, IfErr, IfSome};
+ghost use Rattle.std.specs.Prelude.{◌≡◌, ◌≤◌, length, slice_range, Ok, Err, IfOk, IfErr, IfSome};
 ghost use Rattle.moo_value.specs.Tree.{list_of};
 ghost use Rattle.moo_value.specs.Tree as trees_of_values;
 ghost use Rattle.moo_value.specs.View.{tree, trees};
 ghost use Rattle.moo_operation.specs.Answer.{Gives};
 ghost use Rattle.moo_operation.specs.Places.{index_of, range_of, length_of, spliced_of};
-ghost use Rattle.moo_operation.specs.Bounds.{before_place, bounds};
+ghost use Rattle.moo_operation.specs.Bounds.{bounds};
 
-use crate::fault::{OperationFault, TYPE_MISMATCH};
+use crate::assignment::before_place;
+use crate::fault::{OperationFault, RANGE, TYPE_MISMATCH};
 use crate::made::{number_of, shared};
 use moo_value::{ErrorCode, MooList, MooStr, Value};
 use std::alloc::{AllocError, Global};
-
-const RANGE: OperationFault = OperationFault::Raise(ErrorCode::Range);
 
 /// `base[index]`: a string of one byte, or an element of a list.
 pub fn index(alloc: Global, base: &Value, index: &Value) -> Result<Value, OperationFault>
@@ -108,18 +107,6 @@ fn list_part(alloc: Global, list: &MooList, from: usize, to: usize) -> Result<Va
         Ok(part) => Ok(Value::List(part)),
         Err(AllocError) => Err(OperationFault::Memory),
     }
-}
-
-// How many of `length` elements stand before the one at a place, if there is one.
-fn before_place(place: i32, length: usize) -> Option<usize>
-    ensures value { result ≡ before_place place length }
-    ensures bound { IfSome result (λ k. k < length) }
-{
-    if place < 1 {
-        return None;
-    }
-    let before = place as usize - 1;
-    if before < length { Some(before) } else { None }
 }
 
 // Where a range of `length` elements begins and ends, counted from 0, its end not included.

@@ -1,7 +1,7 @@
 use Rattle.std.proofs.Common.{◌≡◌, rules, w32, Some, None}
 use Rattle.std.specs.Prelude.{FitsSigned}
 use Rattle.std.proofs.lemmas.Int.{to_z-of_z}
-use Rattle.moo_operation.specs.Bounds.{before_place}
+use Rattle.moo_operation.specs.Assignment.{before_place}
 use Rattle.moo_operation.proofs.Lists.{index_in_text, index_past_text, index_in_list, index_past_list}
 use Rattle.moo_operation.proofs.place.index.Goals as goal
 

@@ -3,7 +3,7 @@ use Rattle.std.specs.Prelude.{ℕ, zero, suc, ℤ, List, [], ◌∷◌, Option, 
 use Rattle.moo_program.specs.Tree.{Block}
 use Rattle.moo_object.specs.declared.verb.Verb.{Verb}
 use Rattle.moo_object.specs.declared.verb.VerbPerms.{VerbPerms}
-use Rattle.moo_object.specs.declared.verb.VerbArgs.{VerbArgs}
+use Rattle.moo_object.specs.declared.verb_args.VerbArgs.{VerbArgs}
 use Rattle.moo_object.specs.declared.verb.Need.{Need}
 use Rattle.moo_object.specs.declared.verb.Need.TheVariants as need
 use Rattle.moo_object.specs.Patterns.{fits_names}

@@ -1,10 +1,11 @@
 // The cells of properties.
-ghost use Rattle.std.specs.Prelude.{◌≡◌, IfOk, None, Some};
+ghost use Rattle.std.specs.Prelude.{◌≡◌, ◌≤◌, IfOk, IfSome, IfNone, None, Some};
 ghost use Rattle.std.specs.Option.{option_copied, option_map};
 ghost use Rattle.moo_value.specs.Compare.{folded};
 ghost use Rattle.moo_value.specs.View.{tree};
 ghost use Rattle.moo_object.specs.Cells.{is_key, is_named, key_of, cleared, own_cell, emptied, with_info, renamed};
 
+use crate::bits::{bit, take_bit};
 use crate::name::same_name;
 use moo_value::{MooStr, Value};
 use std::alloc::AllocError;
@@ -17,6 +18,31 @@ pub struct PropPerms {
     pub read: bool,
     pub write: bool,
     pub change_owner: bool,
+}
+
+impl PropPerms {
+    ghost use Rattle.moo_object.specs.Numbers.{prop_perms_number};
+
+    /// The permissions as bits: 1 read, 2 write, 4 change of owner.
+    pub fn number(self) -> u8
+        ensures { result ≡ prop_perms_number self }
+    {
+        bit(self.read, 1) + bit(self.write, 2) + bit(self.change_owner, 4)
+    }
+
+    /// The permissions that have this number, or `None` above 7.
+    pub fn from_number(number: u8) -> Option<PropPerms>
+        ensures found { IfSome result (λ perms. prop_perms_number perms ≡ number) }
+        ensures none { IfNone result (8 ≤ number) }
+    {
+        let mut bits = number;
+        let perms = PropPerms {
+            read: take_bit(&mut bits),
+            write: take_bit(&mut bits),
+            change_owner: take_bit(&mut bits),
+        };
+        if bits == 0 { Some(perms) } else { None }
+    }
 }
 
 /// The cell that an object has for a definition: clear, or with a value.

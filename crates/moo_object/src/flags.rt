@@ -1,6 +1,8 @@
 // The flags of an object.
-ghost use Rattle.std.specs.Prelude.{◌≡◌, ◌≤◌, ◌+◌, ◌*◌};
-ghost use Rattle.moo_object.specs.Flags.{bit, flags_number, no_flags};
+ghost use Rattle.std.specs.Prelude.{◌≡◌};
+ghost use Rattle.moo_object.specs.Flags.{flags_number, no_flags};
+
+use crate::bits::{bit, take_bit};
 
 /// The flags of an object. The two obsolete ones mean nothing, and are kept.
 #[derive(Clone, Copy, Debug, PartialEq, Eq)]
@@ -106,21 +108,4 @@ impl Flags {
             fertile,
         }
     }
-}
-
-/// What a bit adds to a number.
-pub(crate) fn bit(is_set: bool, weight: u8) -> u8
-    ensures value { result ≡ bit is_set weight }
-    ensures bound { result ≤ weight }
-{
-    if is_set { weight } else { 0 }
-}
-
-/// Takes the lowest bit off.
-pub(crate) fn take_bit(bits: &mut u8) -> bool
-    ensures { bits.old ≡ bit result 1 + 2 * bits.new }
-{
-    let is_set = *bits % 2 == 1;
-    *bits /= 2;
-    is_set
 }

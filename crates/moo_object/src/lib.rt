@@ -1,6 +1,7 @@
 //! One object of the world by itself, and the names that go with it.
 #![tactic(auto)]
 
+mod bits;
 mod built_in_property;
 mod cell;
 mod flags;
@@ -10,6 +11,7 @@ mod object;
 mod pattern;
 mod row;
 mod verb;
+mod verb_args;
 
 pub use built_in_property::{BuiltInProperty, built_in};
 pub use cell::{PropCell, PropPerms};
@@ -18,6 +20,5 @@ pub use name::same_name;
 pub use object::{MOST_CELLS, MOST_VERBS, Object};
 pub use pattern::{fits, fits_names, has_word};
 pub use row::{Row, cell_at, cell_named, cell_with_key_of};
-pub use verb::{
-    Need, ObjectSpecifier, Preposition, PrepositionSpecifier, Verb, VerbArgs, VerbPerms,
-};
+pub use verb::{Need, Verb, VerbPerms};
+pub use verb_args::{ObjectSpecifier, Preposition, PrepositionSpecifier, VerbArgs};

@@ -1,7 +1,10 @@
 // Names, which are the same whatever the case of their letters.
-ghost use Rattle.std.specs.Prelude.{◌≡◌, ◌↔◌, IsTrue};
+ghost use Rattle.std.specs.Prelude.{◌≡◌, ◌↔◌, ◌<◌, IsTrue, filter, length, not, position, slice_set};
+ghost use Rattle.std.specs.List.{list_any};
 ghost use Rattle.moo_value.specs.Compare.{folded};
 ghost use Rattle.moo_object.specs.Names.{same_name};
+
+use moo_value::MooStr;
 
 /// Whether two names are the same, A to Z taken as a to z.
 #[tactic(auto, using(crate::proofs::Names::tested))]
@@ -10,4 +13,33 @@ pub fn same_name(one: &[u8], other: &[u8]) -> bool
     ensures value { result ≡ same_name (folded one.now) (folded other.now) }
 {
     one.eq_ignore_ascii_case(other)
+}
+
+pub(crate) fn position_of_name(defined: &[MooStr], name: &[u8]) -> Option<usize>
+    ensures { result ≡ position (λ n. same_name (folded name.now) (folded n)) defined.now }
+{
+    defined
+        .iter()
+        .position(|other| same_name(name, other.as_bytes()))
+}
+
+pub(crate) fn put_name(names: &mut Vec<MooStr>, index: usize, name: MooStr)
+    requires { index < length names.old.items }
+    ensures { names.new.items ≡ slice_set names.old.items index name }
+{
+    names[index] = name;
+}
+
+pub(crate) fn defines_name(defined: &[MooStr], name: &[u8]) -> bool
+    ensures { result ≡ list_any (λ n. same_name (folded name.now) (folded n)) defined.now }
+{
+    defined
+        .iter()
+        .any(|other| same_name(name, other.as_bytes()))
+}
+
+pub(crate) fn forget_name(names: &mut Vec<MooStr>, name: &[u8])
+    ensures { names.new.items ≡ filter (λ n. not (same_name (folded name.now) (folded n))) names.old.items }
+{
+    names.retain(|other| !same_name(name, other.as_bytes()));
 }

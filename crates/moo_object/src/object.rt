@@ -13,9 +13,10 @@ ghost use Rattle.moo_object.specs.Objects.{fitted_cell, fitted_row, most_verbs, 
 
 use crate::cell::{PropCell, PropPerms};
 use crate::flags::Flags;
-use crate::name::same_name;
+use crate::name::{defines_name, forget_name, position_of_name, put_name};
 use crate::row::{Row, cell_with_key_of};
-use crate::verb::{Need, Verb, VerbArgs, VerbPerms};
+use crate::verb::{Need, Verb, VerbPerms, change_args, change_info, change_program};
+use crate::verb_args::VerbArgs;
 use moo_program::Program;
 use moo_value::{MooStr, Value};
 use std::alloc::{AllocError, Global};
@@ -358,61 +359,11 @@ impl Object {
     }
 }
 
-fn defines_name(defined: &[MooStr], name: &[u8]) -> bool
-    ensures { result ≡ list_any (λ n. same_name (folded name.now) (folded n)) defined.now }
-{
-    defined
-        .iter()
-        .any(|other| same_name(name, other.as_bytes()))
-}
-
-fn forget_name(names: &mut Vec<MooStr>, name: &[u8])
-    ensures { names.new.items ≡ filter (λ n. not (same_name (folded name.now) (folded n))) names.old.items }
-{
-    names.retain(|other| !same_name(name, other.as_bytes()));
-}
-
 /// The name of a new object.
 fn empty_name(alloc: Global) -> Result<MooStr, AllocError>
     ensures { IfOk result (λ name. name ≡ []) }
 {
     MooStr::try_from_bytes(alloc, b"").map_err(|_| AllocError)
-}
-
-fn change_info(verbs: &mut Vec<Verb>, index: usize, names: MooStr, owner: i32, perms: VerbPerms)
-    requires { index < length verbs.old.items }
-    ensures { verbs.new.items ≡ changed_at index (with_verb_info names owner perms) verbs.old.items }
-{
-    verbs[index].set_info(names, owner, perms);
-}
-
-fn change_args(verbs: &mut Vec<Verb>, index: usize, args: VerbArgs)
-    requires { index < length verbs.old.items }
-    ensures { verbs.new.items ≡ changed_at index (with_args args) verbs.old.items }
-{
-    verbs[index].set_args(args);
-}
-
-fn change_program(verbs: &mut Vec<Verb>, index: usize, program: Option<Program>)
-    requires { index < length verbs.old.items }
-    ensures { verbs.new.items ≡ changed_at index (with_program program) verbs.old.items }
-{
-    verbs[index].set_program(program);
-}
-
-fn position_of_name(defined: &[MooStr], name: &[u8]) -> Option<usize>
-    ensures { result ≡ position (λ n. same_name (folded name.now) (folded n)) defined.now }
-{
-    defined
-        .iter()
-        .position(|other| same_name(name, other.as_bytes()))
-}
-
-fn put_name(names: &mut Vec<MooStr>, index: usize, name: MooStr)
-    requires { index < length names.old.items }
-    ensures { names.new.items ≡ slice_set names.old.items index name }
-{
-    names[index] = name;
 }
 
 /// The cell, with another name where it is for the definition.

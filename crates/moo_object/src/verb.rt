@@ -1,7 +1,9 @@
 // The verbs of an object.
-ghost use Rattle.std.specs.Prelude.{◌≡◌, ◌&&◌, IfOk};
+ghost use Rattle.std.specs.Prelude.{◌≡◌, ◌<◌, ◌&&◌, ◌≤◌, IfOk, IfSome, IfNone, length};
 
+use crate::bits::{bit, take_bit};
 use crate::pattern::fits_names;
+use crate::verb_args::VerbArgs;
 use moo_program::Program;
 use moo_value::MooStr;
 use std::alloc::AllocError;
@@ -15,63 +17,30 @@ pub struct VerbPerms {
     pub debug: bool,
 }
 
-/// Which direct or indirect object a command needs for a verb.
-#[derive(Clone, Copy, Debug, PartialEq, Eq)]
-pub enum ObjectSpecifier {
-    None,
-    Any,
-    This,
-}
+impl VerbPerms {
+    ghost use Rattle.moo_object.specs.Numbers.{verb_perms_number};
 
-/// Which preposition a command needs for a verb.
-#[derive(Clone, Copy, Debug, PartialEq, Eq)]
-pub enum PrepositionSpecifier {
-    None,
-    Any,
-    One(Preposition),
-}
+    /// The permissions as bits: 1 read, 2 write, 4 execute, 8 debug.
+    pub fn number(self) -> u8
+        ensures { result ≡ verb_perms_number self }
+    {
+        bit(self.read, 1) + bit(self.write, 2) + bit(self.execute, 4) + bit(self.debug, 8)
+    }
 
-/// A preposition of a command, with the words that stand for it.
-#[derive(Clone, Copy, Debug, PartialEq, Eq)]
-pub enum Preposition {
-    /// with, using
-    With,
-    /// at, to
-    At,
-    /// in front of
-    InFrontOf,
-    /// in, inside, into
-    Inside,
-    /// on top of, on, onto, upon
-    OnTopOf,
-    /// out of, from inside, from
-    OutOf,
-    /// over
-    Over,
-    /// through
-    Through,
-    /// under, underneath, beneath
-    Under,
-    /// behind
-    Behind,
-    /// beside
-    Beside,
-    /// for, about
-    About,
-    /// is
-    Being,
-    /// as
-    Like,
-    /// off, off of
-    Off,
-}
-
-/// For which commands a verb is.
-#[derive(Clone, Copy, Debug, PartialEq, Eq)]
-pub struct VerbArgs {
-    pub direct: ObjectSpecifier,
-    pub preposition: PrepositionSpecifier,
-    pub indirect: ObjectSpecifier,
+    /// The permissions that have this number, or `None` above 15.
+    pub fn from_number(number: u8) -> Option<VerbPerms>
+        ensures found { IfSome result (λ perms. verb_perms_number perms ≡ number) }
+        ensures none { IfNone result (16 ≤ number) }
+    {
+        let mut bits = number;
+        let perms = VerbPerms {
+            read: take_bit(&mut bits),
+            write: take_bit(&mut bits),
+            execute: take_bit(&mut bits),
+            debug: take_bit(&mut bits),
+        };
+        if bits == 0 { Some(perms) } else { None }
+    }
 }
 
 /// A verb. Its names are words with blanks between them.
@@ -92,7 +61,7 @@ pub enum Need {
     Any,
 }
 
-ghost use Rattle.moo_object.specs.Verbs.{is_needed, fits_verb, with_verb_info, with_args, with_program};
+ghost use Rattle.moo_object.specs.Verbs.{is_needed, fits_verb, with_verb_info, with_args, with_program, changed_at};
 
 impl Verb {
     /// Whether a name fits the verb, whatever the case of letters. For a call it has to be executable too.
@@ -147,4 +116,31 @@ impl Verb {
     {
         self.program = program;
     }
+}
+
+pub(crate) fn change_info(
+    verbs: &mut Vec<Verb>,
+    index: usize,
+    names: MooStr,
+    owner: i32,
+    perms: VerbPerms,
+)
+    requires { index < length verbs.old.items }
+    ensures { verbs.new.items ≡ changed_at index (with_verb_info names owner perms) verbs.old.items }
+{
+    verbs[index].set_info(names, owner, perms);
+}
+
+pub(crate) fn change_args(verbs: &mut Vec<Verb>, index: usize, args: VerbArgs)
+    requires { index < length verbs.old.items }
+    ensures { verbs.new.items ≡ changed_at index (with_args args) verbs.old.items }
+{
+    verbs[index].set_args(args);
+}
+
+pub(crate) fn change_program(verbs: &mut Vec<Verb>, index: usize, program: Option<Program>)
+    requires { index < length verbs.old.items }
+    ensures { verbs.new.items ≡ changed_at index (with_program program) verbs.old.items }
+{
+    verbs[index].set_program(program);
 }

@@ -3,7 +3,7 @@ use Rattle.std.proofs.lemmas.Int.{to_z-of_z}
 use Rattle.std.specs.Int.{w32}
 use Rattle.moo_object.specs.Verbs.{with_verb_info}
 use Rattle.moo_object.proofs.Verbs.{set_changed}
-use Rattle.moo_object.proofs.object.change_info.Goals as goal
+use Rattle.moo_object.proofs.verb.change_info.Goals as goal
 
 pub returns : goal.returns
 returns c =

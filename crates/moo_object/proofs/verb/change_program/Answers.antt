@@ -1,6 +1,6 @@
 use Rattle.moo_object.specs.Verbs.{with_program}
 use Rattle.moo_object.proofs.Verbs.{set_changed}
-use Rattle.moo_object.proofs.object.change_program.Goals as goal
+use Rattle.moo_object.proofs.verb.change_program.Goals as goal
 
 pub returns : goal.returns
 returns c =

@@ -3,6 +3,7 @@ ghost use Rattle.std.specs.Prelude.{◌≡◌, ◌≤◌, IfOk, IfSome, IfNone, 
 ghost use Rattle.std.specs.Option.{option_copied, option_map};
 ghost use Rattle.moo_value.specs.Compare.{folded};
 ghost use Rattle.moo_value.specs.View.{tree};
+ghost use Rattle.moo_object.specs.Names.{same_name};
 ghost use Rattle.moo_object.specs.Cells.{is_key, is_named, key_of, cleared, own_cell, emptied, with_info, renamed};
 
 use crate::bits::{bit, take_bit};
@@ -122,6 +123,13 @@ impl PropCell {
         ensures { result ≡ is_key (key_of other.now) self.now }
     {
         self.is_for(other.definer, other.name.as_bytes())
+    }
+
+    /// Whether the cell of another definition has the same name.
+    pub fn has_name_of(&self, other: &PropCell) -> bool
+        ensures { result ≡ same_name self.now.name other.now.name }
+    {
+        same_name(self.name.as_bytes(), other.name.as_bytes())
     }
 
     pub fn owner(&self) -> i32

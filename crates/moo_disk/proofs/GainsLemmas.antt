@@ -1,6 +1,7 @@
 -- Calls one after another gain what each of them gains.
-use Rattle.std.proofs.Common.{◌⊎◌, inl, inr, ⊎_elim, ℕ, List, arith}
+use Rattle.std.proofs.Common.{◌⊎◌, inl, inr, ⊎_elim, ℕ, List, [], ◌∷◌, Contains, subst, sym, arith}
 use Rattle.moo_disk.specs.Disk.{DiskView, Gains}
+use Rattle.moo_disk.specs.Histories.{History}
 
 pub gains_join : (P Q : List ℕ → Type 0) (old mid new : DiskView) → Gains P old mid → Gains Q mid new → Gains (λ c. P c ⊎ Q c) old new
 gains_join P Q old mid new before after = record {
@@ -28,3 +29,11 @@ gains_none P disk = record {
   since = λ t c le left. inl left;
   remembers = λ t c le left. left;
 }
+
+pub history_gains : {D : Type 0} (view : D → DiskView) (texts : List (List ℕ)) (old new : D) (disks : List D)
+    → History view texts old disks new → Gains (Contains texts) (view old) (view new)
+history_gains view texts old new [] same =
+    subst (λ (d : _). Gains (Contains texts) (view old) (view d)) (sym same) (gains_none (Contains texts) (view old))
+history_gains view texts old new (disk ∷ disks) history =
+    gains_less (λ c. Contains texts c ⊎ Contains texts c) (Contains texts) (view old) (view new) (λ c brought. ⊎_elim (λ has. has) (λ has. has) brought)
+    (gains_join (Contains texts) (Contains texts) (view old) (view disk) (view new) history.0 (history_gains view texts disk new disks history.1))

@@ -1,5 +1,7 @@
 -- What a disk in memory shows of its crash set.
-use Rattle.std.proofs.Common.{◌≡◌, inl, inr, ⊎_elim, ℕ, List, Option, Bool, false, Result, Ok, Err, OnOk, is_err}
+use Rattle.std.proofs.Common.{◌≡◌, ◌∙◌, inl, inr, ⊎_elim, ℕ, List, Option, Some, Bool, true, false, Result, Ok, Err, OnOk, is_err, sym, ap}
+use Rattle.std.specs.Option.{option_map, option_map_or}
+use Rattle.moo_disk.specs.declared.memory.Spare.{Spare}
 use Rattle.moo_disk.specs.Disk.{Gains}
 use Rattle.moo_disk.specs.CrashSet.{crash_view, view_with}
 use Rattle.moo_disk.specs.declared.crash_set.CrashSet.{CrashSet}
@@ -19,3 +21,10 @@ shown_gains P Q old new main main' spare spare' stable stable' more gains = reco
 pub when_not_err : {T E P : Type 0} (r : Result T E) → is_err r ≡ false → OnOk r P → P
 when_not_err (Ok x) is p = p
 when_not_err (Err e) is p = cc
+
+-- the text that a spare brings is the one that a disk shows
+pub shown_spare : (spare : Option Spare) (taken : Spare) (t : List ℕ) → spare ≡ Some taken → (taken.stable ≡ true → t ≡ taken.text.items)
+    → option_map_or (λ s. s.stable) spare false ≡ true → option_map (λ s. s.text.items) spare ≡ Some t
+shown_spare spare taken t is brought stable =
+    let taken_stable : taken.stable ≡ true = sym (ap (λ o. option_map_or (λ s. s.stable) o false) is) ∙ stable in
+    ap (option_map (λ s. s.text.items)) is ∙ ap (λ (text : List ℕ). Some text) (sym (brought taken_stable))

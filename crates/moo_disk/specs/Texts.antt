@@ -1,6 +1,7 @@
 -- The texts that a crash may leave, in the order in which they entered: a first one, and those that came later.
-use Rattle.std.specs.Prelude.{ℕ, ◌≡◌, ◌≢◌, ◌⊎◌, ◌↔◌, Bool, true, false, Contains, List, [], ◌∷◌, ◌++◌, drop, map, slice_index_or, AllPairs, Vec}
+use Rattle.std.specs.Prelude.{ℕ, ◌≡◌, ◌≢◌, ◌⊎◌, ◌↔◌, Bool, true, false, Contains, List, [], ◌∷◌, ◌++◌, drop, map, slice_index_or, AllPairs, Vec, MatchOption}
 use Rattle.std.specs.declared.alloc.Global.{Global}
+use Rattle.moo_disk.specs.Disk.{DiskView}
 
 -- the first text, and the later ones from a place on
 abbrev pub texts_from : List ℕ → List (Vec ℕ Global) → ℕ → List (List ℕ)
@@ -26,3 +27,7 @@ Enters text old new = (Contains old text × (new ≡ old)) ⊎ (¬ Contains old 
 abbrev pub Brings : Bool → List ℕ → List (List ℕ) → List (List ℕ) → Type 0
 Brings true text old new = Enters text old new
 Brings false text old new = (mid : List (List ℕ)) × Enters [] old mid × Enters text mid new
+
+-- The spare's text is brought, where there is a spare.
+abbrev pub BringsSpare : DiskView → List (List ℕ) → List (List ℕ) → Type 0
+BringsSpare disk old new = MatchOption disk.spare (new ≡ old) (λ text. Brings disk.stable text old new)

@@ -1,0 +1,52 @@
+-- A disk in memory that stops in a call.
+use Rattle.std.specs.Prelude.{◌≡◌, ◌⊎◌, ℕ, ◌+◌, ◌-◌, ◌<◌, ◌≤◌, Result, IsErr}
+use Rattle.moo_disk.specs.Disk.{Counts}
+use Rattle.moo_disk.specs.Memory.{failures_of as memory_failures}
+use Rattle.moo_disk.specs.declared.memory.MemoryDisk.{MemoryDisk}
+use Rattle.moo_disk.specs.declared.stop_at.Call.{Call}
+use Rattle.moo_disk.specs.declared.stop_at.Call.TheVariants.{CutShort, Passes, Refused}
+use Rattle.moo_disk.specs.declared.stop_at.Place.{Place}
+use Rattle.moo_disk.specs.declared.stop_at.Place.TheVariants.{Before, Within}
+use Rattle.moo_disk.specs.declared.stop_at.StopAt.{StopAt}
+
+-- the disk that it was put round, as it is now
+abbrev pub inner_of : StopAt → MemoryDisk
+inner_of stopping = stopping.disk
+
+-- the calls up to and with the one that it stops in, 0 once it has
+abbrev pub left_of : StopAt → ℕ
+left_of stopping = stopping.left
+
+-- where in that call it stops
+abbrev pub place_of : StopAt → Place
+place_of stopping = stopping.place
+
+-- the calls that it has refused
+abbrev pub refused_of : StopAt → ℕ
+refused_of stopping = stopping.refused
+
+-- how often the device has failed
+abbrev pub failures_of : StopAt → ℕ
+failures_of stopping = memory_failures stopping.disk + stopping.refused
+
+-- the next call is the one that it stops within
+abbrev pub IsWithin : StopAt → Type 0
+IsWithin stopping = (left_of stopping ≡ 1) × (place_of stopping ≡ Within)
+
+-- the next call does nothing: it stops before it, or has stopped
+abbrev pub IsStill : StopAt → Type 0
+IsStill stopping = (left_of stopping ≡ 0) ⊎ ((left_of stopping ≡ 1) × (place_of stopping ≡ Before))
+
+-- One call: before the stop it is answered by the disk within, from the stop on it fails.
+pub record StopsFrom {T E : Type 0} (old new : StopAt) (result : Result T E) : Type 0 where
+  pub left : left_of new ≡ left_of old - 1
+  pub place : place_of new ≡ place_of old
+  pub passes : 1 < left_of old → Counts (memory_failures (inner_of old)) (memory_failures (inner_of new)) result
+  pub stops : left_of old ≤ 1 → IsErr result
+  pub still : IsStill old → inner_of new ≡ inner_of old
+
+-- the next call comes before the stop, is the one that it stops within, or does nothing: it stops before it, or has stopped
+abbrev pub Becomes : StopAt → Call → Type 0
+Becomes stopping Passes = 1 < left_of stopping
+Becomes stopping CutShort = IsWithin stopping
+Becomes stopping Refused = IsStill stopping

@@ -1,0 +1,42 @@
+// A disk that can be left as a crash leaves it.
+ghost use Rattle.std.specs.Prelude.{◌≡◌, ◌↔◌, ◌<◌, ◌∷◌, [], ℕ, List, length, Contains, Some, IfErr, IfOk, IsOk, slice_get};
+ghost use Rattle.moo_disk.specs.Disk.{IsLeftBy};
+ghost use Rattle.moo_disk.specs.Texts.{IsEachOnce};
+
+use crate::{Disk, MemoryDisk};
+
+/// A disk that can be left as a crash leaves it, with each of the texts that a crash may leave.
+pub trait CrashDisk: Disk {
+    /// The texts that a crash now may leave under main, in the order in which they entered.
+    ghost images: { Self → List (List ℕ) };
+
+    /// The disk that a crash leaves with the i-th of the texts, from 0 on. Where there is no i-th one, the
+    /// disk itself comes back.
+    fn crash(self, i: usize) -> Result<Self, Self>
+        ensures count { IsOk result ↔ (i < length (images self)) }
+        ensures image { Self.honest self → IfOk result (λ left. slice_get (images self) i ≡ Some (Self.view left).main_text) }
+        ensures alone { Self.honest self → IfOk result (λ left. images left ≡ (Self.view left).main_text ∷ []) }
+        ensures left { Self.honest self → IfOk result (λ left. IsLeftBy (Self.view self) (Self.view left)) }
+        ensures honest { IfOk result (λ left. Self.honest self ↔ Self.honest left) }
+        ensures same { IfErr result (λ same. same ≡ self) };
+
+    /// They are what a crash may leave.
+    ghost images_are_left: { (disk : Self) (c : List ℕ) → Self.honest disk → Contains (images disk) c ↔ (Self.view disk).may_leave c };
+
+    /// Each stands among them once.
+    ghost each_once: { (disk : Self) → IsEachOnce (images disk) };
+}
+
+impl CrashDisk for MemoryDisk {
+    ghost use Rattle.moo_disk.specs.Memory.{images};
+
+    ghost images = { images };
+
+    fn crash(self, i: usize) -> Result<MemoryDisk, MemoryDisk> {
+        MemoryDisk::crash(self, i)
+    }
+
+    ghost images_are_left = { λ d c _. (λ has. has, λ has. has) };
+
+    ghost each_once = { λ d. d.set.each_once };
+}

@@ -1,0 +1,34 @@
+//! What holds of calls one after another, whatever the disk is.
+ghost use Rattle.std.specs.Prelude.{◌≡◌, ◌⊎◌, ◌≤◌, ℕ, List, Contains};
+ghost use Rattle.moo_disk.specs.Disk.{Gains, IsLeftBy, LeavesOnly};
+ghost use Rattle.moo_disk.specs.Histories.{History};
+
+use crate::Disk;
+
+/// All in all, calls bring what each of them brings, and the clock isn't set back.
+pub fn a_history_gains<D: Disk>()
+    ensures { (texts : List (List ℕ)) (old new : D) (disks : List D)
+        → History D.view texts old disks new → Gains (Contains texts) (D.view old) (D.view new) }
+{}
+
+/// Every text that main has had since a moment, for one call only too, is one that a crash since then may
+/// have left.
+pub fn each_main_text_counts<D: Disk>()
+    ensures { (texts : List (List ℕ)) (first disk last : D) (before after : List D)
+        → D.honest disk → History D.view texts first before disk → History D.view texts disk after last
+        → (D.view last).left_since (D.view first).clock (D.view disk).main_text }
+{}
+
+/// From a moment on at which a crash leaves one text alone, it leaves that one, or one that a call since
+/// then has brought.
+pub fn a_settled_text_stays<D: Disk>()
+    ensures { (texts : List (List ℕ)) (disk last : D) (after : List D) (text c : List ℕ)
+        → D.honest disk → LeavesOnly text (D.view disk) → History D.view texts disk after last
+        → (D.view last).left_since (D.view disk).clock c → (c ≡ text) ⊎ Contains texts c }
+{}
+
+/// What a crash leaves under main is a text that a crash since any earlier moment may have left.
+pub fn a_crash_leaves_what_may_be_left<D: Disk>()
+    ensures { (disk left : D) (t : ℕ) → D.honest disk → t ≤ (D.view disk).clock
+        → IsLeftBy (D.view disk) (D.view left) → (D.view disk).left_since t (D.view left).main_text }
+{}

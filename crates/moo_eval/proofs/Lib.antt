@@ -1,0 +1,4 @@
+pub mod Exits
+pub mod Names
+pub mod Rows
+pub mod Unique

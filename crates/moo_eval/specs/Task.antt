@@ -1,0 +1,49 @@
+-- A whole task: a frame's program with a fresh budget of ticks.
+use Rattle.std.specs.Prelude.{◌≡◌, ℕ, pos, List, [], None, Result, Ok, Err, codes}
+use Rattle.moo_value.specs.Tree.{Tree, integer}
+use Rattle.moo_program.specs.Tree.{Expr, Block}
+use Rattle.moo_eval.specs.declared.frame.Frame.{Frame}
+use Rattle.moo_eval.specs.Outcome as outcome
+use Rattle.moo_eval.specs.Outcome.{Stop, raised, Flow, next, returned}
+use Rattle.moo_eval.specs.State.{Context, State}
+use Rattle.moo_eval.specs.Variables.{first_bindings, value_of_name}
+use Rattle.moo_eval.specs.Traceback.{traceback}
+use Rattle.moo_eval.specs.Meaning.{Evaluates, RunsAll}
+
+-- how a task ends: a value, or the lines of its traceback
+pub data End : Type 0 where
+  value : Tree → End
+  uncaught : List (List ℕ) → End
+  out_of_ticks : List (List ℕ) → End
+
+abbrev pub end_of : Result Flow Stop → End
+end_of (Ok next) = value (integer (pos 0))
+end_of (Ok (returned v)) = value v
+end_of (Err (raised raise)) = uncaught (traceback raise.message raise.trace)
+end_of (Err (outcome.out_of_ticks trace)) = out_of_ticks (traceback (codes "Task ran out of ticks") trace)
+
+abbrev pub most_ticks : ℕ
+most_ticks = 100000
+
+abbrev pub first_context : Frame → Context
+first_context start = record { frame = start; callers = []; indexed = None }
+
+abbrev pub first_state : Frame → State
+first_state start = record { ticks = most_ticks; variables = value_of_name (first_bindings start); programmer = start.programmer }
+
+-- a task that begins with this frame ends so
+pub record TaskEnds (start : Frame) (end : End) : Type 0 where
+  pub outcome : Result Flow Stop
+  pub after : State
+  pub runs : RunsAll (first_context start) start.program (first_state start) outcome after
+  pub ends : end_of outcome ≡ end
+
+-- for one input an expression, statements and a task have at most one result
+abbrev pub OneResultOfExpressions : Type 0
+OneResultOfExpressions = (c : Context) (e : Expr) (s s' t : State) (o p : Result Tree Stop) → Evaluates c e s o s' → Evaluates c e s p t → (o ≡ p) × (s' ≡ t)
+
+abbrev pub OneResultOfStatements : Type 0
+OneResultOfStatements = (c : Context) (b : Block) (s s' t : State) (o p : Result Flow Stop) → RunsAll c b s o s' → RunsAll c b s p t → (o ≡ p) × (s' ≡ t)
+
+abbrev pub OneResultOfTasks : Type 0
+OneResultOfTasks = (start : Frame) (end other : End) → TaskEnds start end → TaskEnds start other → end ≡ other

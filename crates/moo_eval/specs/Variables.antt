@@ -1,0 +1,52 @@
+-- The variables of a frame.
+use Rattle.std.specs.Prelude.{ℕ, pos, List, [], ◌∷◌, ◌++◌, Option, codes, option_map}
+use Rattle.std.specs.List.{find}
+use Rattle.std.specs.Str.{bytes_eq}
+use Rattle.moo_value.specs.Tree.{Tree, integer, object, string, list_of}
+use Rattle.moo_value.specs.Compare.{folded}
+use Rattle.moo_eval.specs.declared.frame.Frame.{Frame}
+
+-- a name and its value
+pub record Binding : Type 0 where
+  pub name : List ℕ
+  pub value : Tree
+
+abbrev pub bind : List ℕ → Tree → Binding
+bind name value = record { name = name; value = value }
+
+abbrev pub type_bindings : List Binding
+type_bindings =
+    bind (codes "NUM") (integer (pos 0))
+    ∷ bind (codes "INT") (integer (pos 0))
+    ∷ bind (codes "OBJ") (integer (pos 1))
+    ∷ bind (codes "STR") (integer (pos 2))
+    ∷ bind (codes "ERR") (integer (pos 3))
+    ∷ bind (codes "LIST") (integer (pos 4))
+    ∷ bind (codes "FLOAT") (integer (pos 9))
+    ∷ []
+
+abbrev pub object_bindings : Frame → List Binding
+object_bindings f =
+    bind (codes "player") (object f.player)
+    ∷ bind (codes "this") (object f.this)
+    ∷ bind (codes "caller") (object f.caller)
+    ∷ bind (codes "dobj") (object f.dobj)
+    ∷ bind (codes "iobj") (object f.iobj)
+    ∷ []
+
+abbrev pub text_bindings : Frame → List Binding
+text_bindings f =
+    bind (codes "verb") (string f.verb)
+    ∷ bind (codes "argstr") (string f.argstr)
+    ∷ bind (codes "dobjstr") (string f.dobjstr)
+    ∷ bind (codes "prepstr") (string f.prepstr)
+    ∷ bind (codes "iobjstr") (string f.iobjstr)
+    ∷ []
+
+-- the variables that a frame begins with
+abbrev pub first_bindings : Frame → List Binding
+first_bindings f = type_bindings ++ object_bindings f ++ text_bindings f ++ bind (codes "args") (list_of f.args) ∷ []
+
+-- the value that a folded name has
+abbrev pub value_of_name : List Binding → List ℕ → Option Tree
+value_of_name bindings name = option_map (λ b. b.value) (find (λ b. bytes_eq (folded b.name) name) bindings)

@@ -1,0 +1,255 @@
+//! Expressions.
+ghost use Rattle.std.specs.Prelude.{◌≡◌, ◌-◌, ◌<◌, ◌≤◌, IfErr, OnOk};
+ghost use Rattle.moo_program.specs.Tree.{unary, binary, logic, conditional, index, range, list};
+ghost use Rattle.moo_program.specs.View.{tree, items_of};
+ghost use Rattle.moo_eval.specs.Outcome.{out_of_ticks};
+ghost use Rattle.moo_eval.specs.Meaning.{Evaluates, Computes, EvaluatesAll};
+ghost use Rattle.moo_eval.specs.Seen.{state_of, context_of, trace_of, stop_of, seen_value, seen_answer, seen_answers, HadMemory, IsKnown, IsKnownFailure};
+
+use crate::access::{literal_value, measure, push, read_variable, splice};
+use crate::frame::{Activation, CallStack};
+use crate::outcome::{Failure, Stop, settle};
+use moo_operation as operation;
+use moo_program::operator::{BinaryOperator, LogicOperator, UnaryOperator};
+use moo_program::{Expr, Item};
+use moo_value::Value;
+use std::alloc::Global;
+
+/// What a task may still use.
+#[derive(Drop)]
+pub struct Task {
+    ticks_left: u32,
+    alloc: Global,
+}
+
+impl Task {
+    /// A task that has this many ticks.
+    pub fn new(alloc: Global, ticks: u32) -> Task
+        ensures { result ≡ record { ticks_left = ticks; alloc = alloc } }
+    {
+        Task {
+            ticks_left: ticks,
+            alloc,
+        }
+    }
+
+    /// Takes a tick, where one is left.
+    pub(crate) fn take_tick(&mut self, active: &Activation, stack: &CallStack) -> Result<(), Stop>
+        ensures taken { OnOk result (0 < self.old.ticks_left) }
+        ensures left { OnOk result (self.new ≡ record self.old { ticks_left = self.old.ticks_left - 1 }) }
+        ensures spent { IfErr result (λ stop. HadMemory stop → (self.old.ticks_left ≡ 0) × (stop_of stop ≡ out_of_ticks (trace_of stack.now active.now))) }
+        ensures kept { IfErr result (λ _. self.new ≡ self.old) }
+    {
+        if self.ticks_left == 0 {
+            let trace = stack.trace(self.alloc, active)?;
+            return Err(Stop::OutOfTicks(trace));
+        }
+        self.ticks_left -= 1;
+        Ok(())
+    }
+
+    /// The value of an expression, which takes a tick as it begins. `indexed` is what `$` measures.
+    #[cycle(evaluation)]
+    pub fn evaluate(
+        &mut self,
+        active: &mut Activation,
+        stack: &CallStack,
+        indexed: Option<&Value>,
+        expr: &Expr,
+    ) -> Result<Value, Stop>
+        ensures meaning { IsKnown result → Evaluates (context_of stack.now indexed.entry) (tree expr.now) (state_of self.old active.old) (seen_value result) (state_of self.new active.new) }
+        ensures ticks { self.new.ticks_left ≤ self.old.ticks_left }
+    {
+        self.take_tick(active, stack)?;
+        let outcome = self.compute(active, stack, indexed, expr);
+        settle(self.alloc, stack, active, outcome)
+    }
+
+    #[cycle(evaluation)]
+    fn compute(
+        &mut self,
+        active: &mut Activation,
+        stack: &CallStack,
+        indexed: Option<&Value>,
+        expr: &Expr,
+    ) -> Result<Value, Failure>
+        ensures meaning { IsKnownFailure result → Computes (context_of stack.now indexed.entry) (tree expr.now) (state_of self.old active.old) (seen_answer result) (state_of self.new active.new) }
+        ensures ticks { self.new.ticks_left ≤ self.old.ticks_left }
+    {
+        match expr {
+            Expr::Literal(literal) => Ok(literal_value(literal)?),
+            Expr::Variable(name) => read_variable(active, name),
+            Expr::Length => measure(indexed),
+            Expr::Unary(operator, operand) => {
+                self.unary(active, stack, indexed, *operator, operand)
+            }
+            Expr::Binary(operator, left, right) => {
+                self.binary(active, stack, indexed, *operator, left, right)
+            }
+            Expr::Logic(operator, left, right) => {
+                self.logic(active, stack, indexed, *operator, left, right)
+            }
+            Expr::Conditional(test, first, second) => {
+                self.conditional(active, stack, indexed, test, first, second)
+            }
+            Expr::Index(base, place) => self.index(active, stack, indexed, base, place),
+            Expr::Range(base, low, high) => self.range(active, stack, indexed, base, low, high),
+            Expr::List(items) => self.list(active, stack, indexed, items),
+        }
+    }
+
+    // Items from left to right.
+    #[cycle(evaluation)]
+    fn evaluate_all(
+        &mut self,
+        active: &mut Activation,
+        stack: &CallStack,
+        indexed: Option<&Value>,
+        items: &[Item],
+    ) -> Result<Vec<Value>, Failure>
+        ensures meaning { IsKnownFailure result → EvaluatesAll (context_of stack.now indexed.entry) (items_of items.now) (state_of self.old active.old) (seen_answers result) (state_of self.new active.new) }
+        ensures ticks { self.new.ticks_left ≤ self.old.ticks_left }
+    {
+        let mut values = Vec::new(self.alloc);
+        for item in items {
+            match item {
+                Item::Element(expr) => {
+                    let value = self.evaluate(active, stack, indexed, expr)?;
+                    push(&mut values, value)?;
+                }
+                Item::Splice(expr) => {
+                    let value = self.evaluate(active, stack, indexed, expr)?;
+                    splice(&mut values, value)?;
+                }
+            }
+        }
+        Ok(values)
+    }
+
+    #[cycle(evaluation)]
+    fn unary(
+        &mut self,
+        active: &mut Activation,
+        stack: &CallStack,
+        indexed: Option<&Value>,
+        operator: UnaryOperator,
+        operand: &Expr,
+    ) -> Result<Value, Failure>
+        ensures meaning { IsKnownFailure result → Computes (context_of stack.now indexed.entry) (unary operator (tree operand.now)) (state_of self.old active.old) (seen_answer result) (state_of self.new active.new) }
+        ensures ticks { self.new.ticks_left ≤ self.old.ticks_left }
+    {
+        let operand = self.evaluate(active, stack, indexed, operand)?;
+        Ok(operation::unary(operator, &operand)?)
+    }
+
+    #[cycle(evaluation)]
+    fn binary(
+        &mut self,
+        active: &mut Activation,
+        stack: &CallStack,
+        indexed: Option<&Value>,
+        operator: BinaryOperator,
+        left: &Expr,
+        right: &Expr,
+    ) -> Result<Value, Failure>
+        ensures meaning { IsKnownFailure result → Computes (context_of stack.now indexed.entry) (binary operator (tree left.now) (tree right.now)) (state_of self.old active.old) (seen_answer result) (state_of self.new active.new) }
+        ensures ticks { self.new.ticks_left ≤ self.old.ticks_left }
+    {
+        let left = self.evaluate(active, stack, indexed, left)?;
+        let right = self.evaluate(active, stack, indexed, right)?;
+        Ok(operation::binary(self.alloc, operator, &left, &right)?)
+    }
+
+    // The second operand is evaluated only where the first doesn't decide.
+    #[cycle(evaluation)]
+    fn logic(
+        &mut self,
+        active: &mut Activation,
+        stack: &CallStack,
+        indexed: Option<&Value>,
+        operator: LogicOperator,
+        left: &Expr,
+        right: &Expr,
+    ) -> Result<Value, Failure>
+        ensures meaning { IsKnownFailure result → Computes (context_of stack.now indexed.entry) (logic operator (tree left.now) (tree right.now)) (state_of self.old active.old) (seen_answer result) (state_of self.new active.new) }
+        ensures ticks { self.new.ticks_left ≤ self.old.ticks_left }
+    {
+        let left = self.evaluate(active, stack, indexed, left)?;
+        if operation::is_decided(operator, &left) {
+            return Ok(left);
+        }
+        Ok(self.evaluate(active, stack, indexed, right)?)
+    }
+
+    #[cycle(evaluation)]
+    fn conditional(
+        &mut self,
+        active: &mut Activation,
+        stack: &CallStack,
+        indexed: Option<&Value>,
+        test: &Expr,
+        first: &Expr,
+        second: &Expr,
+    ) -> Result<Value, Failure>
+        ensures meaning { IsKnownFailure result → Computes (context_of stack.now indexed.entry) (conditional (tree test.now) (tree first.now) (tree second.now)) (state_of self.old active.old) (seen_answer result) (state_of self.new active.new) }
+        ensures ticks { self.new.ticks_left ≤ self.old.ticks_left }
+    {
+        let test = self.evaluate(active, stack, indexed, test)?;
+        if operation::is_true(&test) {
+            return Ok(self.evaluate(active, stack, indexed, first)?);
+        }
+        Ok(self.evaluate(active, stack, indexed, second)?)
+    }
+
+    // The index is evaluated with the base as what `$` measures.
+    #[cycle(evaluation)]
+    fn index(
+        &mut self,
+        active: &mut Activation,
+        stack: &CallStack,
+        indexed: Option<&Value>,
+        base: &Expr,
+        place: &Expr,
+    ) -> Result<Value, Failure>
+        ensures meaning { IsKnownFailure result → Computes (context_of stack.now indexed.entry) (index (tree base.now) (tree place.now)) (state_of self.old active.old) (seen_answer result) (state_of self.new active.new) }
+        ensures ticks { self.new.ticks_left ≤ self.old.ticks_left }
+    {
+        let base = self.evaluate(active, stack, indexed, base)?;
+        let place = self.evaluate(active, stack, Some(&base), place)?;
+        Ok(operation::index(self.alloc, &base, &place)?)
+    }
+
+    #[cycle(evaluation)]
+    fn range(
+        &mut self,
+        active: &mut Activation,
+        stack: &CallStack,
+        indexed: Option<&Value>,
+        base: &Expr,
+        low: &Expr,
+        high: &Expr,
+    ) -> Result<Value, Failure>
+        ensures meaning { IsKnownFailure result → Computes (context_of stack.now indexed.entry) (range (tree base.now) (tree low.now) (tree high.now)) (state_of self.old active.old) (seen_answer result) (state_of self.new active.new) }
+        ensures ticks { self.new.ticks_left ≤ self.old.ticks_left }
+    {
+        let base = self.evaluate(active, stack, indexed, base)?;
+        let low = self.evaluate(active, stack, Some(&base), low)?;
+        let high = self.evaluate(active, stack, Some(&base), high)?;
+        Ok(operation::range(self.alloc, &base, &low, &high)?)
+    }
+
+    #[cycle(evaluation)]
+    fn list(
+        &mut self,
+        active: &mut Activation,
+        stack: &CallStack,
+        indexed: Option<&Value>,
+        items: &[Item],
+    ) -> Result<Value, Failure>
+        ensures meaning { IsKnownFailure result → Computes (context_of stack.now indexed.entry) (list (items_of items.now)) (state_of self.old active.old) (seen_answer result) (state_of self.new active.new) }
+        ensures ticks { self.new.ticks_left ≤ self.old.ticks_left }
+    {
+        let values = self.evaluate_all(active, stack, indexed, items)?;
+        Ok(operation::list(self.alloc, values)?)
+    }
+}

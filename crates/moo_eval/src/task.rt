@@ -1,0 +1,81 @@
+//! Whole tasks.
+ghost use Rattle.std.specs.Prelude.{◌≡◌};
+ghost use Rattle.moo_eval.specs.Seen.{seen_flow, IsKnown};
+ghost use Rattle.moo_eval.specs.Variables.{first_bindings};
+ghost use Rattle.moo_eval.specs.Seen.{bindings_of};
+ghost use Rattle.moo_eval.specs.Task.{TaskEnds, end_of};
+ghost use Rattle.moo_eval.specs.Ends.{IfEnded};
+
+use crate::frame::{Activation, CallStack, Frame};
+use crate::interpreter::Task;
+use crate::outcome::{Flow, Stop};
+use crate::traceback::traceback_lines;
+use crate::variables::Variables;
+use moo_value::Value;
+use std::alloc::{AllocError, Global};
+
+/// How many ticks a task has.
+pub const MOST_TICKS: u32 = 100_000;
+
+/// How a task ended: with a value, or with the lines of its traceback.
+#[derive(Drop)]
+pub enum Ended {
+    Value(Value),
+    Uncaught(Vec<Vec<u8>>),
+    OutOfTicks(Vec<Vec<u8>>),
+    Memory,
+}
+
+/// Runs the program of a frame, with a fresh budget of ticks.
+pub fn run_task(alloc: Global, start: Frame) -> Ended
+    ensures { IfEnded result (TaskEnds start) }
+{
+    match Variables::first(alloc, &start) {
+        Ok(variables) => run_frame(alloc, start, variables),
+        Err(AllocError) => Ended::Memory,
+    }
+}
+
+fn run_frame(alloc: Global, start: Frame, variables: Variables) -> Ended
+    requires { bindings_of variables ≡ first_bindings start }
+    ensures { IfEnded result (TaskEnds start) }
+{
+    let mut active = Activation {
+        variables,
+        programmer: start.programmer,
+    };
+    let stack = CallStack {
+        running: start,
+        callers: Vec::new(alloc),
+    };
+    let mut task = Task::new(alloc, MOST_TICKS);
+    let outcome = task.run_all(&mut active, &stack, stack.running.program.statements());
+    end_of_task(alloc, outcome)
+}
+
+fn end_of_task(alloc: Global, outcome: Result<Flow, Stop>) -> Ended
+    ensures end { IfEnded result (λ end. end_of (seen_flow outcome) ≡ end) }
+    ensures known { IfEnded result (λ _. IsKnown outcome) }
+{
+    match outcome {
+        Ok(Flow::Return(value)) => Ended::Value(value),
+        Ok(Flow::Next) => Ended::Value(Value::Int(0)),
+        Err(Stop::Raised(raise)) => match traceback_lines(
+            alloc,
+            raise.message.as_bytes(),
+            &raise.trace,
+        ) {
+            Ok(lines) => Ended::Uncaught(lines),
+            Err(AllocError) => Ended::Memory,
+        },
+        Err(Stop::OutOfTicks(trace)) => match traceback_lines(
+            alloc,
+            b"Task ran out of ticks",
+            &trace,
+        ) {
+            Ok(lines) => Ended::OutOfTicks(lines),
+            Err(AllocError) => Ended::Memory,
+        },
+        Err(Stop::Memory) => Ended::Memory,
+    }
+}

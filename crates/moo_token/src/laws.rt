@@ -13,7 +13,12 @@ pub fn one_token_list()
     ensures { (lines : List (List ℕ)) (ts us : List Spot) → IsTokens lines ts → IsTokens lines us → ts ≡ us }
 {}
 
-/// And a reader finds one list of spots in it.
+/// A reader finds spots in each text.
+pub fn each_text_has_a_reading()
+    ensures { (lines : List (List ℕ)) → (spots : List Spot) × IsReading lines spots }
+{}
+
+/// And it finds one list of spots in it.
 pub fn one_reading()
     ensures { (lines : List (List ℕ)) (ts us : List Spot) → IsReading lines ts → IsReading lines us → ts ≡ us }
 {}

@@ -1,0 +1,59 @@
+-- What turns one after another come to.
+use Rattle.std.proofs.Common.{◌≡◌, ◌⊎◌, ⊎_elim, ℕ, ◌+◌, List, [], ◌∷◌, length, refl, sym, ◌∙◌, ap, subst, arith}
+use Rattle.moo_disk.specs.Disk.{DiskView, Gains}
+use Rattle.moo_disk.proofs.GainsLemmas.{gains_join, gains_less, gains_none}
+use Rattle.moo_checkpoint.specs.declared.checkpoint.Checkpoint.{Checkpoint}
+use Rattle.moo_checkpoint.specs.declared.checkpoint.Stage.{Stage}
+use Rattle.moo_checkpoint.specs.declared.checkpoint.Stage.TheVariants.{Create, Fill, Rename, SyncNames}
+use Rattle.moo_checkpoint.specs.Checkpoint.{Continues, IsFresh, IsReady, pieces, text_of, turns_from, turns_left}
+use Rattle.moo_checkpoint.specs.Turns.{Taken, MoreTurns}
+
+-- before its first turn a checkpoint may be given any disk
+pub fresh_continues : {D : Type 0} (view : D → DiskView) (honest stands : D → Type 0) (checkpoint : Checkpoint) (disk : D)
+    → IsFresh checkpoint → Continues view honest stands checkpoint disk
+unfolding IsFresh Continues
+fresh_continues view honest stands checkpoint disk fresh =
+    subst (λ (stage : Stage). IsReady view honest stands stage checkpoint.text.items checkpoint.written disk) (sym fresh) tt
+
+pub fresh_turns : (checkpoint : Checkpoint) → IsFresh checkpoint → turns_left checkpoint ≡ pieces (length (text_of checkpoint)) + 4
+unfolding IsFresh turns_left
+fresh_turns checkpoint fresh =
+    let all = ap (λ (stage : Stage). turns_from stage (length checkpoint.text.items) checkpoint.written) fresh in
+    omega (arith, all)
+
+-- a disk that shows what the one within shows goes on where that one does
+pub continues_within : {D E : Type 0} (view : D → DiskView) (honest stands : D → Type 0) (inner : E → D) (checkpoint : Checkpoint) (disk : E)
+    → Continues view honest stands checkpoint (inner disk)
+    → Continues (λ e. view (inner e)) (λ e. honest (inner e)) (λ e. stands (inner e)) checkpoint disk
+unfolding Continues
+continues_within view honest stands inner checkpoint disk goes_on = within checkpoint.stage goes_on
+  where
+    within : (stage : Stage) → IsReady view honest stands stage checkpoint.text.items checkpoint.written (inner disk)
+        → IsReady (λ e. view (inner e)) (λ e. honest (inner e)) (λ e. stands (inner e)) stage checkpoint.text.items checkpoint.written disk
+    within Create ready = ready
+    within Fill ready = ready
+    within Rename ready = ready
+    within SyncNames ready = ready
+
+pub record Comes {D : Type 0} (view : D → DiskView) (old new : Checkpoint) (before after : D) (n : ℕ) : Type 0 where
+  pub text : text_of new ≡ text_of old
+  pub crash : Gains (λ c. c ≡ text_of old) (view before) (view after)
+  pub left : turns_left new + n ≡ turns_left old
+
+pub more_turns : {D : Type 0} (view : D → DiskView) (old new : Checkpoint) (before after : D) (turns : List (Taken D))
+    → MoreTurns view old before turns new after → Comes view old new before after (length turns)
+more_turns view old new before after [] same = record {
+  text = ap text_of same.0;
+  crash = subst (λ (d : _). Gains (λ c. c ≡ text_of old) (view before) (view d)) (sym same.1) (gains_none (λ c. c ≡ text_of old) (view before));
+  left = let left = ap turns_left same.0 in omega (arith, left);
+}
+more_turns view old new before after (taken ∷ turns) all =
+    let first = all.0 in
+    let rest = more_turns view taken.checkpoint new taken.disk after turns all.1 in
+    let joined = gains_join (λ c. c ≡ text_of old) (λ c. c ≡ text_of taken.checkpoint) (view before) (view taken.disk) (view after) first.crash rest.crash in
+    record {
+      text = rest.text ∙ first.text;
+      crash = gains_less (λ c. (c ≡ text_of old) ⊎ (c ≡ text_of taken.checkpoint)) (λ c. c ≡ text_of old) (view before) (view after)
+          (λ c brought. ⊎_elim (λ is. is) (λ is. is ∙ first.text) brought) joined;
+      left = let one = first.more refl in omega (arith, one, rest.left);
+    }

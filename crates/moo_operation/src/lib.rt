@@ -5,6 +5,7 @@ mod arithmetic;
 mod assignment;
 mod comparison;
 mod fault;
+pub mod laws;
 mod made;
 mod operator;
 mod place;

@@ -3,3 +3,4 @@ mod Rows
 mod Fitting
 mod Patterns
 mod Verbs
+mod Numbers

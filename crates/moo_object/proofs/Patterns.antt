@@ -34,3 +34,6 @@ any_among p q (x ∷ xs) = elim (cases_Bool (p x)) [
   | inl passes ↦ rw (passes) (ap (λ t. q x || t) (any_among p q xs))
   | inr other ↦ rw (other) (any_among p q xs)
 ]
+
+pub star_fits : (name : List ℕ) → IsTrue (fits (42 ∷ []) name)
+star_fits name = (fits_is (42 ∷ []) name).1 (inr (([], refl), (folded name, refl)))

@@ -10,6 +10,8 @@ mod name;
 mod object;
 mod pattern;
 mod row;
+#[cfg(test)]
+mod tests;
 mod verb;
 mod verb_args;
 

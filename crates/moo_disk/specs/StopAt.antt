@@ -1,7 +1,7 @@
 -- A disk in memory that stops in a call.
-use Rattle.std.specs.Prelude.{◌≡◌, ◌⊎◌, ℕ, ◌+◌, ◌-◌, ◌<◌, ◌≤◌, Result, IsErr}
-use Rattle.moo_disk.specs.Disk.{Counts}
-use Rattle.moo_disk.specs.Memory.{failures_of as memory_failures}
+use Rattle.std.specs.Prelude.{◌≡◌, ◌⊎◌, ℕ, ◌+◌, ◌-◌, ◌<◌, ◌≤◌, List, Result, IsErr}
+use Rattle.moo_disk.specs.Disk.{Counts, DiskView}
+use Rattle.moo_disk.specs.Memory.{failures_of as memory_failures, images as memory_images, view_of as memory_view}
 use Rattle.moo_disk.specs.declared.memory.MemoryDisk.{MemoryDisk}
 use Rattle.moo_disk.specs.declared.stop_at.Call.{Call}
 use Rattle.moo_disk.specs.declared.stop_at.Call.TheVariants.{CutShort, Passes, Refused}
@@ -12,6 +12,14 @@ use Rattle.moo_disk.specs.declared.stop_at.StopAt.{StopAt}
 -- the disk that it was put round, as it is now
 abbrev pub inner_of : StopAt → MemoryDisk
 inner_of stopping = stopping.disk
+
+-- what a reader, a rename and a crash find
+abbrev pub view_of : StopAt → DiskView
+view_of stopping = memory_view (inner_of stopping)
+
+-- the texts that a crash may leave, each once, in the order in which they entered
+abbrev pub images : StopAt → List (List ℕ)
+images stopping = memory_images (inner_of stopping)
 
 -- the calls up to and with the one that it stops in, 0 once it has
 abbrev pub left_of : StopAt → ℕ

@@ -22,13 +22,17 @@ short_in (x ∷ xs) zero = omega (arith, x.ok.0, x.ok.1, x.small)
 short_in (x ∷ xs) (suc k) = short_in xs k
 
 -- a text that a `Vec` holds has fewer than 2^63 bytes
-pub text_is_short : (base : Vec ℕ Global) (later : List (Vec ℕ Global)) (first place : ℕ)
+text_is_short : (base : Vec ℕ Global) (later : List (Vec ℕ Global)) (first place : ℕ)
     → length (slice_index_or (texts_from base.items later first) place []) < 2 ^ 63
 text_is_short base later first zero = omega (arith, base.ok.0, base.ok.1, base.small)
 text_is_short base later first (suc k) = short_in (drop first later) k
 
-pub text_is_in : (texts : List (List ℕ)) (place : ℕ) → place < length texts → Contains texts (slice_index_or texts place [])
-text_is_in texts place lt = Contains-get_or texts place [] lt
+-- main, as it reads, is short enough, and is among the texts
+pub main_is_left : (base : Vec ℕ Global) (later : List (Vec ℕ Global)) (first place : ℕ) → place < length (texts_from base.items later first)
+    → (length (slice_index_or (texts_from base.items later first) place []) < 2 ^ 63)
+    × Contains (texts_from base.items later first) (slice_index_or (texts_from base.items later first) place [])
+main_is_left base later first place lt =
+    (text_is_short base later first place, Contains-get_or (texts_from base.items later first) place [] lt)
 
 contains_more : (n : ℕ) (xs : List (Vec ℕ Global)) (c : List ℕ) → Contains (map (λ (v : Vec ℕ Global). v.items) (drop n xs)) c
     → Contains (map (λ (v : Vec ℕ Global). v.items) xs) c

@@ -62,7 +62,8 @@ impl CrashSet {
 
     // Where a text stands.
     fn place_of(&self, text: &[u8]) -> Option<usize>
-        ensures found { IfSome result (λ place. slice_get (texts_of self.now) place ≡ Some text.now) }
+        ensures found { IfSome result (λ place. slice_get (texts_of self.now) place
+            ≡ Some text.now) }
         ensures absent { IfNone result (¬ Contains (texts_of self.now) text.now) }
     {
         if self.base.as_slice() == text {
@@ -87,7 +88,8 @@ impl CrashSet {
 
     /// Brings a text into the set, and answers its place.
     pub fn enter(&mut self, text: Vec<u8>) -> Result<usize, AllocFailed<Vec<u8>>>
-        ensures place { IfOk result (λ place. slice_get (texts_of self.new) place ≡ Some text.items) }
+        ensures place { IfOk result (λ place. slice_get (texts_of self.new) place
+            ≡ Some text.items) }
         ensures entered { OnOk result (Enters text.items (texts_of self.old) (texts_of self.new)) }
         ensures gains { Gains (λ c. c ≡ text.items) (crash_view self.old) (crash_view self.new) }
         ensures same { OnErr result (texts_of self.new ≡ texts_of self.old) }
@@ -110,9 +112,12 @@ impl CrashSet {
         text: Vec<u8>,
         stable: bool,
     ) -> Result<usize, AllocFailed<Vec<u8>>>
-        ensures place { IfOk result (λ place. slice_get (texts_of self.new) place ≡ Some text.items) }
-        ensures brought { OnOk result (Brings stable text.items (texts_of self.old) (texts_of self.new)) }
-        ensures gains { Gains (λ c. stable ≡ true → c ≡ text.items) (crash_view self.old) (crash_view self.new) }
+        ensures place { IfOk result (λ place. slice_get (texts_of self.new) place
+            ≡ Some text.items) }
+        ensures brought { OnOk result (Brings stable text.items (texts_of self.old)
+            (texts_of self.new)) }
+        ensures gains { Gains (λ c. stable ≡ true → c ≡ text.items)
+            (crash_view self.old) (crash_view self.new) }
         ensures same { OnErr result (texts_of self.new ≡ texts_of self.old) }
         ensures value { IfErr result (λ failed. failed.value ≡ text) }
     {
@@ -131,7 +136,8 @@ impl CrashSet {
     /// Leaves the text at that place alone in the set.
     pub fn settle(&mut self, place: usize) -> Result<(), AllocError>
         requires { place < length (texts_of self.old) }
-        ensures alone { OnOk result (option_map (λ text. text ∷ []) (slice_get (texts_of self.old) place) ≡ Some (texts_of self.new)) }
+        ensures alone { OnOk result (option_map (λ text. text ∷ []) (slice_get (texts_of self.old) place)
+            ≡ Some (texts_of self.new)) }
         ensures gains { Gains NoText (crash_view self.old) (crash_view self.new) }
         ensures same { OnErr result (texts_of self.new ≡ texts_of self.old) }
     {
@@ -162,9 +168,11 @@ impl CrashSet {
 // Changes places: the text at that place, and the first one.
 fn bring_to_front(base: &mut Vec<u8>, later: &mut Vec<Vec<u8>>, first: usize, place: usize)
     requires { place < length (texts_from base.old.items later.old.items first) }
-    ensures front { slice_get (texts_from base.old.items later.old.items first) place ≡ Some base.new.items }
+    ensures front { slice_get (texts_from base.old.items later.old.items first) place
+        ≡ Some base.new.items }
     ensures len { length later.new.items ≡ length later.old.items }
-    ensures same { (k : ℕ) → k ≤ first → SameTexts (texts_from base.old.items later.old.items k) (texts_from base.new.items later.new.items k) }
+    ensures same { (k : ℕ) → k ≤ first
+        → SameTexts (texts_from base.old.items later.old.items k) (texts_from base.new.items later.new.items k) }
 {
     if place == 0 {
         return;

@@ -103,24 +103,23 @@ fn first_half(bytes: &[u8]) -> &[u8]
 }
 
 impl Disk for StopAt {
-    ghost use Rattle.moo_disk.specs.Memory.{images, view_of};
-    ghost use Rattle.moo_disk.specs.StopAt.{IsWithin, StopsFrom, failures_of, inner_of, left_of};
+    ghost use Rattle.moo_disk.specs.StopAt.{IsWithin, StopsFrom, failures_of, images, inner_of, left_of, view_of};
     ghost use Rattle.moo_disk.specs.Texts.{BringsSpare, first_at};
-    ghost use Rattle.moo_disk.specs.TextLaws.{more_from, now_since_now, text_is_in, text_is_short};
+    ghost use Rattle.moo_disk.specs.TextLaws.{main_is_left, more_from, now_since_now};
     ghost use Rattle.moo_disk.specs.CrashSet.{texts_of};
 
-    ghost view = { λ d. view_of d.disk };
+    ghost view = { view_of };
 
     ghost failures = { failures_of };
 
     ghost honest = { λ _. Unit {0} };
 
-    ghost stands = { λ d. IsSome (view_of d.disk).spare };
+    ghost stands = { λ d. IsSome (view_of d).spare };
 
     fn create_spare(&mut self) -> Result<(), DiskFault>
-        ensures stands { OnOk result (IsSome (view_of (inner_of self.new)).spare) }
-        ensures created { OnOk result ((view_of (inner_of self.new)).spare ≡ Some []) }
-        ensures main { KeepsMain (view_of (inner_of self.old)) (view_of (inner_of self.new)) }
+        ensures stands { OnOk result (IsSome (view_of self.new).spare) }
+        ensures created { OnOk result ((view_of self.new).spare ≡ Some []) }
+        ensures main { KeepsMain (view_of self.old) (view_of self.new) }
         ensures fault { Counts (failures_of self.old) (failures_of self.new) result }
         ensures stops { StopsFrom self.old self.new result }
         ensures nothing { left_of self.old ≤ 1 → inner_of self.new ≡ inner_of self.old }
@@ -132,12 +131,16 @@ impl Disk for StopAt {
     }
 
     fn append(&mut self, bytes: &[u8]) -> Result<(), DiskFault>
-        ensures stands { IsSome (view_of (inner_of self.old)).spare → IsSome (view_of (inner_of self.new)).spare }
-        ensures grown { OnOk result ((view_of (inner_of self.new)).spare ≡ option_map (λ text. text ++ bytes.now) (view_of (inner_of self.old)).spare) }
-        ensures main { KeepsMain (view_of (inner_of self.old)) (view_of (inner_of self.new)) }
+        ensures stands { IsSome (view_of self.old).spare → IsSome (view_of self.new).spare }
+        ensures grown { OnOk result ((view_of self.new).spare
+            ≡ option_map (λ text. text ++ bytes.now) (view_of self.old).spare) }
+        ensures main { KeepsMain (view_of self.old) (view_of self.new) }
         ensures fault { Counts (failures_of self.old) (failures_of self.new) result }
         ensures stops { StopsFrom self.old self.new result }
-        ensures within { IsWithin self.old → ((view_of (inner_of self.new)).spare ≡ option_map (λ text. text ++ take (length bytes.now / 2) bytes.now) (view_of (inner_of self.old)).spare) ⊎ ((view_of (inner_of self.new)).spare ≡ (view_of (inner_of self.old)).spare) }
+        ensures within { IsWithin self.old
+            → ((view_of self.new).spare
+            ≡ option_map (λ text. text ++ take (length bytes.now / 2) bytes.now) (view_of self.old).spare)
+            ⊎ ((view_of self.new).spare ≡ (view_of self.old).spare) }
     {
         match self.count() {
             Call::Passes => self.disk.append(bytes),
@@ -150,10 +153,10 @@ impl Disk for StopAt {
     }
 
     fn sync_spare(&mut self) -> Result<(), DiskFault>
-        ensures stands { IsSome (view_of (inner_of self.old)).spare → IsSome (view_of (inner_of self.new)).spare }
-        ensures stable { OnOk result ((view_of (inner_of self.new)).stable ≡ true) }
-        ensures spare { (view_of (inner_of self.new)).spare ≡ (view_of (inner_of self.old)).spare }
-        ensures main { KeepsMain (view_of (inner_of self.old)) (view_of (inner_of self.new)) }
+        ensures stands { IsSome (view_of self.old).spare → IsSome (view_of self.new).spare }
+        ensures stable { OnOk result ((view_of self.new).stable ≡ true) }
+        ensures spare { (view_of self.new).spare ≡ (view_of self.old).spare }
+        ensures main { KeepsMain (view_of self.old) (view_of self.new) }
         ensures fault { Counts (failures_of self.old) (failures_of self.new) result }
         ensures stops { StopsFrom self.old self.new result }
         ensures nothing { left_of self.old ≤ 1 → inner_of self.new ≡ inner_of self.old }
@@ -165,13 +168,17 @@ impl Disk for StopAt {
     }
 
     fn rename(&mut self) -> Result<(), DiskFault>
-        ensures renamed { OnOk result ((view_of (inner_of self.old)).spare ≡ Some (view_of (inner_of self.new)).main_text) }
-        ensures no_spare { OnOk result ((view_of (inner_of self.new)).spare ≡ None) }
-        ensures err { OnErr result ((view_of (inner_of self.new)).main_text ≡ (view_of (inner_of self.old)).main_text) }
-        ensures crash { Gains (IsBroughtBy (view_of (inner_of self.old))) (view_of (inner_of self.old)) (view_of (inner_of self.new)) }
+        ensures renamed { OnOk result ((view_of self.old).spare
+            ≡ Some (view_of self.new).main_text) }
+        ensures no_spare { OnOk result ((view_of self.new).spare ≡ None) }
+        ensures err { OnErr result ((view_of self.new).main_text ≡ (view_of self.old).main_text) }
+        ensures crash { Gains (IsBroughtBy (view_of self.old)) (view_of self.old)
+            (view_of self.new) }
         ensures fault { Counts (failures_of self.old) (failures_of self.new) result }
         ensures stops { StopsFrom self.old self.new result }
-        ensures within { IsWithin self.old → BringsSpare (view_of (inner_of self.old)) (images (inner_of self.old)) (images (inner_of self.new)) ⊎ (images (inner_of self.new) ≡ images (inner_of self.old)) }
+        ensures within { IsWithin self.old
+            → BringsSpare (view_of self.old) (images self.old) (images self.new)
+            ⊎ (images self.new ≡ images self.old) }
     {
         match self.count() {
             Call::Passes => self.disk.rename(),
@@ -184,9 +191,9 @@ impl Disk for StopAt {
     }
 
     fn sync_names(&mut self) -> Result<(), DiskFault>
-        ensures durable { OnOk result (LeavesOnly (view_of (inner_of self.old)).main_text (view_of (inner_of self.new))) }
-        ensures spare { KeepsSpare (view_of (inner_of self.old)) (view_of (inner_of self.new)) }
-        ensures main { KeepsMain (view_of (inner_of self.old)) (view_of (inner_of self.new)) }
+        ensures durable { OnOk result (LeavesOnly (view_of self.old).main_text (view_of self.new)) }
+        ensures spare { KeepsSpare (view_of self.old) (view_of self.new) }
+        ensures main { KeepsMain (view_of self.old) (view_of self.new) }
         ensures fault { Counts (failures_of self.old) (failures_of self.new) result }
         ensures stops { StopsFrom self.old self.new result }
         ensures nothing { left_of self.old ≤ 1 → inner_of self.new ≡ inner_of self.old }
@@ -198,9 +205,9 @@ impl Disk for StopAt {
     }
 
     fn read_main(&mut self, at: u64, buffer: &mut [u8]) -> Result<usize, DiskFault>
-        ensures read { IfOk result (Reads (view_of (inner_of self.old)).main_text at buffer.new) }
-        ensures spare { KeepsSpare (view_of (inner_of self.old)) (view_of (inner_of self.new)) }
-        ensures main { KeepsMain (view_of (inner_of self.old)) (view_of (inner_of self.new)) }
+        ensures read { IfOk result (Reads (view_of self.old).main_text at buffer.new) }
+        ensures spare { KeepsSpare (view_of self.old) (view_of self.new) }
+        ensures main { KeepsMain (view_of self.old) (view_of self.new) }
         ensures fault { Counts (failures_of self.old) (failures_of self.new) result }
         ensures stops { StopsFrom self.old self.new result }
         ensures nothing { left_of self.old ≤ 1 → inner_of self.new ≡ inner_of self.old }
@@ -211,9 +218,13 @@ impl Disk for StopAt {
         Err(self.refuse())
     }
 
-    ghost main_may_be_left = { λ d _. (text_is_short d.disk.set.base d.disk.set.later.items d.disk.set.first d.disk.main, text_is_in (texts_of d.disk.set) d.disk.main d.disk.main_in) };
+    ghost main_may_be_left = { λ d _. main_is_left d.disk.set.base d.disk.set.later.items
+        d.disk.set.first d.disk.main d.disk.main_in };
 
-    ghost counts_now = { λ d t c _ _ now. more_from d.disk.set.base.items d.disk.set.later.items (first_at d.disk.set.starts.items d.disk.set.first t) d.disk.set.first c (d.disk.set.rising t) now };
+    ghost counts_now = { λ d t c _ _ now. more_from d.disk.set.base.items d.disk.set.later.items
+        (first_at d.disk.set.starts.items d.disk.set.first t) d.disk.set.first c
+        (d.disk.set.rising t) now };
 
-    ghost only_now = { λ d c _ left. now_since_now d.disk.set.base.items d.disk.set.later.items d.disk.set.starts.items d.disk.set.first c left };
+    ghost only_now = { λ d c _ left. now_since_now d.disk.set.base.items d.disk.set.later.items
+        d.disk.set.starts.items d.disk.set.first c left };
 }

@@ -8,7 +8,7 @@ ghost use Rattle.moo_value.specs.View.{tree};
 ghost use Rattle.moo_value.specs.Compare.{fold_letters, folded, order};
 ghost use Rattle.moo_value.specs.Text.{literal};
 
-/// `==` of the language holds of a value and itself, both ways or not at all, and along.
+/// `==` of the language is reflexive, symmetric and transitive.
 pub fn equal_is_an_equivalence()
     ensures reflexive { (t : Tree) → fold_letters t ≡ fold_letters t }
     ensures symmetric { (t u : Tree) → fold_letters t ≡ fold_letters u → fold_letters u ≡ fold_letters t }

@@ -2,43 +2,58 @@
 ghost use Rattle.std.specs.Prelude.{◌≡◌, ◌+◌, ◌<◌, List, length};
 ghost use Rattle.moo_disk.specs.Disk.{Gains, LeavesOnly};
 ghost use Rattle.moo_disk.specs.FailAt.{inner_of};
+ghost use Rattle.moo_disk.specs.StopAt.{inner_of as memory_within};
 ghost use Rattle.moo_disk.specs.declared.fail_at.FailAt.{FailAt};
+ghost use Rattle.moo_disk.specs.declared.stop_at.StopAt.{StopAt};
 ghost use Rattle.moo_checkpoint.specs.Checkpoint.{Continues, IsFresh, pieces, text_of, turns_left};
 ghost use Rattle.moo_checkpoint.specs.Turns.{MoreTurns, Taken, Turned};
 ghost use Rattle.moo_checkpoint.specs.declared.checkpoint.Checkpoint.{Checkpoint};
 
 use crate::Turn;
-use moo_disk::{Disk, FailAt};
+use moo_disk::{Disk, FailAt, MemoryDisk, StopAt};
 
 /// Before its first turn, and after one that ended it, a checkpoint may be given any disk.
 pub fn a_fresh_checkpoint_takes_any_disk<D: Disk>()
-    ensures { (checkpoint : Checkpoint) (disk : D) → IsFresh checkpoint → Continues D.view D.honest D.stands checkpoint disk }
+    ensures { (checkpoint : Checkpoint) (disk : D) → IsFresh checkpoint
+        → Continues D.view D.honest D.stands checkpoint disk }
 {}
 
 /// It then has a turn for each piece, and four.
 pub fn a_fresh_checkpoint_has_all_turns()
-    ensures { (checkpoint : Checkpoint) → IsFresh checkpoint → turns_left checkpoint ≡ pieces (length (text_of checkpoint)) + 4 }
+    ensures { (checkpoint : Checkpoint) → IsFresh checkpoint
+        → turns_left checkpoint ≡ pieces (length (text_of checkpoint)) + 4 }
 {}
 
 /// Between two turns a disk may be made to fail.
 pub fn a_failing_disk_goes_on<D: Disk>()
-    ensures { (checkpoint : Checkpoint) (disk : FailAt D) → Continues D.view D.honest D.stands checkpoint (inner_of disk)
+    ensures { (checkpoint : Checkpoint) (disk : FailAt D)
+        → Continues D.view D.honest D.stands checkpoint (inner_of disk)
         → Continues ⟦<FailAt<D> as Disk>⟧.view ⟦<FailAt<D> as Disk>⟧.honest ⟦<FailAt<D> as Disk>⟧.stands checkpoint disk }
+{}
+
+/// Or to stop.
+pub fn a_stopping_disk_goes_on()
+    ensures { (checkpoint : Checkpoint) (disk : StopAt)
+        → Continues ⟦<MemoryDisk as Disk>⟧.view ⟦<MemoryDisk as Disk>⟧.honest ⟦<MemoryDisk as Disk>⟧.stands checkpoint (memory_within disk)
+        → Continues ⟦<StopAt as Disk>⟧.view ⟦<StopAt as Disk>⟧.honest ⟦<StopAt as Disk>⟧.stands checkpoint disk }
 {}
 
 /// Each turn that answers `More` takes one of the turns left. At every moment a crash may leave what it
 /// might have left before, or the checkpoint's text.
 pub fn more_turns_come<D: Disk>()
-    ensures left { (old new : Checkpoint) (before after : D) (turns : List (Taken D)) → MoreTurns D.view old before turns new after
+    ensures left { (old new : Checkpoint) (before after : D) (turns : List (Taken D))
+        → MoreTurns D.view old before turns new after
         → turns_left new + length turns ≡ turns_left old }
-    ensures crash { (old new : Checkpoint) (before after : D) (turns : List (Taken D)) → MoreTurns D.view old before turns new after
+    ensures crash { (old new : Checkpoint) (before after : D) (turns : List (Taken D))
+        → MoreTurns D.view old before turns new after
         → Gains (λ c. c ≡ text_of old) (D.view before) (D.view after) }
 {}
 
 /// A checkpoint is done in the last of its turns: in the one numbered pieces + 4 from its beginning on. Then a
 /// crash leaves its text alone, and since the beginning what it left before, or that text.
 pub fn a_checkpoint_is_done_in_its_last_turn<D: Disk>()
-    ensures number { (old mid new : Checkpoint) (before disk after : D) (turns : List (Taken D)) → IsFresh old
+    ensures number { (old mid new : Checkpoint) (before disk after : D) (turns : List (Taken D))
+        → IsFresh old
         → MoreTurns D.view old before turns mid disk → Turned D.view Turn.Done mid new disk after
         → length turns + 1 ≡ pieces (length (text_of old)) + 4 }
     ensures crash { (old mid new : Checkpoint) (before disk after : D) (turns : List (Taken D))

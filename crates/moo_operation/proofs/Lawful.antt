@@ -76,7 +76,7 @@ limited_within t h = let w : weight t ≤ weight_limit = h.weight in let d : dep
 leb_decides : (a b : ℕ) → Decides (leb a b) (a ≤ b)
 leb_decides a b = (λ h. grind (arith, nat_tests), λ h. grind (arith, nat_tests))
 
-limits_decide : (t : Tree) → Decides (leb (weight t) weight_limit && leb (depth t) depth_limit) (IsWithinLimits t)
+pub limits_decide : (t : Tree) → Decides (leb (weight t) weight_limit && leb (depth t) depth_limit) (IsWithinLimits t)
 limits_decide t =
     Decides-like _ (λ p. record { weight = p.0; depth = p.1 }) (λ h. (h.weight, h.depth))
     (Decides-and _ _ (leb_decides (weight t) weight_limit) (leb_decides (depth t) depth_limit))

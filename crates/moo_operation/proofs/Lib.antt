@@ -5,3 +5,4 @@ pub mod Replaced
 pub mod Lawful
 pub mod Found
 pub mod Ranges
+pub mod Stored

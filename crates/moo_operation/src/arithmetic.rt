@@ -4,8 +4,8 @@ ghost use Rattle.std.specs.Int.{int_wrap, w32};
 ghost use Rattle.moo_operation.specs.Answer.{Gives};
 ghost use Rattle.moo_operation.specs.Arithmetic.{quotient, remainder, power, inverse_power};
 
-use crate::fault::OperationFault;
-use moo_value::{ErrorCode, Value};
+use crate::fault::{DIVISION, OperationFault};
+use moo_value::Value;
 
 /// `-a`.
 pub fn negated(a: i32) -> i32
@@ -40,7 +40,7 @@ pub fn quotient(a: i32, b: i32) -> Result<Value, OperationFault>
     ensures { Gives result (quotient a b) }
 {
     if b == 0 {
-        return Err(OperationFault::Raise(ErrorCode::Division));
+        return Err(DIVISION);
     }
     Ok(Value::Int(wrapped_quotient(a, b)))
 }
@@ -50,7 +50,7 @@ pub fn remainder(a: i32, b: i32) -> Result<Value, OperationFault>
     ensures { Gives result (remainder a b) }
 {
     if b == 0 {
-        return Err(OperationFault::Raise(ErrorCode::Division));
+        return Err(DIVISION);
     }
     Ok(Value::Int(a.wrapping_rem(b)))
 }
@@ -70,7 +70,7 @@ fn inverse_power(a: i32, n: u32) -> Result<Value, OperationFault>
     ensures { Gives result (inverse_power a n) }
 {
     match a {
-        0 => Err(OperationFault::Raise(ErrorCode::Division)),
+        0 => Err(DIVISION),
         1 => Ok(Value::Int(1)),
         -1 if n % 2 == 0 => Ok(Value::Int(1)),
         -1 => Ok(Value::Int(-1)),

@@ -9,7 +9,7 @@ ghost use Rattle.moo_value.specs.View.{tree};
 ghost use Rattle.moo_operation.specs.Answer.{Gives, limited};
 ghost use Rattle.moo_operation.specs.Assignment.{before_place, ends, at_least_zero, with_index_of, with_range_of};
 
-use crate::fault::{OperationFault, RANGE, TYPE_MISMATCH};
+use crate::fault::{OperationFault, QUOTA, RANGE, TYPE_MISMATCH};
 use moo_value::{ErrorCode, ListFault, MooList, MooStr, Value, ValueFault};
 use std::alloc::Global;
 
@@ -166,7 +166,7 @@ fn replaced(
 {
     match list.replaced(alloc, before, value) {
         Ok(list) => Ok(Value::List(list)),
-        Err(ListFault::TooLarge) => Err(OperationFault::Raise(ErrorCode::Quota)),
+        Err(ListFault::TooLarge) => Err(QUOTA),
         Err(ListFault::Memory) => Err(OperationFault::Memory),
     }
 }
@@ -207,9 +207,7 @@ fn spliced_text(
     match base.spliced(alloc, front, back, value) {
         Ok(string) => Ok(Value::Str(string)),
         Err(ValueFault::Memory) => Err(OperationFault::Memory),
-        Err(ValueFault::BadByte | ValueFault::TooHeavy) => Err(OperationFault::Raise(
-            ErrorCode::Quota,
-        )),
+        Err(ValueFault::BadByte | ValueFault::TooHeavy) => Err(QUOTA),
     }
 }
 
@@ -226,7 +224,7 @@ fn spliced_list(
 {
     match base.spliced(alloc, front, back, value) {
         Ok(list) => Ok(Value::List(list)),
-        Err(ListFault::TooLarge) => Err(OperationFault::Raise(ErrorCode::Quota)),
+        Err(ListFault::TooLarge) => Err(QUOTA),
         Err(ListFault::Memory) => Err(OperationFault::Memory),
     }
 }

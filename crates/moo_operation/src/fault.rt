@@ -14,3 +14,7 @@ pub enum OperationFault {
 pub(crate) const TYPE_MISMATCH: OperationFault = OperationFault::Raise(ErrorCode::TypeMismatch);
 
 pub(crate) const RANGE: OperationFault = OperationFault::Raise(ErrorCode::Range);
+
+pub(crate) const DIVISION: OperationFault = OperationFault::Raise(ErrorCode::Division);
+
+pub(crate) const QUOTA: OperationFault = OperationFault::Raise(ErrorCode::Quota);

@@ -1,12 +1,17 @@
 //! Laws of the operations.
-ghost use Rattle.std.specs.Prelude.{◌≡◌, ◌↔◌, ℤ, Ok, Err, IsTrue};
+ghost use Rattle.std.specs.Prelude.{◌≡◌, ◌↔◌, ℤ, List, Ok, Err, IsTrue, IfOk};
 ghost use Rattle.std.specs.Int.{int_wrap, w32};
 ghost use Rattle.moo_value.specs.declared.error_code.ErrorCode.TheVariants.{Quota};
-ghost use Rattle.moo_value.specs.Tree.{Tree};
-ghost use Rattle.moo_value.specs.Size.{IsWithinLimits};
+ghost use Rattle.moo_value.specs.Tree.{Tree, IsValue, list_of};
+ghost use Rattle.moo_value.specs.Size.{IsWithinLimits, IsStored};
 ghost use Rattle.moo_value.specs.Compare.{IsTruthy, fold_letters};
+ghost use Rattle.moo_program.specs.declared.operator.UnaryOperator.{UnaryOperator};
+ghost use Rattle.moo_program.specs.declared.operator.BinaryOperator.{BinaryOperator};
 ghost use Rattle.moo_operation.specs.Answer.{limited};
 ghost use Rattle.moo_operation.specs.Truth.{is_true, equal};
+ghost use Rattle.moo_operation.specs.Operators.{unary_of, binary_of};
+ghost use Rattle.moo_operation.specs.Places.{index_of, range_of, made_list};
+ghost use Rattle.moo_operation.specs.Assignment.{with_index_of, with_range_of};
 ghost use Rattle.moo_operation.specs.Laws.{IsWrapped, DividesTowardsZero, FindsFirstPlace, IndexesRange, MeasuresRange};
 
 /// What is left of an integer in 32 bits differs from it by a multiple of 2^32.
@@ -44,4 +49,15 @@ pub fn a_place_is_the_first()
 pub fn a_range_is_a_part()
     ensures elements { IndexesRange }
     ensures length { MeasuresRange }
+{}
+
+/// What the operations give for values within the limits of weight and depth is such a value.
+pub fn values_stay_within_the_limits()
+    ensures unary { (operator : UnaryOperator) (a : Tree) → IfOk (unary_of operator a) IsStored }
+    ensures binary { (operator : BinaryOperator) (a b : Tree) → IsStored a → IsStored b → IfOk (binary_of operator a b) IsStored }
+    ensures index { (base i : Tree) → IsStored base → IfOk (index_of base i) IsStored }
+    ensures range { (base low high : Tree) → IsStored base → IfOk (range_of base low high) IsStored }
+    ensures list { (ts : List Tree) → IsValue (list_of ts) → IfOk (made_list ts) IsStored }
+    ensures with_index { (base i v : Tree) → IsStored base → IsStored v → IfOk (with_index_of base i v) IsStored }
+    ensures with_range { (base low high v : Tree) → IsStored base → IsStored v → IfOk (with_range_of base low high v) IsStored }
 {}

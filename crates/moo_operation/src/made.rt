@@ -6,8 +6,8 @@ ghost use Rattle.moo_value.specs.View.{tree, trees};
 ghost use Rattle.moo_operation.specs.Answer.{Gives};
 ghost use Rattle.moo_operation.specs.Places.{made_list};
 
-use crate::fault::OperationFault;
-use moo_value::{ErrorCode, ListFault, MooList, Value};
+use crate::fault::{OperationFault, QUOTA};
+use moo_value::{ListFault, MooList, Value};
 use std::alloc::{AllocError, Global};
 
 /// The list of these values.
@@ -16,7 +16,7 @@ pub fn list(alloc: Global, values: Vec<Value>) -> Result<Value, OperationFault>
 {
     match MooList::try_from_vec(alloc, values) {
         Ok(list) => Ok(Value::List(list)),
-        Err(ListFault::TooLarge) => Err(OperationFault::Raise(ErrorCode::Quota)),
+        Err(ListFault::TooLarge) => Err(QUOTA),
         Err(ListFault::Memory) => Err(OperationFault::Memory),
     }
 }

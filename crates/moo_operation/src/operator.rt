@@ -10,9 +10,9 @@ ghost use Rattle.moo_operation.specs.Operators.{unary_of, binary_of, added};
 
 use crate::arithmetic;
 use crate::comparison::{is_equal, is_true, ordering, place_in, truth_value};
-use crate::fault::{OperationFault, TYPE_MISMATCH};
+use crate::fault::{OperationFault, QUOTA, TYPE_MISMATCH};
 use moo_program::operator::{BinaryOperator, UnaryOperator};
-use moo_value::{ErrorCode, MooStr, Value, ValueFault};
+use moo_value::{MooStr, Value, ValueFault};
 use std::alloc::Global;
 
 /// What an operator in front of one operand gives.
@@ -99,8 +99,6 @@ fn join(alloc: Global, a: &MooStr, b: &MooStr) -> Result<Value, OperationFault>
     match MooStr::joined(alloc, a, b) {
         Ok(string) => Ok(Value::Str(string)),
         Err(ValueFault::Memory) => Err(OperationFault::Memory),
-        Err(ValueFault::BadByte | ValueFault::TooHeavy) => Err(OperationFault::Raise(
-            ErrorCode::Quota,
-        )),
+        Err(ValueFault::BadByte | ValueFault::TooHeavy) => Err(QUOTA),
     }
 }

@@ -174,9 +174,9 @@ impl Task {
         ensures meaning { IsKnownFailure result → Computes (context_of stack.now indexed.entry) (logic operator (tree left.now) (tree right.now)) (state_of self.old active.old) (seen_answer result) (state_of self.new active.new) }
         ensures ticks { self.new.ticks_left ≤ self.old.ticks_left }
     {
-        let left = self.evaluate(active, stack, indexed, left)?;
-        if operation::is_decided(operator, &left) {
-            return Ok(left);
+        let first = self.evaluate(active, stack, indexed, left)?;
+        if operation::is_decided(operator, &first) {
+            return Ok(first);
         }
         Ok(self.evaluate(active, stack, indexed, right)?)
     }

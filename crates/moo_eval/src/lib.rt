@@ -8,12 +8,11 @@ pub mod laws;
 mod outcome;
 mod statement;
 mod task;
+#[cfg(test)]
+mod tests;
 mod traceback;
 mod variables;
 
-pub use frame::{Activation, CallStack, Entry, Frame, Level};
-pub use interpreter::Task;
-pub use outcome::{Failure, Flow, Raise, Stop};
+pub use frame::{Entry, Frame, Level};
 pub use task::{Ended, MOST_TICKS, run_task};
 pub use traceback::traceback_lines;
-pub use variables::Variables;

@@ -70,19 +70,19 @@ binary-returns-in_err-binary-clause-meaning t c =
 
 pub logic-returns-clause-meaning : goal.logic-returns-clause-meaning
 logic-returns-clause-meaning t c =
-    λ k. applies (element_then (c.in_ok-left.ensures.meaning tt) no_more refl) no_more (logic_goes_on (sym c.is_decided.ensures ∙ c.if-is_decided.false) (c.in_ok-evaluate.ensures.meaning tt) refl)
+    λ k. applies (element_then (c.in_ok-first.ensures.meaning tt) no_more refl) no_more (logic_goes_on (sym c.is_decided.ensures ∙ c.if-is_decided.false) (c.in_ok-evaluate.ensures.meaning tt) refl)
 
 pub logic-returns-then-is_decided-clause-meaning : goal.logic-returns-then-is_decided-clause-meaning
 logic-returns-then-is_decided-clause-meaning t c =
-    λ k. applies (element_then (c.in_ok-left.ensures.meaning tt) no_more refl) no_more (logic_decides (sym c.is_decided.ensures ∙ c.if-is_decided.true))
+    λ k. applies (element_then (c.in_ok-first.ensures.meaning tt) no_more refl) no_more (logic_decides (sym c.is_decided.ensures ∙ c.if-is_decided.true))
 
-pub logic-returns-in_err-left-clause-meaning : goal.logic-returns-in_err-left-clause-meaning
-logic-returns-in_err-left-clause-meaning t c =
-    let p = err_from_is_err_and c.from_residual.result c.from_residual.ensures.1 in rw (p.1, p.2) (λ k. operands_end (element_stops (c.in_err-left.ensures.meaning k)))
+pub logic-returns-in_err-first-clause-meaning : goal.logic-returns-in_err-first-clause-meaning
+logic-returns-in_err-first-clause-meaning t c =
+    let p = err_from_is_err_and c.from_residual.result c.from_residual.ensures.1 in rw (p.1, p.2) (λ k. operands_end (element_stops (c.in_err-first.ensures.meaning k)))
 
 pub logic-returns-in_err-evaluate-clause-meaning : goal.logic-returns-in_err-evaluate-clause-meaning
 logic-returns-in_err-evaluate-clause-meaning t c =
-    let p = err_from_is_err_and c.from_residual-in_err-evaluate.result c.from_residual-in_err-evaluate.ensures.1 in rw (p.1, p.2) (λ k. applies (element_then (c.in_ok-left.ensures.meaning tt) no_more refl) no_more (logic_goes_on (sym c.is_decided.ensures ∙ c.if-is_decided.false) (c.in_err-evaluate.ensures.meaning k) refl))
+    let p = err_from_is_err_and c.from_residual-in_err-evaluate.result c.from_residual-in_err-evaluate.ensures.1 in rw (p.1, p.2) (λ k. applies (element_then (c.in_ok-first.ensures.meaning tt) no_more refl) no_more (logic_goes_on (sym c.is_decided.ensures ∙ c.if-is_decided.false) (c.in_err-evaluate.ensures.meaning k) refl))
 
 pub conditional-returns-clause-meaning : goal.conditional-returns-clause-meaning
 conditional-returns-clause-meaning t c =

@@ -1,5 +1,5 @@
 -- Numbers tell what they stand for apart.
-use Rattle.std.proofs.Common.{◌≡◌, ℕ, ◌+◌, ◌*◌, Bool, true, false, refl, sym, ◌∙◌, ap, arith}
+use Rattle.std.proofs.Common.{◌≡◌, ℕ, ◌+◌, ◌*◌, Bool, true, false, refl, sym, ◌∙◌, arith}
 use Rattle.moo_object.specs.declared.flags.Flags.{Flags}
 use Rattle.moo_object.specs.declared.cell.PropPerms.{PropPerms}
 use Rattle.moo_object.specs.declared.verb.VerbPerms.{VerbPerms}

@@ -1,5 +1,5 @@
 -- The limits of a program.
-use Rattle.std.specs.Prelude.{ℕ, List, ◌+◌, ◌≤◌, ◌<◌, max, length, All}
+use Rattle.std.specs.Prelude.{ℕ, List, ◌+◌, ◌≤◌, ◌<◌, max, length, [], ◌∷◌}
 use Rattle.moo_value.specs.Size.{weight_limit}
 use Rattle.moo_program.specs.Tree.{Expr, literal, variable, length_mark, unary, binary, logic, conditional, index, range, list, Items, no_items, element, splice, Stmt, return_nothing, returns, Block, no_statement, then}
 use Rattle.moo_program.specs.Listing.{listing}
@@ -43,7 +43,11 @@ most_brackets = 200
 abbrev pub FitsLine : List ℕ → Type 0
 FitsLine line = length line < weight_limit
 
+abbrev pub AllFit : List (List ℕ) → Type 0
+AllFit [] = Unit {0}
+AllFit (line ∷ lines) = FitsLine line × AllFit lines
+
 -- at most 100 nodes on a path, and each line of the full listing is short enough for a string
 pub record IsWithinLimits (b : Block) : Type 0 where
   pub nodes : block_height b ≤ most_nodes
-  pub lines : All FitsLine (listing b)
+  pub lines : AllFit (listing b)

@@ -1,0 +1,192 @@
+//! How long the full listing is, counted without writing it.
+//!
+//! Each function but the first tells what is left of the room that a line has, or `None` where the text doesn't fit it.
+ghost use Rattle.std.specs.Prelude.{◌≡◌, ◌+◌, ◌<◌, ◌↔◌, Bool, IsTrue, count_by, length};
+ghost use Rattle.std.specs.Fmt.{signed_decimal};
+ghost use Rattle.moo_program.specs.View.{tree, statement as tree_of, block, items_of};
+ghost use Rattle.moo_program.specs.Listing.{binary_sign, is_compound, is_compound_base, listed_statement, listing};
+ghost use Rattle.moo_program.specs.Length.{Leaves, literal_length, is_escaped, listed_length, items_length, item_length, statement_length, length_in_parentheses};
+ghost use Rattle.moo_program.specs.Limits.{FitsLine, AllFit};
+
+use crate::operator::BinaryOperator;
+use crate::tree::{Expr, Item, Literal, Stmt};
+use itoa::Buffer;
+use moo_value::WEIGHT_LIMIT;
+
+/// Whether the line of the statement in the full listing is short enough for a string.
+fn fits_line(statement: &Stmt) -> bool
+    ensures { IsTrue result ↔ FitsLine (listed_statement (tree_of statement.now)) }
+{
+    statement_rest(statement, WEIGHT_LIMIT as usize - 1).is_some()
+}
+
+/// Whether each line of the full listing is short enough for a string.
+pub fn fit_lines(statements: &[Stmt]) -> bool
+    ensures { IsTrue result ↔ AllFit (listing (block statements.now)) }
+{
+    for statement in statements {
+        if !fits_line(statement) {
+            return false;
+        }
+    }
+    true
+}
+
+fn statement_rest(statement: &Stmt, room: usize) -> Option<usize>
+    ensures { Leaves room (statement_length (tree_of statement.now)) result }
+{
+    match statement {
+        Stmt::Return(None) => room.checked_sub(7),
+        Stmt::Return(Some(value)) => expression(value, room.checked_sub(8)?),
+    }
+}
+
+#[cycle(length)]
+fn expression(value: &Expr, room: usize) -> Option<usize>
+    ensures { Leaves room (listed_length (tree value.now)) result }
+{
+    match value {
+        Expr::Literal(literal) => literal_rest(literal, room),
+        Expr::Variable(name) => room.checked_sub(name.len()),
+        Expr::Length => room.checked_sub(1),
+        Expr::Unary(_, operand) => operand_rest(operand, room.checked_sub(1)?),
+        Expr::Binary(operator, left, right) => {
+            let room = room.checked_sub(2 + operator_length(*operator))?;
+            operand_rest(right, operand_rest(left, room)?)
+        }
+        Expr::Logic(_, left, right) => {
+            operand_rest(right, operand_rest(left, room.checked_sub(4)?)?)
+        }
+        Expr::Conditional(test, yes, no) => {
+            let room = operand_rest(test, room.checked_sub(6)?)?;
+            operand_rest(no, operand_rest(yes, room)?)
+        }
+        Expr::Index(base, index) => expression(index, base_rest(base, room.checked_sub(2)?)?),
+        Expr::Range(base, low, high) => {
+            let room = base_rest(base, room.checked_sub(4)?)?;
+            expression(high, expression(low, room)?)
+        }
+        Expr::List(items) => items_rest(items, room.checked_sub(2)?),
+    }
+}
+
+/// Behind an operand, with its parentheses.
+#[cycle(length)]
+fn operand_rest(value: &Expr, room: usize) -> Option<usize>
+    ensures { Leaves room (length_in_parentheses (is_compound (tree value.now)) (listed_length (tree value.now))) result }
+{
+    if is_compound(value) {
+        expression(value, room.checked_sub(2)?)
+    } else {
+        expression(value, room)
+    }
+}
+
+/// Behind what is indexed, with its parentheses.
+#[cycle(length)]
+fn base_rest(value: &Expr, room: usize) -> Option<usize>
+    ensures { Leaves room (length_in_parentheses (is_compound_base (tree value.now)) (listed_length (tree value.now))) result }
+{
+    if is_compound_base(value) {
+        expression(value, room.checked_sub(2)?)
+    } else {
+        expression(value, room)
+    }
+}
+
+#[cycle(length)]
+fn items_rest(items: &[Item], room: usize) -> Option<usize>
+    ensures { Leaves room (items_length (items_of items.now)) result }
+{
+    let Some((first, others)) = items.split_first() else {
+        return Some(room);
+    };
+    let mut rest = item_rest(first, room)?;
+    for other in others {
+        rest = item_rest(other, rest.checked_sub(2)?)?;
+    }
+    Some(rest)
+}
+
+#[cycle(length)]
+fn item_rest(item: &Item, room: usize) -> Option<usize>
+    ensures { Leaves room (item_length item.now) result }
+{
+    match item {
+        Item::Element(value) => expression(value, room),
+        Item::Splice(value) => expression(value, room.checked_sub(1)?),
+    }
+}
+
+fn is_compound(value: &Expr) -> bool
+    ensures { result ≡ is_compound (tree value.now) }
+{
+    matches!(
+        value,
+        Expr::Unary(..) | Expr::Binary(..) | Expr::Logic(..) | Expr::Conditional(..)
+    )
+}
+
+fn is_compound_base(value: &Expr) -> bool
+    ensures { result ≡ is_compound_base (tree value.now) }
+{
+    match value {
+        Expr::Literal(Literal::Integer(_)) => true,
+        _ => is_compound(value),
+    }
+}
+
+fn operator_length(operator: BinaryOperator) -> usize
+    ensures is { result ≡ length (binary_sign operator) }
+    ensures short { result < 3 }
+{
+    match operator {
+        BinaryOperator::Equal
+        | BinaryOperator::NotEqual
+        | BinaryOperator::LessOrEqual
+        | BinaryOperator::GreaterOrEqual
+        | BinaryOperator::In => 2,
+        BinaryOperator::Add
+        | BinaryOperator::Subtract
+        | BinaryOperator::Multiply
+        | BinaryOperator::Divide
+        | BinaryOperator::Remainder
+        | BinaryOperator::Power
+        | BinaryOperator::Less
+        | BinaryOperator::Greater => 1,
+    }
+}
+
+fn literal_rest(literal: &Literal, room: usize) -> Option<usize>
+    ensures { Leaves room (literal_length literal.now) result }
+{
+    match literal {
+        Literal::Integer(number) => room.checked_sub(number_length(*number)),
+        Literal::Object(number) => room.checked_sub(1)?.checked_sub(number_length(*number)),
+        Literal::Error(error) => room.checked_sub(error.name().len()),
+        Literal::Str(text) => {
+            let rest = room.checked_sub(2)?.checked_sub(text.len())?;
+            rest.checked_sub(escapes(text.as_bytes()))
+        }
+    }
+}
+
+fn number_length(number: i32) -> usize
+    ensures { result ≡ length (signed_decimal number) }
+{
+    let mut buffer = Buffer::new();
+    buffer.format(number).len()
+}
+
+fn is_escaped(byte: u8) -> bool
+    ensures { result ≡ is_escaped byte }
+{
+    byte == b'"' || byte == b'\\'
+}
+
+/// How many bytes stand behind a backslash in a string's literal.
+fn escapes(bytes: &[u8]) -> usize
+    ensures { result ≡ count_by is_escaped bytes.now }
+{
+    bytes.iter().filter(|byte| is_escaped(**byte)).count()
+}

@@ -78,6 +78,25 @@ impl Model for PropCell {
 }
 
 impl PropCell {
+    /// The cell for a definition: clear, where there is no value.
+    pub fn new(
+        definer: usize,
+        name: MooStr,
+        value: Option<Value>,
+        owner: i32,
+        perms: PropPerms,
+    ) -> PropCell
+        ensures { result ≡ record { definer = definer; name = folded name; owner = owner; perms = perms; value = option_map tree value } }
+    {
+        PropCell {
+            definer,
+            name,
+            owner,
+            perms,
+            value,
+        }
+    }
+
     /// The cell of an object's own definition.
     pub fn defined(
         definer: usize,
@@ -132,12 +151,14 @@ impl PropCell {
         same_name(self.name.as_bytes(), other.name.as_bytes())
     }
 
+    /// The number of the owner, which may be any number.
     pub fn owner(&self) -> i32
         ensures { result ≡ self.now.owner }
     {
         self.owner
     }
 
+    /// What others than the owner and wizards may do.
     pub fn perms(&self) -> PropPerms
         ensures { result ≡ self.now.perms }
     {

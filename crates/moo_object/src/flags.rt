@@ -34,36 +34,42 @@ impl Flags {
         }
     }
 
+    /// The flags with `player` set or cleared.
     pub fn with_player(self, player: bool) -> Flags
         ensures { result ≡ record self { player = player } }
     {
         Flags { player, ..self }
     }
 
+    /// The flags with `programmer` set or cleared.
     pub fn with_programmer(self, programmer: bool) -> Flags
         ensures { result ≡ record self { programmer = programmer } }
     {
         Flags { programmer, ..self }
     }
 
+    /// The flags with `wizard` set or cleared.
     pub fn with_wizard(self, wizard: bool) -> Flags
         ensures { result ≡ record self { wizard = wizard } }
     {
         Flags { wizard, ..self }
     }
 
+    /// The flags with `read` set or cleared.
     pub fn with_read(self, read: bool) -> Flags
         ensures { result ≡ record self { read = read } }
     {
         Flags { read, ..self }
     }
 
+    /// The flags with `write` set or cleared.
     pub fn with_write(self, write: bool) -> Flags
         ensures { result ≡ record self { write = write } }
     {
         Flags { write, ..self }
     }
 
+    /// The flags with `fertile` set or cleared.
     pub fn with_fertile(self, fertile: bool) -> Flags
         ensures { result ≡ record self { fertile = fertile } }
     {

@@ -1,6 +1,5 @@
 // An object by itself.
-ghost use Rattle.std.specs.Prelude.{◌≡◌, IfOk, None, Some, ◌++◌, ◌==◌, filter, [], ◌∷◌, ◌-◌, take, length, OnOk, OnErr, not, map};
-ghost use Rattle.std.specs.Prelude.{◌<◌, slice_get, slice_set, position, nat_le};
+ghost use Rattle.std.specs.Prelude.{◌≡◌, ◌<◌, ◌-◌, ◌==◌, IfOk, OnOk, OnErr, [], ◌∷◌, ◌++◌, take, length, filter, map, not, position, nat_le, slice_get, slice_set};
 ghost use Rattle.std.specs.Option.{option_copied};
 ghost use Rattle.std.specs.List.{list_any, remove};
 ghost use Rattle.moo_object.specs.Verbs.{fits_verb, changed_at, with_verb_info, with_args, with_program};
@@ -14,7 +13,7 @@ ghost use Rattle.moo_object.specs.Objects.{fitted_cell, fitted_row, most_verbs, 
 use crate::cell::{PropCell, PropPerms};
 use crate::flags::Flags;
 use crate::name::{defines_name, forget_name, position_of_name, put_name};
-use crate::row::{Row, cell_with_key_of};
+use crate::row::{Row, cell_with_key_of, renamed_cell};
 use crate::verb::{Need, Verb, VerbPerms, change_args, change_info, change_program};
 use crate::verb_args::VerbArgs;
 use moo_program::Program;
@@ -74,6 +73,27 @@ impl Object {
         }
     }
 
+    /// The object of these parts: its cells are those of its own definitions, then its parent's, and so on.
+    pub fn from_parts(
+        name: MooStr,
+        owner: i32,
+        flags: Flags,
+        verbs: Vec<Verb>,
+        defined: Vec<MooStr>,
+        cells: Row,
+    ) -> Object
+        ensures { result ≡ record { name = name; owner = owner; flags = flags; verbs = verbs.items; defined = defined.items; cells = cells } }
+    {
+        Object {
+            name,
+            owner,
+            flags,
+            verbs,
+            defined,
+            cells,
+        }
+    }
+
     /// A new object under a parent with these cells: it has an empty name and no flags, and its cells are clear.
     pub fn child(alloc: Global, owner: i32, above: &[PropCell]) -> Result<Object, AllocError>
         ensures { IfOk result (λ o. o ≡ record { name = []; owner = owner; flags = no_flags; verbs = []; defined = []; cells = map (cleared owner) above.now }) }
@@ -92,18 +112,21 @@ impl Object {
         })
     }
 
+    /// The name, as it is spelled.
     pub fn name(&self) -> &MooStr
         ensures { result.now ≡ self.now.name }
     {
         &self.name
     }
 
+    /// The number of the owner, which may be any number.
     pub fn owner(&self) -> i32
         ensures { result ≡ self.now.owner }
     {
         self.owner
     }
 
+    /// The flags.
     pub fn flags(&self) -> Flags
         ensures { result ≡ self.now.flags }
     {
@@ -200,18 +223,21 @@ impl Object {
         change_program(&mut self.verbs, index, program);
     }
 
+    /// Gives the object another name.
     pub fn set_name(&mut self, name: MooStr)
         ensures { self.new ≡ record self.old { name = name } }
     {
         self.name = name;
     }
 
+    /// Gives the object another owner.
     pub fn set_owner(&mut self, owner: i32)
         ensures { self.new ≡ record self.old { owner = owner } }
     {
         self.owner = owner;
     }
 
+    /// Gives the object other flags.
     pub fn set_flags(&mut self, flags: Flags)
         ensures { self.new ≡ record self.old { flags = flags } }
     {
@@ -364,20 +390,4 @@ fn empty_name(alloc: Global) -> Result<MooStr, AllocError>
     ensures { IfOk result (λ name. name ≡ []) }
 {
     MooStr::try_from_bytes(alloc, b"").map_err(|_| AllocError)
-}
-
-/// The cell, with another name where it is for the definition.
-fn renamed_cell(
-    cell: &PropCell,
-    definer: usize,
-    name: &[u8],
-    new_name: &MooStr,
-) -> Result<PropCell, AllocError>
-    ensures { IfOk result (λ c. c ≡ at_key (definer, folded name.now) (renamed (folded new_name.now)) cell.now) }
-{
-    let mut copy = cell.try_clone()?;
-    if cell.is_for(definer, name) {
-        copy.set_name(new_name.try_clone()?);
-    }
-    Ok(copy)
 }

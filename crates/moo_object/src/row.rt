@@ -1,12 +1,12 @@
 // The cells of an object.
-ghost use Rattle.std.specs.Prelude.{◌≡◌, [], ◌∷◌, ◌++◌, ◌-◌, ◌==◌, OnOk, OnErr, take, length, filter, map, not};
+ghost use Rattle.std.specs.Prelude.{◌≡◌, [], ◌∷◌, ◌++◌, ◌-◌, ◌==◌, IfOk, OnOk, OnErr, take, length, filter, map, not};
 ghost use Rattle.std.specs.Option.{option_copied};
 ghost use Rattle.moo_value.specs.Compare.{folded};
 ghost use Rattle.moo_value.specs.View.{tree};
-ghost use Rattle.moo_object.specs.Cells.{Cell, with_value, is_key, key_of, cell_at, cell_named, at_key, emptied, with_info};
+ghost use Rattle.moo_object.specs.Cells.{Cell, with_value, is_key, key_of, cell_at, cell_named, at_key, emptied, with_info, renamed};
 
 use crate::cell::{PropCell, PropPerms};
-use moo_value::Value;
+use moo_value::{MooStr, Value};
 use std::alloc::{AllocError, Global};
 use std::marker::Model;
 
@@ -30,6 +30,7 @@ impl Model for Row {
 }
 
 impl Row {
+    /// A row without cells.
     pub fn new(alloc: Global) -> Self
         ensures { result ≡ [] }
     {
@@ -38,12 +39,14 @@ impl Row {
         }
     }
 
+    /// The row of these cells.
     pub fn from_cells(cells: Vec<PropCell>) -> Self
         ensures { result ≡ cells.items }
     {
         Row { cells }
     }
 
+    /// The cells, lent.
     pub fn as_slice(&self) -> &[PropCell]
         ensures { result.now ≡ self.now }
     {
@@ -183,4 +186,20 @@ fn set_info_if_for(cell: &mut PropCell, definer: usize, name: &[u8], owner: i32,
     if cell.is_for(definer, name) {
         cell.set_info(owner, perms);
     }
+}
+
+/// The cell, with another name where it is for the definition.
+pub(crate) fn renamed_cell(
+    cell: &PropCell,
+    definer: usize,
+    name: &[u8],
+    new_name: &MooStr,
+) -> Result<PropCell, AllocError>
+    ensures { IfOk result (λ c. c ≡ at_key (definer, folded name.now) (renamed (folded new_name.now)) cell.now) }
+{
+    let mut copy = cell.try_clone()?;
+    if cell.is_for(definer, name) {
+        copy.set_name(new_name.try_clone()?);
+    }
+    Ok(copy)
 }

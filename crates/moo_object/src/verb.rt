@@ -46,6 +46,7 @@ impl VerbPerms {
 /// A verb. Its names are words with blanks between them.
 #[derive(Drop)]
 pub struct Verb {
+    /// Patterns with blanks between them.
     pub names: MooStr,
     pub owner: i32,
     pub perms: VerbPerms,

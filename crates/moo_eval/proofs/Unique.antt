@@ -27,7 +27,7 @@ mutual
   one_result (begins z d f) (spent z') = absurd (omega arith)
   one_result (begins {c = c} {s' = u} {o = o} z d f) (begins {s' = v} {o = p} z' d' f') =
       let h = one_computed d d' in
-      (sym f ∙ ap (λ x. settled c.frame.debug (trace c x) o) h.1 ∙ ap (settled c.frame.debug (trace c v)) h.0 ∙ f', h.1)
+      (sym f ∙ ap (λ x. settled c.frame.d (trace c x) o) h.1 ∙ ap (settled c.frame.d (trace c v)) h.0 ∙ f', h.1)
 
   one_computed : {c : Context} {e : Expr} {s s' t : State} {o p : Result Tree Failure} → Computes c e s o s' → Computes c e s p t → Same o s' p t
   one_computed (operands_end d) (operands_end d') = let h = one_list d d' in (cc, h.1)

@@ -47,13 +47,13 @@ before vs (Ok ws) = Ok (vs ++ ws)
 before vs (Err failure) = Err failure
 
 mutual
-  -- An expression takes a tick as it begins, and its own error is settled by the frame's debug bit.
+  -- An expression takes a tick as it begins, and its own error is settled by the frame's d bit.
   pub data Evaluates : Context → Expr → State → Result Tree Stop → State → Type 0 where
     spent : {c : Context} {e : Expr} {s : State} →
         s.ticks ≡ 0 →
         Evaluates c e s (Err (out_of_ticks (trace c s))) s
     begins : {c : Context} {e : Expr} {s s' : State} {o : Result Tree Failure} {r : Result Tree Stop} →
-        0 < s.ticks → Computes c e (ticked s) o s' → settled c.frame.debug (trace c s') o ≡ r →
+        0 < s.ticks → Computes c e (ticked s) o s' → settled c.frame.d (trace c s') o ≡ r →
         Evaluates c e s r s'
 
   -- Its operands come first, then the places in them; where one of these stops, so does the expression.

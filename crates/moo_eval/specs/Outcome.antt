@@ -3,19 +3,19 @@ use Rattle.std.specs.Prelude.{ℕ, pos, Bool, true, false, List, Option, Some, N
 use Rattle.moo_value.specs.declared.error_code.ErrorCode.{ErrorCode}
 use Rattle.moo_value.specs.Errors.{error_message}
 use Rattle.moo_value.specs.Tree.{Tree, integer, error}
-use Rattle.moo_eval.specs.declared.frame.Entry.{Entry}
+use Rattle.moo_eval.specs.declared.frame.TraceEntry.{TraceEntry}
 
 -- an error that was raised, and the entries from where it was raised
 pub record Raise : Type 0 where
   pub code : ErrorCode
   pub message : List ℕ
   pub value : Tree
-  pub trace : List Entry
+  pub trace : List TraceEntry
 
 -- why an expression or a statement does not come to its end
 pub data Stop : Type 0 where
   raised : Raise → Stop
-  out_of_ticks : List Entry → Stop
+  out_of_ticks : List TraceEntry → Stop
 
 -- why a node gives no value: an error of its own, or a stop of a part of it
 pub data Failure : Type 0 where
@@ -43,13 +43,13 @@ passes (Ok v) = Ok v
 passes (Err stop) = Err (stops stop)
 
 -- an error as it is raised: with its message, and 0 as its value
-abbrev pub plain_raise : ErrorCode → List Entry → Raise
+abbrev pub plain_raise : ErrorCode → List TraceEntry → Raise
 plain_raise code trace = record { code = code; message = error_message code; value = integer (pos 0); trace = trace }
 
--- with the debug bit an error is raised, and without it the error is the value
-abbrev pub settled : Bool → List Entry → Result Tree Failure → Result Tree Stop
-settled debug trace (Ok v) = Ok v
-settled debug trace (Err (stops stop)) = Err stop
+-- with the d bit an error is raised, and without it the error is the value
+abbrev pub settled : Bool → List TraceEntry → Result Tree Failure → Result Tree Stop
+settled d trace (Ok v) = Ok v
+settled d trace (Err (stops stop)) = Err stop
 settled true trace (Err (fails code)) = Err (raised (plain_raise code trace))
 settled false trace (Err (fails code)) = Ok (error code)
 

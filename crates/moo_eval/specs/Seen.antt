@@ -20,7 +20,7 @@ use Rattle.moo_eval.specs.declared.outcome.Flow as code_flow
 use Rattle.moo_eval.specs.declared.outcome.Flow.TheVariants as flow_case
 use Rattle.moo_eval.specs.Variables.{Binding, value_of_name}
 use Rattle.moo_eval.specs.State.{Context, State, entries}
-use Rattle.moo_eval.specs.declared.frame.Entry.{Entry}
+use Rattle.moo_eval.specs.declared.frame.TraceEntry.{TraceEntry}
 use Rattle.moo_eval.specs.Outcome.{Raise, Stop, raised, out_of_ticks, Failure, fails, stops, Flow, next, returned}
 
 abbrev pub binding_of : Variable → Binding
@@ -44,7 +44,7 @@ abbrev pub context_of : CallStack → Option (Bor Value) → Context
 context_of stack indexed = record { frame = stack.running; callers = stack.callers.items; indexed = indexed_of indexed }
 
 -- the entries from the running frame down
-abbrev pub trace_of : CallStack → Activation → List Entry
+abbrev pub trace_of : CallStack → Activation → List TraceEntry
 trace_of stack active = entries stack.running active.programmer stack.callers.items
 
 abbrev pub raise_of : code_raise.Raise → Raise

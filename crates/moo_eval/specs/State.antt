@@ -5,15 +5,15 @@ use Rattle.moo_value.specs.declared.error_code.ErrorCode.TheVariants.{TypeMismat
 use Rattle.moo_value.specs.Tree.{Tree}
 use Rattle.moo_operation.specs.Places.{length_of}
 use Rattle.moo_eval.specs.declared.frame.Frame.{Frame}
-use Rattle.moo_eval.specs.declared.frame.Level.{Level}
-use Rattle.moo_eval.specs.declared.frame.Entry.{Entry}
-use Rattle.moo_eval.specs.declared.frame.Entry.TheVariants as entry
+use Rattle.moo_eval.specs.declared.frame.TraceFrame.{TraceFrame}
+use Rattle.moo_eval.specs.declared.frame.TraceEntry.{TraceEntry}
+use Rattle.moo_eval.specs.declared.frame.TraceEntry.TheVariants as entry
 
 -- what stays while a frame runs
 pub record Context : Type 0 where
   pub frame : Frame
   -- what it was called from, the nearest first
-  pub callers : List Entry
+  pub callers : List TraceEntry
   -- the value that `$` measures
   pub indexed : Option Tree
 
@@ -40,8 +40,8 @@ measured None = Err TypeMismatch
 measured (Some v) = length_of v
 
 -- what is told of a frame
-abbrev pub level : Frame → ℤ → Level
-level f programmer = record {
+abbrev pub trace_frame : Frame → ℤ → TraceFrame
+trace_frame f programmer = record {
   this = f.this;
   verb = f.verb;
   programmer = programmer;
@@ -51,9 +51,9 @@ level f programmer = record {
 }
 
 -- from a running frame down to the one that began the task
-abbrev pub entries : Frame → ℤ → List Entry → List Entry
-entries f programmer callers = entry.Verb (level f programmer) ∷ callers
+abbrev pub entries : Frame → ℤ → List TraceEntry → List TraceEntry
+entries f programmer callers = entry.Verb (trace_frame f programmer) ∷ callers
 
 -- the entries at the present state
-abbrev pub trace : Context → State → List Entry
+abbrev pub trace : Context → State → List TraceEntry
 trace c s = entries c.frame s.programmer c.callers

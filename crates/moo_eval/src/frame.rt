@@ -1,6 +1,6 @@
 //! Frames, and what a traceback tells of them.
 ghost use Rattle.std.specs.Prelude.{◌≡◌, ◌++◌, IfOk, OnOk};
-ghost use Rattle.moo_eval.specs.State.{level};
+ghost use Rattle.moo_eval.specs.State.{trace_frame};
 ghost use Rattle.moo_eval.specs.Seen.{trace_of};
 
 use crate::variables::Variables;
@@ -12,8 +12,8 @@ use std::alloc::{AllocError, Global};
 #[derive(Drop)]
 pub struct Frame {
     pub program: Program,
-    /// Whether an error is raised. Without it an expression that fails has the error as its value.
-    pub debug: bool,
+    /// The d bit: errors are raised. Without it an expression that fails has the error as its value.
+    pub d: bool,
     pub programmer: i32,
     pub this: i32,
     /// The object that has the verb.
@@ -35,7 +35,7 @@ pub struct Frame {
 
 /// What is told of one frame of a task.
 #[derive(Drop)]
-pub struct Level {
+pub struct TraceFrame {
     pub this: i32,
     pub verb: MooStr,
     pub programmer: i32,
@@ -46,8 +46,8 @@ pub struct Level {
 
 /// A step from the running code down to the one that began the task.
 #[derive(Drop)]
-pub enum Entry {
-    Verb(Level),
+pub enum TraceEntry {
+    Verb(TraceFrame),
     /// A built-in function that called what stands before it, by its name.
     BuiltIn(MooStr),
 }
@@ -56,14 +56,14 @@ pub enum Entry {
 #[derive(Drop)]
 pub struct CallStack {
     pub running: Frame,
-    pub callers: Vec<Entry>,
+    pub callers: Vec<TraceEntry>,
 }
 
-impl Level {
-    fn try_clone(&self) -> Result<Level, AllocError>
+impl TraceFrame {
+    fn try_clone(&self) -> Result<TraceFrame, AllocError>
         ensures { IfOk result (λ copy. copy ≡ self.now) }
     {
-        Ok(Level {
+        Ok(TraceFrame {
             this: self.this,
             verb: self.verb.try_clone()?,
             programmer: self.programmer,
@@ -74,23 +74,23 @@ impl Level {
     }
 }
 
-impl Entry {
-    fn try_clone(&self) -> Result<Entry, AllocError>
+impl TraceEntry {
+    fn try_clone(&self) -> Result<TraceEntry, AllocError>
         ensures { IfOk result (λ copy. copy ≡ self.now) }
     {
         match self {
-            Entry::Verb(level) => Ok(Entry::Verb(level.try_clone()?)),
-            Entry::BuiltIn(name) => Ok(Entry::BuiltIn(name.try_clone()?)),
+            TraceEntry::Verb(frame) => Ok(TraceEntry::Verb(frame.try_clone()?)),
+            TraceEntry::BuiltIn(name) => Ok(TraceEntry::BuiltIn(name.try_clone()?)),
         }
     }
 }
 
 impl Frame {
     /// What is told of the frame while it runs for this programmer.
-    fn level(&self, programmer: i32) -> Result<Level, AllocError>
-        ensures { IfOk result (λ told. told ≡ level self.now programmer) }
+    fn trace_frame(&self, programmer: i32) -> Result<TraceFrame, AllocError>
+        ensures { IfOk result (λ told. told ≡ trace_frame self.now programmer) }
     {
-        Ok(Level {
+        Ok(TraceFrame {
             this: self.this,
             verb: self.verb.try_clone()?,
             programmer,
@@ -103,18 +103,18 @@ impl Frame {
 
 impl CallStack {
     /// The entries from the running frame down.
-    pub fn trace(&self, alloc: Global, active: &Activation) -> Result<Vec<Entry>, AllocError>
+    pub fn trace(&self, alloc: Global, active: &Activation) -> Result<Vec<TraceEntry>, AllocError>
         ensures { IfOk result (λ all. all.items ≡ trace_of self.now active.now) }
     {
         let mut all = Vec::new(alloc);
-        all.push(Entry::Verb(self.running.level(active.programmer)?))?;
+        all.push(TraceEntry::Verb(self.running.trace_frame(active.programmer)?))?;
         append(&mut all, &self.callers)?;
         Ok(all)
     }
 }
 
 // Puts copies of these entries at the end.
-fn append(all: &mut Vec<Entry>, entries: &[Entry]) -> Result<(), AllocError>
+fn append(all: &mut Vec<TraceEntry>, entries: &[TraceEntry]) -> Result<(), AllocError>
     ensures { OnOk result (all.new.items ≡ all.old.items ++ entries.now) }
 {
     for entry in entries {

@@ -13,6 +13,6 @@ mod tests;
 mod traceback;
 mod variables;
 
-pub use frame::{Entry, Frame, Level};
+pub use frame::{Frame, TraceEntry, TraceFrame};
 pub use task::{Ended, MOST_TICKS, run_task};
 pub use traceback::traceback_lines;

@@ -3,7 +3,7 @@ ghost use Rattle.std.specs.Prelude.{◌≡◌, IfOk};
 ghost use Rattle.moo_eval.specs.Outcome.{settled, plain_raise};
 ghost use Rattle.moo_eval.specs.Seen.{raise_of, trace_of, seen_value, seen_answer, IsKnown, IsKnownFailure};
 
-use crate::frame::{Activation, CallStack, Entry};
+use crate::frame::{Activation, CallStack, TraceEntry};
 use moo_operation::OperationFault;
 use moo_value::{ErrorCode, MooStr, Value};
 use std::alloc::{AllocError, Global};
@@ -14,14 +14,14 @@ pub struct Raise {
     pub code: ErrorCode,
     pub message: MooStr,
     pub value: Value,
-    pub trace: Vec<Entry>,
+    pub trace: Vec<TraceEntry>,
 }
 
 /// Why an expression or a statement did not come to its end.
 #[derive(Drop)]
 pub enum Stop {
     Raised(Raise),
-    OutOfTicks(Vec<Entry>),
+    OutOfTicks(Vec<TraceEntry>),
     Memory,
 }
 
@@ -96,7 +96,7 @@ impl From<OperationFault> for Failure {
 }
 
 /// The error as it is raised: with its message, and 0 as its value.
-fn plain_raise(alloc: Global, code: ErrorCode, trace: Vec<Entry>) -> Result<Raise, AllocError>
+fn plain_raise(alloc: Global, code: ErrorCode, trace: Vec<TraceEntry>) -> Result<Raise, AllocError>
     ensures { IfOk result (λ raise. raise_of raise ≡ plain_raise code trace.items) }
 {
     let Ok(message) = MooStr::try_from_bytes(alloc, code.message().as_bytes()) else {
@@ -110,21 +110,21 @@ fn plain_raise(alloc: Global, code: ErrorCode, trace: Vec<Entry>) -> Result<Rais
     })
 }
 
-/// With the debug bit an error is raised, and without it the error is the value.
+/// With the d bit an error is raised, and without it the error is the value.
 pub fn settle(
     alloc: Global,
     stack: &CallStack,
     active: &Activation,
     outcome: Result<Value, Failure>,
 ) -> Result<Value, Stop>
-    ensures outcome { IsKnown result → settled stack.now.running.debug (trace_of stack.now active.now) (seen_answer outcome) ≡ seen_value result }
+    ensures outcome { IsKnown result → settled stack.now.running.d (trace_of stack.now active.now) (seen_answer outcome) ≡ seen_value result }
     ensures known { IsKnown result → IsKnownFailure outcome }
 {
     match outcome {
         Ok(value) => Ok(value),
         Err(Failure::Stops(stop)) => Err(stop),
         Err(Failure::Fails(code)) => {
-            if !stack.running.debug {
+            if !stack.running.d {
                 return Ok(Value::Err(code));
             }
             let trace = stack.trace(alloc, active)?;

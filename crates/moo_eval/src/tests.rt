@@ -1,6 +1,6 @@
 //! Printed tracebacks.
 
-use crate::frame::{Entry, Level};
+use crate::frame::{TraceEntry, TraceFrame};
 use crate::traceback::traceback_lines;
 use moo_value::MooStr;
 use std::alloc::Global;
@@ -10,8 +10,8 @@ fn text(alloc: Global, text: &str) -> Result<MooStr, Fail> {
     MooStr::try_from_bytes(alloc, text.as_bytes()).map_err(|_| Fail::from("no string"))
 }
 
-fn verb(alloc: Global, definer: i32, this: i32, names: &str) -> Result<Entry, Fail> {
-    Ok(Entry::Verb(Level {
+fn verb(alloc: Global, definer: i32, this: i32, names: &str) -> Result<TraceEntry, Fail> {
+    Ok(TraceEntry::Verb(TraceFrame {
         this,
         verb: text(alloc, names)?,
         programmer: 3,
@@ -39,7 +39,7 @@ fn a_traceback_tells_each_caller(rt: HostRuntime) -> Result<(), Fail> {
     let trace = [
         verb(alloc, 1, 2, "f")?,
         verb(alloc, -1, -1, "Input to EVAL")?,
-        Entry::BuiltIn(text(alloc, "eval")?),
+        TraceEntry::BuiltIn(text(alloc, "eval")?),
         verb(alloc, 3, 3, "eval")?,
     ];
     let lines = traceback_lines(alloc, b"Type mismatch", &trace)?;

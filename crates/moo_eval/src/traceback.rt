@@ -2,10 +2,10 @@
 ghost use Rattle.std.specs.Prelude.{◌≡◌, ◌++◌, codes, map, IfOk, OnOk};
 ghost use Rattle.moo_value.specs.Tree.{object};
 ghost use Rattle.moo_value.specs.Text.{literal};
-ghost use Rattle.moo_eval.specs.Traceback.{this_text, level_text, entry_text, caller_line, entry_lines, traceback};
+ghost use Rattle.moo_eval.specs.Traceback.{this_text, frame_text, entry_text, caller_line, entry_lines, traceback};
 ghost use Rattle.moo_eval.specs.Ends.{texts};
 
-use crate::frame::{Entry, Level};
+use crate::frame::{TraceEntry, TraceFrame};
 use moo_value::Value;
 use std::alloc::{AllocError, Global};
 
@@ -13,7 +13,7 @@ use std::alloc::{AllocError, Global};
 pub fn traceback_lines(
     alloc: Global,
     text: &[u8],
-    trace: &[Entry],
+    trace: &[TraceEntry],
 ) -> Result<Vec<Vec<u8>>, AllocError>
     ensures { IfOk result (λ lines. texts lines.items ≡ traceback text.now trace.now) }
 {
@@ -26,7 +26,7 @@ pub fn traceback_lines(
 fn add_entries(
     alloc: Global,
     text: &[u8],
-    trace: &[Entry],
+    trace: &[TraceEntry],
     lines: &mut Vec<Vec<u8>>,
 ) -> Result<(), AllocError>
     ensures { OnOk result (texts lines.new.items ≡ texts lines.old.items ++ entry_lines text.now trace.now) }
@@ -39,7 +39,7 @@ fn add_entries(
     Ok(())
 }
 
-fn first_line(alloc: Global, entry: &Entry, text: &[u8]) -> Result<Vec<u8>, AllocError>
+fn first_line(alloc: Global, entry: &TraceEntry, text: &[u8]) -> Result<Vec<u8>, AllocError>
     ensures { IfOk result (λ line. line.items ≡ entry_text entry.now ++ codes ":  " ++ text.now) }
 {
     let mut line = Vec::new(alloc);
@@ -49,7 +49,11 @@ fn first_line(alloc: Global, entry: &Entry, text: &[u8]) -> Result<Vec<u8>, Allo
     Ok(line)
 }
 
-fn add_callers(alloc: Global, callers: &[Entry], lines: &mut Vec<Vec<u8>>) -> Result<(), AllocError>
+fn add_callers(
+    alloc: Global,
+    callers: &[TraceEntry],
+    lines: &mut Vec<Vec<u8>>,
+) -> Result<(), AllocError>
     ensures { OnOk result (texts lines.new.items ≡ texts lines.old.items ++ map caller_line callers.now) }
 {
     for caller in callers {
@@ -58,7 +62,7 @@ fn add_callers(alloc: Global, callers: &[Entry], lines: &mut Vec<Vec<u8>>) -> Re
     Ok(())
 }
 
-fn caller_line(alloc: Global, caller: &Entry) -> Result<Vec<u8>, AllocError>
+fn caller_line(alloc: Global, caller: &TraceEntry) -> Result<Vec<u8>, AllocError>
     ensures { IfOk result (λ line. line.items ≡ caller_line caller.now) }
 {
     let mut line = Vec::from_slice(alloc, b"... called from ")?;
@@ -66,12 +70,12 @@ fn caller_line(alloc: Global, caller: &Entry) -> Result<Vec<u8>, AllocError>
     Ok(line)
 }
 
-fn write_entry(alloc: Global, entry: &Entry, line: &mut Vec<u8>) -> Result<(), AllocError>
+fn write_entry(alloc: Global, entry: &TraceEntry, line: &mut Vec<u8>) -> Result<(), AllocError>
     ensures { OnOk result (line.new.items ≡ line.old.items ++ entry_text entry.now) }
 {
     match entry {
-        Entry::Verb(level) => write_level(alloc, level, line),
-        Entry::BuiltIn(name) => {
+        TraceEntry::Verb(frame) => write_frame(alloc, frame, line),
+        TraceEntry::BuiltIn(name) => {
             line.extend_from_slice(b"built-in function ")?;
             line.extend_from_slice(name.as_bytes())?;
             line.extend_from_slice(b"()")
@@ -79,24 +83,24 @@ fn write_entry(alloc: Global, entry: &Entry, line: &mut Vec<u8>) -> Result<(), A
     }
 }
 
-fn write_level(alloc: Global, level: &Level, line: &mut Vec<u8>) -> Result<(), AllocError>
-    ensures { OnOk result (line.new.items ≡ line.old.items ++ level_text level.now) }
+fn write_frame(alloc: Global, frame: &TraceFrame, line: &mut Vec<u8>) -> Result<(), AllocError>
+    ensures { OnOk result (line.new.items ≡ line.old.items ++ frame_text frame.now) }
 {
-    write_object(alloc, level.definer, line)?;
+    write_object(alloc, frame.definer, line)?;
     line.push(b':')?;
-    line.extend_from_slice(level.names.as_bytes())?;
-    write_this(alloc, level, line)?;
+    line.extend_from_slice(frame.names.as_bytes())?;
+    write_this(alloc, frame, line)?;
     Ok(())
 }
 
-fn write_this(alloc: Global, level: &Level, line: &mut Vec<u8>) -> Result<(), AllocError>
-    ensures { OnOk result (line.new.items ≡ line.old.items ++ this_text level.now) }
+fn write_this(alloc: Global, frame: &TraceFrame, line: &mut Vec<u8>) -> Result<(), AllocError>
+    ensures { OnOk result (line.new.items ≡ line.old.items ++ this_text frame.now) }
 {
-    if level.this == level.definer {
+    if frame.this == frame.definer {
         return Ok(());
     }
     line.extend_from_slice(b" (this == ")?;
-    write_object(alloc, level.this, line)?;
+    write_object(alloc, frame.this, line)?;
     line.push(b')')?;
     Ok(())
 }

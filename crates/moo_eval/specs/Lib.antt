@@ -7,3 +7,4 @@ pub mod Task
 pub mod Seen
 pub mod Fault
 pub mod Ends
+pub mod Typed

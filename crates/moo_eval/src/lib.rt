@@ -11,8 +11,10 @@ mod task;
 #[cfg(test)]
 mod tests;
 mod traceback;
+mod typed;
 mod variables;
 
 pub use frame::{Frame, TraceEntry, TraceFrame};
 pub use task::{Ended, MOST_TICKS, run_task};
 pub use traceback::traceback_lines;
+pub use typed::run_typed;

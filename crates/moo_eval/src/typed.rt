@@ -1,0 +1,78 @@
+//! Programs that are typed in.
+ghost use Rattle.std.specs.Prelude.{◌≡◌, [], ◌∷◌, negsuc, IfOk};
+ghost use Rattle.moo_eval.specs.Task.{End, TaskEnds};
+ghost use Rattle.moo_eval.specs.Ends.{texts};
+ghost use Rattle.moo_eval.specs.Typed.{typed_frame, shown};
+
+use crate::frame::Frame;
+use crate::task::{Ended, run_task};
+use moo_program::Program;
+use moo_value::{MooList, MooStr};
+use std::alloc::{AllocError, Global};
+
+/// Runs a program that was typed in by nobody, and gives the lines that are shown of its end.
+pub fn run_typed(alloc: Global, program: Program) -> Result<Vec<Vec<u8>>, AllocError>
+    ensures { IfOk result (λ lines. (end : End) × TaskEnds (typed_frame program (negsuc 0) (negsuc 0) (negsuc 0)) end × (texts lines.items ≡ shown end)) }
+{
+    let start = typed_frame(alloc, program, -1, -1, -1)?;
+    match run_task(alloc, start) {
+        Ended::Value(value) => {
+            let lines = one_line(alloc, value.to_literal(alloc)?)?;
+            Ok(lines)
+        }
+        Ended::Uncaught(lines) => Ok(lines),
+        Ended::OutOfTicks(lines) => Ok(lines),
+        Ended::Memory => Err(AllocError),
+    }
+}
+
+// The frame of a program that is typed in.
+fn typed_frame(
+    alloc: Global,
+    program: Program,
+    programmer: i32,
+    player: i32,
+    caller: i32,
+) -> Result<Frame, AllocError>
+    ensures { IfOk result (λ frame. frame ≡ typed_frame program programmer player caller) }
+{
+    Ok(Frame {
+        program,
+        d: true,
+        programmer,
+        this: -1,
+        definer: -1,
+        caller,
+        player,
+        dobj: -1,
+        iobj: -1,
+        names: string(alloc, "Input to EVAL")?,
+        verb: string(alloc, "")?,
+        argstr: string(alloc, "")?,
+        dobjstr: string(alloc, "")?,
+        prepstr: string(alloc, "")?,
+        iobjstr: string(alloc, "")?,
+        args: no_args(alloc)?,
+    })
+}
+
+fn string(alloc: Global, text: &str) -> Result<MooStr, AllocError>
+    ensures { IfOk result (λ s. s ≡ text.now) }
+{
+    MooStr::try_from_bytes(alloc, text.as_bytes()).map_err(|_| AllocError)
+}
+
+fn no_args(alloc: Global) -> Result<MooList, AllocError>
+    ensures { IfOk result (λ list. list ≡ []) }
+{
+    MooList::try_from_vec(alloc, Vec::new(alloc)).map_err(|_| AllocError)
+}
+
+/// One line.
+pub(crate) fn one_line(alloc: Global, line: Vec<u8>) -> Result<Vec<Vec<u8>>, AllocError>
+    ensures { IfOk result (λ lines. texts lines.items ≡ line.items ∷ []) }
+{
+    let mut lines = Vec::new(alloc);
+    lines.push(line)?;
+    Ok(lines)
+}

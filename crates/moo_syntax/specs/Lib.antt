@@ -1,0 +1,13 @@
+pub mod Tokens
+pub mod Grammar
+pub mod Brackets
+pub mod Programs
+pub mod FaultText
+pub mod Machine
+pub mod Predictive
+pub mod Agree
+pub mod Cursor
+pub mod Items
+pub mod Height
+pub mod Outcome
+pub mod Stops

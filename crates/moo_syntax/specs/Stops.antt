@@ -1,0 +1,30 @@
+-- What the parser knows of the tokens where it stops.
+use Rattle.std.specs.Prelude.{ℕ, List, ◌∷◌, ◌≡◌, ◌<◌, ◌+◌, ◌⊎◌, length, drop}
+use Rattle.moo_token.specs.declared.sign.Sign.TheVariants.{LeftParen}
+use Rattle.moo_token.specs.declared.token.Token.{Token}
+use Rattle.moo_token.specs.declared.token.Token.TheVariants.{Name, Sign}
+use Rattle.moo_token.specs.declared.token.Spot.{Spot}
+use Rattle.moo_program.specs.Tree.{Block}
+use Rattle.moo_program.specs.Limits.{most_nodes}
+use Rattle.moo_syntax.specs.declared.fault.Fault.{Fault}
+use Rattle.moo_syntax.specs.declared.fault.Fault.TheVariants.{Unexpected, TooDeep, Memory}
+use Rattle.moo_syntax.specs.Tokens.{words}
+use Rattle.moo_syntax.specs.Grammar.{IsProgram}
+use Rattle.moo_syntax.specs.Programs.{IsWithin, NoProgram, IsOutside}
+
+abbrev pub StopsBy : List Spot → ℕ → Fault → Type 0
+StopsBy spots at Unexpected = NoProgram (words spots) at
+StopsBy spots at TooDeep = IsOutside (words spots) ⊎ (most_nodes < length spots)
+StopsBy spots at Memory = Unit {0}
+
+-- the tokens, all of them, are the program, within the limits
+pub record IsWhole (ts : List Token) (b : Block) : Type 0 where
+  pub program : IsProgram ts b
+  pub limits : IsWithin ts b
+
+-- the name stands before the place, and a parenthesis at it
+pub record IsCalled (spots : List Spot) (at : ℕ) (name : List ℕ) : Type 0 where
+  pub before : ℕ
+  pub place : at ≡ before + 1
+  pub rest : List Token
+  pub called : words (drop before spots) ≡ Name name ∷ Sign LeftParen ∷ rest

@@ -1,0 +1,37 @@
+//! How many brackets are open at once.
+ghost use Rattle.std.specs.Prelude.{◌≡◌, ◌<◌, ◌≤◌, ◌+◌, length, MatchOption};
+ghost use Rattle.moo_program.specs.Limits.{most_brackets};
+ghost use Rattle.moo_syntax.specs.Tokens.{words};
+ghost use Rattle.moo_syntax.specs.Brackets.{open_behind, most_open};
+
+use moo_program::MOST_BRACKETS;
+use moo_token::{Sign, Spot, Token};
+
+/// How many brackets are open behind the token.
+fn open_behind(opened: u32, token: &Token) -> u32
+    requires { opened ≤ most_brackets }
+    ensures { result ≡ open_behind opened token.now }
+{
+    match token {
+        Token::Sign(Sign::LeftParen | Sign::LeftBracket | Sign::LeftBrace) => opened + 1,
+        Token::Sign(Sign::RightParen | Sign::RightBracket | Sign::RightBrace) =>
+            opened.saturating_sub(1),
+        _ => opened,
+    }
+}
+
+/// The place of the first bracket that opens where as many as may be are open.
+pub fn bracket_too_many(spots: &[Spot]) -> Option<usize>
+    ensures { MatchOption result
+        (most_open (words spots.now) ≤ most_brackets)
+        (λ at. (at < length spots.now) × (most_brackets < most_open (words spots.now))) }
+{
+    let mut opened = 0;
+    for (at, spot) in spots.iter().enumerate() {
+        opened = open_behind(opened, &spot.token);
+        if opened > MOST_BRACKETS {
+            return Some(at);
+        }
+    }
+    None
+}

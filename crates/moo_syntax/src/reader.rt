@@ -1,0 +1,163 @@
+//! The program of a text, or why it is none.
+ghost use Rattle.std.specs.Prelude.{◌≡◌, ◌≤◌, ◌+◌, length, drop, IfOk, IfErr, IfSome};
+ghost use Rattle.moo_token.specs.Lexing.{IsReading};
+ghost use Rattle.moo_syntax.specs.Tokens.{words};
+ghost use Rattle.moo_syntax.specs.Programs.{IsParsed, Blames, NoProgram, line_of};
+ghost use Rattle.moo_syntax.specs.Stops.{StopsBy, IsWhole, IsCalled};
+
+use crate::brackets::bracket_too_many;
+use crate::cursor::Cursor;
+use crate::fault::Fault;
+use crate::statement::statements;
+use crate::syntax_fault::{Names, SyntaxFault, SyntaxFaultKind};
+use moo_program::{Program, fit_lines};
+use moo_token::{Sign, Spot, tokens};
+use moo_value::MooStr;
+use std::alloc::Global;
+
+/// The program of the text of these lines, or the fault that is met first.
+pub fn parse(alloc: Global, lines: &[MooStr], names: Names) -> Result<Program, SyntaxFault>
+    ensures program { IfOk result (λ p. IsParsed lines.now p) }
+    ensures fault { IfErr result (λ f. Blames names lines.now f.line f.kind) }
+{
+    let Ok(spots) = tokens(alloc, lines) else {
+        return Err(SyntaxFault {
+            line: lines.len(),
+            kind: SyntaxFaultKind::Memory,
+        });
+    };
+    match read(alloc, &spots) {
+        Ok(program) => Ok(program),
+        Err(stop) => Err(blame(lines, &spots, stop, names)),
+    }
+}
+
+/// Where the parser stopped, and why.
+#[derive(Drop)]
+struct Stop {
+    at: usize,
+    fault: Fault,
+}
+
+/// The program of these tokens.
+fn read(alloc: Global, spots: &[Spot]) -> Result<Program, Stop>
+    ensures program { IfOk result (λ p. IsWhole (words spots.now) p) }
+    ensures stopped { IfErr result (λ s. StopsBy spots.now s.at s.fault) }
+{
+    if let Some(at) = bracket_too_many(spots) {
+        return Err(Stop {
+            at,
+            fault: Fault::TooDeep,
+        });
+    }
+    let mut tokens = Cursor { spots, at: 0 };
+    let found = match statements(alloc, &mut tokens) {
+        Ok(found) => found,
+        Err(fault) => return Err(Stop {
+            at: tokens.at,
+            fault,
+        }),
+    };
+    if tokens.at < spots.len() {
+        return Err(Stop {
+            at: tokens.at,
+            fault: Fault::Unexpected,
+        });
+    }
+    if !fit_lines(&found) {
+        return Err(Stop {
+            at: tokens.at,
+            fault: Fault::TooDeep,
+        });
+    }
+    match Program::try_new(alloc, found) {
+        Ok(program) => Ok(program),
+        Err(_) => Err(Stop {
+            at: tokens.at,
+            fault: Fault::Memory,
+        }),
+    }
+}
+
+/// What the place where the parser stopped says of the text.
+fn blame(lines: &[MooStr], spots: &[Spot], stop: Stop, names: Names) -> SyntaxFault
+    requires reading { IsReading lines.now spots.now }
+    requires stopped { StopsBy spots.now stop.at stop.fault }
+    ensures { Blames names lines.now result.line result.kind }
+{
+    let line = line_at(lines, spots, stop.at);
+    match stop.fault {
+        Fault::Unexpected => unexpected(lines, spots, stop.at, names),
+        Fault::TooDeep => SyntaxFault {
+            line,
+            kind: SyntaxFaultKind::TooDeep,
+        },
+        Fault::Memory => SyntaxFault {
+            line,
+            kind: SyntaxFaultKind::Memory,
+        },
+    }
+}
+
+/// The fault at a place at which no program goes on.
+fn unexpected(lines: &[MooStr], spots: &[Spot], at: usize, names: Names) -> SyntaxFault
+    requires reading { IsReading lines.now spots.now }
+    requires none { NoProgram (words spots.now) at }
+    ensures { Blames names lines.now result.line result.kind }
+{
+    let line = line_at(lines, spots, at);
+    let tokens = Cursor { spots, at };
+    if tokens.is_at_bad() {
+        return SyntaxFault {
+            line,
+            kind: SyntaxFaultKind::BadToken,
+        };
+    }
+    if names == Names::Any || at == 0 || !tokens.is_at(Sign::LeftParen) {
+        return SyntaxFault {
+            line,
+            kind: SyntaxFaultKind::Unexpected,
+        };
+    }
+    match called_name(spots, at) {
+        Ok(Some(name)) => SyntaxFault {
+            line: line_at(lines, spots, at - 1),
+            kind: SyntaxFaultKind::UnknownFunction(name),
+        },
+        Ok(None) => SyntaxFault {
+            line,
+            kind: SyntaxFaultKind::Unexpected,
+        },
+        Err(_) => SyntaxFault {
+            line,
+            kind: SyntaxFaultKind::Memory,
+        },
+    }
+}
+
+/// The name that stands before a parenthesis at this place.
+fn called_name(spots: &[Spot], at: usize) -> Result<Option<MooStr>, Fault>
+    requires after { 1 ≤ at }
+    requires within { at ≤ length spots.now }
+    ensures { IfOk result (λ found. IfSome found (λ name. IsCalled spots.now at name)) }
+{
+    let mut tokens = Cursor { spots, at: at - 1 };
+    let Some(name) = tokens.take_name()? else {
+        return Ok(None);
+    };
+    if tokens.take(Sign::LeftParen) {
+        Ok(Some(name))
+    } else {
+        Ok(None)
+    }
+}
+
+/// The line of the token at this place, or the last line at the end of the text.
+fn line_at(lines: &[MooStr], spots: &[Spot], at: usize) -> usize
+    ensures { result ≡ line_of lines.now (drop at spots.now) }
+{
+    match spots.get(at) {
+        Some(spot) => spot.line,
+        None => lines.len(),
+    }
+}

@@ -1,17 +1,18 @@
 -- Objects fitted to another tree of parents.
-use Rattle.std.proofs.Common.{◌≡◌, ℕ, zero, suc, ◌<◌, ◌≤◌, List, [], ◌∷◌, ◌++◌, Option, Some, None, Bool, false, eqb, refl, sym, ◌∙◌, ap, ⊎_elim, arith, length, get_or, map}
+use Rattle.std.proofs.Common.{◌≡◌, ℕ, zero, suc, ◌<◌, ◌≤◌, List, [], ◌∷◌, ◌++◌, Option, Some, None, Bool, false, eqb, refl, sym, ◌∙◌, ap, ⊎_elim, arith, length, get_or, map, true, ltb, subst}
 use Rattle.std.specs.List.{range_with_len, All, list_any}
 use Rattle.std.specs.Option.{unwrap_or}
 use Rattle.std.proofs.lemmas.List.{get_or-map, length-map, get_or_past}
 use Rattle.std.proofs.lemmas.List.FromFn.{get_or-map-range_with_len, length-map-range_with_len, fill_by_all, get_or-range_with_len, length-range_with_len}
 use Rattle.std.proofs.lemmas.List.Folds.{list_any_at}
-use Rattle.std.proofs.lemmas.List.Elements.{All-append, All-filter, All-map, All-nil}
-use Rattle.std.proofs.lemmas.Bool.{cases_Bool, cases_lt, eqb-false, ne_eqb, or_parts, both_ways}
-use Rattle.moo_forest.specs.Forest.{Links, alone, ancestors, climb, above_of, moved, IsForest, is_within}
+use Rattle.std.proofs.lemmas.List.Elements.{All-append, All-filter, All-map, All-nil, All-head, All-tail}
+use Rattle.std.proofs.lemmas.Bool.{cases_Bool, cases_lt, eqb-false, eq-eqb, ne_eqb, or_parts, or_left, or_right, or_from, both_ways, ltb-false}
+use Rattle.moo_value.specs.Compare.{folded}
+use Rattle.moo_forest.specs.Forest.{Links, alone, ancestors, climb, above_of, IsForest, is_within}
 use Rattle.moo_forest.proofs.Climbing.{not_met}
-use Rattle.moo_forest.proofs.Moving.{ancestors_elsewhere, IsPlace}
-use Rattle.moo_world.specs.World.{World, Object, Cell, Key, nothing, thing_of, object_of, keys_defined_on, keys_along, has_twice, has_clash, clashes, key_of, fitted_cell, fitted_over, fitted_along, with_cells, refitted_object, refitted, IsFilled, IsWellFormed}
-use Rattle.moo_world.specs.Rows.{row_if_within, with_row, with_rows, row_clashes}
+use Rattle.moo_world.specs.World.{World, nothing, thing_of, object_of, keys_defined_on, keys_along, has_twice, has_clash, clashes, fitted_over, fitted_along, with_cells, refitted_object, refitted, IsFilled, IsWellFormed, IsJoined, IsStocked, IsFine, HasStored, most, crowds, is_crowded, definitions}
+use Rattle.moo_object.specs.Objects.{Object, fitted_cell}
+use Rattle.moo_object.specs.Cells.{Cell, Key, key_of, cleared, cell_at, is_key}
 use Rattle.moo_world.proofs.FittedRows.{names_of_keys, fitted_key, own_cells, IsOwnExact, keys_fitted, own_exact, already_fitted}
 
 -- what stands at each number once refitted
@@ -38,8 +39,8 @@ new_cells x (Some o) above none = refl
 
 pub defined_refitted : (objects : List (Option Object)) (tree : List Links) (x : ℕ) → keys_defined_on (refitted objects tree) x ≡ keys_defined_on objects x
 defined_refitted objects tree x =
-    ap (λ o. map (λ n. (x, n)) (unwrap_or o nothing).defined) (object_refitted objects tree x) ∙
-    ap (map (λ n. (x, n))) (same_defined (object_of objects x) (fitted_along objects (x ∷ ancestors tree x)))
+    ap (λ o. map (λ n. (x, folded n)) (unwrap_or o nothing).defined) (object_refitted objects tree x) ∙
+    ap (map (λ n. (x, folded n))) (same_defined (object_of objects x) (fitted_along objects (x ∷ ancestors tree x)))
 
 pub keys_refitted : (objects : List (Option Object)) (tree : List Links) (way : List ℕ) → keys_along (refitted objects tree) way ≡ keys_along objects way
 keys_refitted objects tree [] = refl
@@ -66,7 +67,7 @@ cells_refitted objects tree free x =
     new_cells x (object_of objects x) (fitted_along objects (ancestors tree x)) (λ h. ap (fitted_along objects) (no_ancestors tree x (free x h)))
 
 -- a test that no object passes
-none_passes : (test : ℕ → Bool) (n : ℕ) → list_any test (range_with_len 0 n) ≡ false → (x : ℕ) → x < n → test x ≡ false
+pub none_passes : (test : ℕ → Bool) (n : ℕ) → list_any test (range_with_len 0 n) ≡ false → (x : ℕ) → x < n → test x ≡ false
 none_passes test n none x h =
     ⊎_elim
     (λ e. absurd (both_ways _ none (list_any_at test (range_with_len 0 n) x 0
@@ -76,7 +77,7 @@ none_passes test n none x h =
     (cases_Bool (test x))
 
 defined_past : (objects : List (Option Object)) (x : ℕ) → length objects ≤ x → keys_defined_on objects x ≡ []
-defined_past objects x past = ap (λ o. map (λ n. (x, n)) (unwrap_or o nothing).defined) (get_or_past objects x None past)
+defined_past objects x past = ap (λ o. map (λ n. (x, folded n)) (unwrap_or o nothing).defined) (get_or_past objects x None past)
 
 names_refitted : (objects : List (Option Object)) (tree : List Links) → IsFreeTree objects tree → clashes objects tree ≡ false → (x : ℕ) → has_clash (refitted objects tree) tree x ≡ false
 names_refitted objects tree free none x =
@@ -94,7 +95,7 @@ definer_elsewhere objects x [] apart = All-nil (λ (k : Key). eqb k.0 x ≡ fals
 definer_elsewhere objects x (y ∷ way) apart =
     let parts = or_parts (eqb x y) (list_any (eqb x) way) apart in
     All-append (λ (k : Key). eqb k.0 x ≡ false) (keys_defined_on objects y) (keys_along objects way)
-    (All-map (λ (k : Key). eqb k.0 x ≡ false) (λ n. (y, n)) (thing_of objects y).defined (λ k d h. ne_eqb y x (λ e. eqb-false x y parts.0 (sym e))))
+    (All-map (λ (k : Key). eqb k.0 x ≡ false) (λ n. (y, folded n)) (thing_of objects y).defined (λ k d h. ne_eqb y x (λ e. eqb-false x y parts.0 (sym e))))
     (definer_elsewhere objects x way parts.1)
 
 pub key_within : (P : Key → Type 0) (cells : List Cell) → All P (map key_of cells) → All (λ c. P (key_of c)) cells
@@ -111,91 +112,99 @@ filled_over x (Some o) above none old other =
     (All-map (IsFilled x) (fitted_cell o) above (λ k d h mine.
     absurd (eqb-false _ _ (other k d h) (sym (ap (λ (q : Key). q.0) (fitted_key o (get_or above k d))) ∙ mine))))
 
--- objects fitted to a tree make a well formed world, where no object has two definitions of one name
-pub fitted_well_formed : (objects : List (Option Object)) (tree places : List Links) → IsForest tree → IsForest places → length tree ≡ length objects → length places ≡ length objects →
-    IsFreeTree objects tree → IsFreeTree objects places → IsOwnExact objects → ((x : ℕ) → All (IsFilled x) (thing_of objects x).cells) → clashes objects tree ≡ false → length objects ≤ 1000000 →
-    IsWellFormed (record { objects = refitted objects tree; inheritance = tree; containment = places })
-fitted_well_formed objects tree places forest places_forest many many_places free free_places own filled none few =
-    let len = length_refitted objects tree in
-    record {
-      parents = forest;
-      places = places_forest;
-      each_has_parent = many ∙ sym len;
-      each_has_place = many_places ∙ sym len;
-      free_of_parents = λ x h. free x (was_none x h);
-      free_of_places = λ x h. free_places x (was_none x h);
-      exact_cells = λ x. ap (map key_of) (cells_refitted objects tree free x) ∙ keys_fitted objects own (x ∷ ancestors tree x) ∙ sym (keys_refitted objects tree (x ∷ ancestors tree x));
-      names_once = names_refitted objects tree free none;
-      own_filled = λ x. let cells = cells_refitted objects tree free x in rw cells
-          (filled_over x (object_of objects x) (fitted_along objects (ancestors tree x)) (λ h. ap (fitted_along objects) (no_ancestors tree x (free x h)))
-          (filled x)
-          (key_within (λ (k : Key). eqb k.0 x ≡ false) (fitted_along objects (ancestors tree x))
-          (let keys = keys_fitted objects own (ancestors tree x) in rw keys
-          (definer_elsewhere objects x (ancestors tree x) (not_met tree x (ancestors tree x) (forest.rooted x))))));
-      few = rw len few;
-    }
+-- a test that every number fails
+pub all_fail : (test : ℕ → Bool) (ys : List ℕ) → ((x : ℕ) → list_any (eqb x) ys ≡ true → test x ≡ false) → list_any test ys ≡ false
+all_fail test [] none = refl
+all_fail test (y ∷ ys) none =
+    or_from (test y) (list_any test ys) (none y (or_left (eqb y y) (list_any (eqb y) ys) (eq-eqb y y refl)))
+    (all_fail test ys (λ x h. none x (or_right (eqb x y) (list_any (eqb x) ys) h)))
+
+-- values that may be stored
+abbrev pub IsStoredCell : Cell → Type 0
+IsStoredCell c = HasStored c.value
+
+stored_unwrapped : (r : Option Cell) (d : Cell) → IsStoredCell d → ((c : Cell) → r ≡ Some c → IsStoredCell c) → IsStoredCell (unwrap_or r d)
+stored_unwrapped None d h each = h
+stored_unwrapped (Some c) d h each = each c refl
+
+found_stored : (k : Key) (cells : List Cell) (c : Cell) → All IsStoredCell cells → cell_at cells k ≡ Some c → IsStoredCell c
+found_stored k [] c all h = cc
+found_stored k (x ∷ xs) c all h =
+    ⊎_elim
+    (λ e.
+    let s : Some x ≡ Some c = (rw e at h) in
+    let same : x ≡ c = cc in
+    subst IsStoredCell same (All-head IsStoredCell x xs all))
+    (λ e. found_stored k xs c (All-tail IsStoredCell x xs all) (rw e at h))
+    (cases_Bool (is_key k x))
+
+stored_over : (x : ℕ) (o : Option Object) (above : List Cell) → (o ≡ None → above ≡ []) → All IsStoredCell (unwrap_or o nothing).cells → All IsStoredCell (fitted_over x o above)
+stored_over x None above none old = let e = none refl in rw e (All-nil IsStoredCell)
+stored_over x (Some o) above none old =
+    All-append IsStoredCell (own_cells x o.cells) (map (fitted_cell o) above)
+    (All-filter (λ (c : Cell). eqb c.definer x) IsStoredCell o.cells old)
+    (All-map IsStoredCell (fitted_cell o) above (λ k d h.
+    let a = get_or above k d in
+    stored_unwrapped (cell_at o.cells (key_of a)) (cleared o.owner a) tt (λ c found. found_stored (key_of a) o.cells c old found)))
+
+-- an object with other cells keeps the limits where these do
+pub fine_with_cells : (o : Option Object) (cells : List Cell) → IsFine (unwrap_or o nothing) → All IsStoredCell (unwrap_or (with_cells o cells) nothing).cells → length (unwrap_or (with_cells o cells) nothing).cells ≤ most →
+    IsFine (unwrap_or (with_cells o cells) nothing)
+fine_with_cells None cells f stored few = f
+fine_with_cells (Some o) cells f stored few = record { name = f.name; names = f.names; values = stored; few_cells = few; verb_names = f.verb_names; few_verbs = f.few_verbs }
+
+kept_none : (o : Option Object) (cells : List Cell) → with_cells o cells ≡ None → o ≡ None
+kept_none None cells h = refl
+kept_none (Some o) cells h = cc
+
+pub was_none : (objects : List (Option Object)) (tree : List Links) (x : ℕ) → object_of (refitted objects tree) x ≡ None → object_of objects x ≡ None
+was_none objects tree x h = kept_none (object_of objects x) (fitted_along objects (x ∷ ancestors tree x)) (sym (object_refitted objects tree x) ∙ h)
+
+-- as many objects, and what is valid stays so
+pub joined_kept : (old new : List (Option Object)) (tree : List Links) → length new ≡ length old → ((x : ℕ) → object_of new x ≡ None → object_of old x ≡ None) → IsJoined old tree → IsJoined new tree
+joined_kept old new tree many none f = record { forest = f.forest; many = f.many ∙ sym many; free = λ x h. f.free x (none x h) }
+
+-- objects fitted to a tree have what they should, where no object has two definitions of one name or too many properties
+pub fitted_stocked : (objects : List (Option Object)) (tree : List Links) → IsJoined objects tree → IsOwnExact objects → ((x : ℕ) → All (IsFilled x) (thing_of objects x).cells) →
+    ((x : ℕ) → IsFine (thing_of objects x)) → clashes objects tree ≡ false → crowds objects tree ≡ false → IsStocked (refitted objects tree) tree
+fitted_stocked objects tree f own filled fine none room = record {
+  exact_cells = exact;
+  names_once = names_refitted objects tree f.free none;
+  own_filled = λ x. let cells = cells_refitted objects tree f.free x in rw cells
+      (filled_over x (object_of objects x) (fitted_along objects (ancestors tree x)) (over_none x)
+      (filled x)
+      (key_within (λ (k : Key). eqb k.0 x ≡ false) (fitted_along objects (ancestors tree x))
+      (let keys = keys_fitted objects own (ancestors tree x) in rw keys
+      (definer_elsewhere objects x (ancestors tree x) (not_met tree x (ancestors tree x) (f.forest.rooted x))))));
+  fine = λ x. let same = object_refitted objects tree x in rw same
+      (fine_with_cells (object_of objects x) (fitted_along objects (x ∷ ancestors tree x)) (fine x)
+      (let cells = sym (ap (λ o. (unwrap_or o nothing).cells) same) ∙ cells_refitted objects tree f.free x in rw cells (stored_along x))
+      (let many = ap (λ o. length (unwrap_or o nothing).cells) (sym same) ∙ sym (length-map (thing_of (refitted objects tree) x).cells key_of) ∙ ap length (exact x ∙ keys_refitted objects tree (x ∷ ancestors tree x)) in
+      rw many (few_definitions x)));
+}
   where
-    kept_none : (o : Option Object) (cells : List Cell) → with_cells o cells ≡ None → o ≡ None
-    kept_none None cells h = refl
-    kept_none (Some o) cells h = cc
+    over_none : (x : ℕ) → object_of objects x ≡ None → fitted_along objects (ancestors tree x) ≡ []
+    over_none x h = ap (fitted_along objects) (no_ancestors tree x (f.free x h))
 
-    was_none : (x : ℕ) → object_of (refitted objects tree) x ≡ None → object_of objects x ≡ None
-    was_none x h = kept_none (object_of objects x) (fitted_along objects (x ∷ ancestors tree x)) (sym (object_refitted objects tree x) ∙ h)
+    exact : (x : ℕ) → map key_of (thing_of (refitted objects tree) x).cells ≡ definitions (refitted objects tree) tree x
+    exact x = ap (map key_of) (cells_refitted objects tree f.free x) ∙ keys_fitted objects own (x ∷ ancestors tree x) ∙ sym (keys_refitted objects tree (x ∷ ancestors tree x))
 
--- so is a well formed world whose objects are fitted to another tree
-pub refitted_well_formed : (w : World) (tree : List Links) → IsWellFormed w → IsForest tree → length tree ≡ length w.objects → IsFreeTree w.objects tree → clashes w.objects tree ≡ false →
-    IsWellFormed (record { objects = refitted w.objects tree; inheritance = tree; containment = w.containment })
-refitted_well_formed w tree f forest many free none =
-    fitted_well_formed w.objects tree w.containment forest f.places many f.each_has_place free f.free_of_places (own_exact w f) f.own_filled none f.few
+    stored_along : (x : ℕ) → All IsStoredCell (fitted_along objects (x ∷ ancestors tree x))
+    stored_along x = stored_over x (object_of objects x) (fitted_along objects (ancestors tree x)) (over_none x) (fine x).values
+
+    few_definitions : (x : ℕ) → length (definitions objects tree x) ≤ most
+    few_definitions x = ⊎_elim
+        (λ h. not_past (length (definitions objects tree x)) (none_passes (is_crowded objects tree) (length objects) room x h))
+        (λ past.
+        let top = no_ancestors tree x (f.free x (get_or_past objects x None past)) in
+        let nothing_there = ap (λ ks. ks ++ keys_along objects (ancestors tree x)) (defined_past objects x past) ∙ ap (keys_along objects) top in
+        let none_at_all = ap length nothing_there in omega (arith, none_at_all))
+        (cases_lt x (length objects))
+      where
+        not_past : (n : ℕ) → ltb most n ≡ false → n ≤ most
+        not_past n h = ltb-false most n h
 
 -- an object with the cells that it has is itself
-cells_stay : (o : Option Object) → with_cells o (unwrap_or o nothing).cells ≡ o
+pub cells_stay : (o : Option Object) → with_cells o (unwrap_or o nothing).cells ≡ o
 cells_stay None = refl
 cells_stay (Some o) = refl
-
--- what does not stand within x has the cells that fitting gives it, and no two of one name
-pub record IsFittedOutside (objects : List (Option Object)) (tree : List Links) (x : ℕ) : Type 0 where
-  pub fitted : (y : ℕ) → is_within tree y x ≡ false → fitted_along objects (y ∷ ancestors tree y) ≡ (thing_of objects y).cells
-  pub once : (y : ℕ) → is_within tree y x ≡ false → has_clash objects tree y ≡ false
-
-pub outside_well_formed : (w : World) (x : ℕ) → IsWellFormed w → IsFittedOutside w.objects w.inheritance x
-outside_well_formed w x f = record {
-  fitted = λ y h. already_fitted w f y (ancestors w.inheritance y) (f.parents.rooted y);
-  once = λ y h. f.names_once y;
-}
-
-module _ (objects : List (Option Object)) (tree : List Links) (x : ℕ) (p : Option ℕ) (forest : IsForest tree) (node : x < length tree) (place : IsPlace tree p) (outside : IsFittedOutside objects tree x) where
-  -- the new rows within the moved object, put in place, fit the objects to the new tree
-  pub rows_fit : with_rows objects (map (row_if_within objects tree x p) (range_with_len 0 (length objects))) ≡ refitted objects (moved tree x p)
-  rows_fit =
-      let rows = map (row_if_within objects tree x p) (range_with_len 0 (length objects)) in
-      let len = length-map-range_with_len (λ y. with_row (object_of objects y) (get_or rows y None)) 0 (length objects) in
-      fill_by_all (refitted_object objects (moved tree x p)) (with_rows objects rows) (length objects) None len
-      (λ y h.
-      get_or-map-range_with_len (λ z. with_row (object_of objects z) (get_or rows z None)) 0 (length objects) y y None h (omega arith) ∙
-      ap (with_row (object_of objects y)) (get_or-map-range_with_len (row_if_within objects tree x p) 0 (length objects) y y None h (omega arith)) ∙
-      ⊎_elim
-      (λ e. rw e refl)
-      (λ e.
-      let same = ancestors_elsewhere tree x p y forest node place e in
-      let cells = ap (λ ys. fitted_along objects (y ∷ ys)) same ∙ outside.fitted y e in
-      rw e (sym (ap (with_cells (object_of objects y)) cells ∙ cells_stay (object_of objects y))))
-      (cases_Bool (is_within tree y x)))
-
-  -- the test of the new rows is that of the definitions under the new tree
-  clash_at : IsOwnExact objects → (y : ℕ) → row_clashes (row_if_within objects tree x p y) ≡ has_clash objects (moved tree x p) y
-  clash_at own y =
-      let row = fitted_along objects (y ∷ ancestors (moved tree x p) y) in
-      ⊎_elim
-      (λ e. rw e (ap has_twice (sym (names_of_keys row) ∙ ap (map (λ (k : Key). k.1)) (keys_fitted objects own (y ∷ ancestors (moved tree x p) y)))))
-      (λ e.
-      let same = ancestors_elsewhere tree x p y forest node place e in
-      rw e (sym (ap (λ ys. has_twice (map (λ (k : Key). k.1) (keys_along objects (y ∷ ys)))) same ∙ outside.once y e)))
-      (cases_Bool (is_within tree y x))
-
-  pub rows_test : IsOwnExact objects → list_any row_clashes (map (row_if_within objects tree x p) (range_with_len 0 (length objects))) ≡ clashes objects (moved tree x p)
-  rows_test own = over (range_with_len 0 (length objects))
-    where
-      over : (ys : List ℕ) → list_any row_clashes (map (row_if_within objects tree x p) ys) ≡ list_any (has_clash objects (moved tree x p)) ys
-      over [] = refl
-      over (y ∷ ys) = let here = clash_at own y in let there = over ys in rw (here, there) refl

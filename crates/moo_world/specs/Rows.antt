@@ -1,29 +1,40 @@
--- The new rows of a change of parent, before they are put in place.
-use Rattle.std.specs.Prelude.{ℕ, List, ◌∷◌, Option, Some, None, Bool, false, if◌then◌else◌, length, map, slice_index_or, take, ◌-◌}
-use Rattle.std.specs.List.{range_with_len}
-use Rattle.moo_forest.specs.Forest.{Links, ancestors, moved, is_within}
-use Rattle.moo_world.specs.World.{Object, Cell, fitted_along, with_cells, object_of, has_twice}
+-- New rows of cells along a walk, before they are put in place.
+use Rattle.std.specs.Prelude.{◌≡◌, ℕ, ◌<◌, List, [], ◌∷◌, Option, Some, None, Bool, length, map, slice_index_or, slice_set, nat_lt, take, ◌-◌}
+use Rattle.moo_forest.specs.Forest.{Links}
+use Rattle.moo_forest.specs.Walk.{step_at, met}
+use Rattle.moo_forest.specs.declared.walk.Step.{Step}
+use Rattle.moo_object.specs.Cells.{Cell}
+use Rattle.moo_object.specs.Objects.{Object}
+use Rattle.moo_world.specs.World.{fitted_over, with_cells, object_of, has_twice, refitted, most}
 
--- the new row of what stands within top, once its parent is p
-abbrev pub row_if_within : List (Option Object) → List Links → ℕ → Option ℕ → ℕ → Option (List Cell)
-row_if_within objects tree top p x =
-    if is_within tree x top then Some (fitted_along objects (x ∷ ancestors (moved tree top p) x)) else None
+-- the first n rows along a walk: the first is given, each other one is fitted to that of the object right above its own
+pub record AreFitted (objects : List (Option Object)) (walk : List Step) (top : List Cell) (n : ℕ) (rows : List (List Cell)) : Type 0 where
+  pub many : length rows ≡ n
+  pub first : slice_index_or rows 0 [] ≡ top
+  pub fitted : (i : ℕ) → 0 < i → i < n →
+      slice_index_or rows i [] ≡ fitted_over (step_at walk i).node (object_of objects (step_at walk i).node) (slice_index_or rows (step_at walk i).from [])
 
--- an object with a new row, if there is one
-abbrev pub with_row : Option Object → Option (List Cell) → Option Object
-with_row o None = o
-with_row o (Some row) = with_cells o row
-
--- each object with its new row
-abbrev pub with_rows : List (Option Object) → List (Option (List Cell)) → List (Option Object)
-with_rows objects rows = map (λ x. with_row (object_of objects x) (slice_index_or rows x None)) (range_with_len 0 (length objects))
+-- each of these objects with its new row
+abbrev pub with_rows : List (Option Object) → List ℕ → List (List Cell) → List (Option Object)
+with_rows objects [] rows = objects
+with_rows objects (y ∷ ys) [] = objects
+with_rows objects (y ∷ ys) (row ∷ rows) = slice_set (with_rows objects ys rows) y (with_cells (object_of (with_rows objects ys rows) y) row)
 
 -- whether two of an object's new cells have one name
-abbrev pub row_clashes : Option (List Cell) → Bool
-row_clashes None = false
-row_clashes (Some row) = has_twice (map (λ c. c.name) row)
+abbrev pub row_clashes : List Cell → Bool
+row_clashes row = has_twice (map (λ c. c.name) row)
+
+-- whether an object would have too many cells
+abbrev pub row_is_long : List Cell → Bool
+row_is_long row = nat_lt most (length row)
 
 -- an object without its last definition and its last cell
 abbrev pub without_last : Option Object → Option Object
 without_last None = None
-without_last (Some o) = Some (record { owner = o.owner; defined = take (length o.defined - 1) o.defined; cells = take (length o.cells - 1) o.cells })
+without_last (Some o) = Some (record o { defined = take (length o.defined - 1) o.defined; cells = take (length o.cells - 1) o.cells })
+
+-- the rows along a walk, put in place, fit the objects to a tree
+pub record AreReady (objects : List (Option Object)) (tree : List Links) (walk : List Step) (rows : List (List Cell)) : Type 0 where
+  pub many : length rows ≡ length walk
+  pub within : (k : ℕ) → k < length walk → (step_at walk k).node < length objects
+  pub fit : with_rows objects (met walk) rows ≡ refitted objects tree

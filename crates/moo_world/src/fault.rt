@@ -1,23 +1,15 @@
 ghost use Rattle.std.specs.Prelude.{◌≡◌};
 ghost use Rattle.moo_world.specs.declared.fault.WorldFault.TheVariants.{Memory};
 
+use moo_value::ErrorCode;
 use std::alloc::{AllocError, AllocFailed};
-
-/// The errors that the world's calls raise.
-#[derive(Clone, Copy, Debug, PartialEq, Eq)]
-pub enum ErrorCode {
-    Perm,
-    PropNotFound,
-    InvalidIndirection,
-    RecursiveMove,
-    InvalidArgument,
-    Quota,
-}
 
 /// Why a call changed nothing.
 #[derive(Clone, Copy, Debug, PartialEq, Eq)]
 pub enum WorldFault {
+    /// The error that the call raises.
     Raise(ErrorCode),
+    /// Memory was short.
     Memory,
 }
 

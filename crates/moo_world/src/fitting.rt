@@ -1,200 +1,130 @@
-//! Rows of cells under another tree of parents.
+//! Rows of cells along a walk down from an object whose parent or definitions change.
 
-ghost use Rattle.std.specs.Prelude.{◌≡◌, ◌<◌, ◌∷◌, [], IfOk, Option, None, Some, length, map, vec_len, nat_eq, true, false, IfErr};
+ghost use Rattle.std.specs.Prelude.{◌≡◌, ◌<◌, IfOk, length, map, IsSome, vec_len, ℕ};
 ghost use Rattle.std.specs.Option.{ForSome};
-ghost use Rattle.std.specs.List.{All, range_with_len, list_any};
-ghost use Rattle.moo_forest.specs.Forest.{ancestors, above_of, moved};
-ghost use Rattle.moo_world.specs.World.{Cell, fitted_along, fitted_over, has_twice};
-ghost use Rattle.moo_world.specs.Calls.{RaisesOnly};
-ghost use Rattle.moo_world.specs.Rows.{row_if_within, with_rows, with_row, row_clashes};
+ghost use Rattle.std.specs.List.{list_any};
+ghost use Rattle.moo_forest.specs.Walk.{step_at, met};
+ghost use Rattle.moo_object.specs.Cells.{Cell};
+ghost use Rattle.moo_world.specs.World.{fitted_over, has_twice, object_of, with_cells, cells_of, most};
+ghost use Rattle.moo_world.specs.Rows.{AreFitted, with_rows, row_clashes, row_is_long};
 
-use crate::cell::PropCell;
-use crate::fault::{ErrorCode, WorldFault};
-use crate::object::Object;
-use crate::row::Row;
-use moo_forest::Forest;
+use crate::MOST;
+use crate::creating::cells_of;
+use moo_forest::Step;
+use moo_object::{Object, PropCell, Row};
 use std::alloc::{AllocError, Global};
 
-/// What is right above `x` once `top` has the parent `p`.
-fn next_up(tree: &Forest, x: usize, top: usize, p: Option<usize>) -> Option<usize>
-    requires first { x < length tree.now }
-    requires last { top < length tree.now }
-    requires place { ForSome p (λ up. up < length tree.now) }
-    ensures value { result ≡ above_of (moved tree.now top p) x }
-    ensures within { ForSome result (λ up. up < length tree.now) }
-{
-    if x == top { p } else { tree.above(x) }
+/// A walk down from an object, and the new row of each object on it.
+#[derive(Drop)]
+pub struct NewRows {
+    pub walk: Vec<Step>,
+    pub rows: Vec<Row>,
 }
 
-/// The way up from `x` once `top` has the parent `p`.
-fn way_under(
-    tree: &Forest,
-    alloc: Global,
-    x: usize,
-    top: usize,
-    p: Option<usize>,
-) -> Result<Vec<usize>, AllocError>
-    requires first { x < length tree.now }
-    requires last { top < length tree.now }
-    requires place { ForSome p (λ up. up < length tree.now) }
-    ensures value { IfOk result (λ way. way.items ≡ x ∷ ancestors (moved tree.now top p) x) }
-    ensures within { IfOk result (λ way. All (λ up. up < length tree.now) way.items) }
-{
-    let mut way = Vec::new(alloc);
-    way.push(x)?;
-    let mut at = next_up(tree, x, top, p);
-    for _ in 0..tree.len() {
-        match at {
-            Some(up) => {
-                way.push(up)?;
-                at = next_up(tree, up, top, p);
-            }
-            None => return Ok(way),
-        }
-    }
-    Ok(way)
-}
-
-/// The cells of the first object of a way up.
-fn row_along(
+/// The rows of the objects on a walk, once the first has the parent `p`.
+pub fn rows_below(
     objects: &[Option<Object>],
     alloc: Global,
-    mut way: Vec<usize>,
-) -> Result<Row, AllocError>
-    requires { All (λ x. x < length objects.now) way.items }
-    ensures { IfOk result (λ row. row ≡ fitted_along objects.now way.items) }
-{
-    let mut row = Row::new(alloc);
-    while let Some(x) = way.pop() {
-        row = row_over(&objects[x], alloc, x, row)?;
-    }
-    Ok(row)
-}
-
-// The cells of what stands at a number, under a parent with these cells.
-fn row_over(slot: &Option<Object>, alloc: Global, x: usize, above: Row) -> Result<Row, AllocError>
-    ensures { IfOk result (λ row. row ≡ fitted_over x slot.now above) }
-{
-    match slot {
-        Some(object) => object.fitted_row(alloc, x, above.as_slice()),
-        None => Ok(above),
-    }
-}
-
-/// The new row of `x` where it stands within `top`, once `top` has the parent `p`.
-fn row_if_within(
-    objects: &[Option<Object>],
-    tree: &Forest,
-    alloc: Global,
-    x: usize,
-    top: usize,
+    walk: &[Step],
     p: Option<usize>,
-) -> Result<Option<Row>, AllocError>
-    requires many { length objects.now ≡ length tree.now }
-    requires first { x < length tree.now }
-    requires last { top < length tree.now }
-    requires place { ForSome p (λ up. up < length tree.now) }
-    ensures { IfOk result (λ row. row ≡ row_if_within objects.now tree.now top p x) }
-{
-    if !tree.is_within(x, top) {
-        return Ok(None);
-    }
-    let way = way_under(tree, alloc, x, top, p)?;
-    Ok(Some(row_along(objects, alloc, way)?))
-}
-
-/// The new rows of all that stands within `top`, once it has the parent `p`.
-pub fn rows_within(
-    objects: &[Option<Object>],
-    tree: &Forest,
-    alloc: Global,
-    top: usize,
-    p: Option<usize>,
-) -> Result<Vec<Option<Row>>, AllocError>
-    requires many { length objects.now ≡ length tree.now }
-    requires last { top < length tree.now }
-    requires place { ForSome p (λ up. up < length tree.now) }
-    ensures { IfOk result (λ rows. rows.items ≡ map (row_if_within objects.now tree.now top p) (range_with_len 0 (length objects.now))) }
+) -> Result<Vec<Row>, AllocError>
+    requires begins { 0 < length walk.now }
+    requires place { ForSome p (λ up. up < length objects.now) }
+    requires valid { (k : ℕ) → k < length walk.now → IsSome (object_of objects.now (step_at walk.now k).node) }
+    requires follows { (k : ℕ) → 0 < k → k < length walk.now → (step_at walk.now k).from < k }
+    ensures { let x = (step_at walk.now 0).node in
+        IfOk result (λ rows. AreFitted objects.now walk.now (fitted_over x (object_of objects.now x) (cells_of objects.now p)) (length walk.now) rows.items) }
 {
     let mut rows = Vec::new(alloc);
-    for x in 0..objects.len() {
-        rows.push(row_if_within(objects, tree, alloc, x, top, p)?)?;
+    let first = walk[0].node;
+    rows.push(row_over(&objects[first], alloc, first, cells_of(objects, p))?)?;
+    for i in 1..walk.len() {
+        let step = walk[i];
+        let row = row_over(
+            &objects[step.node],
+            alloc,
+            step.node,
+            rows[step.from].as_slice(),
+        )?;
+        rows.push(row)?;
     }
     Ok(rows)
 }
 
-/// The same, where no two cells of a row have one name.
-pub fn rows_without_clash(
-    objects: &[Option<Object>],
-    tree: &Forest,
+// The cells of a valid object under a parent with these cells.
+fn row_over(
+    slot: &Option<Object>,
     alloc: Global,
-    top: usize,
-    p: Option<usize>,
-) -> Result<Vec<Option<Row>>, WorldFault>
-    requires many { length objects.now ≡ length tree.now }
-    requires last { top < length tree.now }
-    requires place { ForSome p (λ up. up < length tree.now) }
-    ensures ok { let made = map (row_if_within objects.now tree.now top p) (range_with_len 0 (length objects.now)) in
-        IfOk result (λ rows. (rows.items ≡ made) × (list_any row_clashes made ≡ false)) }
-    ensures err { let made = map (row_if_within objects.now tree.now top p) (range_with_len 0 (length objects.now)) in
-        IfErr result (λ fault. RaisesOnly fault ErrorCode.InvalidArgument (list_any row_clashes made ≡ true)) }
+    x: usize,
+    above: &[PropCell],
+) -> Result<Row, AllocError>
+    requires { IsSome slot.now }
+    ensures { IfOk result (λ row. row ≡ fitted_over x slot.now above.now) }
 {
-    let rows = rows_within(objects, tree, alloc, top, p)?;
-    if rows_clash(&rows) {
-        return Err(WorldFault::Raise(ErrorCode::InvalidArgument));
+    match slot {
+        Some(object) => object.fitted_row(alloc, x, above),
+        None => Ok(Row::new(alloc)),
     }
-    Ok(rows)
 }
 
-/// Gives each object its new row, if there is one.
-pub fn put_rows(objects: &mut Vec<Option<Object>>, mut rows: Vec<Option<Row>>)
-    requires { vec_len rows ≡ vec_len objects.old }
-    ensures { objects.new.items ≡ with_rows objects.old.items rows.items }
+/// Gives each object on a walk its new row.
+pub fn put_rows(objects: &mut Vec<Option<Object>>, walk: &[Step], mut rows: Vec<Row>)
+    requires many { vec_len rows ≡ length walk.now }
+    requires within { (k : ℕ) → k < length walk.now → (step_at walk.now k).node < vec_len objects.old }
+    ensures { objects.new.items ≡ with_rows objects.old.items (met walk.now) rows.items }
 {
     while let Some(row) = rows.pop() {
-        let x = rows.len();
-        put_row(&mut objects[x], row);
+        let step = walk[rows.len()];
+        put_row(&mut objects[step.node], row);
     }
 }
 
-fn put_row(slot: &mut Option<Object>, row: Option<Row>)
-    ensures { slot.new ≡ with_row slot.old row }
+fn put_row(slot: &mut Option<Object>, row: Row)
+    ensures { slot.new ≡ with_cells slot.old row }
 {
-    if let (Some(object), Some(row)) = (slot, row) {
+    if let Some(object) = slot {
         object.set_cells(row);
     }
 }
 
-/// Whether two cells of some new row have one name.
-pub fn rows_clash(rows: &[Option<Row>]) -> bool
+/// Whether some row has two cells of one name.
+pub fn rows_clash(rows: &[Row]) -> bool
     ensures { result ≡ list_any row_clashes rows.now }
 {
-    for row in rows {
-        if let Some(row) = row {
-            if has_twice(row.as_slice()) {
-                return true;
-            }
-        }
-    }
-    false
+    rows.iter().any(|row| has_twice(row.as_slice()))
+}
+
+/// Whether some row is too long.
+pub fn rows_crowd(rows: &[Row]) -> bool
+    ensures { result ≡ list_any row_is_long rows.now }
+{
+    rows.iter().any(|row| is_long(row.as_slice()))
+}
+
+fn is_long(cells: &[PropCell]) -> bool
+    ensures { result ≡ row_is_long cells.now }
+{
+    cells.len() > MOST
 }
 
 fn has_twice(cells: &[PropCell]) -> bool
     ensures { result ≡ has_twice (map (λ (c : Cell). c.name) cells.now) }
 {
     for (i, cell) in cells.iter().enumerate() {
-        if has_name(&cells[i + 1..], cell.name()) {
+        if has_name_of(&cells[i + 1..], cell) {
             return true;
         }
     }
     false
 }
 
-fn has_name(cells: &[PropCell], name: u32) -> bool
-    ensures { result ≡ list_any (nat_eq name) (map (λ (c : Cell). c.name) cells.now) }
+ghost use Rattle.moo_object.specs.Names.{same_name};
+
+fn has_name_of(cells: &[PropCell], one: &PropCell) -> bool
+    ensures { result ≡ list_any (same_name one.now.name) (map (λ (c : Cell). c.name) cells.now) }
 {
     for cell in cells {
-        if cell.name() == name {
+        if one.has_name_of(cell) {
             return true;
         }
     }

@@ -1,11 +1,11 @@
-use Rattle.std.proofs.Common.{◌≡◌, ◌++◌, ◌∷◌, [], Some, sym, ◌∙◌, ap, arith, length, subst, map}
+use Rattle.std.proofs.Common.{◌≡◌, ◌++◌, ◌∷◌, [], Some, sym, ◌∙◌, ap, arith, length, subst, map, w32}
 use Rattle.std.proofs.lemmas.Int.{to_z-of_z}
-use Rattle.std.proofs.Common.{w32}
 use Rattle.std.proofs.lemmas.Grind.{common_steps}
 use Rattle.moo_forest.specs.Forest.{alone, moved}
-use Rattle.moo_world.specs.World.{World, cells_of, cleared}
+use Rattle.moo_object.specs.Cells.{cleared}
+use Rattle.moo_world.specs.World.{World, cells_of}
 use Rattle.moo_world.proofs.Changing.{IsValidPlace, valid_within}
-use Rattle.moo_world.proofs.Creating.{create_well_formed, made}
+use Rattle.moo_world.proofs.Newborns.{create_well_formed, made}
 use Rattle.moo_world.proofs.World.add_object.Goals as goal
 
 pub cells_of-requires : goal.cells_of-requires
@@ -29,7 +29,7 @@ invariant_of-self-then-is_err-2 c =
 
 pub invariant_of-self-else-is_err-2 : goal.invariant_of-self-else-is_err-2
 invariant_of-self-else-is_err-2 c =
-    let w : World = record { objects = c.self.inside.objects.items; inheritance = c.self.inside.inheritance; containment = c.self.inside.containment } in
+    let w : World = record { objects = c.self.inside.objects.items; inheritance = c.self.inside.inheritance; containment = c.self.inside.containment; players = c.self.inside.players.items } in
     let valid = subst (λ v. IsValidPlace v.objects c.args.p) (sym c.self.view_is) c.requires in
     let cells : c.cells_of.result.now ≡ cells_of w.objects c.args.p = c.cells_of.ensures ∙ ap (λ os. cells_of os c.args.p) c.deref.ensures.value in
     let owner = to_z-of_z w32 c.args.owner c.ranges.owner in
@@ -37,6 +37,6 @@ invariant_of-self-else-is_err-2 c =
     let object : c.in_ok-object.object ≡ made w c.args.p c.args.owner = child ∙ ap (λ cs. record (made w c.args.p c.args.owner) { cells = map (cleared c.args.owner) cs }) cells in
     let objects : c.push.new.self.items ≡ w.objects ++ Some (made w c.args.p c.args.owner) ∷ [] = c.in_ok-push.ensures.items ∙ ap (λ o. w.objects ++ Some o ∷ []) object in
     let told : c.add_below.new.self ≡ moved (c.self.inside.inheritance ++ alone ∷ []) (length c.self.inside.inheritance) c.args.p = grind (arith, common_steps) in
-    let parents : c.add_below.new.self ≡ moved (w.inheritance ++ alone ∷ []) (length w.objects) c.args.p = told ∙ ap (λ n. moved (w.inheritance ++ alone ∷ []) n c.args.p) c.self.invariant.each_has_parent in
+    let parents : c.add_below.new.self ≡ moved (w.inheritance ++ alone ∷ []) (length w.objects) c.args.p = told ∙ ap (λ n. moved (w.inheritance ++ alone ∷ []) n c.args.p) c.self.invariant.parents.many in
     let places : c.add.new.self ≡ w.containment ++ alone ∷ [] = grind (arith, common_steps) in
     rw (objects, parents, places) (create_well_formed w c.self.invariant c.args.p c.args.owner valid (omega (arith, c.len.ensures, c.self.inside.objects.ok.0)))

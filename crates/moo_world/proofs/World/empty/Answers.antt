@@ -2,4 +2,4 @@ use Rattle.moo_world.proofs.WellFormed.{empty_well_formed}
 use Rattle.moo_world.proofs.World.empty.Goals as goal
 
 pub invariant_of-result : goal.invariant_of-result
-invariant_of-result c = rw (c.new.ensures.items, c.new-2.ensures, c.new-3.ensures) empty_well_formed
+invariant_of-result c = rw (c.new.ensures.items, c.new-2.ensures, c.new-3.ensures, c.new-4.ensures.items) empty_well_formed

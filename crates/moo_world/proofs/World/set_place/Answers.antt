@@ -1,17 +1,14 @@
-use Rattle.std.proofs.Common.{sym, ◌∙◌, subst, IsSome}
+use Rattle.std.proofs.Common.{sym, ◌∙◌, ap, subst, IsSome}
 use Rattle.moo_world.specs.World.{World, object_of}
-use Rattle.moo_world.proofs.Changing.{IsValidPlace, place_in_places, place_changed}
+use Rattle.moo_world.specs.Calls.{would_loop, place_raises}
+use Rattle.moo_world.proofs.Changing.{IsValidPlace, place_changed, place_free}
 use Rattle.moo_world.proofs.World.set_place.Goals as goal
-
-pub would_loop-requires : goal.would_loop-requires
-would_loop-requires c =
-    let w : World = record { objects = c.self.inside.objects.items; inheritance = c.self.inside.inheritance; containment = c.self.inside.containment } in
-    place_in_places w c.args.x c.args.to c.self.invariant (subst (λ v. IsSome (object_of v.objects c.args.x)) (sym c.self.view_is) c.requires.object)
-    (subst (λ v. IsValidPlace v.objects c.args.to) (sym c.self.view_is) c.requires.place)
 
 pub invariant_of-self-2 : goal.invariant_of-self-2
 invariant_of-self-2 c =
-    let w : World = record { objects = c.self.inside.objects.items; inheritance = c.self.inside.inheritance; containment = c.self.inside.containment } in
+    let w : World = record { objects = c.self.inside.objects.items; inheritance = c.self.inside.inheritance; containment = c.self.inside.containment; players = c.self.inside.players.items } in
+    let valid = subst (λ v. IsSome (object_of v.objects c.args.x)) (sym c.self.view_is) c.requires.object in
+    let to_valid = subst (λ v. IsValidPlace v.objects c.args.to) (sym c.self.view_is) c.requires.place in
+    let free = place_free (would_loop w.containment c.args.x c.args.to) (ap (λ v. place_raises v c.args.x c.args.to) c.self.view_is ∙ c.in_ok-test_place.ensures.0) in
     let tree = c.in_ok-move_to.ensures.ok in
-    rw tree (place_changed w c.args.x c.args.to c.self.invariant (subst (λ v. IsSome (object_of v.objects c.args.x)) (sym c.self.view_is) c.requires.object)
-    (subst (λ v. IsValidPlace v.objects c.args.to) (sym c.self.view_is) c.requires.place) (sym c.would_loop.ensures ∙ c.if-would_loop.false))
+    rw tree (place_changed w c.args.x c.args.to c.self.invariant valid to_valid free)

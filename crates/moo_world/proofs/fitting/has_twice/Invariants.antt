@@ -1,5 +1,6 @@
 use Rattle.std.proofs.Common.{◌≡◌, drop, map}
-use Rattle.moo_world.specs.World.{Cell, has_twice}
+use Rattle.moo_object.specs.Cells.{Cell}
+use Rattle.moo_world.specs.World.{has_twice}
 use Rattle.moo_world.proofs.fitting.has_twice.Given as goal
 
 abbrev pub invariant-loop-i : goal.invariant-loop-i

@@ -1,10 +1,19 @@
-use Rattle.std.proofs.Common.{◌≡◌, arith, vec_len}
-use Rattle.moo_world.proofs.Ways.{rows_put}
+use Rattle.std.proofs.Common.{◌≡◌, ◌≤◌, ◌<◌, ◌+◌, sym, ◌∙◌, ap, arith, length, refl}
+use Rattle.std.proofs.lemmas.List.{length_push, length-set}
+use Rattle.moo_forest.specs.Walk.{step_at}
+use Rattle.moo_world.proofs.Joining.{left_more, put_more}
 use Rattle.moo_world.proofs.fitting.put_rows.Goals as goal
 
-pub returns : goal.returns
-returns c =
-    let many : vec_len c.loop-row.rows ≡ 0 = c.in_default.ensures.cases.0 in
-    rows_put c.args.objects.now.items c.loop-row.objects.items c.args.rows.items
-    (omega (arith, c.loop-row.objects.ok.0, c.args.objects.now.ok.0, c.args.rows.ok.0, c.loop-row.invariant.same_many, c.requires))
-    (λ k h. c.loop-row.invariant.done k (omega (arith, many)) (omega (arith, c.loop-row.objects.ok.0)))
+pub loop-row-preserved : goal.loop-row-preserved
+loop-row-preserved c =
+    let longer = ap length c.in-Some.ensures.items ∙ length_push c.pop.new.self.items c.in-Some.row in
+    let inside : c.len.result < length c.args.walk.now = omega (arith, longer, c.loop-row.invariant.short, c.len.ensures, c.pop.new.self.ok.0) in
+    let low = c.requires.within c.len.result inside in
+    record {
+      left = left_more c.args.rows.items c.loop-row.rows.items c.pop.new.self.items c.in-Some.row c.loop-row.invariant.left c.in-Some.ensures.items;
+      short = omega (arith, longer, c.loop-row.invariant.short);
+      same_many = c.loop-row.invariant.same_many;
+      done = put_more c.args.objects.now.items c.loop-row.objects.items c.args.walk.now c.args.rows.items c.loop-row.rows.items c.pop.new.self.items c.in-Some.row c.len.result c.index_mut.result.now c.put_row.new.slot
+          c.loop-row.invariant.left c.in-Some.ensures.items c.loop-row.invariant.short (omega (arith, c.len.ensures, c.pop.new.self.ok.0))
+          (omega (arith, low, c.loop-row.invariant.same_many, c.loop-row.objects.ok.0)) c.loop-row.invariant.done c.index_mut.ensures.value c.put_row.ensures;
+    }

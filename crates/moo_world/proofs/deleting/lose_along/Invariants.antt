@@ -1,0 +1,11 @@
+use Rattle.std.proofs.Common.{◌≡◌, drop, vec_len}
+use Rattle.moo_value.specs.Compare.{folded}
+use Rattle.moo_forest.specs.Walk.{met}
+use Rattle.moo_world.specs.Changes.{lost_along}
+use Rattle.moo_world.proofs.deleting.lose_along.Given as goal
+
+abbrev pub invariant-loop-step : goal.invariant-loop-step
+invariant-loop-step l = record {
+  rest : lost_along (l.definer, folded l.name) l.objects.items (met (drop l.step-index l.walk)) ≡ lost_along (l.definer, folded l.name) l.initial.objects.items (met l.walk);
+  many : vec_len l.objects ≡ vec_len l.initial.objects;
+}

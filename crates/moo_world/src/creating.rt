@@ -1,0 +1,80 @@
+//! New objects.
+
+ghost use Rattle.std.specs.Prelude.{◌≡◌, ◌<◌, Option, Some, length, IfOk, OnOk, IsSome, pos};
+ghost use Rattle.std.specs.Option.{ForSome};
+ghost use Rattle.moo_world.specs.World.{object_of, cells_of, most};
+ghost use Rattle.moo_world.specs.Changes.{after_create};
+ghost use Rattle.moo_world.specs.Calls.{Changes, Tests, place_of, create_raises, world_create};
+
+use crate::fault::WorldFault;
+use crate::{MOST, World};
+use moo_object::{Object, PropCell};
+use moo_value::ErrorCode;
+use std::alloc::Global;
+
+impl World {
+    /// What making an object under a parent raises.
+    pub fn try_create(&self, parent: i32) -> Result<(), WorldFault>
+        ensures { Tests result (create_raises self.now (place_of self.now.objects parent)) }
+    {
+        if self.place(parent).is_none() {
+            return Err(WorldFault::Raise(ErrorCode::Permission));
+        }
+        if self.objects.len() >= MOST {
+            return Err(WorldFault::Raise(ErrorCode::Quota));
+        }
+        Ok(())
+    }
+
+    /// Makes an object under a parent, and answers its number, the highest one. Where the owner is
+    /// to be the new object, hand in this number.
+    pub fn create(&mut self, alloc: Global, parent: i32, owner: i32) -> Result<i32, WorldFault>
+        ensures world { let p = place_of self.old.objects parent in
+            Changes result self.old self.new (create_raises self.old p) (world_create self.old p owner) }
+        ensures number { IfOk result (λ o. o ≡ pos (length self.old.objects)) }
+    {
+        let Some(p) = self.place(parent) else {
+            return Err(WorldFault::Raise(ErrorCode::Permission));
+        };
+        let number = self.objects.len();
+        self.add_object(alloc, p, owner)?;
+        Ok(number as i32)
+    }
+
+    // The same, under a valid parent or none.
+    fn add_object(&mut self, alloc: Global, p: Option<usize>, owner: i32) -> Result<(), WorldFault>
+        requires { ForSome p (λ up. IsSome (object_of self.old.objects up)) }
+        ensures world { Changes result self.old self.new (create_raises self.old (Some p)) (after_create self.old p owner) }
+        ensures few { OnOk result (length self.old.objects < most) }
+    {
+        if self.objects.len() >= MOST {
+            return Err(WorldFault::Raise(ErrorCode::Quota));
+        }
+        let object = Object::child(alloc, owner, cells_of(&self.objects, p))?;
+        self.objects.push(Some(object))?;
+        if self.containment.add(alloc).is_err() {
+            let _object = self.objects.pop();
+            return Err(WorldFault::Memory);
+        }
+        if self.inheritance.add_below(alloc, p).is_err() {
+            self.containment.remove_last();
+            let _object = self.objects.pop();
+            return Err(WorldFault::Memory);
+        }
+        Ok(())
+    }
+}
+
+/// The cells of an object, and none for no object.
+pub fn cells_of(objects: &[Option<Object>], p: Option<usize>) -> &[PropCell]
+    requires { ForSome p (λ up. up < length objects.now) }
+    ensures { result.now ≡ cells_of objects.now p }
+{
+    match p {
+        Some(p) => match &objects[p] {
+            Some(object) => object.cells(),
+            None => &[],
+        },
+        None => &[],
+    }
+}

@@ -1,0 +1,69 @@
+//! Object numbers: which are valid, and the highest.
+
+ghost use Rattle.std.specs.Prelude.{◌≡◌, [], Option, length, IsSome, is_some};
+ghost use Rattle.std.specs.Option.{ForSome};
+ghost use Rattle.moo_world.specs.World.{object_of, IsWellFormed};
+ghost use Rattle.moo_world.specs.Calls.{number_of, place_of, highest};
+
+use crate::World;
+use moo_forest::Forest;
+use std::alloc::Global;
+
+impl World {
+    /// A world without objects and players.
+    pub fn empty(alloc: Global) -> Self
+        ensures { result ≡ record { objects = []; inheritance = []; containment = []; players = [] } }
+    {
+        World {
+            objects: Vec::new(alloc),
+            inheritance: Forest::new(alloc),
+            containment: Forest::new(alloc),
+            players: Vec::new(alloc),
+        }
+    }
+
+    /// What every world keeps.
+    pub fn is_well_formed(&self)
+        ensures { IsWellFormed self.now }
+    {
+        let _objects = &self.objects;
+    }
+
+    /// Whether a number is that of an object.
+    pub fn valid(&self, o: i32) -> bool
+        ensures { result ≡ is_some (number_of self.now.objects o) }
+    {
+        self.number(o).is_some()
+    }
+
+    /// The highest number that was given out, -1 for none.
+    pub fn max_object(&self) -> i32
+        ensures { result ≡ highest (length self.now.objects) }
+    {
+        self.is_well_formed();
+        self.objects.len() as i32 - 1
+    }
+
+    /// The number of a valid object.
+    pub(crate) fn number(&self, o: i32) -> Option<usize>
+        ensures value { result ≡ number_of self.now.objects o }
+        ensures valid { ForSome result (λ x. IsSome (object_of self.now.objects x)) }
+    {
+        let number = usize::try_from(o).ok()?;
+        match self.objects.get(number) {
+            Some(Some(_)) => Some(number),
+            _ => None,
+        }
+    }
+
+    /// A place: a valid object, or none for #-1.
+    pub(crate) fn place(&self, o: i32) -> Option<Option<usize>>
+        ensures value { result ≡ place_of self.now.objects o }
+        ensures valid { ForSome result (λ to. ForSome to (λ up. IsSome (object_of self.now.objects up))) }
+    {
+        if o == -1 {
+            return Some(None);
+        }
+        Some(Some(self.number(o)?))
+    }
+}

@@ -1,0 +1,68 @@
+//! Where objects are.
+
+ghost use Rattle.std.specs.Prelude.{◌≡◌, ◌<◌, length, IsSome, Option};
+ghost use Rattle.std.specs.Option.{ForSome};
+ghost use Rattle.moo_world.specs.World.{object_of};
+ghost use Rattle.moo_world.specs.Changes.{after_move};
+ghost use Rattle.moo_world.specs.Calls.{Changes, Tests, number_of, place_of, would_loop, place_raises, move_raises, world_move};
+
+use crate::World;
+use crate::fault::WorldFault;
+use moo_forest::Forest;
+use moo_value::ErrorCode;
+
+impl World {
+    /// What moving an object raises.
+    pub fn try_move(&self, o: i32, to: i32) -> Result<(), WorldFault>
+        ensures { Tests result (move_raises self.now (number_of self.now.objects o) (place_of self.now.objects to)) }
+    {
+        match (self.number(o), self.place(to)) {
+            (Some(x), Some(to)) => self.test_place(x, to),
+            _ => Err(WorldFault::Raise(ErrorCode::InvalidArgument)),
+        }
+    }
+
+    /// Moves an object into another, or to no place, without asking anybody. It becomes the newest there.
+    pub fn move_bare(&mut self, o: i32, to: i32) -> Result<(), WorldFault>
+        ensures { let x = number_of self.old.objects o in let place = place_of self.old.objects to in
+            Changes result self.old self.new (move_raises self.old x place) (world_move self.old x place) }
+    {
+        match (self.number(o), self.place(to)) {
+            (Some(x), Some(to)) => self.set_place(x, to),
+            _ => Err(WorldFault::Raise(ErrorCode::InvalidArgument)),
+        }
+    }
+
+    fn test_place(&self, x: usize, to: Option<usize>) -> Result<(), WorldFault>
+        requires object { IsSome (object_of self.now.objects x) }
+        requires place { ForSome to (λ up. IsSome (object_of self.now.objects up)) }
+        ensures { Tests result (place_raises self.now x to) }
+    {
+        if would_loop(&self.containment, x, to) {
+            return Err(WorldFault::Raise(ErrorCode::RecursiveMove));
+        }
+        Ok(())
+    }
+
+    // Moves a valid object into another, or to no place.
+    fn set_place(&mut self, x: usize, to: Option<usize>) -> Result<(), WorldFault>
+        requires object { IsSome (object_of self.old.objects x) }
+        requires place { ForSome to (λ up. IsSome (object_of self.old.objects up)) }
+        ensures { Changes result self.old self.new (place_raises self.old x to) (after_move self.old x to) }
+    {
+        self.test_place(x, to)?;
+        self.containment.move_to(x, to)?;
+        Ok(())
+    }
+}
+
+/// Whether `x` is the new place or stands above it.
+pub fn would_loop(tree: &Forest, x: usize, to: Option<usize>) -> bool
+    requires { ForSome to (λ up. up < length tree.now) }
+    ensures { result ≡ would_loop tree.now x to }
+{
+    match to {
+        Some(up) => tree.is_within(up, x),
+        None => false,
+    }
+}

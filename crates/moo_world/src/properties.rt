@@ -1,0 +1,121 @@
+//! Values of properties that are not built in.
+
+ghost use Rattle.std.specs.Prelude.{◌≡◌, IsSome, Some};
+ghost use Rattle.std.specs.Option.{option_map, option_copied, option_and_then, unwrap_or};
+ghost use Rattle.moo_value.specs.Compare.{folded};
+ghost use Rattle.moo_value.specs.View.{tree};
+ghost use Rattle.moo_object.specs.Cells.{Cell, cell_named};
+ghost use Rattle.moo_world.specs.World.{object_of, nothing};
+ghost use Rattle.moo_world.specs.Changes.{with_object, with_value_of};
+ghost use Rattle.moo_world.specs.VerbCalls.{world_with_object};
+ghost use Rattle.moo_world.specs.Properties.{read, plain_raises, set_value_raises};
+ghost use Rattle.moo_world.specs.Calls.{Changes, Tests, number_of};
+
+use crate::World;
+use crate::fault::WorldFault;
+use crate::looking::nearest_value;
+use moo_object::{Object, PropCell, cell_named};
+use moo_value::{ErrorCode, Value};
+
+impl World {
+    /// The value of a property that is not built in: that of the nearest of the object and its
+    /// ancestors whose cell is not clear.
+    pub fn property_value(&self, o: i32, name: &[u8]) -> Option<&Value>
+        ensures { option_map tree (option_copied result) ≡ option_and_then (λ x. read self.now x (folded name.now)) (number_of self.now.objects o) }
+    {
+        let x = self.number(o)?;
+        self.value_from(x, name)
+    }
+
+    fn value_from(&self, x: usize, name: &[u8]) -> Option<&Value>
+        requires { IsSome (object_of self.now.objects x) }
+        ensures { option_map tree (option_copied result) ≡ read self.now x (folded name.now) }
+    {
+        let definer = definer_in(&self.objects[x], name)?;
+        nearest_value(&self.objects, &self.inheritance, x, definer, name)
+    }
+
+    /// The cells of an object, in the order of definitions: its own, then its parent's, and so on.
+    pub fn row(&self, o: i32) -> Option<&[PropCell]>
+        ensures { option_map (λ (r : Bor (List Cell)). r.now) result ≡ option_map (λ x. (thing_of self.now.objects x).cells) (number_of self.now.objects o) }
+    {
+        let x = self.number(o)?;
+        Some(cells_in(&self.objects[x]))
+    }
+
+    /// What giving a property that is not built in a value raises.
+    pub fn try_set_property_value(&self, o: i32, name: &[u8]) -> Result<(), WorldFault>
+        ensures { Tests result (set_value_raises self.now (number_of self.now.objects o) (folded name.now)) }
+    {
+        match self.number(o) {
+            Some(x) => self.test_defined(x, name),
+            None => Err(WorldFault::Raise(ErrorCode::InvalidIndirection)),
+        }
+    }
+
+    fn test_defined(&self, x: usize, name: &[u8]) -> Result<(), WorldFault>
+        requires { IsSome (object_of self.now.objects x) }
+        ensures { Tests result (plain_raises self.now x (folded name.now)) }
+    {
+        if definer_in(&self.objects[x], name).is_none() {
+            return Err(WorldFault::Raise(ErrorCode::PropertyNotFound));
+        }
+        Ok(())
+    }
+
+    /// Gives the object's own cell of a property that is not built in a value.
+    pub fn set_property_value(
+        &mut self,
+        o: i32,
+        name: &[u8],
+        value: Value,
+    ) -> Result<(), WorldFault>
+        ensures { let x = number_of self.old.objects o in
+            Changes result self.old self.new (set_value_raises self.old x (folded name.now)) (world_with_object self.old x (with_value_of (folded name.now) (tree value))) }
+    {
+        match self.number(o) {
+            Some(x) => self.set_value(x, name, value),
+            None => Err(WorldFault::Raise(ErrorCode::InvalidIndirection)),
+        }
+    }
+
+    fn set_value(&mut self, x: usize, name: &[u8], value: Value) -> Result<(), WorldFault>
+        requires { IsSome (object_of self.old.objects x) }
+        ensures { Changes result self.old self.new (plain_raises self.old x (folded name.now)) (with_object self.old x (with_value_of (folded name.now) (tree value))) }
+    {
+        let _weight = value.weight();
+        self.test_defined(x, name)?;
+        set_in(&mut self.objects[x], name, value);
+        Ok(())
+    }
+}
+
+ghost use Rattle.std.specs.Prelude.{List};
+ghost use Rattle.std.specs.Borrow.{Bor};
+ghost use Rattle.moo_world.specs.World.{thing_of};
+
+// The object whose definition an object's cell of a name is for.
+fn definer_in(slot: &Option<Object>, name: &[u8]) -> Option<usize>
+    ensures { result ≡ option_map (λ (c : Cell). c.definer) (cell_named (unwrap_or slot.now nothing).cells (folded name.now)) }
+{
+    let object = slot.as_ref()?;
+    let cell = cell_named(object.cells(), name)?;
+    Some(cell.definer())
+}
+
+fn cells_in(slot: &Option<Object>) -> &[PropCell]
+    ensures { result.now ≡ (unwrap_or slot.now nothing).cells }
+{
+    match slot {
+        Some(object) => object.cells(),
+        None => &[],
+    }
+}
+
+fn set_in(slot: &mut Option<Object>, name: &[u8], value: Value)
+    ensures { slot.new ≡ option_map (with_value_of (folded name.now) (tree value)) slot.old }
+{
+    if let Some(object) = slot {
+        object.set_value(name, value);
+    }
+}

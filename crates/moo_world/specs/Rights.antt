@@ -1,8 +1,12 @@
 -- Who may do what.
-use Rattle.std.specs.Prelude.{ℕ, ℤ, List, Option, Some, None, Bool, true, false, ◌&&◌, ◌||◌, not, is_some, slice_get}
+use Rattle.std.specs.Prelude.{ℕ, ℤ, List, Option, Some, None, Bool, true, false, ◌&&◌, ◌||◌, not, is_some, slice_get, if◌then◌else◌}
 use Rattle.std.specs.Option.{unwrap_or, option_and_then}
 use Rattle.std.specs.Ordering.{int_eq}
 use Rattle.moo_value.specs.Compare.{folded}
+use Rattle.moo_value.specs.declared.error_code.ErrorCode.{ErrorCode}
+use Rattle.moo_value.specs.declared.error_code.ErrorCode.TheVariants.{InvalidArgument, PropertyNotFound}
+use Rattle.moo_world.specs.declared.rights.Action.{Action}
+use Rattle.moo_world.specs.declared.rights.Action.TheVariants as action
 use Rattle.moo_object.specs.BuiltIn.{built_in_of}
 use Rattle.moo_object.specs.declared.built_in_property.BuiltInProperty.{BuiltInProperty}
 use Rattle.moo_object.specs.declared.built_in_property.BuiltInProperty.TheVariants as property
@@ -75,12 +79,28 @@ may_set_built_in w p o property.Write = controls w p o.owner
 may_set_built_in w p o property.Fertile = controls w p o.owner
 
 abbrev pub may_read_property : World → ℤ → ℤ → List ℕ → Bool
-may_read_property w p o name =
-    (is_some (object_numbered w o) && is_some (built_in_of (folded name))) || may_read_cell w p (cell_numbered w o name)
+may_read_property w p o name = is_some (object_numbered w o) && (is_some (built_in_of (folded name)) || may_read_cell w p (cell_numbered w o name))
 
-abbrev pub may_write_named : World → ℤ → ℤ → List ℕ → Option BuiltInProperty → Bool
-may_write_named w p o name None = may_write_cell w p (cell_numbered w o name)
-may_write_named w p o name (Some property) = is_some (object_numbered w o) && may_set_built_in w p (unwrap_or (object_numbered w o) nothing) property
+abbrev pub may_write_named : World → ℤ → Object → Option BuiltInProperty → Option Cell → Bool
+may_write_named w p o None cell = may_write_cell w p cell
+may_write_named w p o (Some property) cell = may_set_built_in w p o property
 
 abbrev pub may_write_property : World → ℤ → ℤ → List ℕ → Bool
-may_write_property w p o name = may_write_named w p o name (built_in_of (folded name))
+may_write_property w p o name =
+    is_some (object_numbered w o) && may_write_named w p (unwrap_or (object_numbered w o) nothing) (built_in_of (folded name)) (cell_numbered w o name)
+
+-- who may do what
+abbrev pub may : World → ℤ → Action → Bool
+may w p (action.ReadProperty o name) = may_read_property w p o name.now
+may w p (action.WriteProperty o name) = may_write_property w p o name.now
+may w p (action.ReadObject o) = may_read_object w p o
+may w p (action.WriteObject o) = may_write_object w p o
+may w p (action.Fertile o) = may_inherit_from w p o
+may w p (action.Own o) = may_own w p o
+may w p (action.ReadVerb o i) = may_read_this_verb w p (verb_numbered w o i)
+may w p (action.WriteVerb o i) = may_write_this_verb w p (verb_numbered w o i)
+
+-- what looking at the owner and permissions of a property raises
+abbrev pub info_raises : World → ℤ → List ℕ → Option ErrorCode
+info_raises w o name =
+    if is_some (object_numbered w o) then (if is_some (cell_numbered w o name) then None else Some PropertyNotFound) else Some InvalidArgument

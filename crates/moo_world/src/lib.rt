@@ -7,6 +7,7 @@ mod deleting;
 mod fault;
 mod fitting;
 mod looking;
+mod named;
 mod numbers;
 mod parents;
 mod places;
@@ -21,6 +22,7 @@ pub use fault::WorldFault;
 pub use looking::VerbAt;
 use moo_forest::Forest;
 use moo_object::Object;
+pub use rights::{Action, Rights};
 use std::marker::Model;
 
 /// How many object numbers may be given out, how many properties and verbs an object may have,

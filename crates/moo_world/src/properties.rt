@@ -27,7 +27,7 @@ impl World {
         self.value_from(x, name)
     }
 
-    fn value_from(&self, x: usize, name: &[u8]) -> Option<&Value>
+    pub(crate) fn value_from(&self, x: usize, name: &[u8]) -> Option<&Value>
         requires { IsSome (object_of self.now.objects x) }
         ensures { option_map tree (option_copied result) ≡ read self.now x (folded name.now) }
     {

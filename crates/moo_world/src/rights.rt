@@ -1,14 +1,17 @@
 //! Who may do what: to wizards all is allowed, to others what is theirs or open to all.
 
-ghost use Rattle.std.specs.Prelude.{◌≡◌, is_some, slice_get};
-ghost use Rattle.std.specs.Option.{unwrap_or, option_copied};
+ghost use Rattle.std.specs.Prelude.{◌≡◌, is_some, slice_get, not, Some};
+ghost use Rattle.std.specs.Option.{unwrap_or, option_copied, option_map};
 ghost use Rattle.moo_value.specs.Compare.{folded};
-ghost use Rattle.moo_object.specs.Cells.{cell_named};
+ghost use Rattle.moo_object.specs.Cells.{Cell, cell_named};
 ghost use Rattle.moo_world.specs.World.{nothing};
-ghost use Rattle.moo_world.specs.Rights.{object_numbered, is_wizard, controls, may_own, may_read_object, may_write_object, may_inherit_from, may_read_this_verb, may_write_this_verb, verb_numbered, may_read_cell, may_write_cell, cell_numbered, may_set_built_in, may_read_property, may_write_property};
+ghost use Rattle.moo_world.specs.Rights.{object_numbered, is_wizard, controls, may_own, may_read_object, may_write_object, may_inherit_from, may_read_this_verb, may_write_this_verb, verb_numbered, may_read_cell, may_write_cell, cell_numbered, may_set_built_in, may_read_property, may_write_property, may, info_raises};
+ghost use Rattle.moo_world.specs.Calls.{Answers};
 
 use crate::World;
-use moo_object::{BuiltInProperty, Object, PropCell, Verb, built_in, cell_named};
+use crate::fault::WorldFault;
+use moo_object::{BuiltInProperty, Object, PropCell, PropPerms, Verb, built_in, cell_named};
+use moo_value::ErrorCode;
 
 impl World {
     /// An object by its number, where it is valid.
@@ -70,6 +73,158 @@ impl World {
         match self.object(o) {
             Some(object) => object.flags().fertile || self.may_own(programmer, o),
             None => false,
+        }
+    }
+
+    pub fn may_read_verb(&self, programmer: i32, o: i32, index: usize) -> bool
+        ensures { result ≡ may_read_this_verb self.now programmer (verb_numbered self.now o index) }
+    {
+        match self.numbered_verb(o, index) {
+            Some(verb) => verb.perms.read || self.controls(programmer, verb.owner),
+            None => false,
+        }
+    }
+
+    pub fn may_write_verb(&self, programmer: i32, o: i32, index: usize) -> bool
+        ensures { result ≡ may_write_this_verb self.now programmer (verb_numbered self.now o index) }
+    {
+        match self.numbered_verb(o, index) {
+            Some(verb) => verb.perms.write || self.controls(programmer, verb.owner),
+            None => false,
+        }
+    }
+
+    fn numbered_verb(&self, o: i32, index: usize) -> Option<&Verb>
+        ensures { option_copied result ≡ verb_numbered self.now o index }
+    {
+        match self.object(o) {
+            Some(object) => object.verb(index),
+            None => None,
+        }
+    }
+
+    pub fn may_read_property(&self, programmer: i32, o: i32, name: &[u8]) -> bool
+        ensures { result ≡ may_read_property self.now programmer o name.now }
+    {
+        match self.object(o) {
+            Some(object) => {
+                built_in(name).is_some()
+                    || self.may_read_cell(programmer, cell_named(object.cells(), name))
+            }
+            None => false,
+        }
+    }
+
+    pub fn may_write_property(&self, programmer: i32, o: i32, name: &[u8]) -> bool
+        ensures { result ≡ may_write_property self.now programmer o name.now }
+    {
+        match self.object(o) {
+            Some(object) => match built_in(name) {
+                Some(property) => self.may_set_built_in(programmer, object, property),
+                None => self.may_write_cell(programmer, cell_named(object.cells(), name)),
+            },
+            None => false,
+        }
+    }
+
+    fn may_read_cell(&self, programmer: i32, cell: Option<&PropCell>) -> bool
+        ensures { result ≡ may_read_cell self.now programmer (option_copied cell.entry) }
+    {
+        match cell {
+            Some(cell) => cell.perms().read || self.controls(programmer, cell.owner()),
+            None => false,
+        }
+    }
+
+    fn may_write_cell(&self, programmer: i32, cell: Option<&PropCell>) -> bool
+        ensures { result ≡ may_write_cell self.now programmer (option_copied cell.entry) }
+    {
+        match cell {
+            Some(cell) => cell.perms().write || self.controls(programmer, cell.owner()),
+            None => false,
+        }
+    }
+
+    fn may_set_built_in(&self, programmer: i32, object: &Object, property: BuiltInProperty) -> bool
+        ensures { result ≡ may_set_built_in self.now programmer object.now property }
+    {
+        match property {
+            BuiltInProperty::Name => {
+                self.is_wizard(programmer)
+                    || (object.owner() == programmer && !object.flags().player)
+            }
+            BuiltInProperty::Location | BuiltInProperty::Contents => false,
+            BuiltInProperty::Owner | BuiltInProperty::Programmer | BuiltInProperty::Wizard => {
+                self.is_wizard(programmer)
+            }
+            BuiltInProperty::Read | BuiltInProperty::Write | BuiltInProperty::Fertile => {
+                self.controls(programmer, object.owner())
+            }
+        }
+    }
+
+    /// The owner and the permissions of a property that is not built in, as the object has it.
+    pub fn property_info(&self, o: i32, name: &[u8]) -> Result<(i32, PropPerms), WorldFault>
+        ensures { Answers result (info_raises self.now o name.now)
+            (λ info. option_map (λ (c : Cell). (c.owner, c.perms)) (cell_numbered self.now o name.now) ≡ Some info) }
+    {
+        let cell = self.property_cell(o, name)?;
+        Ok((cell.owner(), cell.perms()))
+    }
+
+    /// Whether a property that is not built in has no value of its own on the object.
+    pub fn is_clear(&self, o: i32, name: &[u8]) -> Result<bool, WorldFault>
+        ensures { Answers result (info_raises self.now o name.now)
+            (λ clear. option_map (λ (c : Cell). not (is_some c.value)) (cell_numbered self.now o name.now) ≡ Some clear) }
+    {
+        let cell = self.property_cell(o, name)?;
+        Ok(cell.value().is_none())
+    }
+
+    fn property_cell(&self, o: i32, name: &[u8]) -> Result<&PropCell, WorldFault>
+        ensures { Answers result (info_raises self.now o name.now) (λ cell. cell_numbered self.now o name.now ≡ Some cell.now) }
+    {
+        let Some(object) = self.object(o) else {
+            return Err(WorldFault::Raise(ErrorCode::InvalidArgument));
+        };
+        match cell_named(object.cells(), name) {
+            Some(cell) => Ok(cell),
+            None => Err(WorldFault::Raise(ErrorCode::PropertyNotFound)),
+        }
+    }
+}
+
+/// What somebody may do, and with what: read or set a property and its info, read or write an
+/// object, make one inherit from it, own it, read or write a verb by its place.
+#[derive(Clone, Copy)]
+pub enum Action<'a> {
+    ReadProperty(i32, &'a [u8]),
+    WriteProperty(i32, &'a [u8]),
+    ReadObject(i32),
+    WriteObject(i32),
+    Fertile(i32),
+    Own(i32),
+    ReadVerb(i32, usize),
+    WriteVerb(i32, usize),
+}
+
+/// The rights in a world.
+pub struct Rights;
+
+impl Rights {
+    /// Whether somebody may do something. Nobody may do anything with what isn't there.
+    pub fn may(world: &World, programmer: i32, action: Action<'_>) -> bool
+        ensures { result ≡ may world.now programmer action.entry }
+    {
+        match action {
+            Action::ReadProperty(o, name) => world.may_read_property(programmer, o, name),
+            Action::WriteProperty(o, name) => world.may_write_property(programmer, o, name),
+            Action::ReadObject(o) => world.may_read_object(programmer, o),
+            Action::WriteObject(o) => world.may_write_object(programmer, o),
+            Action::Fertile(o) => world.may_inherit_from(programmer, o),
+            Action::Own(o) => world.may_own(programmer, o),
+            Action::ReadVerb(o, index) => world.may_read_verb(programmer, o, index),
+            Action::WriteVerb(o, index) => world.may_write_verb(programmer, o, index),
         }
     }
 }

@@ -1,0 +1,131 @@
+//! Properties by their names, the built-in ones among them.
+
+ghost use Rattle.std.specs.Prelude.{◌≡◌, ◌<◌, IsSome, Some, length, IfOk};
+ghost use Rattle.std.specs.List.{All};
+ghost use Rattle.moo_value.specs.Compare.{folded};
+ghost use Rattle.moo_value.specs.View.{tree};
+ghost use Rattle.moo_object.specs.BuiltIn.{built_in_of};
+ghost use Rattle.moo_world.specs.World.{object_of, most};
+ghost use Rattle.moo_world.specs.Properties.{read};
+ghost use Rattle.moo_world.specs.NamedProperties.{truth, number_of_place, objects_list, contents_raise, built_in_value, built_in_raises, named_raises, named_value, get_raises, value_got};
+ghost use Rattle.moo_world.specs.Calls.{Answers, number_of};
+
+use crate::World;
+use crate::fault::WorldFault;
+use moo_object::{BuiltInProperty, Object, built_in};
+use moo_value::{ErrorCode, MooList, Value, WEIGHT_LIMIT};
+use std::alloc::{AllocError, Global};
+
+impl World {
+    /// The value of a property by its name, the built-in ones first.
+    pub fn get(&self, alloc: Global, o: i32, name: &[u8]) -> Result<Value, WorldFault>
+        ensures { Answers result (get_raises self.now (number_of self.now.objects o) (folded name.now))
+            (λ v. value_got self.now (number_of self.now.objects o) (folded name.now) ≡ Some (tree v)) }
+    {
+        match self.number(o) {
+            Some(x) => self.get_named(alloc, x, name),
+            None => Err(WorldFault::Raise(ErrorCode::InvalidIndirection)),
+        }
+    }
+
+    fn get_named(&self, alloc: Global, x: usize, name: &[u8]) -> Result<Value, WorldFault>
+        requires { IsSome (object_of self.now.objects x) }
+        ensures { Answers result (named_raises self.now x (folded name.now) (built_in_of (folded name.now)))
+            (λ v. named_value self.now x (folded name.now) (built_in_of (folded name.now)) ≡ Some (tree v)) }
+    {
+        match built_in(name) {
+            Some(property) => self.get_built_in(alloc, x, property),
+            None => self.get_defined(x, name),
+        }
+    }
+
+    fn get_defined(&self, x: usize, name: &[u8]) -> Result<Value, WorldFault>
+        requires { IsSome (object_of self.now.objects x) }
+        ensures { Answers result (named_raises self.now x (folded name.now) None) (λ v. read self.now x (folded name.now) ≡ Some (tree v)) }
+    {
+        match self.value_from(x, name) {
+            Some(value) => Ok(value.try_clone()?),
+            None => Err(WorldFault::Raise(ErrorCode::PropertyNotFound)),
+        }
+    }
+
+    fn get_built_in(
+        &self,
+        alloc: Global,
+        x: usize,
+        property: BuiltInProperty,
+    ) -> Result<Value, WorldFault>
+        requires { IsSome (object_of self.now.objects x) }
+        ensures { Answers result (built_in_raises self.now x property) (λ v. tree v ≡ built_in_value self.now x property) }
+    {
+        match property {
+            BuiltInProperty::Location => Ok(place_value(self.containment.above(x))),
+            BuiltInProperty::Contents => contents_value(alloc, self.containment.below(x)),
+            _ => Ok(own_value(&self.objects[x], property)?),
+        }
+    }
+}
+
+ghost use Rattle.std.specs.Prelude.{None};
+ghost use Rattle.std.specs.Option.{unwrap_or, ForSome};
+ghost use Rattle.moo_world.specs.World.{nothing};
+ghost use Rattle.moo_world.specs.NamedProperties.{own_value};
+
+// The number of a place.
+fn place_value(place: Option<usize>) -> Value
+    requires { ForSome place (λ up. up < most) }
+    ensures { tree result ≡ object (number_of_place place) }
+{
+    match place {
+        Some(up) => Value::Obj(up as i32),
+        None => Value::Obj(-1),
+    }
+}
+
+ghost use Rattle.moo_value.specs.Tree.{object};
+
+// The objects in a place, as a list of their numbers.
+fn contents_value(alloc: Global, below: &[usize]) -> Result<Value, WorldFault>
+    requires { All (λ y. y < most) below.now }
+    ensures { Answers result (contents_raise below.now) (λ v. tree v ≡ objects_list below.now) }
+{
+    if below.len() >= WEIGHT_LIMIT as usize {
+        return Err(WorldFault::Raise(ErrorCode::Quota));
+    }
+    let mut values = Vec::new(alloc);
+    for y in below {
+        values.push(Value::Obj(*y as i32))?;
+    }
+    // A list of fewer than a million numbers is within the limits.
+    match MooList::try_from_vec(alloc, values) {
+        Ok(list) => Ok(Value::List(list)),
+        Err(_) => Err(WorldFault::Memory),
+    }
+}
+
+// What the object itself has.
+fn own_value(slot: &Option<Object>, property: BuiltInProperty) -> Result<Value, AllocError>
+    requires { IsSome slot.now }
+    ensures { IfOk result (λ v. tree v ≡ own_value (unwrap_or slot.now nothing) property) }
+{
+    let Some(object) = slot else {
+        return Ok(Value::Int(0));
+    };
+    let flags = object.flags();
+    match property {
+        BuiltInProperty::Name => Ok(Value::Str(object.name().try_clone()?)),
+        BuiltInProperty::Owner => Ok(Value::Obj(object.owner())),
+        BuiltInProperty::Programmer => Ok(truth(flags.programmer)),
+        BuiltInProperty::Wizard => Ok(truth(flags.wizard)),
+        BuiltInProperty::Read => Ok(truth(flags.read)),
+        BuiltInProperty::Write => Ok(truth(flags.write)),
+        BuiltInProperty::Fertile => Ok(truth(flags.fertile)),
+        BuiltInProperty::Location | BuiltInProperty::Contents => Ok(Value::Int(0)),
+    }
+}
+
+fn truth(flag: bool) -> Value
+    ensures { tree result ≡ truth flag }
+{
+    Value::Int(if flag { 1 } else { 0 })
+}

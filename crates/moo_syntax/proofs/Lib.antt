@@ -6,3 +6,4 @@ pub mod Steps
 pub mod Blocks
 pub mod Whole
 pub mod Sound
+pub mod Depths

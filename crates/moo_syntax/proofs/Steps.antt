@@ -21,6 +21,7 @@ use Rattle.moo_syntax.specs.Machine.{Reading, peek, take, Reads, gives, takes, s
 use Rattle.moo_syntax.specs.Predictive.{grammar}
 use Rattle.moo_syntax.specs.Height.{IsMade, IsWithin, negations}
 use Rattle.moo_syntax.specs.Outcome.{IsRead, IsMember, GoesOn}
+use Rattle.moo_syntax.proofs.Depths.{deep_from, misses_deep, takes_deep, took_deep, then_deep, phrase_deep}
 
 -- the rest of a phrase under another name
 pub at : {k : Kind} {ts m n : List Token} {e : Of (sort k)} → m ≡ n → Derives k ts e m → Derives k ts e n
@@ -138,9 +139,11 @@ module _ (i : Bool) (front : List Item) (ts us : List Token) (old new : Cursor) 
     derives = λ xs r d. rw in_front_push (g.derives _ _ (an_element (at tk.token m.1.derives) d));
     reads = λ xs r d. rw in_front_push (g.reads _ _ (misses m.0 (reads m.1.reads (took tk refl (reads d gives)))));
     fails = λ r d. g.fails _ (misses_fails m.0 (then_fails m.1.reads (took_fails tk refl (phrase_fails d))));
+    deep = λ n d. g.deep n (misses_deep m.0 (then_deep m.1.reads (took_deep tk refl (phrase_deep d (λ xs q. omega (arith, q))))));
   }
   goes_on_member (Splice' p e) m tk = record {
     derives = λ xs r d. rw in_front_push (g.derives _ _ (from m.1 (a_splice (at tk.token m.2.derives) d)));
     reads = λ xs r d. rw in_front_push (g.reads _ _ (reads_from m.1 (sees refl (takes (reads m.2.reads (took tk refl (reads d gives)))))));
     fails = λ r d. g.fails _ (fails_from m.1 (sees_fails refl (takes_fails (then_fails m.2.reads (took_fails tk refl (phrase_fails d))))));
+    deep = λ n d. g.deep n (deep_from m.1 (takes_deep refl (then_deep m.2.reads (took_deep tk refl (phrase_deep d (λ xs q. omega (arith, q)))))));
   }

@@ -1,5 +1,5 @@
 -- What the outcome of the parser says of whole texts.
-use Rattle.std.proofs.Common.{ℕ, zero, suc, ◌≤◌, ◌<◌, ap, true, List, [], ◌∷◌, ◌++◌, ◌≡◌, refl, sym, subst, length, take, drop, inr, arith}
+use Rattle.std.proofs.Common.{ℕ, zero, suc, ◌≤◌, ◌<◌, ap, true, List, [], ◌∷◌, ◌++◌, ◌≡◌, refl, sym, subst, length, take, drop, inr, arith, ◌+◌, inl}
 use Rattle.std.proofs.lemmas.List.{take-append-drop, drop_all}
 use Rattle.moo_token.specs.declared.token.Token.{Token}
 use Rattle.moo_token.specs.declared.token.Token.TheVariants as token
@@ -7,13 +7,16 @@ use Rattle.moo_token.specs.declared.token.Spot.{Spot}
 use Rattle.moo_token.specs.Lexing.{IsReading}
 use Rattle.moo_token.proofs.Readings.{one_token_list, bad_is_last}
 use Rattle.moo_program.specs.Tree.{Block}
-use Rattle.moo_program.specs.Limits.{AllFit, most_nodes}
+use Rattle.moo_program.specs.Limits.{AllFit, most_nodes, most_brackets}
 use Rattle.moo_program.specs.Listing.{listing}
 use Rattle.moo_syntax.specs.declared.fault.Fault.{Fault}
 use Rattle.moo_syntax.specs.declared.fault.Fault.TheVariants.{Unexpected, TooDeep, Memory}
 use Rattle.moo_syntax.specs.Stops.{StopsBy}
 use Rattle.moo_syntax.specs.Tokens.{words, is_bad}
-use Rattle.moo_syntax.specs.Programs.{IsProgramOf, SameUpTo, NoProgram, IsBadToken, IsOutside, line_of}
+use Rattle.moo_syntax.specs.Programs.{IsProgramOf, SameUpTo, NoProgram, IsBadToken, ExceedLimits, line_of}
+use Rattle.moo_syntax.specs.Brackets.{open_behind, most_open_behind, most_open}
+use Rattle.moo_syntax.specs.Depth.{Deep}
+use Rattle.moo_token.specs.declared.sign.Sign.TheVariants as sign
 use Rattle.moo_syntax.specs.Grammar.{IsProgram, statements, block}
 use Rattle.moo_syntax.specs.Machine.{Reads, Fails, next_passes}
 use Rattle.moo_syntax.specs.Predictive.{grammar}
@@ -106,14 +109,39 @@ pub bad_at : (lines : List (List ℕ)) (spots : List Spot) (at : ℕ) → IsRead
 bad_at lines spots at r h = bad_next lines (take at spots) (drop at spots) (subst (IsReading lines) (sym (take-append-drop at spots)) r) h
 
 -- what the place where the statements' reading stopped says
-pub stop_of : (spots : List Spot) (at : ℕ) (f : Fault) → at ≤ length spots → (f ≡ Unexpected → Fails grammar block (grammar statements) (words spots) (words (drop at spots))) → (f ≡ TooDeep → most_nodes < at) → StopsBy spots at f
-stop_of spots at Unexpected h u d = refused_at at spots h (u refl)
-stop_of spots at TooDeep h u d = inr (omega (arith, d refl, h))
-stop_of spots at Memory h u d = tt
+pub stop_of : (spots : List Spot) (at : ℕ) (f : Fault) → at ≤ length spots → (f ≡ Unexpected → Fails grammar block (grammar statements) (words spots) (words (drop at spots))) → (f ≡ TooDeep → Deep block most_nodes (grammar statements) (words spots)) → (f ≡ TooDeep → most_nodes < at) → StopsBy spots at f
+stop_of spots at Unexpected h u w d = refused_at at spots h (u refl)
+stop_of spots at TooDeep h u w d = record {
+  outside = λ b e l. let high = (w refl).too_high b [] (complete e refl) in omega (arith, high, l.program.nodes);
+  long = inl (omega (arith, d refl, h, words_length spots));
+}
+stop_of spots at Memory h u w d = tt
 
 pub nothing_left : (n : ℕ) (spots : List Spot) → length spots ≤ n → words (drop n spots) ≡ []
 nothing_left n spots h = ap words (drop_all n spots h)
 
--- no program within the limits has the tokens, where the lines of their program don't fit
-pub outside_by_lines : (ts : List Token) (b : Block) → IsProgram ts b → (AllFit (listing b) → ⊥) → IsOutside ts
-outside_by_lines ts b d none = λ c e w. none (subst (λ v. AllFit (listing v)) (one_program ts c b e d) w.program.lines)
+one_more_open : (n : ℕ) (x : Token) → open_behind n x ≤ n + 1
+one_more_open n (token.Sign sign.LeftParen) = omega arith
+one_more_open n (token.Sign sign.LeftBracket) = omega arith
+one_more_open n (token.Sign sign.LeftBrace) = omega arith
+one_more_open n (token.Sign sign.RightParen) = omega arith
+one_more_open n (token.Sign sign.RightBracket) = omega arith
+one_more_open n (token.Sign sign.RightBrace) = omega arith
+one_more_open n _ = omega arith
+
+open_within : (n : ℕ) (ts : List Token) → most_open_behind n ts ≤ n + length ts
+open_within n [] = omega arith
+open_within n (x ∷ ts) = omega (arith, open_within (open_behind n x) ts, one_more_open n x)
+
+pub exceed_by_brackets : (ts : List Token) → most_brackets < most_open ts → ExceedLimits ts
+exceed_by_brackets ts h = record {
+  outside = λ b e l. omega (arith, h, l.brackets);
+  long = inl (omega (arith, h, open_within 0 ts));
+}
+
+-- the lines of the tokens' program don't fit
+pub exceed_by_lines : (ts : List Token) (b : Block) → IsProgram ts b → (AllFit (listing b) → ⊥) → ExceedLimits ts
+exceed_by_lines ts b d none = record {
+  outside = λ c e w. none (subst (λ v. AllFit (listing v)) (one_program ts c b e d) w.program.lines);
+  long = inr (b, d, none);
+}

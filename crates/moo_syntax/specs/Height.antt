@@ -1,19 +1,13 @@
 -- What the parser knows of the nodes on a path.
 use Rattle.std.specs.Prelude.{ℕ, suc, zero, ◌+◌, ◌≤◌, ◌<◌, ◌≡◌, ◌⊎◌, Result, MatchResult}
 use Rattle.moo_program.specs.Tree.{Expr}
-use Rattle.moo_program.specs.Limits.{height, items_height, statement_height, block_height}
+use Rattle.moo_program.specs.Limits.{height}
 use Rattle.moo_program.specs.View.{root}
 use Rattle.moo_syntax.specs.declared.cursor.Cursor.{Cursor}
 use Rattle.moo_syntax.specs.declared.fault.Fault.{Fault}
 use Rattle.moo_syntax.specs.declared.fault.Fault.TheVariants.{Memory, TooDeep}
 use Rattle.moo_syntax.specs.declared.node.Node.{Node}
-use Rattle.moo_syntax.specs.Grammar.{Sort, expr, items, stmt, block, Of, negated}
-
-abbrev pub size : (s : Sort) → Of s → ℕ
-size expr e = height e
-size items xs = items_height xs
-size stmt s = statement_height s
-size block b = block_height b
+use Rattle.moo_syntax.specs.Grammar.{negated}
 
 -- so many minuses before an expression
 abbrev pub negations : ℕ → Expr → Expr

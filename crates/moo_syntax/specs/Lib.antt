@@ -9,5 +9,7 @@ pub mod Agree
 pub mod Cursor
 pub mod Items
 pub mod Height
+pub mod Size
+pub mod Depth
 pub mod Outcome
 pub mod Stops

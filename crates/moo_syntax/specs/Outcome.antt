@@ -1,5 +1,5 @@
 -- What a function of the parser says of the tokens that it was given, ts, and of those that it left, r.
-use Rattle.std.specs.Prelude.{List, [], ◌∷◌, ◌≡◌, ◌≤◌, Bool, false}
+use Rattle.std.specs.Prelude.{ℕ, List, [], ◌∷◌, ◌≡◌, ◌≤◌, Bool, false}
 use Rattle.moo_token.specs.declared.token.Token.{Token}
 use Rattle.moo_token.specs.declared.token.Token.TheVariants.{Sign}
 use Rattle.moo_token.specs.declared.sign.Sign.TheVariants.{At}
@@ -11,6 +11,7 @@ use Rattle.moo_syntax.specs.declared.cursor.Cursor.{Cursor}
 use Rattle.moo_syntax.specs.Grammar.{Of, Kind, sort, Derives, expression}
 use Rattle.moo_syntax.specs.Machine.{Reading, Reads, Fails, next_passes}
 use Rattle.moo_syntax.specs.Predictive.{grammar}
+use Rattle.moo_syntax.specs.Depth.{Deep}
 use Rattle.moo_syntax.specs.Tokens.{is_sign}
 
 -- the cursor is over the same tokens, and never went back
@@ -37,6 +38,7 @@ pub record GoesOn (k j : Kind) (f : Of (sort j) → Of (sort k)) (ts us : List T
   pub derives : (e : Of (sort j)) (r : List Token) → Derives j us e r → Derives k ts (f e) r
   pub reads : (e : Of (sort j)) (r : List Token) → Reads grammar (sort j) (grammar j) us e r → Reads grammar (sort k) (grammar k) ts (f e) r
   pub fails : (r : List Token) → Fails grammar (sort j) (grammar j) us r → Fails grammar (sort k) (grammar k) ts r
+  pub deep : (n : ℕ) → Deep (sort j) n (grammar j) us → Deep (sort k) n (grammar k) ts
 
 -- a member, of which the comma or the end is still to come
 abbrev pub IsMember : Bool → List Token → Item → List Token → Type 0

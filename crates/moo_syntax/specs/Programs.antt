@@ -6,7 +6,8 @@ use Rattle.moo_token.specs.declared.token.Token.TheVariants.{Name, Sign, Bad}
 use Rattle.moo_token.specs.declared.token.Spot.{Spot}
 use Rattle.moo_token.specs.Lexing.{IsTokens, IsReading, HasNoTokens}
 use Rattle.moo_program.specs.Tree.{Block}
-use Rattle.moo_program.specs.Limits.{IsWithinLimits, most_nodes, most_brackets}
+use Rattle.moo_program.specs.Limits.{IsWithinLimits, AllFit, most_nodes, most_brackets}
+use Rattle.moo_program.specs.Listing.{listing}
 use Rattle.moo_syntax.specs.declared.syntax_fault.Names.{Names}
 use Rattle.moo_syntax.specs.declared.syntax_fault.Names.TheVariants.{Known}
 use Rattle.moo_syntax.specs.declared.syntax_fault.SyntaxFaultKind.{SyntaxFaultKind}
@@ -74,11 +75,16 @@ pub record IsUnknownFunction (lines : List (List ℕ)) (n : ℕ) (name : List �
 abbrev pub IsOutside : List Token → Type 0
 IsOutside ts = (b : Block) → IsProgram ts b → IsWithin ts b → ⊥
 
--- no program within the limits has the tokens of the text, or they are more than a path may have nodes
+-- No program within the limits has these tokens. They are more than a path may have nodes, or they are a program with a
+-- line in its listing that no string holds.
+pub record ExceedLimits (ts : List Token) : Type 0 where
+  pub outside : IsOutside ts
+  pub long : (most_nodes < length ts) ⊎ ((b : Block) × IsProgram ts b × (¬ AllFit (listing b)))
+
 pub record IsTooDeep (lines : List (List ℕ)) : Type 0 where
   pub spots : List Spot
   pub reading : IsReading lines spots
-  pub outside : IsOutside (words spots) ⊎ (most_nodes < length spots)
+  pub exceed : ExceedLimits (words spots)
 
 -- what a fault of this kind on line n says of the text
 abbrev pub Blames : Names → List (List ℕ) → ℕ → SyntaxFaultKind → Type 0

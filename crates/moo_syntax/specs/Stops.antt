@@ -1,20 +1,19 @@
 -- What the parser knows of the tokens where it stops.
-use Rattle.std.specs.Prelude.{ℕ, List, ◌∷◌, ◌≡◌, ◌<◌, ◌+◌, ◌⊎◌, length, drop}
+use Rattle.std.specs.Prelude.{ℕ, List, ◌∷◌, ◌≡◌, ◌+◌, drop}
 use Rattle.moo_token.specs.declared.sign.Sign.TheVariants.{LeftParen}
 use Rattle.moo_token.specs.declared.token.Token.{Token}
 use Rattle.moo_token.specs.declared.token.Token.TheVariants.{Name, Sign}
 use Rattle.moo_token.specs.declared.token.Spot.{Spot}
 use Rattle.moo_program.specs.Tree.{Block}
-use Rattle.moo_program.specs.Limits.{most_nodes}
 use Rattle.moo_syntax.specs.declared.fault.Fault.{Fault}
 use Rattle.moo_syntax.specs.declared.fault.Fault.TheVariants.{Unexpected, TooDeep, Memory}
 use Rattle.moo_syntax.specs.Tokens.{words}
 use Rattle.moo_syntax.specs.Grammar.{IsProgram}
-use Rattle.moo_syntax.specs.Programs.{IsWithin, NoProgram, IsOutside}
+use Rattle.moo_syntax.specs.Programs.{IsWithin, NoProgram, ExceedLimits}
 
 abbrev pub StopsBy : List Spot → ℕ → Fault → Type 0
 StopsBy spots at Unexpected = NoProgram (words spots) at
-StopsBy spots at TooDeep = IsOutside (words spots) ⊎ (most_nodes < length spots)
+StopsBy spots at TooDeep = ExceedLimits (words spots)
 StopsBy spots at Memory = Unit {0}
 
 -- the tokens, all of them, are the program, within the limits

@@ -10,6 +10,7 @@ ghost use Rattle.moo_syntax.specs.Grammar.{expression, conditional, chain, opera
 ghost use Rattle.moo_syntax.specs.Machine.{Fails, next_passes};
 ghost use Rattle.moo_syntax.specs.Predictive.{grammar, behind_bracket, braced};
 ghost use Rattle.moo_syntax.specs.Height.{IsWithin};
+ghost use Rattle.moo_syntax.specs.Depth.{Deep, IsDeep};
 ghost use Rattle.moo_syntax.specs.Outcome.{Moves, IsRead, IsStuck, IsRestRead, IsMember};
 
 use crate::cursor::Cursor;
@@ -34,6 +35,7 @@ pub fn expression(
     ensures read { IfOk result (λ n. IsRead (expression inside) (left tokens.old) (root n.tree) (left tokens.new)) }
     ensures within { IfOk result (λ n. IsWithin room n.height tokens.old tokens.new) }
     ensures stuck { result ≡ Err Unexpected → IsStuck (expression inside) (left tokens.old) (left tokens.new) }
+    ensures deep { result ≡ Err TooDeep → IsDeep (expression inside) room (left tokens.old) }
     ensures long { result ≡ Err TooDeep → tokens.old.at + room < tokens.new.at }
 {
     conditional(alloc, tokens, inside, room)
@@ -45,6 +47,7 @@ fn conditional(alloc: Global, tokens: &mut Cursor, inside: bool, room: u32) -> R
     ensures read { IfOk result (λ n. IsRead (conditional inside) (left tokens.old) (root n.tree) (left tokens.new)) }
     ensures within { IfOk result (λ n. IsWithin room n.height tokens.old tokens.new) }
     ensures stuck { result ≡ Err Unexpected → IsStuck (conditional inside) (left tokens.old) (left tokens.new) }
+    ensures deep { result ≡ Err TooDeep → IsDeep (conditional inside) room (left tokens.old) }
     ensures long { result ≡ Err TooDeep → tokens.old.at + room < tokens.new.at }
 {
     let test = chain(alloc, tokens, Level::Logic, inside, room)?;
@@ -77,6 +80,7 @@ fn chain(
     ensures read { IfOk result (λ n. IsRead (chain inside level) (left tokens.old) (root n.tree) (left tokens.new)) }
     ensures within { IfOk result (λ n. IsWithin room n.height tokens.old tokens.new) }
     ensures stuck { result ≡ Err Unexpected → IsStuck (chain inside level) (left tokens.old) (left tokens.new) }
+    ensures deep { result ≡ Err TooDeep → IsDeep (chain inside level) room (left tokens.old) }
     ensures long { result ≡ Err TooDeep → tokens.old.at + room < tokens.new.at }
 {
     let mut front = operand(alloc, tokens, level, inside, room)?;
@@ -99,6 +103,7 @@ fn operand(
     ensures read { IfOk result (λ n. IsRead (operand inside level) (left tokens.old) (root n.tree) (left tokens.new)) }
     ensures within { IfOk result (λ n. IsWithin room n.height tokens.old tokens.new) }
     ensures stuck { result ≡ Err Unexpected → IsStuck (operand inside level) (left tokens.old) (left tokens.new) }
+    ensures deep { result ≡ Err TooDeep → IsDeep (operand inside level) room (left tokens.old) }
     ensures long { result ≡ Err TooDeep → tokens.old.at + room < tokens.new.at }
 {
     match level {
@@ -115,6 +120,7 @@ fn power(alloc: Global, tokens: &mut Cursor, inside: bool, room: u32) -> Result<
     ensures read { IfOk result (λ n. IsRead (power inside) (left tokens.old) (root n.tree) (left tokens.new)) }
     ensures within { IfOk result (λ n. IsWithin room n.height tokens.old tokens.new) }
     ensures stuck { result ≡ Err Unexpected → IsStuck (power inside) (left tokens.old) (left tokens.new) }
+    ensures deep { result ≡ Err TooDeep → IsDeep (power inside) room (left tokens.old) }
     ensures long { result ≡ Err TooDeep → tokens.old.at + room < tokens.new.at }
 {
     let base = unary(alloc, tokens, inside, room)?;
@@ -137,6 +143,7 @@ fn unary(alloc: Global, tokens: &mut Cursor, inside: bool, room: u32) -> Result<
     ensures read { IfOk result (λ n. IsRead (unary inside) (left tokens.old) (root n.tree) (left tokens.new)) }
     ensures within { IfOk result (λ n. IsWithin room n.height tokens.old tokens.new) }
     ensures stuck { result ≡ Err Unexpected → IsStuck (unary inside) (left tokens.old) (left tokens.new) }
+    ensures deep { result ≡ Err TooDeep → IsDeep (unary inside) room (left tokens.old) }
     ensures long { result ≡ Err TooDeep → tokens.old.at + room < tokens.new.at }
 {
     let minuses = tokens.take_minuses();
@@ -152,6 +159,7 @@ fn unsigned(alloc: Global, tokens: &mut Cursor, inside: bool, room: u32) -> Resu
     ensures read { IfOk result (λ n. IsRead (unary inside) (left tokens.old) (root n.tree) (left tokens.new)) }
     ensures within { IfOk result (λ n. IsWithin room n.height tokens.old tokens.new) }
     ensures stuck { result ≡ Err Unexpected → IsStuck (unary inside) (left tokens.old) (left tokens.new) }
+    ensures deep { result ≡ Err TooDeep → IsDeep (unary inside) room (left tokens.old) }
     ensures long { result ≡ Err TooDeep → tokens.old.at + room < tokens.new.at }
 {
     if tokens.take(Sign::Bang) {
@@ -173,6 +181,7 @@ fn postfix(alloc: Global, tokens: &mut Cursor, inside: bool, room: u32) -> Resul
     ensures read { IfOk result (λ n. IsRead (postfix inside) (left tokens.old) (root n.tree) (left tokens.new)) }
     ensures within { IfOk result (λ n. IsWithin room n.height tokens.old tokens.new) }
     ensures stuck { result ≡ Err Unexpected → IsStuck (postfix inside) (left tokens.old) (left tokens.new) }
+    ensures deep { result ≡ Err TooDeep → IsDeep (postfix inside) room (left tokens.old) }
     ensures long { result ≡ Err TooDeep → tokens.old.at + room < tokens.new.at }
 {
     let base = primary(alloc, tokens, inside, room)?;
@@ -192,6 +201,7 @@ fn suffixes(
     ensures read { IfOk result (λ n. IsRead (suffixes inside (root base.tree)) (left tokens.old) (root n.tree) (left tokens.new)) }
     ensures within { IfOk result (λ n. (n.height ≤ room) × (tokens.old.at + n.height ≤ tokens.new.at + base.height)) }
     ensures stuck { result ≡ Err Unexpected → IsStuck (suffixes inside (root base.tree)) (left tokens.old) (left tokens.new) }
+    ensures deep { result ≡ Err TooDeep → IsDeep (suffixes inside (root base.tree)) room (left tokens.old) }
     ensures long { result ≡ Err TooDeep → tokens.old.at + room < tokens.new.at + base.height }
 {
     if tokens.take(Sign::LeftBracket) {
@@ -213,6 +223,7 @@ fn behind_bracket(
     ensures read { IfOk result (λ n. IsRestRead (suffixes inside (root base.tree)) (λ ts. token.Sign LeftBracket ∷ ts) (behind_bracket inside (root base.tree)) (left tokens.old) (root n.tree) (left tokens.new)) }
     ensures within { IfOk result (λ n. (n.height ≤ room) × (tokens.old.at + n.height ≤ tokens.new.at + base.height)) }
     ensures stuck { result ≡ Err Unexpected → Fails grammar expr (behind_bracket inside (root base.tree)) (left tokens.old) (left tokens.new) }
+    ensures deep { result ≡ Err TooDeep → Deep expr room (behind_bracket inside (root base.tree)) (left tokens.old) }
     ensures long { result ≡ Err TooDeep → tokens.old.at + room < tokens.new.at + base.height }
 {
     let room_below = below(room)?;
@@ -241,6 +252,7 @@ fn primary(alloc: Global, tokens: &mut Cursor, inside: bool, room: u32) -> Resul
     ensures read { IfOk result (λ n. IsRead (primary inside) (left tokens.old) (root n.tree) (left tokens.new)) }
     ensures within { IfOk result (λ n. IsWithin room n.height tokens.old tokens.new) }
     ensures stuck { result ≡ Err Unexpected → IsStuck (primary inside) (left tokens.old) (left tokens.new) }
+    ensures deep { result ≡ Err TooDeep → IsDeep (primary inside) room (left tokens.old) }
     ensures long { result ≡ Err TooDeep → tokens.old.at + room < tokens.new.at }
 {
     if let Some(literal) = tokens.take_literal()? {
@@ -267,6 +279,7 @@ fn braced(alloc: Global, tokens: &mut Cursor, inside: bool, room: u32) -> Result
     ensures read { IfOk result (λ n. IsRestRead (primary inside) (λ ts. ts) (braced inside) (left tokens.old) (root n.tree) (left tokens.new)) }
     ensures within { IfOk result (λ n. IsWithin room n.height tokens.old tokens.new) }
     ensures stuck { result ≡ Err Unexpected → Fails grammar expr (braced inside) (left tokens.old) (left tokens.new) }
+    ensures deep { result ≡ Err TooDeep → Deep expr room (braced inside) (left tokens.old) }
     ensures long { result ≡ Err TooDeep → tokens.old.at + room < tokens.new.at }
 {
     if tokens.take(Sign::LeftBrace) {
@@ -287,6 +300,7 @@ fn arguments(alloc: Global, tokens: &mut Cursor, inside: bool, room: u32) -> Res
     ensures read { IfOk result (λ v. IsRead (arguments inside) (left tokens.old) (items_of v.items.items) (left tokens.new)) }
     ensures within { IfOk result (λ v. IsWithin room v.height tokens.old tokens.new) }
     ensures stuck { result ≡ Err Unexpected → IsStuck (arguments inside) (left tokens.old) (left tokens.new) }
+    ensures deep { result ≡ Err TooDeep → IsDeep (arguments inside) room (left tokens.old) }
     ensures long { result ≡ Err TooDeep → tokens.old.at + room < tokens.new.at }
 {
     if tokens.is_at(Sign::RightBrace) {
@@ -301,6 +315,7 @@ fn members(alloc: Global, tokens: &mut Cursor, inside: bool, room: u32) -> Resul
     ensures read { IfOk result (λ v. IsRead (members inside) (left tokens.old) (items_of v.items.items) (left tokens.new)) }
     ensures within { IfOk result (λ v. IsWithin room v.height tokens.old tokens.new) }
     ensures stuck { result ≡ Err Unexpected → IsStuck (members inside) (left tokens.old) (left tokens.new) }
+    ensures deep { result ≡ Err TooDeep → IsDeep (members inside) room (left tokens.old) }
     ensures long { result ≡ Err TooDeep → tokens.old.at + room < tokens.new.at }
 {
     let mut found = Members::new(alloc);
@@ -319,6 +334,7 @@ fn member(alloc: Global, tokens: &mut Cursor, inside: bool, room: u32) -> Result
     ensures read { IfOk result (λ m. IsMember inside (left tokens.old) m.item (left tokens.new)) }
     ensures within { IfOk result (λ m. IsWithin room m.height tokens.old tokens.new) }
     ensures stuck { result ≡ Err Unexpected → IsStuck (members inside) (left tokens.old) (left tokens.new) }
+    ensures deep { result ≡ Err TooDeep → IsDeep (members inside) room (left tokens.old) }
     ensures long { result ≡ Err TooDeep → tokens.old.at + room < tokens.new.at }
 {
     if tokens.take(Sign::At) {

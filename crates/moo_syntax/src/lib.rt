@@ -12,6 +12,8 @@ mod node;
 mod reader;
 mod statement;
 mod syntax_fault;
+#[cfg(test)]
+mod tests;
 
 pub use reader::parse;
 pub use syntax_fault::{Names, SyntaxFault, SyntaxFaultKind};

@@ -5,6 +5,7 @@ ghost use Rattle.moo_program.specs.View.{block, statement as tree_of};
 ghost use Rattle.moo_syntax.specs.declared.fault.Fault.TheVariants.{Unexpected, TooDeep};
 ghost use Rattle.moo_syntax.specs.Cursor.{left};
 ghost use Rattle.moo_syntax.specs.Grammar as grammar;
+ghost use Rattle.moo_syntax.specs.Depth.{IsDeep};
 ghost use Rattle.moo_syntax.specs.Outcome.{Moves, IsRead, IsStuck};
 
 use crate::cursor::Cursor;
@@ -20,6 +21,7 @@ pub fn statements(alloc: Global, tokens: &mut Cursor) -> Result<Vec<Stmt>, Fault
     ensures read { IfOk result (λ v. IsRead grammar.statements (left tokens.old) (block v.items) (left tokens.new)) }
     ensures within { IfOk result (λ v. block_height (block v.items) ≤ most_nodes) }
     ensures stuck { result ≡ Err Unexpected → IsStuck grammar.statements (left tokens.old) (left tokens.new) }
+    ensures deep { result ≡ Err TooDeep → IsDeep grammar.statements most_nodes (left tokens.old) }
     ensures long { result ≡ Err TooDeep → tokens.old.at + most_nodes < tokens.new.at }
 {
     let mut found = Vec::new(alloc);
@@ -36,6 +38,7 @@ fn statement(alloc: Global, tokens: &mut Cursor) -> Result<Stmt, Fault>
     ensures read { IfOk result (λ s. IsRead grammar.statement (left tokens.old) (tree_of s) (left tokens.new)) }
     ensures within { IfOk result (λ s. statement_height (tree_of s) ≤ most_nodes) }
     ensures stuck { result ≡ Err Unexpected → IsStuck grammar.statement (left tokens.old) (left tokens.new) }
+    ensures deep { result ≡ Err TooDeep → IsDeep grammar.statement most_nodes (left tokens.old) }
     ensures long { result ≡ Err TooDeep → tokens.old.at + most_nodes < tokens.new.at }
 {
     tokens.expect_keyword(Keyword::Return)?;

@@ -11,7 +11,7 @@ use Rattle.moo_program.specs.Limits.{items_height}
 use Rattle.moo_program.specs.View.{root, items_of}
 use Rattle.moo_syntax.specs.declared.level.Level.TheVariants.{Relation, Sum, Product}
 use Rattle.moo_syntax.specs.Grammar.{plain, unconditional, chooses, chained, no_more, one_more, relations, sums, products, powers, unraised, raised, inverts, unsigned, based, no_suffix, indexed, ranged, constant, name, dollar, grouped, listed, no_arguments, some_arguments}
-use Rattle.moo_syntax.specs.Grammar.{expression, conditional, operand, chain, power, unary, postfix, suffixes, primary, arguments, members}
+use Rattle.moo_syntax.specs.Grammar.{joined, expression, conditional, operand, chain, power, unary, postfix, suffixes, primary, arguments, members}
 use Rattle.moo_syntax.specs.Machine.{gives, sees, misses, reads, refuses, sees_fails, misses_fails, phrase_fails, then_fails, next_passes}
 use Rattle.moo_syntax.specs.Cursor.{left, Takes, TakesLiteral, Stays}
 use Rattle.moo_syntax.specs.Tokens.{is_sign, name_at, literal_at}
@@ -19,6 +19,7 @@ use Rattle.moo_syntax.specs.Height.{negations}
 use Rattle.moo_syntax.specs.Outcome.{IsRead, IsRestRead}
 use Rattle.moo_syntax.specs.Predictive.{grammar, behind_bracket, braced}
 use Rattle.moo_syntax.proofs.Heights.{height_positive, joined_height, negations_lower}
+use Rattle.moo_syntax.proofs.Depths.{deep_from, misses_deep, took_deep, stayed_deep, then_deep, phrase_deep, meets_deep, read_deep, no_room, minuses_deep}
 use Rattle.moo_syntax.proofs.Steps.{at, from, reads_from, fails_from, took, took_fails, stayed, stayed_fails, told, if_ok, made, made_within, made_stuck, made_deep, none_of, row_of, row_members, in_front_push, minuses_derive, minuses_read, minuses_fail, ended, goes_on_member}
 use Rattle.moo_syntax.proofs.expression.+parser.Goals as goal
 
@@ -84,6 +85,15 @@ unfolding grammar
 conditional-returns-clause-stuck t c =
     λ h. absurd (made_stuck (tree.conditional (root c.in_ok-test.test.tree) (root c.in_ok-yes.yes.tree) (root c.in_ok-no.no.tree)) c.args.room c.node_over.result c.node_over.ensures h)
 
+pub conditional-returns-clause-deep : goal.conditional-returns-clause-deep
+unfolding grammar
+conditional-returns-clause-deep t c =
+    λ h.
+    let a = c.in_ok-test.ensures.read in
+    let b = c.in_ok-yes.ensures.read in
+    let n = c.in_ok-no.ensures.read in
+    read_deep (tree.conditional (root c.in_ok-test.test.tree) (root c.in_ok-yes.yes.tree) (root c.in_ok-no.no.tree)) (left c.conditional.new.tokens) (reads a.reads (took c.if-not-take.ensures refl (reads b.reads (took c.in_ok-expect.ensures refl (reads n.reads gives))))) (made_deep (tree.conditional (root c.in_ok-test.test.tree) (root c.in_ok-yes.yes.tree) (root c.in_ok-no.no.tree)) c.args.room c.node_over.result c.node_over.ensures h)
+
 pub conditional-returns-clause-long : goal.conditional-returns-clause-long
 unfolding grammar
 conditional-returns-clause-long t c =
@@ -106,6 +116,7 @@ chain-loop-operator-init t c =
         derives = λ e r d. chained a.derives d;
         reads = λ e r d. reads a.reads (reads d gives);
         fails = λ r d. then_fails a.reads (phrase_fails d);
+        deep = λ n d. then_deep a.reads (phrase_deep d (λ e g. g));
       };
       fits = c.in_ok-front.ensures.within.fits;
       tokens = c.in_ok-front.ensures.within.tokens;
@@ -129,6 +140,7 @@ chain-loop-operator-preserved t c =
         derives = λ e r d. c.loop-operator.invariant.goes_on.derives e r (from c.in-Some.ensures.2.token (one_more c.in-Some.ensures.1 b.derives d));
         reads = λ e r d. c.loop-operator.invariant.goes_on.reads e r (took c.in-Some.ensures.2 (ap is_some c.in-Some.ensures.1) (rw c.in-Some.ensures.1 (reads b.reads (reads d gives))));
         fails = λ r d. c.loop-operator.invariant.goes_on.fails r (took_fails c.in-Some.ensures.2 (ap is_some c.in-Some.ensures.1) (rw c.in-Some.ensures.1 (then_fails b.reads (phrase_fails d))));
+        deep = λ n d. c.loop-operator.invariant.goes_on.deep n (took_deep c.in-Some.ensures.2 (ap is_some c.in-Some.ensures.1) (rw c.in-Some.ensures.1 (then_deep b.reads (phrase_deep d (λ e g. g)))));
       });
       fits = c.in_ok-front-2.ensures.1;
       tokens = omega (arith, c.in_ok-front-2.ensures.2, higher, c.loop-operator.front.in_step, c.in_ok-next.next.in_step, c.in_ok-next.ensures.within.tokens, c.loop-operator.invariant.tokens, c.in-Some.ensures.2.at);
@@ -220,6 +232,14 @@ unfolding grammar
 power-returns-clause-stuck t c =
     λ h. absurd (made_stuck (tree.binary Power (root c.in_ok-base.base.tree) (root c.in_ok-exponent.exponent.tree)) c.args.room c.node_over.result c.node_over.ensures h)
 
+pub power-returns-clause-deep : goal.power-returns-clause-deep
+unfolding grammar
+power-returns-clause-deep t c =
+    λ h.
+    let a = c.in_ok-base.ensures.read in
+    let b = c.in_ok-exponent.ensures.read in
+    read_deep (tree.binary Power (root c.in_ok-base.base.tree) (root c.in_ok-exponent.exponent.tree)) (left c.power.new.tokens) (reads a.reads (took c.if-not-take.ensures refl (reads b.reads gives))) (made_deep (tree.binary Power (root c.in_ok-base.base.tree) (root c.in_ok-exponent.exponent.tree)) c.args.room c.node_over.result c.node_over.ensures h)
+
 pub power-returns-clause-long : goal.power-returns-clause-long
 unfolding grammar
 power-returns-clause-long t c =
@@ -248,6 +268,13 @@ unfolding grammar
 unary-returns-clause-stuck t c =
     λ h. absurd (made_stuck (negations c.take_minuses-minuses.result (root c.in_ok-operand.operand.tree)) c.args.room c.negate_times.result c.negate_times.ensures h)
 
+pub unary-returns-clause-deep : goal.unary-returns-clause-deep
+unfolding grammar
+unary-returns-clause-deep t c =
+    λ h.
+    let a = c.in_ok-operand.ensures.read in
+    read_deep (negations c.take_minuses-minuses.result (root c.in_ok-operand.operand.tree)) (left c.unsigned.new.tokens) (reads_from c.take_minuses-minuses.ensures.tokens (minuses_read _ c.take_minuses-minuses.result a.reads)) (made_deep (negations c.take_minuses-minuses.result (root c.in_ok-operand.operand.tree)) c.args.room c.negate_times.result c.negate_times.ensures h)
+
 pub unary-returns-clause-long : goal.unary-returns-clause-long
 unfolding grammar
 unary-returns-clause-long t c =
@@ -275,6 +302,13 @@ pub unsigned-returns-then-take-clause-stuck : goal.unsigned-returns-then-take-cl
 unfolding grammar
 unsigned-returns-then-take-clause-stuck t c =
     λ h. absurd (made_stuck (tree.unary Not (root c.in_ok-operand.operand.tree)) c.args.room c.node_over.result c.node_over.ensures h)
+
+pub unsigned-returns-then-take-clause-deep : goal.unsigned-returns-then-take-clause-deep
+unfolding grammar
+unsigned-returns-then-take-clause-deep t c =
+    λ h.
+    let a = c.in_ok-operand.ensures.read in
+    read_deep (tree.unary Not (root c.in_ok-operand.operand.tree)) (left c.unary.new.tokens) (took c.if-take.ensures refl (reads a.reads gives)) (made_deep (tree.unary Not (root c.in_ok-operand.operand.tree)) c.args.room c.node_over.result c.node_over.ensures h)
 
 pub unsigned-returns-then-take-clause-long : goal.unsigned-returns-then-take-clause-long
 unfolding grammar
@@ -404,6 +438,13 @@ unfolding grammar
 primary-returns-in-Some-clause-stuck t c =
     λ h. absurd (made_stuck (tree.literal c.in-Some.literal) c.args.room c.node_over.result c.node_over.ensures h)
 
+pub primary-returns-in-Some-clause-deep : goal.primary-returns-in-Some-clause-deep
+unfolding grammar
+primary-returns-in-Some-clause-deep t c =
+    λ h.
+    let k = rw c.in-Some.is at c.in_ok-literal.ensures in
+    read_deep (tree.literal c.in-Some.literal) (left c.take_literal.new.self) (took k.2 (ap is_some k.1) (rw k.1 gives)) (made_deep (tree.literal c.in-Some.literal) c.args.room c.node_over.result c.node_over.ensures h)
+
 pub primary-returns-in-Some-clause-long : goal.primary-returns-in-Some-clause-long
 unfolding grammar
 primary-returns-in-Some-clause-long t c =
@@ -434,6 +475,14 @@ pub primary-returns-in-Some-2-clause-stuck : goal.primary-returns-in-Some-2-clau
 unfolding grammar
 primary-returns-in-Some-2-clause-stuck t c =
     λ h. absurd (made_stuck (tree.variable c.in-Some-2.name) c.args.room c.node_over-in-Some-2.result c.node_over-in-Some-2.ensures h)
+
+pub primary-returns-in-Some-2-clause-deep : goal.primary-returns-in-Some-2-clause-deep
+unfolding grammar
+primary-returns-in-Some-2-clause-deep t c =
+    λ h.
+    let l = none_of (Stays (λ x. is_some (literal_at x)) c.args.tokens.now c.take_literal.new.self) (λ l. TakesLiteral l c.args.tokens.now c.take_literal.new.self) _ c.in_default.not-Some c.in_ok-literal.ensures in
+    let k = rw c.in-Some-2.is at c.in_ok-name.ensures in
+    read_deep (tree.variable c.in-Some-2.name) (left c.take_name.new.self) (stayed l (took k refl (misses (sym c.is_at.ensures ∙ c.if-is_at.false) gives))) (made_deep (tree.variable c.in-Some-2.name) c.args.room c.node_over-in-Some-2.result c.node_over-in-Some-2.ensures h)
 
 pub primary-returns-in-Some-2-clause-long : goal.primary-returns-in-Some-2-clause-long
 unfolding grammar
@@ -601,3 +650,248 @@ member-returns-in_err-tree-2-clause-stuck t c =
     λ h.
     let p = err_from_is_err_and c.from_residual-in_err-tree-2.result c.from_residual-in_err-tree-2.ensures.1 in
     stayed_fails c.if-take.ensures (phrase_fails (c.in_err-tree-2.ensures.stuck (told p.1 p.2 h)))
+
+pub expression-returns-clause-deep : goal.expression-returns-clause-deep
+unfolding grammar
+expression-returns-clause-deep t c =
+    λ h. phrase_deep (c.conditional.ensures.deep h) (λ a g. g)
+
+pub conditional-returns-in_err-test-clause-deep : goal.conditional-returns-in_err-test-clause-deep
+unfolding grammar
+conditional-returns-in_err-test-clause-deep t c =
+    λ h.
+    let p = err_from_is_err_and c.from_residual.result c.from_residual.ensures.1 in
+    phrase_deep (c.in_err-test.ensures.deep (told p.1 p.2 h)) (λ a g. ((λ x b _. ((λ y d _. omega (arith, g)), tt)), g))
+
+pub conditional-returns-in_err-room_below-clause-deep : goal.conditional-returns-in_err-room_below-clause-deep
+unfolding grammar
+conditional-returns-in_err-room_below-clause-deep t c =
+    λ h. no_room c.in_err-room_below.ensures.1
+
+pub conditional-returns-in_err-yes-clause-deep : goal.conditional-returns-in_err-yes-clause-deep
+unfolding grammar
+conditional-returns-in_err-yes-clause-deep t c =
+    λ h.
+    let p = err_from_is_err_and c.from_residual-in_err-yes.result c.from_residual-in_err-yes.ensures.1 in
+    then_deep c.in_ok-test.ensures.read.reads (took_deep c.if-not-take.ensures refl (phrase_deep (c.in_err-yes.ensures.deep (told p.1 p.2 h)) (λ b g. ((λ x d _. omega (arith, g, c.in_ok-room_below.ensures)), tt))))
+
+pub conditional-returns-in_err-no-clause-deep : goal.conditional-returns-in_err-no-clause-deep
+unfolding grammar
+conditional-returns-in_err-no-clause-deep t c =
+    λ h.
+    let p = err_from_is_err_and c.from_residual-in_err-no.result c.from_residual-in_err-no.ensures.1 in
+    then_deep c.in_ok-test.ensures.read.reads (took_deep c.if-not-take.ensures refl (then_deep c.in_ok-yes.ensures.read.reads (took_deep c.in_ok-expect.ensures refl (phrase_deep (c.in_err-no.ensures.deep (told p.1 p.2 h)) (λ d g. omega (arith, g, c.in_ok-room_below.ensures))))))
+
+pub chain-returns-in_err-front-clause-deep : goal.chain-returns-in_err-front-clause-deep
+unfolding grammar
+chain-returns-in_err-front-clause-deep t c =
+    λ h.
+    let p = err_from_is_err_and c.from_residual.result c.from_residual.ensures.1 in
+    phrase_deep (c.in_err-front.ensures.deep (told p.1 p.2 h)) (λ a g e q. omega (arith, g, q))
+
+pub chain-returns-in_err-next-clause-deep : goal.chain-returns-in_err-next-clause-deep
+unfolding grammar
+chain-returns-in_err-next-clause-deep t c =
+    λ h.
+    let p = err_from_is_err_and c.from_residual-in_err-next.result c.from_residual-in_err-next.ensures.1 in
+    c.loop-operator.invariant.goes_on.deep _ (took_deep c.in-Some.ensures.2 (ap is_some c.in-Some.ensures.1) (rw c.in-Some.ensures.1 (phrase_deep (c.in_err-next.ensures.deep (told p.1 p.2 h)) (λ b g e q. omega (arith, g, q, joined_height c.in-Some.operator (root c.loop-operator.front.tree) b)))))
+
+pub chain-returns-in_err-front-2-clause-deep : goal.chain-returns-in_err-front-2-clause-deep
+unfolding grammar
+chain-returns-in_err-front-2-clause-deep t c =
+    λ h.
+    let p = err_from_is_err_and c.from_residual-in_err-front-2.result c.from_residual-in_err-front-2.ensures.1 in
+    let high = made_deep (joined c.in-Some.operator (root c.loop-operator.front.tree) (root c.in_ok-next.next.tree)) c.args.room _ c.in_err-front-2.ensures (told p.1 p.2 h) in
+    c.loop-operator.invariant.goes_on.deep _ (took_deep c.in-Some.ensures.2 (ap is_some c.in-Some.ensures.1) (rw c.in-Some.ensures.1 (then_deep c.in_ok-next.ensures.read.reads (meets_deep (λ e q. omega (arith, high, q))))))
+
+pub operand-returns-in-Logic-clause-deep : goal.operand-returns-in-Logic-clause-deep
+unfolding grammar
+operand-returns-in-Logic-clause-deep t c =
+    λ h. rw c.in-Logic.is (phrase_deep (c.chain.ensures.deep h) (λ a g. g))
+
+pub operand-returns-in-Relation-clause-deep : goal.operand-returns-in-Relation-clause-deep
+unfolding grammar
+operand-returns-in-Relation-clause-deep t c =
+    λ h. rw c.in-Relation.is (phrase_deep (c.chain-in-Relation.ensures.deep h) (λ a g. g))
+
+pub operand-returns-in-Sum-clause-deep : goal.operand-returns-in-Sum-clause-deep
+unfolding grammar
+operand-returns-in-Sum-clause-deep t c =
+    λ h. rw c.in-Sum.is (phrase_deep (c.chain-in-Sum.ensures.deep h) (λ a g. g))
+
+pub operand-returns-in-Product-clause-deep : goal.operand-returns-in-Product-clause-deep
+unfolding grammar
+operand-returns-in-Product-clause-deep t c =
+    λ h. rw c.in-Product.is (phrase_deep (c.power.ensures.deep h) (λ a g. g))
+
+pub power-returns-in_err-base-clause-deep : goal.power-returns-in_err-base-clause-deep
+unfolding grammar
+power-returns-in_err-base-clause-deep t c =
+    λ h.
+    let p = err_from_is_err_and c.from_residual.result c.from_residual.ensures.1 in
+    phrase_deep (c.in_err-base.ensures.deep (told p.1 p.2 h)) (λ a g. ((λ x b _. omega (arith, g)), g))
+
+pub power-returns-in_err-below-clause-deep : goal.power-returns-in_err-below-clause-deep
+unfolding grammar
+power-returns-in_err-below-clause-deep t c =
+    λ h. no_room c.in_err-below.ensures.1
+
+pub power-returns-in_err-exponent-clause-deep : goal.power-returns-in_err-exponent-clause-deep
+unfolding grammar
+power-returns-in_err-exponent-clause-deep t c =
+    λ h.
+    let p = err_from_is_err_and c.from_residual-in_err-exponent.result c.from_residual-in_err-exponent.ensures.1 in
+    then_deep c.in_ok-base.ensures.read.reads (took_deep c.if-not-take.ensures refl (phrase_deep (c.in_err-exponent.ensures.deep (told p.1 p.2 h)) (λ b g. omega (arith, g, c.in_ok-below.ensures))))
+
+pub unary-returns-in_err-operand-clause-deep : goal.unary-returns-in_err-operand-clause-deep
+unfolding grammar
+unary-returns-in_err-operand-clause-deep t c =
+    λ h.
+    let p = err_from_is_err_and c.from_residual.result c.from_residual.ensures.1 in
+    deep_from c.take_minuses-minuses.ensures.tokens (minuses_deep _ _ c.take_minuses-minuses.result _ (c.in_err-operand.ensures.deep (told p.1 p.2 h)))
+
+pub unsigned-returns-in_err-below-clause-deep : goal.unsigned-returns-in_err-below-clause-deep
+unfolding grammar
+unsigned-returns-in_err-below-clause-deep t c =
+    λ h. no_room c.in_err-below.ensures.1
+
+pub unsigned-returns-in_err-operand-clause-deep : goal.unsigned-returns-in_err-operand-clause-deep
+unfolding grammar
+unsigned-returns-in_err-operand-clause-deep t c =
+    λ h.
+    let p = err_from_is_err_and c.from_residual-in_err-operand.result c.from_residual-in_err-operand.ensures.1 in
+    took_deep c.if-take.ensures refl (phrase_deep (c.in_err-operand.ensures.deep (told p.1 p.2 h)) (λ a g. omega (arith, g, c.in_ok-below.ensures)))
+
+pub unsigned-returns-clause-deep : goal.unsigned-returns-clause-deep
+unfolding grammar
+unsigned-returns-clause-deep t c =
+    λ h. stayed_deep c.if-take.ensures (misses_deep (ap (next_passes (is_sign Minus)) c.if-take.ensures.rest ∙ c.requires) (phrase_deep (c.postfix.ensures.deep h) (λ a g. g)))
+
+pub postfix-returns-in_err-base-clause-deep : goal.postfix-returns-in_err-base-clause-deep
+unfolding grammar
+postfix-returns-in_err-base-clause-deep t c =
+    λ h.
+    let p = err_from_is_err_and c.from_residual.result c.from_residual.ensures.1 in
+    phrase_deep (c.in_err-base.ensures.deep (told p.1 p.2 h)) (λ a g e q. omega (arith, g, q))
+
+pub postfix-returns-clause-deep : goal.postfix-returns-clause-deep
+unfolding grammar
+postfix-returns-clause-deep t c =
+    λ h. then_deep c.in_ok-base.ensures.read.reads (phrase_deep (c.suffixes.ensures.deep h) (λ e g. g))
+
+pub suffixes-returns-then-take-clause-deep : goal.suffixes-returns-then-take-clause-deep
+unfolding grammar
+suffixes-returns-then-take-clause-deep t c =
+    λ h. took_deep c.if-take.ensures refl (c.behind_bracket.ensures.deep h)
+
+pub behind_bracket-returns-in_err-room_below-clause-deep : goal.behind_bracket-returns-in_err-room_below-clause-deep
+unfolding grammar
+behind_bracket-returns-in_err-room_below-clause-deep t c =
+    λ h. no_room c.in_err-room_below.ensures.1
+
+pub behind_bracket-returns-in_err-low-clause-deep : goal.behind_bracket-returns-in_err-low-clause-deep
+unfolding grammar
+behind_bracket-returns-in_err-low-clause-deep t c =
+    λ h.
+    let p = err_from_is_err_and c.from_residual-in_err-low.result c.from_residual-in_err-low.ensures.1 in
+    phrase_deep (c.in_err-low.ensures.deep (told p.1 p.2 h)) (λ b g. ((λ x d _. ((λ y e q. omega (arith, g, q, c.in_ok-room_below.ensures)), tt)), ((λ x e q. omega (arith, g, q, c.in_ok-room_below.ensures)), tt)))
+
+pub behind_bracket-returns-in_err-high-clause-deep : goal.behind_bracket-returns-in_err-high-clause-deep
+unfolding grammar
+behind_bracket-returns-in_err-high-clause-deep t c =
+    λ h.
+    let p = err_from_is_err_and c.from_residual-in_err-high.result c.from_residual-in_err-high.ensures.1 in
+    then_deep c.in_ok-low.ensures.read.reads (took_deep c.if-take.ensures refl (phrase_deep (c.in_err-high.ensures.deep (told p.1 p.2 h)) (λ d g. ((λ y e q. omega (arith, g, q, c.in_ok-room_below.ensures)), tt))))
+
+pub behind_bracket-returns-in_err-base-clause-deep : goal.behind_bracket-returns-in_err-base-clause-deep
+unfolding grammar
+behind_bracket-returns-in_err-base-clause-deep t c =
+    λ h.
+    let p = err_from_is_err_and c.from_residual-in_err-base.result c.from_residual-in_err-base.ensures.1 in
+    let high = made_deep (tree.range (root c.args.base.tree) (root c.in_ok-low.low.tree) (root c.in_ok-high.high.tree)) c.args.room _ c.in_err-base.ensures (told p.1 p.2 h) in
+    then_deep c.in_ok-low.ensures.read.reads (took_deep c.if-take.ensures refl (then_deep c.in_ok-high.ensures.read.reads (took_deep c.in_ok-expect.ensures refl (meets_deep (λ e q. omega (arith, high, q))))))
+
+pub behind_bracket-returns-in_err-base-2-clause-deep : goal.behind_bracket-returns-in_err-base-2-clause-deep
+unfolding grammar
+behind_bracket-returns-in_err-base-2-clause-deep t c =
+    λ h.
+    let p = err_from_is_err_and c.from_residual-in_err-base-2.result c.from_residual-in_err-base-2.ensures.1 in
+    let high = made_deep (tree.index (root c.args.base.tree) (root c.in_ok-low.low.tree)) c.args.room _ c.in_err-base-2.ensures (told p.1 p.2 h) in
+    then_deep c.in_ok-low.ensures.read.reads (stayed_deep c.if-take.ensures (took_deep c.in_ok-expect-2.ensures refl (meets_deep (λ e q. omega (arith, high, q)))))
+
+pub behind_bracket-returns-then-take-clause-deep : goal.behind_bracket-returns-then-take-clause-deep
+unfolding grammar
+behind_bracket-returns-then-take-clause-deep t c =
+    λ h. then_deep c.in_ok-low.ensures.read.reads (took_deep c.if-take.ensures refl (then_deep c.in_ok-high.ensures.read.reads (took_deep c.in_ok-expect.ensures refl (phrase_deep (rw c.in_ok-base.ensures.0 at (c.suffixes.ensures.deep h)) (λ e g. g)))))
+
+pub behind_bracket-returns-clause-deep : goal.behind_bracket-returns-clause-deep
+unfolding grammar
+behind_bracket-returns-clause-deep t c =
+    λ h. then_deep c.in_ok-low.ensures.read.reads (stayed_deep c.if-take.ensures (took_deep c.in_ok-expect-2.ensures refl (phrase_deep (rw c.in_ok-base-2.ensures.0 at (c.suffixes-2.ensures.deep h)) (λ e g. g))))
+
+pub primary-returns-in_err-inner-clause-deep : goal.primary-returns-in_err-inner-clause-deep
+unfolding grammar
+primary-returns-in_err-inner-clause-deep t c =
+    λ h.
+    let p = err_from_is_err_and c.from_residual-in_err-inner.result c.from_residual-in_err-inner.ensures.1 in
+    let l = none_of (Stays (λ x. is_some (literal_at x)) c.args.tokens.now c.take_literal.new.self) (λ l. TakesLiteral l c.args.tokens.now c.take_literal.new.self) _ c.in_default.not-Some c.in_ok-literal.ensures in
+    let n = none_of (Stays (λ x. is_some (name_at x)) c.take_literal.new.self c.take_name.new.self) (λ s. Takes (Name s) c.take_literal.new.self c.take_name.new.self) _ c.in_default-2.not-Some c.in_ok-name.ensures in
+    stayed_deep l (stayed_deep n (took_deep c.if-take.ensures refl (phrase_deep (c.in_err-inner.ensures.deep (told p.1 p.2 h)) (λ a g. ((λ x. g), tt)))))
+
+pub primary-returns-clause-deep : goal.primary-returns-clause-deep
+unfolding grammar
+primary-returns-clause-deep t c =
+    λ h.
+    let l = none_of (Stays (λ x. is_some (literal_at x)) c.args.tokens.now c.take_literal.new.self) (λ l. TakesLiteral l c.args.tokens.now c.take_literal.new.self) _ c.in_default.not-Some c.in_ok-literal.ensures in
+    let n = none_of (Stays (λ x. is_some (name_at x)) c.take_literal.new.self c.take_name.new.self) (λ s. Takes (Name s) c.take_literal.new.self c.take_name.new.self) _ c.in_default-2.not-Some c.in_ok-name.ensures in
+    stayed_deep l (stayed_deep n (stayed_deep c.if-take.ensures (c.braced.ensures.deep h)))
+
+pub braced-returns-in_err-below-clause-deep : goal.braced-returns-in_err-below-clause-deep
+unfolding grammar
+braced-returns-in_err-below-clause-deep t c =
+    λ h. no_room c.in_err-below.ensures.1
+
+pub braced-returns-in_err-members-clause-deep : goal.braced-returns-in_err-members-clause-deep
+unfolding grammar
+braced-returns-in_err-members-clause-deep t c =
+    λ h.
+    let p = err_from_is_err_and c.from_residual-in_err-members.result c.from_residual-in_err-members.ensures.1 in
+    took_deep c.if-take.ensures refl (phrase_deep (c.in_err-members.ensures.deep (told p.1 p.2 h)) (λ xs g. ((λ x. omega (arith, g, c.in_ok-below.ensures)), tt)))
+
+pub braced-returns-then-take-clause-deep : goal.braced-returns-then-take-clause-deep
+unfolding grammar
+braced-returns-then-take-clause-deep t c =
+    λ h.
+    let high = made_deep (tree.list (row_of c.in_ok-members.members.items)) c.args.room c.node_over.result c.node_over.ensures h in
+    read_deep (tree.list (items_of c.in_ok-members.members.items.items)) (left c.expect.new.self) (took c.if-take.ensures refl (reads c.in_ok-members.ensures.read.reads (took c.in_ok-expect.ensures refl gives))) (omega (arith, high, ap items_height (row_members c.in_ok-members.members.items)))
+
+pub braced-returns-clause-deep : goal.braced-returns-clause-deep
+unfolding grammar
+braced-returns-clause-deep t c =
+    λ h. rw c.if-not-inside.false (read_deep tree.length_mark (left c.expect-2.new.self) (stayed c.if-take.ensures (took c.in_ok-expect-2.ensures refl gives)) (made_deep tree.length_mark c.args.room c.node_over-2.result c.node_over-2.ensures h))
+
+pub arguments-returns-clause-deep : goal.arguments-returns-clause-deep
+unfolding grammar
+arguments-returns-clause-deep t c =
+    λ h. misses_deep (sym c.is_at.ensures ∙ c.if-is_at.false) (phrase_deep (c.members.ensures.deep h) (λ xs g. g))
+
+pub members-returns-in_err-next-clause-deep : goal.members-returns-in_err-next-clause-deep
+unfolding grammar
+members-returns-in_err-next-clause-deep t c =
+    λ h.
+    let p = err_from_is_err_and c.from_residual.result c.from_residual.ensures.1 in
+    c.loop-found.invariant.goes_on.deep _ (c.in_err-next.ensures.deep (told p.1 p.2 h))
+
+pub member-returns-in_err-tree-clause-deep : goal.member-returns-in_err-tree-clause-deep
+unfolding grammar
+member-returns-in_err-tree-clause-deep t c =
+    λ h.
+    let p = err_from_is_err_and c.from_residual.result c.from_residual.ensures.1 in
+    took_deep c.if-take.ensures refl (phrase_deep (c.in_err-tree.ensures.deep (told p.1 p.2 h)) (λ a g. ((λ x xs _. omega (arith, g)), omega (arith, g))))
+
+pub member-returns-in_err-tree-2-clause-deep : goal.member-returns-in_err-tree-2-clause-deep
+unfolding grammar
+member-returns-in_err-tree-2-clause-deep t c =
+    λ h.
+    let p = err_from_is_err_and c.from_residual-in_err-tree-2.result c.from_residual-in_err-tree-2.ensures.1 in
+    stayed_deep c.if-take.ensures (phrase_deep (c.in_err-tree-2.ensures.deep (told p.1 p.2 h)) (λ a g. ((λ x xs _. omega (arith, g)), omega (arith, g))))

@@ -1,6 +1,6 @@
 -- A disk in memory that stops in a call.
 use Rattle.std.specs.Prelude.{◌≡◌, ◌⊎◌, ℕ, ◌+◌, ◌-◌, ◌<◌, ◌≤◌, List, Result, IsErr}
-use Rattle.moo_disk.specs.Disk.{Counts, DiskView}
+use Rattle.moo_disk.specs.Disk.{Counts, DiskView, HasRisen}
 use Rattle.moo_disk.specs.Memory.{failures_of as memory_failures, images as memory_images, view_of as memory_view}
 use Rattle.moo_disk.specs.declared.memory.MemoryDisk.{MemoryDisk}
 use Rattle.moo_disk.specs.declared.stop_at.Call.{Call}
@@ -40,6 +40,10 @@ failures_of stopping = memory_failures stopping.disk + stopping.refused
 -- the next call is the one that it stops within
 abbrev pub IsWithin : StopAt → Type 0
 IsWithin stopping = (left_of stopping ≡ 1) × (place_of stopping ≡ Within)
+
+-- the call stops within, and the disk within doesn't fail in it
+abbrev pub StopsWithin : StopAt → StopAt → Type 0
+StopsWithin old new = IsWithin old × ¬ HasRisen (memory_failures (inner_of old)) (memory_failures (inner_of new))
 
 -- the next call does nothing: it stops before it, or has stopped
 abbrev pub IsStill : StopAt → Type 0

@@ -1,5 +1,5 @@
 // A disk in memory that stops at a call, as a machine does whose power fails.
-ghost use Rattle.std.specs.Prelude.{◌≡◌, ◌⊎◌, ◌≤◌, ◌<◌, ◌+◌, ◌-◌, ◌/◌, ◌++◌, [], IfOk, IsSome, OnErr, OnOk, length, take, true};
+ghost use Rattle.std.specs.Prelude.{◌≡◌, ◌⊎◌, ◌↔◌, ◌≤◌, ◌<◌, ◌+◌, ◌-◌, ◌/◌, ◌++◌, ◌∷◌, [], IfOk, IsOk, IsSome, OnErr, OnOk, length, take, true};
 ghost use Rattle.std.specs.Option.{option_map};
 ghost use Rattle.moo_disk.specs.Disk.{Counts, Gains, HasRisen, IsBroughtBy, KeepsMain, KeepsSpare, LeavesOnly, Reads};
 
@@ -11,7 +11,8 @@ pub enum Place {
     /// Before it has done anything.
     Before,
     /// When it has done a part: an `append` the first half of its bytes, a `rename` what lets a crash
-    /// leave the spare's text, while main reads as before. The other calls have done nothing.
+    /// leave the spare's text, while main reads as before. Where memory is wanting for it, which counts
+    /// as a failure of the disk within, and in the other calls nothing has been done.
     Within,
 }
 
@@ -42,6 +43,7 @@ impl StopAt {
         ensures inner { inner_of result ≡ disk }
         ensures left { left_of result ≡ k }
         ensures place { place_of result ≡ place }
+        ensures refused { refused_of result ≡ 0 }
     {
         StopAt {
             disk,
@@ -103,8 +105,8 @@ fn first_half(bytes: &[u8]) -> &[u8]
 }
 
 impl Disk for StopAt {
-    ghost use Rattle.moo_disk.specs.StopAt.{IsWithin, StopsFrom, failures_of, images, inner_of, left_of, view_of};
-    ghost use Rattle.moo_disk.specs.Texts.{BringsSpare, first_at};
+    ghost use Rattle.moo_disk.specs.StopAt.{IsWithin, StopsFrom, StopsWithin, failures_of, images, inner_of, left_of, view_of};
+    ghost use Rattle.moo_disk.specs.Texts.{Brings, BringsSpare, first_at};
     ghost use Rattle.moo_disk.specs.TextLaws.{main_is_left, more_from, now_since_now};
     ghost use Rattle.moo_disk.specs.CrashSet.{texts_of};
 
@@ -122,6 +124,8 @@ impl Disk for StopAt {
         ensures main { KeepsMain (view_of self.old) (view_of self.new) }
         ensures fault { Counts (failures_of self.old) (failures_of self.new) result }
         ensures stops { StopsFrom self.old self.new result }
+        ensures done { 1 < left_of self.old → IsOk result }
+        ensures images { images self.new ≡ images self.old }
         ensures nothing { left_of self.old ≤ 1 → inner_of self.new ≡ inner_of self.old }
     {
         if let Call::Passes = self.count() {
@@ -137,7 +141,10 @@ impl Disk for StopAt {
         ensures main { KeepsMain (view_of self.old) (view_of self.new) }
         ensures fault { Counts (failures_of self.old) (failures_of self.new) result }
         ensures stops { StopsFrom self.old self.new result }
-        ensures within { IsWithin self.old
+        ensures images { images self.new ≡ images self.old }
+        ensures within { StopsWithin self.old self.new → (view_of self.new).spare
+            ≡ option_map (λ text. text ++ take (length bytes.now / 2) bytes.now) (view_of self.old).spare }
+        ensures either { IsWithin self.old
             → ((view_of self.new).spare
             ≡ option_map (λ text. text ++ take (length bytes.now / 2) bytes.now) (view_of self.old).spare)
             ⊎ ((view_of self.new).spare ≡ (view_of self.old).spare) }
@@ -159,6 +166,8 @@ impl Disk for StopAt {
         ensures main { KeepsMain (view_of self.old) (view_of self.new) }
         ensures fault { Counts (failures_of self.old) (failures_of self.new) result }
         ensures stops { StopsFrom self.old self.new result }
+        ensures done { 1 < left_of self.old → IsOk result ↔ IsSome (view_of self.old).spare }
+        ensures images { images self.new ≡ images self.old }
         ensures nothing { left_of self.old ≤ 1 → inner_of self.new ≡ inner_of self.old }
     {
         if let Call::Passes = self.count() {
@@ -176,7 +185,12 @@ impl Disk for StopAt {
             (view_of self.new) }
         ensures fault { Counts (failures_of self.old) (failures_of self.new) result }
         ensures stops { StopsFrom self.old self.new result }
-        ensures within { IsWithin self.old
+        ensures brought { OnOk result (Brings (view_of self.old).stable (view_of self.new).main_text
+            (images self.old) (images self.new)) }
+        ensures err_images { 1 < left_of self.old → OnErr result (images self.new ≡ images self.old) }
+        ensures within { StopsWithin self.old self.new
+            → BringsSpare (view_of self.old) (images self.old) (images self.new) }
+        ensures either { IsWithin self.old
             → BringsSpare (view_of self.old) (images self.old) (images self.new)
             ⊎ (images self.new ≡ images self.old) }
     {
@@ -196,6 +210,8 @@ impl Disk for StopAt {
         ensures main { KeepsMain (view_of self.old) (view_of self.new) }
         ensures fault { Counts (failures_of self.old) (failures_of self.new) result }
         ensures stops { StopsFrom self.old self.new result }
+        ensures alone { OnOk result (images self.new ≡ (view_of self.old).main_text ∷ []) }
+        ensures err_images { OnErr result (images self.new ≡ images self.old) }
         ensures nothing { left_of self.old ≤ 1 → inner_of self.new ≡ inner_of self.old }
     {
         if let Call::Passes = self.count() {
@@ -210,6 +226,8 @@ impl Disk for StopAt {
         ensures main { KeepsMain (view_of self.old) (view_of self.new) }
         ensures fault { Counts (failures_of self.old) (failures_of self.new) result }
         ensures stops { StopsFrom self.old self.new result }
+        ensures done { 1 < left_of self.old → IsOk result }
+        ensures images { images self.new ≡ images self.old }
         ensures nothing { left_of self.old ≤ 1 → inner_of self.new ≡ inner_of self.old }
     {
         if let Call::Passes = self.count() {

@@ -89,3 +89,17 @@ fn main_is_read_in_parts(rt: HostRuntime) -> Result<(), Fail> {
     }
     Ok(())
 }
+
+#[test]
+fn a_spare_that_grew_after_its_sync_may_be_lost(rt: HostRuntime) -> Result<(), Fail> {
+    let alloc = rt.alloc();
+    let mut disk = MemoryDisk::new(alloc, text(alloc, b"one")?);
+    disk.create_spare()?;
+    disk.sync_spare()?;
+    disk.append(b"two")?;
+    disk.rename()?;
+    assert_eq!(rt; disk.image_count(), 3);
+    let lost = left(disk, 1).ok_or("no such image")?;
+    assert!(rt; lost.main_text() == b"".as_slice());
+    Ok(())
+}

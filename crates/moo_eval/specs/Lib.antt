@@ -8,3 +8,4 @@ pub mod Seen
 pub mod Fault
 pub mod Ends
 pub mod Typed
+pub mod Line

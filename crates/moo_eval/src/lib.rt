@@ -5,6 +5,7 @@ mod access;
 mod frame;
 mod interpreter;
 pub mod laws;
+mod line;
 mod outcome;
 mod statement;
 mod task;
@@ -15,6 +16,7 @@ mod typed;
 mod variables;
 
 pub use frame::{Frame, TraceEntry, TraceFrame};
+pub use line::{EvalLine, eval_line};
 pub use task::{Ended, MOST_TICKS, run_task};
 pub use traceback::traceback_lines;
 pub use typed::run_typed;

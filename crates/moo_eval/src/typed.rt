@@ -26,8 +26,8 @@ pub fn run_typed(alloc: Global, program: Program) -> Result<Vec<Vec<u8>>, AllocE
     }
 }
 
-// The frame of a program that is typed in.
-fn typed_frame(
+/// The frame of a program that is typed in.
+pub(crate) fn typed_frame(
     alloc: Global,
     program: Program,
     programmer: i32,

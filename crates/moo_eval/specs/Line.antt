@@ -1,0 +1,35 @@
+-- What a line of input is answered.
+use Rattle.std.specs.Prelude.{◌≡◌, ◌≢◌, ℕ, negsuc, List, [], ◌∷◌, ◌++◌, codes}
+use Rattle.moo_value.specs.Tree.{IsText}
+use Rattle.moo_value.specs.Size.{IsString}
+use Rattle.moo_program.specs.Tree.{Block}
+use Rattle.moo_syntax.specs.declared.syntax_fault.Names.TheVariants.{Known}
+use Rattle.moo_syntax.specs.declared.syntax_fault.SyntaxFault.{SyntaxFault}
+use Rattle.moo_syntax.specs.declared.syntax_fault.SyntaxFaultKind.TheVariants.{Memory}
+use Rattle.moo_syntax.specs.Programs.{IsParsed, Blames}
+use Rattle.moo_syntax.specs.FaultText.{fault_text}
+use Rattle.moo_eval.specs.Task.{End, TaskEnds}
+use Rattle.moo_eval.specs.Typed.{typed_frame, shown}
+
+-- the program that a line is
+abbrev pub program_text : List ℕ → List ℕ
+program_text line = codes "return " ++ line ++ codes ";"
+
+-- the text is a program, and its task ends so
+pub record RunsTo (text : List ℕ) (end : End) : Type 0 where
+  pub program : Block
+  pub parsed : IsParsed (text ∷ []) program
+  pub ends : TaskEnds (typed_frame program (negsuc 0) (negsuc 0) (negsuc 0)) end
+
+-- the text has this fault, which is not want of memory
+pub record HasFault (text : List ℕ) (fault : SyntaxFault) : Type 0 where
+  pub blames : Blames Known (text ∷ []) fault.line fault.kind
+  pub told : fault.kind ≢ Memory
+
+-- A line is answered with these lines and this status: with what is shown of its program's end, or where it is refused,
+-- for a byte that no string holds, as too long for a string, or for a fault of its program, with the line that tells so.
+pub data AnswersLine (line : List ℕ) (lines : List (List ℕ)) (status : ℕ) : Type 0 where
+  bad_byte : (¬ IsText line) → lines ≡ codes "Line 1:  Bad token" ∷ [] → status ≡ 5 → AnswersLine line lines status
+  too_long : IsText line → (¬ IsString (program_text line)) → lines ≡ codes "Line 1:  Too deeply nested" ∷ [] → status ≡ 5 → AnswersLine line lines status
+  refused : IsString (program_text line) → (fault : SyntaxFault) → HasFault (program_text line) fault → lines ≡ fault_text fault ∷ [] → status ≡ 5 → AnswersLine line lines status
+  runs : IsString (program_text line) → (end : End) → RunsTo (program_text line) end → lines ≡ shown end → status ≡ 0 → AnswersLine line lines status

@@ -1,0 +1,101 @@
+//! A line of input, run as a program.
+ghost use Rattle.std.specs.Prelude.{◌≡◌, ◌≢◌, [], ◌∷◌, IfOk, IfSome, IfNone, OnOk};
+ghost use Rattle.moo_value.specs.Tree.{IsText};
+ghost use Rattle.moo_value.specs.Size.{IsString};
+ghost use Rattle.moo_syntax.specs.declared.syntax_fault.SyntaxFaultKind.TheVariants.{Memory};
+ghost use Rattle.moo_syntax.specs.FaultText.{fault_text};
+ghost use Rattle.moo_eval.specs.Ends.{texts};
+ghost use Rattle.moo_eval.specs.Line.{program_text, AnswersLine};
+
+use crate::typed::{one_line, run_typed};
+use moo_syntax::{Names, SyntaxFault, SyntaxFaultKind, parse};
+use moo_value::{MooStr, WEIGHT_LIMIT, is_text};
+use std::alloc::{AllocError, Global};
+
+/// The status of a line that was run.
+const RUN: u8 = 0;
+
+/// The status of a line that was refused.
+const REFUSED: u8 = 5;
+
+/// What a line of input is answered.
+#[derive(Drop)]
+pub struct EvalLine {
+    /// The lines to print.
+    pub lines: Vec<Vec<u8>>,
+    /// 0 where the line was run, 5 where it was refused.
+    pub status: u8,
+}
+
+/// Runs `line` as the program `return LINE;`, in a frame like that of the built-in `eval`: with the value's literal
+/// or the lines of a traceback, or where it is no program with the line that tells why. The error is want of memory.
+pub fn eval_line(alloc: Global, line: &[u8]) -> Result<EvalLine, AllocError>
+    ensures { IfOk result (λ answer. AnswersLine line.now (texts answer.lines.items) answer.status) }
+{
+    if !is_text(line) {
+        return refused(alloc, Vec::from_slice(alloc, b"Line 1:  Bad token")?);
+    }
+    let Some(text) = program_text(alloc, line)? else {
+        return refused(
+            alloc,
+            Vec::from_slice(alloc, b"Line 1:  Too deeply nested")?,
+        );
+    };
+    match parse(alloc, &[text], Names::Known) {
+        Ok(program) => {
+            let lines = run_typed(alloc, program)?;
+            Ok(EvalLine { lines, status: RUN })
+        }
+        Err(fault) => {
+            let lines = one_line(alloc, fault_line(alloc, &fault)?)?;
+            Ok(EvalLine {
+                lines,
+                status: REFUSED,
+            })
+        }
+    }
+}
+
+// The answer of one line, for a line of input that is refused.
+fn refused(alloc: Global, line: Vec<u8>) -> Result<EvalLine, AllocError>
+    ensures lines { IfOk result (λ answer. texts answer.lines.items ≡ line.items ∷ []) }
+    ensures status { IfOk result (λ answer. answer.status ≡ REFUSED) }
+{
+    let lines = one_line(alloc, line)?;
+    Ok(EvalLine {
+        lines,
+        status: REFUSED,
+    })
+}
+
+// The program that a line is, or `None` where it is too heavy for a string.
+#[tactic(auto, using(crate::proofs::Texts::heavy_text))]
+fn program_text(alloc: Global, line: &[u8]) -> Result<Option<MooStr>, AllocError>
+    requires { IsText line.now }
+    ensures text { IfOk result (λ text. IfSome text (λ s. s ≡ program_text line.now)) }
+    ensures fits { IfOk result (λ text. IfSome text (λ _. IsString (program_text line.now))) }
+    ensures heavy { IfOk result (λ text. IfNone text (¬ IsString (program_text line.now))) }
+{
+    if line.len() + b"return ;".len() >= WEIGHT_LIMIT as usize {
+        return Ok(None);
+    }
+    let mut text = Vec::from_slice(alloc, b"return ")?;
+    text.extend_from_slice(line)?;
+    text.push(b';')?;
+    let text = MooStr::try_from_vec(alloc, text).map_err(|_| AllocError)?;
+    Ok(Some(text))
+}
+
+// The line that a player is told, where the fault isn't want of memory.
+fn fault_line(alloc: Global, fault: &SyntaxFault) -> Result<Vec<u8>, AllocError>
+    ensures text { IfOk result (λ text. text.items ≡ fault_text fault.now) }
+    ensures told { OnOk result (fault.now.kind ≢ Memory) }
+{
+    match fault.kind {
+        SyntaxFaultKind::Memory => Err(AllocError),
+        _ => {
+            let text = fault.text(alloc)?;
+            Ok(text)
+        }
+    }
+}

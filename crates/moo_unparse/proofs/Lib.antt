@@ -1,0 +1,4 @@
+pub mod Fits
+pub mod Items
+pub mod Sizes
+pub mod Texts

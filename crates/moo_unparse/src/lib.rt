@@ -1,0 +1,11 @@
+//! Listings of programs.
+#![tactic(auto)]
+
+mod expression;
+mod line;
+mod listing;
+mod operator;
+#[cfg(test)]
+mod tests;
+
+pub use listing::{Memory, list_full};

@@ -1,0 +1,137 @@
+//! A line that is being written.
+ghost use Rattle.std.specs.Prelude.{◌≡◌, ◌<◌, ◌∷◌, ◌++◌, codes, length, IfOk, OnOk};
+ghost use Rattle.std.specs.Fmt.{signed_decimal};
+ghost use Rattle.moo_value.specs.Tree.{IsTextByte, IsText};
+ghost use Rattle.moo_value.specs.Size.{weight_limit};
+ghost use Rattle.moo_value.specs.Text.{escaped, quoted};
+ghost use Rattle.moo_token.specs.Spelling.{sign_text};
+ghost use Rattle.moo_token.specs.Words.{keyword_text};
+
+use itoa::Buffer;
+use moo_token::{Keyword, Sign};
+use moo_value::{MooStr, ValueFault};
+use std::alloc::{AllocError, Global};
+use std::marker::Model;
+
+/// The bytes of a line so far, all of which may stand in a string.
+#[derive(Drop)]
+pub(crate) struct Line {
+    bytes: Vec<u8>,
+}
+
+impl Model for Line {
+    ghost use Rattle.std.specs.Prelude.{ℕ, List};
+    ghost use Rattle.moo_value.specs.Tree.{IsText};
+
+    ghost Value = { List ℕ };
+
+    ghost view = { λ line. line.bytes.items };
+
+    ghost invariant = { λ line. IsText line.bytes.items };
+}
+
+impl Line {
+    pub(crate) fn new(alloc: Global) -> Line
+        ensures { result ≡ codes "" }
+    {
+        Line {
+            bytes: Vec::new(alloc),
+        }
+    }
+
+    pub(crate) fn text(&mut self, text: &[u8]) -> Result<(), AllocError>
+        requires { IsText text.now }
+        ensures { OnOk result (self.new ≡ self.old ++ text.now) }
+    {
+        self.bytes.extend_from_slice(text)
+    }
+
+    pub(crate) fn sign(&mut self, sign: Sign) -> Result<(), AllocError>
+        ensures { OnOk result (self.new ≡ self.old ++ sign_text sign) }
+    {
+        self.text(sign.text().as_bytes())
+    }
+
+    pub(crate) fn keyword(&mut self, keyword: Keyword) -> Result<(), AllocError>
+        ensures { OnOk result (self.new ≡ self.old ++ keyword_text keyword) }
+    {
+        self.text(keyword.text().as_bytes())
+    }
+
+    pub(crate) fn blank(&mut self) -> Result<(), AllocError>
+        ensures { OnOk result (self.new ≡ self.old ++ codes " ") }
+    {
+        self.byte(b' ')
+    }
+
+    /// A sign with a blank on each side.
+    pub(crate) fn spaced_sign(&mut self, sign: Sign) -> Result<(), AllocError>
+        ensures { OnOk result (self.new ≡ self.old ++ codes " " ++ sign_text sign ++ codes " ") }
+    {
+        self.blank()?;
+        self.sign(sign)?;
+        self.blank()
+    }
+
+    pub(crate) fn number(&mut self, number: i32) -> Result<(), AllocError>
+        ensures { OnOk result (self.new ≡ self.old ++ signed_decimal number) }
+    {
+        let mut buffer = Buffer::new();
+        self.text(buffer.format(number).as_bytes())
+    }
+
+    /// An object's number behind `#`.
+    pub(crate) fn object(&mut self, number: i32) -> Result<(), AllocError>
+        ensures { OnOk result (self.new ≡ self.old ++ codes "#" ++ signed_decimal number) }
+    {
+        self.byte(b'#')?;
+        self.number(number)
+    }
+
+    /// A string between double quotes, with a backslash before each double quote and backslash in it.
+    pub(crate) fn quoted(&mut self, string: &[u8]) -> Result<(), AllocError>
+        requires { IsText string.now }
+        ensures { OnOk result (self.new ≡ self.old ++ quoted string.now) }
+    {
+        self.byte(b'"')?;
+        for byte in string {
+            self.escaped(*byte)?;
+        }
+        self.byte(b'"')
+    }
+
+    fn escaped(&mut self, byte: u8) -> Result<(), AllocError>
+        requires { IsTextByte byte }
+        ensures { OnOk result (self.new ≡ self.old ++ escaped byte) }
+    {
+        if byte == b'"' || byte == b'\\' {
+            self.byte(b'\\')?;
+        }
+        self.byte(byte)
+    }
+
+    fn byte(&mut self, byte: u8) -> Result<(), AllocError>
+        requires { IsTextByte byte }
+        ensures { OnOk result (self.new ≡ self.old ++ byte ∷ codes "") }
+    {
+        self.bytes.push(byte)?;
+        Ok(())
+    }
+
+    #[cfg(test)]
+    pub(crate) fn as_bytes(&self) -> &[u8] {
+        &self.bytes
+    }
+
+    /// The line as a string, for which it has to be short enough.
+    pub(crate) fn into_string(self, alloc: Global) -> Result<MooStr, AllocError>
+        requires { length self < weight_limit }
+        ensures { IfOk result (λ s. s ≡ self) }
+    {
+        match MooStr::try_from_vec(alloc, self.bytes) {
+            Ok(string) => Ok(string),
+            Err(ValueFault::Memory) => Err(AllocError),
+            Err(ValueFault::BadByte | ValueFault::TooHeavy) => unreachable!(),
+        }
+    }
+}

@@ -7,7 +7,7 @@ use crate::{Disk, MemoryDisk};
 
 /// A disk that can be left as a crash leaves it, with each of the texts that a crash may leave.
 pub trait CrashDisk: Disk {
-    /// The texts that a crash now may leave under main, in the order in which they entered.
+    /// The texts that a crash now may leave under main.
     ghost images: { Self → List (List ℕ) };
 
     /// The disk that a crash leaves with the i-th of the texts, from 0 on. Where there is no i-th one, the

@@ -26,6 +26,7 @@ pub struct CrashSet {
 impl CrashSet {
     ghost use Rattle.moo_disk.specs.CrashSet.{crash_view, room_of, texts_of};
 
+    /// A set of one text.
     pub fn new(alloc: Global, text: Vec<u8>) -> CrashSet
         ensures { texts_of result ≡ text.items ∷ [] }
     {
@@ -37,12 +38,14 @@ impl CrashSet {
         }
     }
 
+    /// How many texts there are.
     pub fn count(&self) -> usize
         ensures { result ≡ length (texts_of self.now) }
     {
         self.later.len() - self.first + 1
     }
 
+    /// The text at that place, lent.
     pub fn get(&self, place: usize) -> &[u8]
         requires { place < length (texts_of self.now) }
         ensures { slice_get (texts_of self.now) place ≡ Some result.now }

@@ -19,7 +19,7 @@ fn put(disk: &mut MemoryDisk, text: &[u8], sync: bool) -> Result<(), DiskFault> 
     disk.rename()
 }
 
-// The main text that a crash leaves with the i-th image.
+// The disk that a crash leaves with the i-th image.
 fn left<D: CrashDisk + Drop>(disk: D, i: usize) -> Option<D> {
     disk.crash(i).ok()
 }

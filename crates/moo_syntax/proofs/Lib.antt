@@ -4,6 +4,7 @@ pub mod Complete
 pub mod Heights
 pub mod Steps
 pub mod Blocks
+pub mod TextLengths
 pub mod Whole
 pub mod Sound
 pub mod Depths

@@ -1,5 +1,5 @@
 -- What the outcome of the parser says of whole texts.
-use Rattle.std.proofs.Common.{ℕ, zero, suc, ◌≤◌, ◌<◌, ap, true, List, [], ◌∷◌, ◌++◌, ◌≡◌, refl, sym, subst, length, take, drop, inr, arith, ◌+◌, inl}
+use Rattle.std.proofs.Common.{ℕ, zero, suc, ◌≤◌, ◌<◌, ap, true, List, [], ◌∷◌, ◌++◌, ◌≡◌, refl, sym, subst, length, take, drop, inr, arith, ◌+◌, inl, ⊎_elim}
 use Rattle.std.proofs.lemmas.List.{take-append-drop, drop_all}
 use Rattle.moo_token.specs.declared.token.Token.{Token}
 use Rattle.moo_token.specs.declared.token.Token.TheVariants as token
@@ -11,9 +11,9 @@ use Rattle.moo_program.specs.Limits.{AllFit, most_nodes, most_brackets}
 use Rattle.moo_program.specs.Listing.{listing}
 use Rattle.moo_syntax.specs.declared.fault.Fault.{Fault}
 use Rattle.moo_syntax.specs.declared.fault.Fault.TheVariants.{Unexpected, TooDeep, Memory}
-use Rattle.moo_syntax.specs.Stops.{StopsBy}
+use Rattle.moo_syntax.specs.Stops.{StopsBy, ExceedLimits}
 use Rattle.moo_syntax.specs.Tokens.{words, is_bad}
-use Rattle.moo_syntax.specs.Programs.{IsProgramOf, SameUpTo, NoProgram, IsBadToken, ExceedLimits, line_of}
+use Rattle.moo_syntax.specs.Programs.{IsProgramOf, SameUpTo, NoProgram, IsBadToken, IsTooDeep, line_of}
 use Rattle.moo_syntax.specs.Brackets.{open_behind, most_open_behind, most_open}
 use Rattle.moo_syntax.specs.Depth.{Deep}
 use Rattle.moo_token.specs.declared.sign.Sign.TheVariants as sign
@@ -23,6 +23,7 @@ use Rattle.moo_syntax.specs.Predictive.{grammar}
 use Rattle.moo_syntax.specs.Agree.{Agree, at_end, here, next}
 use Rattle.moo_syntax.proofs.MachineLemmas.{whole, reads_once, reads_again, fails_again}
 use Rattle.moo_syntax.proofs.Complete.{complete}
+use Rattle.moo_syntax.proofs.TextLengths.{tokens_within}
 
 pub one_program : (ts : List Token) (b c : Block) → IsProgram ts b → IsProgram ts c → b ≡ c
 one_program ts b c d e = (reads_once grammar (complete d refl) (complete e refl)).0
@@ -143,5 +144,13 @@ exceed_by_brackets ts h = record {
 pub exceed_by_lines : (ts : List Token) (b : Block) → IsProgram ts b → (AllFit (listing b) → ⊥) → ExceedLimits ts
 exceed_by_lines ts b d none = record {
   outside = λ c e w. none (subst (λ v. AllFit (listing v)) (one_program ts c b e d) w.program.lines);
-  long = inr (b, d, none);
+  long = inr (record { tree = b; program = d; long = none });
+}
+
+pub too_deep : (lines : List (List ℕ)) (spots : List Spot) → IsReading lines spots → ExceedLimits (words spots) → IsTooDeep lines
+too_deep lines spots r x = record {
+  spots = spots;
+  reading = r;
+  outside = x.outside;
+  long = ⊎_elim (λ n. inl (omega (arith, n, words_length spots, tokens_within lines spots r))) (λ l. inr l) x.long;
 }

@@ -1,5 +1,6 @@
 -- The program of a text, and what a fault says of the text.
 use Rattle.std.specs.Prelude.{ℕ, suc, List, [], ◌∷◌, ◌++◌, ◌≡◌, ◌≤◌, ◌<◌, ◌⊎◌, length, take, drop}
+use Rattle.std.specs.List.{sum_by}
 use Rattle.moo_token.specs.declared.sign.Sign.TheVariants.{LeftParen}
 use Rattle.moo_token.specs.declared.token.Token.{Token}
 use Rattle.moo_token.specs.declared.token.Token.TheVariants.{Name, Sign, Bad}
@@ -75,16 +76,22 @@ pub record IsUnknownFunction (lines : List (List ℕ)) (n : ℕ) (name : List �
 abbrev pub IsOutside : List Token → Type 0
 IsOutside ts = (b : Block) → IsProgram ts b → IsWithin ts b → ⊥
 
--- No program within the limits has these tokens. They are more than a path may have nodes, or they are a program with a
--- line in its listing that no string holds.
-pub record ExceedLimits (ts : List Token) : Type 0 where
-  pub outside : IsOutside ts
-  pub long : (most_nodes < length ts) ⊎ ((b : Block) × IsProgram ts b × (¬ AllFit (listing b)))
+-- how many bytes the lines have
+abbrev pub text_length : List (List ℕ) → ℕ
+text_length lines = sum_by length lines
 
+-- the tokens are a program with a line in its full listing that no string holds
+pub record HasLongLine (ts : List Token) : Type 0 where
+  pub tree : Block
+  pub program : IsProgram ts tree
+  pub long : ¬ AllFit (listing tree)
+
+-- No program within the limits has the text, and it has more bytes than a path may have nodes, or such a line.
 pub record IsTooDeep (lines : List (List ℕ)) : Type 0 where
   pub spots : List Spot
   pub reading : IsReading lines spots
-  pub exceed : ExceedLimits (words spots)
+  pub outside : IsOutside (words spots)
+  pub long : (most_nodes < text_length lines) ⊎ HasLongLine (words spots)
 
 -- what a fault of this kind on line n says of the text
 abbrev pub Blames : Names → List (List ℕ) → ℕ → SyntaxFaultKind → Type 0

@@ -1,15 +1,21 @@
 -- What the parser knows of the tokens where it stops.
-use Rattle.std.specs.Prelude.{ℕ, List, ◌∷◌, ◌≡◌, ◌+◌, drop}
+use Rattle.std.specs.Prelude.{ℕ, List, ◌∷◌, ◌≡◌, ◌+◌, drop, ◌<◌, ◌⊎◌, length}
 use Rattle.moo_token.specs.declared.sign.Sign.TheVariants.{LeftParen}
 use Rattle.moo_token.specs.declared.token.Token.{Token}
 use Rattle.moo_token.specs.declared.token.Token.TheVariants.{Name, Sign}
 use Rattle.moo_token.specs.declared.token.Spot.{Spot}
 use Rattle.moo_program.specs.Tree.{Block}
+use Rattle.moo_program.specs.Limits.{most_nodes}
 use Rattle.moo_syntax.specs.declared.fault.Fault.{Fault}
 use Rattle.moo_syntax.specs.declared.fault.Fault.TheVariants.{Unexpected, TooDeep, Memory}
 use Rattle.moo_syntax.specs.Tokens.{words}
 use Rattle.moo_syntax.specs.Grammar.{IsProgram}
-use Rattle.moo_syntax.specs.Programs.{IsWithin, NoProgram, ExceedLimits}
+use Rattle.moo_syntax.specs.Programs.{IsWithin, NoProgram, IsOutside, HasLongLine}
+
+-- no program within the limits has these tokens: they are many, or there is a long line
+pub record ExceedLimits (ts : List Token) : Type 0 where
+  pub outside : IsOutside ts
+  pub long : (most_nodes < length ts) ⊎ HasLongLine ts
 
 abbrev pub StopsBy : List Spot → ℕ → Fault → Type 0
 StopsBy spots at Unexpected = NoProgram (words spots) at

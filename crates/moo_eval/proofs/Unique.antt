@@ -3,6 +3,8 @@ use Rattle.std.proofs.Common.{◌≡◌, List, [], ◌∷◌, Result, Ok, Err, r
 use Rattle.moo_value.specs.Tree.{Tree}
 use Rattle.moo_program.specs.Tree.{Expr, Items, Stmt, Block}
 use Rattle.moo_eval.specs.Outcome.{Stop, Failure, Flow, passes, settled, goes_out, goes_on}
+use Rattle.moo_eval.specs.declared.frame.Frame.{Frame}
+use Rattle.moo_eval.specs.Task.{End, TaskEnds, end_of}
 use Rattle.moo_eval.specs.State.{Context, State, within, trace}
 use Rattle.moo_eval.specs.Meaning.{Evaluates, Computes, EvaluatesAll, Applies, Runs, Does, RunsAll, places, before, spent, begins, operands_end, places_end, applies, no_more, element_stops, element_then, splice_stops, splice_fails, splice_then, literal_is, variable_is, length_is, unary_is, binary_is, logic_decides, logic_goes_on, conditional_true, conditional_false, index_is, range_is, list_is, statement_spent, statement_begins, gives_zero, gives, ends, leaves, proceeds}
 
@@ -125,3 +127,6 @@ mutual
   one_block (leaves d f) (proceeds d' a') = let h = one_run d d' in let q = sym f ∙ ap goes_on h.0 in cc
   one_block (proceeds d a) (leaves d' f') = let h = one_run d d' in let q = sym f' ∙ ap goes_on (sym h.0) in cc
   one_block (proceeds {c = c} {b = b} d a) (proceeds {s'' = t} {o = p} d' a') = let h = one_run d d' in one_block a (at_state (λ x. RunsAll c b x p t) h.1 a')
+
+pub one_end : {start : Frame} {end other : End} → TaskEnds start end → TaskEnds start other → end ≡ other
+one_end d d' = sym d.ends ∙ ap end_of (one_block d.runs d'.runs).0 ∙ d'.ends

@@ -33,3 +33,7 @@ pub data AnswersLine (line : List ℕ) (lines : List (List ℕ)) (status : ℕ) 
   too_long : IsText line → (¬ IsString (program_text line)) → lines ≡ codes "Line 1:  Too deeply nested" ∷ [] → status ≡ 5 → AnswersLine line lines status
   refused : IsString (program_text line) → (fault : SyntaxFault) → HasFault (program_text line) fault → lines ≡ fault_text fault ∷ [] → status ≡ 5 → AnswersLine line lines status
   runs : IsString (program_text line) → (end : End) → RunsTo (program_text line) end → lines ≡ shown end → status ≡ 0 → AnswersLine line lines status
+
+-- a text has at most one end
+abbrev pub OneEndOfText : Type 0
+OneEndOfText = (text : List ℕ) (end other : End) → RunsTo text end → RunsTo text other → end ≡ other

@@ -1,6 +1,4 @@
-use Rattle.std.proofs.Common.{sym, ap, ◌∙◌}
-use Rattle.moo_eval.specs.Task.{end_of}
-use Rattle.moo_eval.proofs.Unique.{one_result, one_block}
+use Rattle.moo_eval.proofs.Unique.{one_result, one_block, one_end}
 use Rattle.moo_eval.proofs.laws.at_most_one_result.Goals as goal
 
 pub returns-clause-expressions : goal.returns-clause-expressions
@@ -10,4 +8,4 @@ pub returns-clause-statements : goal.returns-clause-statements
 returns-clause-statements c = λ x b s s' t o p d d'. one_block d d'
 
 pub returns-clause-tasks : goal.returns-clause-tasks
-returns-clause-tasks c = λ start end other d d'. sym d.ends ∙ ap end_of (one_block d.runs d'.runs).0 ∙ d'.ends
+returns-clause-tasks c = λ start end other d d'. one_end d d'

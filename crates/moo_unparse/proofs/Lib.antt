@@ -1,4 +1,9 @@
 pub mod Fits
+pub mod Good
 pub mod Items
+pub mod Law
+pub mod Listed
+pub mod Read
 pub mod Sizes
+pub mod Sound
 pub mod Texts

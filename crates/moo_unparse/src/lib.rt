@@ -2,6 +2,7 @@
 #![tactic(auto)]
 
 mod expression;
+pub mod laws;
 mod line;
 mod listing;
 mod operator;

@@ -1,0 +1,131 @@
+-- The tokens of the full listing, written in front of others.
+use Rattle.std.specs.Prelude.{ℕ, ℤ, pos, negsuc, List, [], ◌∷◌, ◌≡◌, Bool, true, false, FitsSigned}
+use Rattle.std.specs.Int.{int_wrapping_neg, w32}
+use Rattle.moo_token.specs.declared.sign.Sign.{Sign}
+use Rattle.moo_token.specs.declared.sign.Sign.TheVariants as sign
+use Rattle.moo_token.specs.declared.keyword.Keyword.TheVariants as keyword
+use Rattle.moo_token.specs.declared.token.Token.{Token}
+use Rattle.moo_token.specs.declared.token.Token.TheVariants as token
+use Rattle.moo_token.specs.Spelling.{is_name}
+use Rattle.moo_program.specs.declared.operator.UnaryOperator.{UnaryOperator}
+use Rattle.moo_program.specs.declared.operator.UnaryOperator.TheVariants.{Not, Negate}
+use Rattle.moo_program.specs.declared.operator.BinaryOperator.{BinaryOperator}
+use Rattle.moo_program.specs.declared.operator.BinaryOperator.TheVariants.{Add, Subtract, Multiply, Divide, Remainder, Power, Equal, NotEqual, Less, LessOrEqual, Greater, GreaterOrEqual, In}
+use Rattle.moo_program.specs.declared.operator.LogicOperator.{LogicOperator}
+use Rattle.moo_program.specs.declared.operator.LogicOperator.TheVariants.{And, Or}
+use Rattle.moo_program.specs.declared.tree.Literal.{Literal}
+use Rattle.moo_program.specs.declared.tree.Literal.TheVariants.{Integer, Object, Error, Str}
+use Rattle.moo_program.specs.Tree.{Expr, literal, variable, length_mark, unary, binary, logic, conditional, index, range, list, Items, no_items, element, splice, Stmt, return_nothing, returns, Block, no_statement, then}
+use Rattle.moo_program.specs.Listing.{is_compound, is_compound_base}
+
+abbrev pub unary_mark : UnaryOperator → Sign
+unary_mark Not = sign.Bang
+unary_mark Negate = sign.Minus
+
+abbrev pub binary_token : BinaryOperator → Token
+binary_token Add = token.Sign sign.Plus
+binary_token Subtract = token.Sign sign.Minus
+binary_token Multiply = token.Sign sign.Star
+binary_token Divide = token.Sign sign.Slash
+binary_token Remainder = token.Sign sign.Percent
+binary_token Power = token.Sign sign.Caret
+binary_token Equal = token.Sign sign.Equal
+binary_token NotEqual = token.Sign sign.NotEqual
+binary_token Less = token.Sign sign.Less
+binary_token LessOrEqual = token.Sign sign.LessEqual
+binary_token Greater = token.Sign sign.Greater
+binary_token GreaterOrEqual = token.Sign sign.GreaterEqual
+binary_token In = token.Keyword keyword.In
+
+abbrev pub logic_mark : LogicOperator → Sign
+logic_mark And = sign.AndAnd
+logic_mark Or = sign.OrOr
+
+-- a minus of its own before a negative integer
+abbrev pub integer_tokens : ℤ → List Token → List Token
+integer_tokens (pos n) r = token.Integer (pos n) ∷ r
+integer_tokens (negsuc n) r = token.Sign sign.Minus ∷ token.Integer (int_wrapping_neg w32 (negsuc n)) ∷ r
+
+abbrev pub literal_tokens : Literal → List Token → List Token
+literal_tokens (Integer n) r = integer_tokens n r
+literal_tokens (Object n) r = token.Object n ∷ r
+literal_tokens (Error e) r = token.Error e ∷ r
+literal_tokens (Str s) r = token.Str s ∷ r
+
+-- what f writes, in parentheses or bare, in front of r
+abbrev pub parens : Bool → (List Token → List Token) → List Token → List Token
+parens true f r = token.Sign sign.LeftParen ∷ f (token.Sign sign.RightParen ∷ r)
+parens false f r = f r
+
+-- a comma and the items behind it, if any follow
+abbrev pub further : Items → List Token → List Token
+further no_items ts = ts
+further (element a xs) ts = token.Sign sign.Comma ∷ ts
+further (splice a xs) ts = token.Sign sign.Comma ∷ ts
+
+abbrev mutual
+  pub spell : Expr → List Token → List Token
+  spell (literal l) r = literal_tokens l r
+  spell (variable s) r = token.Name s ∷ r
+  spell length_mark r = token.Sign sign.Dollar ∷ r
+  spell (unary o a) r = token.Sign (unary_mark o) ∷ parens (is_compound a) (spell a) r
+  spell (binary o a b) r = parens (is_compound a) (spell a) (binary_token o ∷ parens (is_compound b) (spell b) r)
+  spell (logic o a b) r = parens (is_compound a) (spell a) (token.Sign (logic_mark o) ∷ parens (is_compound b) (spell b) r)
+  spell (conditional a b c) r = parens (is_compound a) (spell a) (token.Sign sign.Question ∷ parens (is_compound b) (spell b) (token.Sign sign.Pipe ∷ parens (is_compound c) (spell c) r))
+  spell (index a b) r = parens (is_compound_base a) (spell a) (token.Sign sign.LeftBracket ∷ spell b (token.Sign sign.RightBracket ∷ r))
+  spell (range a b c) r = parens (is_compound_base a) (spell a) (token.Sign sign.LeftBracket ∷ spell b (token.Sign sign.DotDot ∷ spell c (token.Sign sign.RightBracket ∷ r)))
+  spell (list xs) r = token.Sign sign.LeftBrace ∷ spell_items xs (token.Sign sign.RightBrace ∷ r)
+
+  pub spell_items : Items → List Token → List Token
+  spell_items no_items r = r
+  spell_items (element a xs) r = spell a (further xs (spell_items xs r))
+  spell_items (splice a xs) r = token.Sign sign.At ∷ spell a (further xs (spell_items xs r))
+
+abbrev pub spell_statement : Stmt → List Token → List Token
+spell_statement return_nothing r = token.Keyword keyword.Return ∷ token.Sign sign.Semicolon ∷ r
+spell_statement (returns a) r = token.Keyword keyword.Return ∷ spell a (token.Sign sign.Semicolon ∷ r)
+
+abbrev pub spell_block : Block → List Token → List Token
+spell_block no_statement r = r
+spell_block (then s ss) r = spell_statement s (spell_block ss r)
+
+-- what a literal may be: an integer of 32 bits
+abbrev pub IsSoundLiteral : Literal → Type 0
+IsSoundLiteral (Integer n) = FitsSigned w32 n
+IsSoundLiteral (Object n) = FitsSigned w32 n
+IsSoundLiteral (Error e) = Unit {0}
+IsSoundLiteral (Str s) = Unit {0}
+
+-- numbers of 32 bits, and variables by names
+abbrev mutual
+  pub IsSound : Expr → Type 0
+  IsSound (literal l) = IsSoundLiteral l
+  IsSound (variable s) = is_name s ≡ true
+  IsSound length_mark = Unit {0}
+  IsSound (unary o a) = IsSound a
+  IsSound (binary o a b) = IsSound a × IsSound b
+  IsSound (logic o a b) = IsSound a × IsSound b
+  IsSound (conditional a b c) = IsSound a × IsSound b × IsSound c
+  IsSound (index a b) = IsSound a × IsSound b
+  IsSound (range a b c) = IsSound a × IsSound b × IsSound c
+  IsSound (list xs) = AreSound xs
+
+  pub AreSound : Items → Type 0
+  AreSound no_items = Unit {0}
+  AreSound (element a xs) = IsSound a × AreSound xs
+  AreSound (splice a xs) = IsSound a × AreSound xs
+
+-- the same of a token
+abbrev pub IsSoundToken : Token → Type 0
+IsSoundToken (token.Integer n) = FitsSigned w32 n
+IsSoundToken (token.Object n) = FitsSigned w32 n
+IsSoundToken (token.Name s) = is_name s ≡ true
+IsSoundToken _ = Unit {0}
+
+abbrev pub IsSoundStatement : Stmt → Type 0
+IsSoundStatement return_nothing = Unit {0}
+IsSoundStatement (returns a) = IsSound a
+
+abbrev pub IsSoundBlock : Block → Type 0
+IsSoundBlock no_statement = Unit {0}
+IsSoundBlock (then s ss) = IsSoundStatement s × IsSoundBlock ss

@@ -1,0 +1,4 @@
+-- What `moo expr` shows.
+pub mod Expr
+-- What private clauses alone cite.
+pub mod Held

@@ -1,0 +1,72 @@
+// What the words of the command line ask for.
+use clap::{Arg, Command, Error, value_parser};
+use std::alloc::{AllocError, Global};
+
+/// Rounds of `moo serve` where none are given.
+const ROUNDS: &str = "1000000000";
+
+/// What the program is to do.
+#[derive(Clone, Copy, Debug, PartialEq, Eq)]
+pub enum Work<'a> {
+    /// Evaluate the first line of the input.
+    Expr,
+    /// A command of this name, which the program can't do yet.
+    Missing(&'a str),
+}
+
+/// Reads the words, the program's own first. `None` where they name no command. Of a help that was asked
+/// for the error's `use_stderr` is false.
+pub fn read_words<'a>(alloc: Global, words: &'a [String]) -> Result<Option<Work<'a>>, Error> {
+    let matches = command(alloc)?.try_get_matches_from(words)?;
+    Ok(
+        matches.subcommand().map(|(name, _)| match name {
+            "expr" => Work::Expr,
+            _ => Work::Missing(name),
+        }),
+    )
+}
+
+fn command<'a>(alloc: Global) -> Result<Command<'a>, AllocError> {
+    let expr = Command::new(alloc, "expr").about("Evaluate the expression on standard input");
+    Command::new(alloc, "moo")
+        .about("A LambdaMOO server with crash-safe checkpoints")
+        .subcommand_required(true)
+        .arg_required_else_help(true)
+        .disable_help_subcommand(true)
+        .subcommand(expr)?
+        .subcommand(over_database(alloc, "check", "Tell what a database holds")?)?
+        .subcommand(over_database(alloc, "copy", "Print a database in its canonical form")?)?
+        .subcommand(over_database(
+            alloc,
+            "script",
+            "Run the events on standard input over a database in memory",
+        )?)?
+        .subcommand(serve(alloc)?)
+}
+
+fn over_database<'a>(
+    alloc: Global,
+    name: &'a str,
+    about: &'a str,
+) -> Result<Command<'a>, AllocError> {
+    let database = Arg::new(alloc, "DB")
+        .help("The database file")
+        .required(true);
+    Command::new(alloc, name).about(about).arg(database)
+}
+
+fn serve<'a>(alloc: Global) -> Result<Command<'a>, AllocError> {
+    let port = Arg::new(alloc, "PORT")
+        .help("The port on 127.0.0.1")
+        .required(true)
+        .value_parser(value_parser!(u16));
+    let rounds = Arg::new(alloc, "rounds")
+        .long("rounds")
+        .value_name("N")
+        .help("The most rounds of reading and writing")
+        .value_parser(value_parser!(u64))
+        .default_value(ROUNDS);
+    over_database(alloc, "serve", "Serve a database to connections")?
+        .arg(port)?
+        .arg(rounds)
+}

@@ -1,0 +1,56 @@
+//! The program `moo`.
+#![tactic(auto)]
+
+mod command_line;
+mod expr;
+mod line;
+mod refusal;
+#[cfg(test)]
+mod tests;
+
+use clap::error::ErrorKind;
+use command_line::{Work, read_words};
+use expr::run_expr;
+use refusal::Refusal;
+use std::io::BufReader;
+use std::process::ExitCode;
+use std::{env, io};
+
+/// The exit status of a command line that asks for nothing that the program does.
+const USAGE: u8 = 2;
+
+fn main(rt: HostRuntime) -> ExitCode {
+    match run(&rt) {
+        Ok(status) => ExitCode::from(status),
+        Err(error) => ExitCode::from(Refusal::from(error).told(&mut io::writer(&rt))),
+    }
+}
+
+// Does what the command line asks for, and answers the exit status.
+fn run(rt: &HostRuntime) -> io::Result<u8> {
+    let words: Vec<String> = env::args(rt)?.collect(rt.alloc())?;
+    match read_words(rt.alloc(), words.as_slice()) {
+        Ok(Some(work)) => run_work(rt, work),
+        Ok(None) => Ok(USAGE),
+        Err(error) if error.kind() == ErrorKind::OutOfMemory => {
+            Err(io::Error::from(io::ErrorKind::OutOfMemory))
+        }
+        Err(error) => {
+            error.print(rt)?;
+            Ok(if error.use_stderr() { USAGE } else { 0 })
+        }
+    }
+}
+
+fn run_work(rt: &HostRuntime, work: Work) -> io::Result<u8> {
+    match work {
+        Work::Expr => {
+            let mut input = BufReader::new(rt.alloc(), rt.reader())?;
+            Ok(run_expr(rt.alloc(), &mut input, &mut io::writer(rt)))
+        }
+        Work::Missing(name) => {
+            eprintln!(rt; "moo: the command {name} is not there yet")?;
+            Ok(USAGE)
+        }
+    }
+}

@@ -1,0 +1,142 @@
+// `moo expr` over bytes and over devices that fail, and what the command line asks for.
+mod device;
+
+use crate::command_line::{Work, read_words};
+use crate::expr::run_expr;
+use device::{Failing, Full, Interrupted};
+use std::alloc::{AllocError, Global};
+use std::test::Fail;
+
+// Whether the input gives this status and this output.
+fn gives(alloc: Global, input: &[u8], status: u8, output: &[u8]) -> bool {
+    let mut reader = input;
+    let mut shown = Vec::new(alloc);
+    let answer = run_expr(alloc, &mut reader, &mut shown);
+    answer == status && shown.as_slice() == output
+}
+
+// The first line that doesn't give its output with status 0.
+fn first_wrong<'a>(alloc: Global, rows: &[(&'a str, &str)]) -> Option<&'a str> {
+    for (line, output) in rows {
+        if !gives(alloc, line.as_bytes(), 0, output.as_bytes()) {
+            return Some(*line);
+        }
+    }
+    None
+}
+
+#[test]
+fn evaluates_lines(rt: HostRuntime) {
+    let rows = [
+        ("2147483647 + 1\n", "-2147483648\n"),
+        ("-2147483648 / -1\n", "-2147483648\n"),
+        ("{5 % -2, -5 % 2, -5 / 2}\n", "{1, -1, -2}\n"),
+        (
+            "{1 || 0 && 0, 2 ^ 3 ^ 2, -2 ^ 2, 2 ^ -1}\n",
+            "{0, 512, 4, 0}\n",
+        ),
+        (
+            "{\"abcde\"[2..$], \"abc\"[3..2], {1, 2, 3}[$]}\n",
+            "{\"bcde\", \"\", 3}\n",
+        ),
+        ("{1, @{2, 3}, 3 in {1, 2, 3}}\n", "{1, 2, 3, 3}\n"),
+        ("\"\" ? \"a\" | \"b\"\n", "\"b\"\n"),
+        ("1; return 2\n", "1\n"),
+    ];
+    assert_eq!(rt; first_wrong(rt.alloc(), &rows), None);
+}
+
+#[test]
+fn reads_to_the_first_line_feed_or_the_end(rt: HostRuntime) {
+    let rows = [
+        ("", "0\n"),
+        ("\n", "0\n"),
+        ("1 + 1", "2\n"),
+        ("1\n2\n", "1\n"),
+    ];
+    assert_eq!(rt; first_wrong(rt.alloc(), &rows), None);
+}
+
+#[test]
+fn tells_faults(rt: HostRuntime) {
+    let alloc = rt.alloc();
+    let traceback = b"#-1:Input to EVAL:  Type mismatch\n(End of traceback)\n";
+    assert!(rt; gives(alloc, b"\"a\" + 1\n", 0, traceback));
+    assert!(rt; gives(alloc, b"1 +\n", 5, b"Line 1:  Parse error\n"));
+    assert!(rt; gives(alloc, b"2.5\n", 5, b"Line 1:  Bad token\n"));
+    assert!(rt; gives(alloc, b"1\r\n", 5, b"Line 1:  Bad token\n"));
+    assert!(rt; gives(alloc, b"\"\xff\"\n", 5, b"Line 1:  Bad token\n"));
+}
+
+// An integer behind so many blanks.
+fn behind_blanks(alloc: Global, blanks: usize, last: u8) -> Result<Vec<u8>, AllocError> {
+    let mut line = vec![in alloc; b' '; blanks]?;
+    line.push(last)?;
+    Ok(line)
+}
+
+#[test]
+fn answers_lines_of_any_length(rt: HostRuntime) -> Result<(), Fail> {
+    let alloc = rt.alloc();
+    let longest = behind_blanks(alloc, 999_990, b'7')?;
+    assert!(rt; gives(alloc, longest.as_slice(), 0, b"7\n"));
+    let deep = b"Line 1:  Too deeply nested\n";
+    let longer = behind_blanks(alloc, 999_991, b'7')?;
+    assert!(rt; gives(alloc, longer.as_slice(), 5, deep));
+    let longest = behind_blanks(alloc, 1_100_000, b'7')?;
+    assert!(rt; gives(alloc, longest.as_slice(), 5, deep));
+    let bad = behind_blanks(alloc, 1_100_000, 0)?;
+    assert!(rt; gives(alloc, bad.as_slice(), 5, b"Line 1:  Bad token\n"));
+    Ok(())
+}
+
+#[test]
+fn tells_a_device_that_fails(rt: HostRuntime) -> Result<(), Fail> {
+    let alloc = rt.alloc();
+    let mut shown = Vec::new(alloc);
+    assert_eq!(rt; run_expr(alloc, &mut Failing, &mut shown), 3);
+    assert_eq!(rt; shown.as_slice(), b"refused: Device\n".as_slice());
+    for room in 0..3 {
+        let mut reader: &[u8] = b"12\n";
+        let mut output = Full { room };
+        assert_eq!(rt; run_expr(alloc, &mut reader, &mut output), 3);
+    }
+    Ok(())
+}
+
+#[test]
+fn reads_on_after_an_interruption(rt: HostRuntime) {
+    let alloc = rt.alloc();
+    let mut shown = Vec::new(alloc);
+    let mut reader = Interrupted {
+        is_first: true,
+        rest: b"12\n",
+    };
+    assert_eq!(rt; run_expr(alloc, &mut reader, &mut shown), 0);
+    assert_eq!(rt; shown.as_slice(), b"12\n".as_slice());
+}
+
+// What the command line with these words asks for, where it is one that the program knows.
+fn asked<'a>(alloc: Global, words: &'a [String]) -> Option<Work<'a>> {
+    match read_words(alloc, words) {
+        Ok(work) => work,
+        Err(_) => None,
+    }
+}
+
+#[test]
+fn reads_the_command_line(rt: HostRuntime) -> Result<(), Fail> {
+    let alloc = rt.alloc();
+    let words = [
+        String::from_str(alloc, "moo")?,
+        String::from_str(alloc, "expr")?,
+        String::from_str(alloc, "moo")?,
+        String::from_str(alloc, "check")?,
+        String::from_str(alloc, "w.db")?,
+    ];
+    let words = words.as_slice();
+    assert_eq!(rt; asked(alloc, &words[..2]), Some(Work::Expr));
+    assert_eq!(rt; asked(alloc, &words[2..]), Some(Work::Missing("check")));
+    assert_eq!(rt; asked(alloc, &words[..4]), None);
+    Ok(())
+}

@@ -9,6 +9,8 @@ use Rattle.moo_token.proofs.Readings.{one_token_list, bad_is_last}
 use Rattle.moo_program.specs.Tree.{Block}
 use Rattle.moo_program.specs.Limits.{AllFit, most_nodes, most_brackets}
 use Rattle.moo_program.specs.Listing.{listing}
+use Rattle.moo_syntax.specs.declared.syntax_fault.Names.{Names}
+use Rattle.moo_syntax.specs.declared.syntax_fault.Names.TheVariants.{Any, Known}
 use Rattle.moo_syntax.specs.declared.fault.Fault.{Fault}
 use Rattle.moo_syntax.specs.declared.fault.Fault.TheVariants.{Unexpected, TooDeep, Memory}
 use Rattle.moo_syntax.specs.Stops.{StopsBy, ExceedLimits}
@@ -154,3 +156,7 @@ too_deep lines spots r x = record {
   outside = x.outside;
   long = ⊎_elim (λ n. inl (omega (arith, n, words_length spots, tokens_within lines spots r))) (λ l. inr l) x.long;
 }
+
+pub known_of : (n : Names) → (n ≡ Any → ⊥) → n ≡ Known
+known_of Any h = absurd (h refl)
+known_of Known h = refl

@@ -1,5 +1,5 @@
 -- The program of a text, and what a fault says of the text.
-use Rattle.std.specs.Prelude.{ℕ, suc, List, [], ◌∷◌, ◌++◌, ◌≡◌, ◌≤◌, ◌<◌, ◌⊎◌, length, take, drop}
+use Rattle.std.specs.Prelude.{ℕ, suc, ◌+◌, List, [], ◌∷◌, ◌++◌, ◌≡◌, ◌≤◌, ◌<◌, ◌⊎◌, length, take, drop}
 use Rattle.std.specs.List.{sum_by}
 use Rattle.moo_token.specs.declared.sign.Sign.TheVariants.{LeftParen}
 use Rattle.moo_token.specs.declared.token.Token.{Token}
@@ -54,23 +54,30 @@ pub record IsBadToken (lines : List (List ℕ)) (n : ℕ) : Type 0 where
   pub reading : IsReading lines (before ++ record { token = Bad; line = n } ∷ [])
   pub none : HasNoTokens lines
 
--- no program begins with the tokens of the text up to one on line n
-pub record IsUnexpected (lines : List (List ℕ)) (n : ℕ) : Type 0 where
+-- the name stands before the place, and a parenthesis at it
+pub record IsCalled (spots : List Spot) (at : ℕ) (name : List ℕ) : Type 0 where
+  pub before : ℕ
+  pub place : at ≡ before + 1
+  pub rest : List Token
+  pub called : words (drop before spots) ≡ Name name ∷ Sign LeftParen ∷ rest
+
+-- No program begins with the tokens of the text up to one on line n. Where names are known, it is no call of a name.
+pub record IsUnexpected (names : Names) (lines : List (List ℕ)) (n : ℕ) : Type 0 where
   pub spots : List Spot
   pub reading : IsReading lines spots
   pub at : ℕ
   pub line : n ≡ line_of lines (drop at spots)
   pub none : NoProgram (words spots) at
+  pub no_call : names ≡ Known → (name : List ℕ) → ¬ IsCalled spots at name
 
 -- The name stands on line n with a parenthesis behind it, and no program begins with the tokens up to the parenthesis.
 pub record IsUnknownFunction (lines : List (List ℕ)) (n : ℕ) (name : List ℕ) : Type 0 where
   pub spots : List Spot
   pub reading : IsReading lines spots
   pub at : ℕ
-  pub rest : List Token
-  pub called : words (drop at spots) ≡ Name name ∷ Sign LeftParen ∷ rest
-  pub line : n ≡ line_of lines (drop at spots)
-  pub none : NoProgram (words spots) (suc at)
+  pub call : IsCalled spots at name
+  pub line : n ≡ line_of lines (drop call.before spots)
+  pub none : NoProgram (words spots) at
 
 -- no program within the limits has these tokens
 abbrev pub IsOutside : List Token → Type 0
@@ -96,7 +103,7 @@ pub record IsTooDeep (lines : List (List ℕ)) : Type 0 where
 -- what a fault of this kind on line n says of the text
 abbrev pub Blames : Names → List (List ℕ) → ℕ → SyntaxFaultKind → Type 0
 Blames names lines n BadToken = IsBadToken lines n
-Blames names lines n Unexpected = IsUnexpected lines n
+Blames names lines n Unexpected = IsUnexpected names lines n
 Blames names lines n TooDeep = IsTooDeep lines
 Blames names lines n (UnknownFunction name) = (names ≡ Known) × IsUnknownFunction lines n name
 Blames names lines n Memory = Unit {0}

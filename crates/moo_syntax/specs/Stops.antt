@@ -1,8 +1,6 @@
 -- What the parser knows of the tokens where it stops.
-use Rattle.std.specs.Prelude.{ℕ, List, ◌∷◌, ◌≡◌, ◌+◌, drop, ◌<◌, ◌⊎◌, length}
-use Rattle.moo_token.specs.declared.sign.Sign.TheVariants.{LeftParen}
+use Rattle.std.specs.Prelude.{ℕ, List, ◌<◌, ◌⊎◌, length}
 use Rattle.moo_token.specs.declared.token.Token.{Token}
-use Rattle.moo_token.specs.declared.token.Token.TheVariants.{Name, Sign}
 use Rattle.moo_token.specs.declared.token.Spot.{Spot}
 use Rattle.moo_program.specs.Tree.{Block}
 use Rattle.moo_program.specs.Limits.{most_nodes}
@@ -26,10 +24,3 @@ StopsBy spots at Memory = Unit {0}
 pub record IsWhole (ts : List Token) (b : Block) : Type 0 where
   pub program : IsProgram ts b
   pub limits : IsWithin ts b
-
--- the name stands before the place, and a parenthesis at it
-pub record IsCalled (spots : List Spot) (at : ℕ) (name : List ℕ) : Type 0 where
-  pub before : ℕ
-  pub place : at ≡ before + 1
-  pub rest : List Token
-  pub called : words (drop before spots) ≡ Name name ∷ Sign LeftParen ∷ rest

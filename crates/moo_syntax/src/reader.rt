@@ -1,9 +1,9 @@
 //! The program of a text, or why it is none.
-ghost use Rattle.std.specs.Prelude.{◌≡◌, ◌≤◌, ◌+◌, length, drop, IfOk, IfErr, IfSome};
+ghost use Rattle.std.specs.Prelude.{◌≡◌, ◌≤◌, ◌+◌, length, drop, ℕ, List, IfOk, IfErr, MatchOption};
 ghost use Rattle.moo_token.specs.Lexing.{IsReading};
 ghost use Rattle.moo_syntax.specs.Tokens.{words};
-ghost use Rattle.moo_syntax.specs.Programs.{IsParsed, Blames, NoProgram, line_of};
-ghost use Rattle.moo_syntax.specs.Stops.{StopsBy, IsWhole, IsCalled};
+ghost use Rattle.moo_syntax.specs.Programs.{IsParsed, Blames, NoProgram, IsCalled, line_of};
+ghost use Rattle.moo_syntax.specs.Stops.{StopsBy, IsWhole};
 
 use crate::brackets::bracket_too_many;
 use crate::cursor::Cursor;
@@ -113,7 +113,7 @@ fn unexpected(lines: &[MooStr], spots: &[Spot], at: usize, names: Names) -> Synt
             kind: SyntaxFaultKind::BadToken,
         };
     }
-    if names == Names::Any || at == 0 || !tokens.is_at(Sign::LeftParen) {
+    if let Names::Any = names {
         return SyntaxFault {
             line,
             kind: SyntaxFaultKind::Unexpected,
@@ -135,13 +135,15 @@ fn unexpected(lines: &[MooStr], spots: &[Spot], at: usize, names: Names) -> Synt
     }
 }
 
-/// The name that stands before a parenthesis at this place.
+/// The name that a parenthesis at this place calls.
 fn called_name(spots: &[Spot], at: usize) -> Result<Option<MooStr>, Fault>
-    requires after { 1 ≤ at }
-    requires within { at ≤ length spots.now }
-    ensures { IfOk result (λ found. IfSome found (λ name. IsCalled spots.now at name)) }
+    requires { at ≤ length spots.now }
+    ensures { IfOk result (λ found. MatchOption found ((name : List ℕ) → ¬ IsCalled spots.now at name) (λ name. IsCalled spots.now at name)) }
 {
-    let mut tokens = Cursor { spots, at: at - 1 };
+    let Some(before) = at.checked_sub(1) else {
+        return Ok(None);
+    };
+    let mut tokens = Cursor { spots, at: before };
     let Some(name) = tokens.take_name()? else {
         return Ok(None);
     };

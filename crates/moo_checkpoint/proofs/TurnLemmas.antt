@@ -1,5 +1,5 @@
 -- What turns one after another come to.
-use Rattle.std.proofs.Common.{◌≡◌, ◌⊎◌, ⊎_elim, ℕ, ◌+◌, List, [], ◌∷◌, length, refl, sym, ◌∙◌, ap, subst, arith}
+use Rattle.std.proofs.Common.{◌≡◌, ◌⊎◌, ◌↔◌, ⊎_elim, ℕ, ◌+◌, ◌<◌, List, [], ◌∷◌, length, refl, sym, ◌∙◌, ap, subst, arith}
 use Rattle.moo_disk.specs.Disk.{DiskView, Gains}
 use Rattle.moo_disk.proofs.GainsLemmas.{gains_join, gains_less, gains_none}
 use Rattle.moo_checkpoint.specs.declared.checkpoint.Checkpoint.{Checkpoint}
@@ -21,19 +21,19 @@ fresh_turns checkpoint fresh =
     let all = ap (λ (stage : Stage). turns_from stage (length checkpoint.text.items) checkpoint.written) fresh in
     omega (arith, all)
 
--- a disk that shows what the one within shows goes on where that one does
+-- a disk that shows what the one within shows goes on exactly where that one does
 pub continues_within : {D E : Type 0} (view : D → DiskView) (honest stands : D → Type 0) (inner : E → D) (checkpoint : Checkpoint) (disk : E)
     → Continues view honest stands checkpoint (inner disk)
-    → Continues (λ e. view (inner e)) (λ e. honest (inner e)) (λ e. stands (inner e)) checkpoint disk
+    ↔ Continues (λ e. view (inner e)) (λ e. honest (inner e)) (λ e. stands (inner e)) checkpoint disk
 unfolding Continues
-continues_within view honest stands inner checkpoint disk goes_on = within checkpoint.stage goes_on
+continues_within view honest stands inner checkpoint disk = within checkpoint.stage
   where
     within : (stage : Stage) → IsReady view honest stands stage checkpoint.text.items checkpoint.written (inner disk)
-        → IsReady (λ e. view (inner e)) (λ e. honest (inner e)) (λ e. stands (inner e)) stage checkpoint.text.items checkpoint.written disk
-    within Create ready = ready
-    within Fill ready = ready
-    within Rename ready = ready
-    within SyncNames ready = ready
+        ↔ IsReady (λ e. view (inner e)) (λ e. honest (inner e)) (λ e. stands (inner e)) stage checkpoint.text.items checkpoint.written disk
+    within Create = (λ ready. ready, λ ready. ready)
+    within Fill = (λ ready. ready, λ ready. ready)
+    within Rename = (λ ready. ready, λ ready. ready)
+    within SyncNames = (λ ready. ready, λ ready. ready)
 
 pub record Comes {D : Type 0} (view : D → DiskView) (old new : Checkpoint) (before after : D) (n : ℕ) : Type 0 where
   pub text : text_of new ≡ text_of old
@@ -57,3 +57,10 @@ more_turns view old new before after (taken ∷ turns) all =
           (λ c brought. ⊎_elim (λ is. is) (λ is. is ∙ first.text) brought) joined;
       left = let one = first.more refl in omega (arith, one, rest.left);
     }
+
+-- where a turn is left before them, one is left after turns that all answer `More`
+pub more_turns_left : {D : Type 0} (view : D → DiskView) (old new : Checkpoint) (before after : D) (turns : List (Taken D))
+    → MoreTurns view old before turns new after → 0 < turns_left old → 0 < turns_left new
+more_turns_left view old new before after [] same more = let left = ap turns_left same.0 in omega (arith, left, more)
+more_turns_left view old new before after (taken ∷ turns) all more =
+    more_turns_left view taken.checkpoint new taken.disk after turns all.1 (all.0.not_last refl)

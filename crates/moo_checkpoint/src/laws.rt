@@ -1,5 +1,5 @@
 //! What turns one after another come to, whatever the disk is.
-ghost use Rattle.std.specs.Prelude.{◌≡◌, ◌+◌, ◌<◌, List, length};
+ghost use Rattle.std.specs.Prelude.{◌≡◌, ◌↔◌, ◌+◌, ◌<◌, List, length};
 ghost use Rattle.moo_disk.specs.Disk.{Gains, LeavesOnly};
 ghost use Rattle.moo_disk.specs.FailAt.{inner_of};
 ghost use Rattle.moo_disk.specs.StopAt.{inner_of as memory_within};
@@ -24,40 +24,45 @@ pub fn a_fresh_checkpoint_has_all_turns()
         → turns_left checkpoint ≡ pieces (length (text_of checkpoint)) + 4 }
 {}
 
-/// Between two turns a disk may be made to fail.
+/// Between two turns a disk may be made to fail, and such a disk may be changed for the one within.
 pub fn a_failing_disk_goes_on<D: Disk>()
     ensures { (checkpoint : Checkpoint) (disk : FailAt D)
         → Continues D.view D.honest D.stands checkpoint (inner_of disk)
-        → Continues ⟦<FailAt<D> as Disk>⟧.view ⟦<FailAt<D> as Disk>⟧.honest ⟦<FailAt<D> as Disk>⟧.stands checkpoint disk }
+        ↔ Continues ⟦<FailAt<D> as Disk>⟧.view ⟦<FailAt<D> as Disk>⟧.honest ⟦<FailAt<D> as Disk>⟧.stands checkpoint disk }
 {}
 
-/// Or to stop.
+/// A disk in memory may be made to stop, and such a disk may be changed for the one within.
 pub fn a_stopping_disk_goes_on()
     ensures { (checkpoint : Checkpoint) (disk : StopAt)
         → Continues ⟦<MemoryDisk as Disk>⟧.view ⟦<MemoryDisk as Disk>⟧.honest ⟦<MemoryDisk as Disk>⟧.stands checkpoint (memory_within disk)
-        → Continues ⟦<StopAt as Disk>⟧.view ⟦<StopAt as Disk>⟧.honest ⟦<StopAt as Disk>⟧.stands checkpoint disk }
+        ↔ Continues ⟦<StopAt as Disk>⟧.view ⟦<StopAt as Disk>⟧.honest ⟦<StopAt as Disk>⟧.stands checkpoint disk }
 {}
 
-/// Each turn that answers `More` takes one of the turns left. At every moment a crash may leave what it
+/// Each turn that answers `More` takes one of the turns left; from the beginning on there are fewer of them
+/// than pieces + 4, so that the turn with that number ends the checkpoint at the latest. At every moment a crash may leave what it
 /// might have left before, or the checkpoint's text.
 pub fn more_turns_come<D: Disk>()
     ensures left { (old new : Checkpoint) (before after : D) (turns : List (Taken D))
         → MoreTurns D.view old before turns new after
         → turns_left new + length turns ≡ turns_left old }
+    ensures fewer { (old new : Checkpoint) (before after : D) (turns : List (Taken D))
+        → IsFresh old → MoreTurns D.view old before turns new after
+        → length turns < pieces (length (text_of old)) + 4 }
     ensures crash { (old new : Checkpoint) (before after : D) (turns : List (Taken D))
         → MoreTurns D.view old before turns new after
         → Gains (λ c. c ≡ text_of old) (D.view before) (D.view after) }
 {}
 
 /// A checkpoint is done in the last of its turns: in the one numbered pieces + 4 from its beginning on. Then a
-/// crash leaves its text alone, and since the beginning what it left before, or that text.
+/// crash leaves its text alone. However the last turn ends, a crash since the beginning leaves what it
+/// left before, or that text.
 pub fn a_checkpoint_is_done_in_its_last_turn<D: Disk>()
     ensures number { (old mid new : Checkpoint) (before disk after : D) (turns : List (Taken D))
         → IsFresh old
         → MoreTurns D.view old before turns mid disk → Turned D.view Turn.Done mid new disk after
         → length turns + 1 ≡ pieces (length (text_of old)) + 4 }
-    ensures crash { (old mid new : Checkpoint) (before disk after : D) (turns : List (Taken D))
-        → MoreTurns D.view old before turns mid disk → Turned D.view Turn.Done mid new disk after
+    ensures crash { (answer : Turn) (old mid new : Checkpoint) (before disk after : D) (turns : List (Taken D))
+        → MoreTurns D.view old before turns mid disk → Turned D.view answer mid new disk after
         → Gains (λ c. c ≡ text_of old) (D.view before) (D.view after) }
     ensures durable { (old mid new : Checkpoint) (before disk after : D) (turns : List (Taken D))
         → MoreTurns D.view old before turns mid disk → Turned D.view Turn.Done mid new disk after

@@ -84,11 +84,11 @@ fn a_checkpoint_after_a_failed_one_is_done(rt: HostRuntime) -> Result<(), Fail> 
             let mut failing = FailAt::new(disk, k, effect);
             let first = write(text(alloc, b"A")?, &mut failing, 5);
             assert_eq!(rt; first, Turn::Failed, "call {k}");
-            let second = write(text(alloc, b"A")?, &mut failing, 5);
+            let second = write(text(alloc, b"B")?, &mut failing, 5);
             assert_eq!(rt; second, Turn::Done, "after call {k}");
             let disk = failing.into_inner();
             assert_eq!(rt; disk.image_count(), 1);
-            assert!(rt; disk.main_text() == b"A".as_slice());
+            assert!(rt; disk.main_text() == b"B".as_slice());
         }
     }
     Ok(())
@@ -105,5 +105,17 @@ fn a_text_is_done_in_the_turn_of_its_length(rt: HostRuntime) -> Result<(), Fail>
         assert_eq!(rt; last, Turn::Done, "{bytes} bytes");
         assert_eq!(rt; disk.main_text().len(), bytes);
     }
+    Ok(())
+}
+
+#[test]
+fn a_turn_makes_one_call(rt: HostRuntime) -> Result<(), Fail> {
+    let alloc = rt.alloc();
+    let disk = MemoryDisk::new(alloc, Vec::new(alloc));
+    let mut failing = FailAt::new(disk, 8, false);
+    let answer = write(vec![in alloc; b'a'; 131_073]?, &mut failing, 7);
+    assert_eq!(rt; answer, Turn::Done);
+    let mut buffer = [0];
+    assert!(rt; failing.read_main(0, &mut buffer).is_err());
     Ok(())
 }

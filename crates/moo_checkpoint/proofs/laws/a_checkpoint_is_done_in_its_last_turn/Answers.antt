@@ -11,7 +11,7 @@ returns-clause-number g c old mid new before disk after turns fresh more last =
     omega (arith, all.left, one, fresh_turns old fresh)
 
 pub returns-clause-crash : goal.returns-clause-crash
-returns-clause-crash g c old mid new before disk after turns more last =
+returns-clause-crash g c answer old mid new before disk after turns more last =
     let view = g.D.Disk.view in
     let all = more_turns view old mid before disk turns more in
     let joined = gains_join (λ t. t ≡ text_of old) (λ t. t ≡ text_of mid) (view before) (view disk) (view after) all.crash last.crash in

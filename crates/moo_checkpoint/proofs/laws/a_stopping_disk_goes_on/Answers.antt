@@ -5,4 +5,4 @@ use Rattle.moo_checkpoint.proofs.TurnLemmas.{continues_within}
 use Rattle.moo_checkpoint.proofs.laws.a_stopping_disk_goes_on.Goals as goal
 
 pub returns : goal.returns
-returns c checkpoint disk goes_on = continues_within view_of (λ _. Unit {0}) (λ d. IsSome (view_of d).spare) inner_of checkpoint disk goes_on
+returns c checkpoint disk = continues_within view_of (λ _. Unit {0}) (λ d. IsSome (view_of d).spare) inner_of checkpoint disk

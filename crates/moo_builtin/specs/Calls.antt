@@ -1,0 +1,124 @@
+-- What a call of a function over values alone answers.
+use Rattle.std.specs.Prelude.{◌≡◌, ℕ, pos, List, [], ◌∷◌, Option, None, Some, Result, Ok, Err}
+use Rattle.moo_value.specs.declared.error_code.ErrorCode.{ErrorCode}
+use Rattle.moo_value.specs.declared.error_code.ErrorCode.TheVariants.{TypeMismatch}
+use Rattle.moo_value.specs.declared.value.Value.{Value}
+use Rattle.moo_value.specs.Errors.{error_message}
+use Rattle.moo_value.specs.Tree.{Tree, integer, error, string}
+use Rattle.moo_value.specs.View.{tree}
+use Rattle.moo_operation.specs.declared.fault.OperationFault.{OperationFault}
+use Rattle.moo_operation.specs.declared.fault.OperationFault.TheVariants as fault
+use Rattle.moo_function.specs.declared.function.Function.{Function}
+use Rattle.moo_function.specs.declared.function.Function.TheVariants as function
+use Rattle.moo_function.specs.Table.{row}
+use Rattle.moo_function.specs.Check.{mismatch}
+use Rattle.moo_builtin.specs.declared.call.Outcome.{Outcome}
+use Rattle.moo_builtin.specs.declared.call.Outcome.TheVariants as outcome
+use Rattle.moo_text_function.specs.Answers.{Gives}
+use Rattle.moo_text_function.specs.Conversions.{to_text, to_literal, to_integer, to_object}
+use Rattle.moo_text_function.specs.Texts.{compare, index, last_index, substitute}
+use Rattle.moo_builtin.specs.Looks.{type_of, length_of, equal, time, server_version}
+use Rattle.moo_builtin.specs.Numbers.{absolute, least, greatest}
+use Rattle.moo_builtin.specs.Lists.{list_append, list_insert, list_set, list_delete, set_add, set_remove, is_member}
+
+-- an error that is raised, with its message and its value
+pub record Raised : Type 0 where
+  pub code : ErrorCode
+  pub message : List ℕ
+  pub value : Tree
+
+-- an error with its own message and 0
+abbrev pub plainly : ErrorCode → Raised
+plainly e = record { code = e; message = error_message e; value = integer (pos 0) }
+
+-- what each function over values alone gives for arguments that fit its row, where an error has its own message; the
+-- others are not of this crate
+abbrev pub plain_answer : Function → ℕ → List Tree → Option (Result Tree ErrorCode)
+plain_answer function.TypeOf moment args = Some (type_of args)
+plain_answer function.Length moment args = Some (length_of args)
+plain_answer function.ToText moment args = Some (to_text args)
+plain_answer function.ToLiteral moment args = Some (to_literal args)
+plain_answer function.ToInteger moment args = Some (to_integer args)
+plain_answer function.ToNumber moment args = Some (to_integer args)
+plain_answer function.ToObject moment args = Some (to_object args)
+plain_answer function.Equal moment args = Some (equal args)
+plain_answer function.Compare moment args = Some (compare args)
+plain_answer function.Minimum moment args = Some (least args)
+plain_answer function.Maximum moment args = Some (greatest args)
+plain_answer function.Absolute moment args = Some (absolute args)
+plain_answer function.Index moment args = Some (index args)
+plain_answer function.LastIndex moment args = Some (last_index args)
+plain_answer function.Substitute moment args = Some (substitute args)
+plain_answer function.ListAppend moment args = Some (list_append args)
+plain_answer function.ListInsert moment args = Some (list_insert args)
+plain_answer function.ListSet moment args = Some (list_set args)
+plain_answer function.ListDelete moment args = Some (list_delete args)
+plain_answer function.SetAdd moment args = Some (set_add args)
+plain_answer function.SetRemove moment args = Some (set_remove args)
+plain_answer function.IsMember moment args = Some (is_member args)
+plain_answer function.Time moment args = Some (time moment args)
+plain_answer function.ServerVersion moment args = Some (server_version args)
+plain_answer _ moment args = None
+
+-- such an answer, with the errors as they are raised
+abbrev pub simply : Option (Result Tree ErrorCode) → Option (Result Tree Raised)
+simply None = None
+simply (Some (Ok t)) = Some (Ok t)
+simply (Some (Err e)) = Some (Err (plainly e))
+
+-- the error that `raise` raises, with a message and a value of its own where they are given
+abbrev pub raised_by : List Tree → Raised
+raised_by (error e ∷ []) = plainly e
+raised_by (error e ∷ string s ∷ []) = record { code = e; message = s; value = integer (pos 0) }
+raised_by (error e ∷ string s ∷ t ∷ []) = record { code = e; message = s; value = t }
+raised_by _ = plainly TypeMismatch
+
+-- what each function over values alone gives, or raises, for arguments that fit its row
+abbrev pub answer : Function → ℕ → List Tree → Option (Result Tree Raised)
+answer function.Raise moment args = Some (Err (raised_by args))
+answer f moment args = simply (plain_answer f moment args)
+
+-- A call of such a function at a moment answers a value or raises an error. The count and the types of its arguments
+-- come before the function's own rule.
+pub data Calls : Function → ℕ → List Tree → Result Tree Raised → Type 0 where
+  refused : {f : Function} {moment : ℕ} {args : List Tree} {e : ErrorCode} →
+      mismatch (row f) args ≡ Some e →
+      Calls f moment args (Err (plainly e))
+  answers : {f : Function} {moment : ℕ} {args : List Tree} {r : Result Tree Raised} →
+      mismatch (row f) args ≡ None →
+      answer f moment args ≡ Some r →
+      Calls f moment args r
+
+-- the outcome is this, want of memory aside
+abbrev pub Shows : Outcome → Result Tree Raised → Type 0
+Shows (outcome.Value v) r = r ≡ Ok (tree v)
+Shows (outcome.Raise e message v) r = r ≡ Err (record { code = e; message = message; value = tree v })
+Shows outcome.Memory r = Unit {0}
+
+-- the same of a function that may be another crate's: it has no outcome here
+abbrev pub ShowsSome : Option Outcome → Option (Result Tree Raised) → Type 0
+ShowsSome None r = r ≡ None
+ShowsSome (Some o) None = ⊥
+ShowsSome (Some o) (Some r) = Shows o r
+
+-- the outcome is that of a call, want of memory aside; none where the function is not of this crate
+abbrev pub IsCall : Function → ℕ → List Tree → Option Outcome → Type 0
+IsCall f moment args None = answer f moment args ≡ None
+IsCall f moment args (Some (outcome.Value v)) = Calls f moment args (Ok (tree v))
+IsCall f moment args (Some (outcome.Raise e message v)) = Calls f moment args (Err (record { code = e; message = message; value = tree v }))
+IsCall f moment args (Some outcome.Memory) = Unit {0}
+
+-- a call has at most one answer
+abbrev pub AtMostOneAnswer : Type 0
+AtMostOneAnswer = (f : Function) (moment : ℕ) (args : List Tree) (r s : Result Tree Raised) → Calls f moment args r → Calls f moment args s → r ≡ s
+
+-- For private clauses: an answer of the program is what a function gives, and an outcome is an answer of the program.
+abbrev pub GivesSome : Option (Result Value OperationFault) → Option (Result Tree ErrorCode) → Type 0
+GivesSome None r = r ≡ None
+GivesSome (Some a) None = ⊥
+GivesSome (Some a) (Some r) = Gives a r
+
+abbrev pub Tells : Outcome → Result Value OperationFault → Type 0
+Tells o (Ok v) = o ≡ outcome.Value v
+Tells o (Err (fault.Raise e)) = Shows o (Err (plainly e))
+Tells o (Err fault.Memory) = o ≡ outcome.Memory

@@ -1,0 +1,13 @@
+//! The table of the built-in functions: what each is called, which arguments it takes, and which calls are refused
+//! before a function looks at its arguments.
+#![tactic(auto)]
+
+mod check;
+mod function;
+pub mod laws;
+mod table;
+#[cfg(test)]
+mod tests;
+
+pub use function::Function;
+pub use table::{Kind, Row};

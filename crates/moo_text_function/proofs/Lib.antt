@@ -1,0 +1,4 @@
+pub mod TextBytes
+pub mod Replacing
+pub mod Digits
+pub mod Spelled

@@ -1,0 +1,7 @@
+-- What the functions on strings, and those from and to strings, answer.
+pub mod Answers
+pub mod Numerals
+pub mod Spelling
+pub mod Conversions
+pub mod Texts
+pub mod Inner

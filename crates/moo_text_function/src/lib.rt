@@ -1,0 +1,15 @@
+//! The built-in functions on strings, and those from and to strings.
+#![tactic(auto)]
+
+mod conversion;
+pub mod laws;
+mod made;
+mod numeral;
+mod place;
+mod substitution;
+#[cfg(test)]
+mod tests;
+
+pub use conversion::{to_integer, to_literal, to_object, to_text};
+pub use place::{compare, index, last_index};
+pub use substitution::substitute;

@@ -1,0 +1,22 @@
+//! Strings that are made, within the limit of weight.
+ghost use Rattle.moo_value.specs.Tree.{string, IsText};
+ghost use Rattle.moo_operation.specs.Answer.{limited};
+ghost use Rattle.moo_text_function.specs.Answers.{Gives};
+
+use moo_operation::OperationFault;
+use moo_value::{ErrorCode, MooStr, Value, ValueFault};
+use std::alloc::Global;
+
+pub const TYPE_MISMATCH: OperationFault = OperationFault::Raise(ErrorCode::TypeMismatch);
+
+/// The string of these bytes.
+pub fn string_answer(alloc: Global, bytes: Vec<u8>) -> Result<Value, OperationFault>
+    requires { IsText bytes.items }
+    ensures { Gives result (limited (string bytes.items)) }
+{
+    match MooStr::try_from_vec(alloc, bytes) {
+        Ok(string) => Ok(Value::Str(string)),
+        Err(ValueFault::Memory) => Err(OperationFault::Memory),
+        Err(_) => Err(OperationFault::Raise(ErrorCode::Quota)),
+    }
+}

@@ -1,0 +1,101 @@
+//! Occurrences of a string replaced.
+ghost use Rattle.std.specs.Prelude.{◌≡◌, ◌<◌, length, IfOk};
+ghost use Rattle.memchr.specs.Find.{matches};
+ghost use Rattle.bstr.specs.Text.{replaced_at};
+ghost use Rattle.moo_value.specs.View.{trees};
+ghost use Rattle.moo_text_function.specs.Answers.{Gives};
+ghost use Rattle.moo_text_function.specs.Texts.{substituted, substitution, substitute};
+ghost use Rattle.moo_text_function.specs.Inner.{IsReplaced};
+
+use crate::made::{TYPE_MISMATCH, string_answer};
+use crate::place::as_searched;
+use memchr::memmem;
+use moo_operation::{OperationFault, is_true};
+use moo_value::{ErrorCode, MooStr, Value, WEIGHT_LIMIT};
+use std::alloc::{AllocError, Global};
+
+/// `strsub`: a string with each occurrence of a second replaced by a third, from the left. What was put in is not looked
+/// at again. Letters are folded unless the fourth argument is true; an empty second string raises E_INVARG.
+pub fn substitute(alloc: Global, args: &[Value]) -> Result<Value, OperationFault>
+    ensures { Gives result (substitute (trees args.now)) }
+{
+    match args {
+        [Value::Str(text), Value::Str(wanted), Value::Str(other)] => {
+            substitution(alloc, text, wanted, other, false)
+        }
+        [
+            Value::Str(text),
+            Value::Str(wanted),
+            Value::Str(other),
+            exact,
+        ] => { substitution(alloc, text, wanted, other, is_true(exact)) }
+        _ => Err(TYPE_MISMATCH),
+    }
+}
+
+fn substitution(
+    alloc: Global,
+    text: &MooStr,
+    wanted: &MooStr,
+    other: &MooStr,
+    exact: bool,
+) -> Result<Value, OperationFault>
+    ensures { Gives result (substitution exact text.now wanted.now other.now) }
+{
+    if wanted.is_empty() {
+        return Err(OperationFault::Raise(ErrorCode::InvalidArgument));
+    }
+    match substituted(
+        alloc,
+        text.as_bytes(),
+        wanted.as_bytes(),
+        other.as_bytes(),
+        exact,
+    ) {
+        Ok(Some(made)) => string_answer(alloc, made),
+        Ok(None) => Err(OperationFault::Raise(ErrorCode::Quota)),
+        Err(AllocError) => Err(OperationFault::Memory),
+    }
+}
+
+// `None` past the limit of weight.
+fn substituted(
+    alloc: Global,
+    text: &[u8],
+    wanted: &[u8],
+    other: &[u8],
+    exact: bool,
+) -> Result<Option<Vec<u8>>, AllocError>
+    ensures { IfOk result (λ made. IsReplaced made (substituted exact text.now wanted.now other.now)) }
+{
+    let searched = as_searched(alloc, exact, text)?;
+    let wanted = as_searched(alloc, exact, wanted)?;
+    replaced(alloc, text, &searched, &wanted, other)
+}
+
+// The text with `other` in each place where `wanted` stands in `searched`, which is as long. `None` past the limit of
+// weight.
+fn replaced(
+    alloc: Global,
+    text: &[u8],
+    searched: &[u8],
+    wanted: &[u8],
+    other: &[u8],
+) -> Result<Option<Vec<u8>>, AllocError>
+    requires { length searched.now ≡ length text.now }
+    ensures { IfOk result (λ made. IsReplaced made (replaced_at text.now (length wanted.now) other.now 0 (matches searched.now wanted.now 0))) }
+{
+    let mut made = Vec::new(alloc);
+    let mut found = memmem::find_iter(searched, wanted);
+    let mut last = 0;
+    while let Some(start) = found.next() {
+        if made.len() >= WEIGHT_LIMIT as usize {
+            return Ok(None);
+        }
+        made.extend_from_slice(&text[last..start])?;
+        made.extend_from_slice(other)?;
+        last = start + wanted.len();
+    }
+    made.extend_from_slice(&text[last..])?;
+    Ok(Some(made))
+}

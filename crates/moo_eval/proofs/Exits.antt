@@ -1,6 +1,5 @@
 -- What the exits of a function say.
-use Rattle.std.proofs.Common.{◌≡◌, ℕ, suc, ◌+◌, ◌<◌, List, [], ◌∷◌, ◌++◌, append_assoc, false, Result, Ok, Err, length, get_or, drop, refl, sym, ap, ◌∙◌, add-one}
-use Rattle.std.proofs.Math.Seq.{drop-cons}
+use Rattle.std.proofs.Common.{◌≡◌, ℕ, ℤ, Option, List, [], ◌∷◌, ◌++◌, append_assoc, false, Result, Ok, Err, refl, sym, ap, ◌∙◌}
 use Rattle.std.proofs.lemmas.List.{map-append}
 use Rattle.moo_value.specs.declared.value.Value.{Value}
 use Rattle.moo_value.specs.declared.error_code.ErrorCode.{ErrorCode}
@@ -9,21 +8,23 @@ use Rattle.moo_value.specs.View.{tree, trees}
 use Rattle.moo_operation.specs.declared.fault.OperationFault.{OperationFault}
 use Rattle.moo_operation.specs.declared.fault.OperationFault.TheVariants as fault
 use Rattle.moo_operation.specs.Answer.{IsRefused}
-use Rattle.moo_eval.specs.declared.outcome.Flow as code_flow
-use Rattle.moo_eval.specs.declared.outcome.Flow.TheVariants as flow_case
-use Rattle.moo_eval.specs.Outcome.{Failure, answers, goes_on}
-use Rattle.moo_eval.specs.Meaning.{before}
-use Rattle.moo_eval.specs.Seen.{failure_of, flow_of, HadMemoryIn}
-use Rattle.moo_eval.specs.Fault.{failed}
+use Rattle.moo_outcome.specs.declared.outcome.Flow as code_flow
+use Rattle.moo_outcome.specs.declared.outcome.Flow.TheVariants as flow_case
+use Rattle.moo_value.specs.declared.error_code.ErrorCode.TheVariants.{TypeMismatch}
+use Rattle.moo_program.specs.declared.tree.Expr.{None', Some'}
+use Rattle.moo_program.specs.declared.tree.Item.{Item, Element', Splice', Optional'}
+use Rattle.moo_program.specs.Tree.{Items}
+use Rattle.moo_program.specs.View.{with_item}
+use Rattle.moo_outcome.specs.State.{Context, State}
+use Rattle.moo_outcome.specs.Outcome.{Failure, fails, answers, goes_on}
+use Rattle.moo_eval.specs.Meaning.{EvaluatesAll, optional_fails, defaulted_fails, before}
+use Rattle.moo_outcome.specs.Seen.{failure_of, flow_of, HadMemoryIn}
+use Rattle.moo_outcome.specs.Fault.{failed}
 
 -- an operation that is refused with memory enough fails with its error
 pub refused : (f : OperationFault) (r : Result Tree ErrorCode) → IsRefused f r → HadMemoryIn (failed f) → answers r ≡ Err (failure_of (failed f))
 refused (fault.Raise code) r h k = ap answers h
 refused fault.Memory r h k = absurd k
-
--- what is left of a list, from the item at a place on
-pub drop_next : {X : Type 0} (xs : List X) (i : ℕ) (x : X) → i < length xs → x ≡ get_or xs i x → drop i xs ≡ x ∷ drop (i + 1) xs
-drop_next xs i x h e = drop-cons xs i x h ∙ ap (λ y. y ∷ drop (suc i) xs) (sym e) ∙ ap (λ n. x ∷ drop n xs) (sym (add-one i))
 
 before-before : (xs ys : List Tree) (o : Result (List Tree) Failure) → before xs (before ys o) ≡ before (xs ++ ys) o
 before-before xs ys (Ok ws) = ap Ok (sym (append_assoc xs ys ws))
@@ -40,3 +41,19 @@ trees_pushed vs us v p = ap trees p ∙ map-append tree vs (v ∷ [])
 pub goes_on-not : (flow : code_flow.Flow) → (flow ≡ flow_case.Next → ⊥) → goes_on (Ok (flow_of flow)) ≡ false
 goes_on-not flow_case.Next h = absurd (h refl)
 goes_on-not (flow_case.Return v) h = refl
+
+-- states with the same variables and programmer
+pub same_state : {n : ℕ} {f g : List ℕ → Option Tree} {p q : ℤ} → f ≡ g → p ≡ q → ◌≡◌ {A = State} (record { ticks = n; variables = f; programmer = p }) (record { ticks = n; variables = g; programmer = q })
+same_state {n = n} e h = λ i. record { ticks = n; variables = e i; programmer = h i }
+
+-- a name that may be left out stands in no list that is evaluated
+abbrev pub IsOptional : Item → Type 0
+IsOptional (Element' p e) = ⊥
+IsOptional (Splice' p e) = ⊥
+IsOptional (Optional' x d) = Unit {0}
+
+pub optional_ends : {c : Context} {s : State} (item : Item) (xs : Items) → IsOptional item → EvaluatesAll c (with_item item xs) s (Err (fails TypeMismatch)) s
+optional_ends (Element' p e) xs h = absurd h
+optional_ends (Splice' p e) xs h = absurd h
+optional_ends (Optional' x None') xs h = optional_fails
+optional_ends (Optional' x (Some' p e)) xs h = defaulted_fails

@@ -1,6 +1,5 @@
+pub mod Caught
 pub mod Exits
 pub mod Held
-pub mod Names
-pub mod Rows
 pub mod Texts
 pub mod Unique

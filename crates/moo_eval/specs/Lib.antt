@@ -1,11 +1,6 @@
-pub mod State
-pub mod Variables
-pub mod Outcome
 pub mod Meaning
-pub mod Traceback
 pub mod Task
 pub mod Seen
-pub mod Fault
 pub mod Ends
 pub mod Typed
 pub mod Line

@@ -3,7 +3,7 @@ use Rattle.std.specs.Prelude.{◌≡◌, ◌≢◌, ℕ, negsuc, List, [], ◌�
 use Rattle.moo_value.specs.Tree.{IsText}
 use Rattle.moo_value.specs.Size.{IsString}
 use Rattle.moo_program.specs.Tree.{Block}
-use Rattle.moo_syntax.specs.declared.syntax_fault.Names.TheVariants.{Known}
+use Rattle.moo_grammar.specs.declared.names.Names.TheVariants.{Known}
 use Rattle.moo_syntax.specs.declared.syntax_fault.SyntaxFault.{SyntaxFault}
 use Rattle.moo_syntax.specs.declared.syntax_fault.SyntaxFaultKind.TheVariants.{Memory}
 use Rattle.moo_syntax.specs.Programs.{IsParsed, Blames}
@@ -18,7 +18,7 @@ program_text line = codes "return " ++ line ++ codes ";"
 -- the text is a program, and its task ends so
 pub record RunsTo (text : List ℕ) (end : End) : Type 0 where
   pub program : Block
-  pub parsed : IsParsed (text ∷ []) program
+  pub parsed : IsParsed Known (text ∷ []) program
   pub ends : TaskEnds (typed_frame program (negsuc 0) (negsuc 0) (negsuc 0)) end
 
 -- the text has this fault, which is not want of memory

@@ -2,12 +2,12 @@
 use Rattle.std.specs.Prelude.{◌≡◌, ℕ, pos, List, [], None, Result, Ok, Err, codes}
 use Rattle.moo_value.specs.Tree.{Tree, integer}
 use Rattle.moo_program.specs.Tree.{Expr, Block}
-use Rattle.moo_eval.specs.declared.frame.Frame.{Frame}
-use Rattle.moo_eval.specs.Outcome as outcome
-use Rattle.moo_eval.specs.Outcome.{Stop, raised, Flow, next, returned}
-use Rattle.moo_eval.specs.State.{Context, State}
-use Rattle.moo_eval.specs.Variables.{first_bindings, value_of_name}
-use Rattle.moo_eval.specs.Traceback.{traceback}
+use Rattle.moo_outcome.specs.declared.frame.Frame.{Frame}
+use Rattle.moo_outcome.specs.Outcome as outcome
+use Rattle.moo_outcome.specs.Outcome.{Stop, raised, Flow, next, returned}
+use Rattle.moo_outcome.specs.State.{Context, State}
+use Rattle.moo_outcome.specs.Variables.{first_bindings, value_of_name}
+use Rattle.moo_outcome.specs.Traceback.{traceback}
 use Rattle.moo_eval.specs.Meaning.{Evaluates, RunsAll}
 
 -- how a task ends: a value, or the lines of its traceback

@@ -2,7 +2,7 @@
 use Rattle.std.specs.Prelude.{ℕ, ℤ, negsuc, true, List, [], ◌∷◌, codes}
 use Rattle.moo_value.specs.Text.{literal}
 use Rattle.moo_program.specs.Tree.{Block}
-use Rattle.moo_eval.specs.declared.frame.Frame.{Frame}
+use Rattle.moo_outcome.specs.declared.frame.Frame.{Frame}
 use Rattle.moo_eval.specs.Task.{End, value, uncaught, out_of_ticks}
 
 -- the frame of a program that is typed in

@@ -2,17 +2,19 @@
 ghost use Rattle.std.specs.Prelude.{◌≡◌, ◌-◌, ◌<◌, ◌≤◌, IfErr, OnOk};
 ghost use Rattle.moo_program.specs.Tree.{unary, binary, logic, conditional, index, range, list};
 ghost use Rattle.moo_program.specs.View.{tree, items_of};
-ghost use Rattle.moo_eval.specs.Outcome.{out_of_ticks};
+ghost use Rattle.moo_outcome.specs.Outcome.{out_of_ticks};
 ghost use Rattle.moo_eval.specs.Meaning.{Evaluates, Computes, EvaluatesAll};
-ghost use Rattle.moo_eval.specs.Seen.{state_of, context_of, trace_of, stop_of, seen_value, seen_answer, seen_answers, HadMemory, IsKnown, IsKnownFailure};
+ghost use Rattle.moo_outcome.specs.Seen.{context_of, trace_of, stop_of, seen_value, seen_answer, seen_answers, HadMemory, IsKnown, IsKnownFailure};
+ghost use Rattle.moo_eval.specs.Seen.{state_of};
 
-use crate::access::{literal_value, measure, push, read_variable, splice};
-use crate::frame::{Activation, CallStack};
-use crate::outcome::{Failure, Stop, settle};
 use moo_operation as operation;
+use moo_outcome::{
+    Activation, CallStack, Failure, Stop, literal_value, measure, push, read_variable, settle,
+    splice,
+};
 use moo_program::operator::{BinaryOperator, LogicOperator, UnaryOperator};
 use moo_program::{Expr, Item};
-use moo_value::Value;
+use moo_value::{ErrorCode, Value};
 use std::alloc::Global;
 
 /// What a task may still use.
@@ -65,6 +67,11 @@ impl Task {
         settle(self.alloc, stack, active, outcome)
     }
 
+    /// Where values are made.
+    pub(crate) fn alloc(&self) -> Global {
+        self.alloc
+    }
+
     #[cycle(evaluation)]
     fn compute(
         &mut self,
@@ -95,12 +102,21 @@ impl Task {
             Expr::Index(base, place) => self.index(active, stack, indexed, base, place),
             Expr::Range(base, low, high) => self.range(active, stack, indexed, base, low, high),
             Expr::List(items) => self.list(active, stack, indexed, items),
+            Expr::Property(base, name) => self.property(active, stack, indexed, base, name),
+            Expr::VerbCall(base, name, items) => {
+                self.verb_call(active, stack, indexed, base, name, items)
+            }
+            Expr::Call(name, items) => self.call(active, stack, indexed, name, items),
+            Expr::Assign(target, value) => self.assign(active, stack, indexed, target, value),
+            Expr::Catch(body, codes, other) => {
+                self.catch(active, stack, indexed, body, codes, other)
+            }
         }
     }
 
-    // Items from left to right.
+    /// Items from left to right.
     #[cycle(evaluation)]
-    fn evaluate_all(
+    pub(crate) fn evaluate_all(
         &mut self,
         active: &mut Activation,
         stack: &CallStack,
@@ -121,6 +137,7 @@ impl Task {
                     let value = self.evaluate(active, stack, indexed, expr)?;
                     splice(&mut values, value)?;
                 }
+                Item::Optional(..) => return Err(Failure::Fails(ErrorCode::TypeMismatch)),
             }
         }
         Ok(values)

@@ -3,11 +3,11 @@ ghost use Rattle.std.specs.Prelude.{◌≤◌, None};
 ghost use Rattle.moo_program.specs.declared.tree.Stmt.TheVariants.{Return};
 ghost use Rattle.moo_program.specs.View.{statement as statement_of, block};
 ghost use Rattle.moo_eval.specs.Meaning.{Runs, Does, RunsAll};
-ghost use Rattle.moo_eval.specs.Seen.{state_of, context_of, seen_flow, IsKnown};
+ghost use Rattle.moo_outcome.specs.Seen.{context_of, seen_flow, IsKnown};
+ghost use Rattle.moo_eval.specs.Seen.{state_of};
 
-use crate::frame::{Activation, CallStack};
 use crate::interpreter::Task;
-use crate::outcome::{Flow, Stop};
+use moo_outcome::{Activation, CallStack, Flow, Stop};
 use moo_program::{Expr, Stmt};
 use moo_value::Value;
 

@@ -1,16 +1,13 @@
 //! Whole tasks.
 ghost use Rattle.std.specs.Prelude.{◌≡◌};
-ghost use Rattle.moo_eval.specs.Seen.{seen_flow, IsKnown};
-ghost use Rattle.moo_eval.specs.Variables.{first_bindings};
-ghost use Rattle.moo_eval.specs.Seen.{bindings_of};
+ghost use Rattle.moo_outcome.specs.Seen.{seen_flow, IsKnown};
+ghost use Rattle.moo_outcome.specs.Variables.{first_bindings};
+ghost use Rattle.moo_outcome.specs.Seen.{bindings_of};
 ghost use Rattle.moo_eval.specs.Task.{TaskEnds, end_of};
 ghost use Rattle.moo_eval.specs.Ends.{IfEnded};
 
-use crate::frame::{Activation, CallStack, Frame};
 use crate::interpreter::Task;
-use crate::outcome::{Flow, Stop};
-use crate::traceback::traceback_lines;
-use crate::variables::Variables;
+use moo_outcome::{Activation, CallStack, Flow, Frame, Stop, Variables, traceback_lines};
 use moo_value::Value;
 use std::alloc::{AllocError, Global};
 

@@ -1,10 +1,9 @@
 //! Lines of input with what they print, and what no line of input can show.
 
-use crate::frame::{Frame, TraceEntry, TraceFrame};
 use crate::line::eval_line;
 use crate::task::{Ended, run_task};
-use crate::traceback::traceback_lines;
 use crate::typed::typed_frame;
+use moo_outcome::{Frame, TraceEntry, TraceFrame, traceback_lines};
 use moo_syntax::{Names, parse};
 use moo_value::{MooList, MooStr, Value};
 use std::alloc::Global;
@@ -25,7 +24,7 @@ fn verb(alloc: Global, definer: i32, this: i32, names: &str) -> Result<TraceEntr
     }))
 }
 
-fn are(lines: &[Vec<u8>], texts: &[&str]) -> bool {
+pub(crate) fn are(lines: &[Vec<u8>], texts: &[&str]) -> bool {
     if lines.len() != texts.len() {
         return false;
     }
@@ -112,6 +111,25 @@ fn an_error_prints_its_traceback(rt: HostRuntime) -> Result<(), Fail> {
 }
 
 #[test]
+fn functions_over_values_are_called(rt: HostRuntime) -> Result<(), Fail> {
+    let alloc = rt.alloc();
+    let rows = [
+        ("length(\"abc\")", "3"),
+        ("Max(1, @{5, 2})", "5"),
+        ("tostr(1, \"a\", #2)", "\"1a#2\""),
+        ("`length(1) ! ANY'", "E_TYPE"),
+        ("`length() ! ANY'", "E_ARGS"),
+        ("setadd({1}, 2)", "{1, 2}"),
+    ];
+    for (line, text) in rows {
+        let answer = eval_line(alloc, line.as_bytes())?;
+        assert!(rt; are(&answer.lines, &[text]));
+        assert!(rt; answer.status == 0);
+    }
+    Ok(())
+}
+
+#[test]
 fn a_line_that_is_no_program_is_refused(rt: HostRuntime) -> Result<(), Fail> {
     let alloc = rt.alloc();
     let rows = [
@@ -119,6 +137,10 @@ fn a_line_that_is_no_program_is_refused(rt: HostRuntime) -> Result<(), Fail> {
         ("2.5", "Line 1:  Bad token"),
         ("1\r", "Line 1:  Bad token"),
         ("size(1)", "Line 1:  Unknown built-in function: size"),
+        (
+            "notify(#1, \"x\")",
+            "Line 1:  Unknown built-in function: notify",
+        ),
     ];
     for (line, text) in rows {
         let answer = eval_line(alloc, line.as_bytes())?;
@@ -160,7 +182,7 @@ fn a_task_has_a_hundred_thousand_ticks(rt: HostRuntime) -> Result<(), Fail> {
     Ok(())
 }
 
-fn frame(alloc: Global, program: &str) -> Result<Frame, Fail> {
+pub(crate) fn frame(alloc: Global, program: &str) -> Result<Frame, Fail> {
     let lines = [text(alloc, program)?];
     let Ok(program) = parse(alloc, &lines, Names::Any) else {
         return Err(Fail::from("no program"));

@@ -4,8 +4,8 @@ ghost use Rattle.moo_eval.specs.Task.{End, TaskEnds};
 ghost use Rattle.moo_eval.specs.Ends.{texts};
 ghost use Rattle.moo_eval.specs.Typed.{typed_frame, shown};
 
-use crate::frame::Frame;
 use crate::task::{Ended, run_task};
+use moo_outcome::Frame;
 use moo_program::Program;
 use moo_value::{MooList, MooStr};
 use std::alloc::{AllocError, Global};

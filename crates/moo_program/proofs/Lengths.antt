@@ -1,6 +1,6 @@
 -- The length of the full listing is what is counted.
-use Rattle.std.proofs.Common.{ℕ, ◌+◌, ◌<◌, ◌≤◌, List, [], ◌∷◌, ◌++◌, ◌≡◌, refl, ap, sym, ◌∙◌, Bool, true, false, length, length-append, arith, Option, Some, None}
-use Rattle.std.specs.Prelude.{codes, ◌==◌, if◌then◌else◌, count_by, IsTrue, ◌↔◌, is_some}
+use Rattle.std.proofs.Common.{ℕ, ◌+◌, ◌<◌, List, [], ◌∷◌, ◌++◌, ◌≡◌, refl, Bool, true, false, length, length-append, arith, Option, Some, None}
+use Rattle.std.specs.Prelude.{codes, if◌then◌else◌, count_by, IsTrue, ◌↔◌, is_some}
 use Rattle.std.specs.List.{flat_map, sum_by}
 use Rattle.std.proofs.lemmas.List.Sums.{sum_by-cons}
 use Rattle.moo_value.specs.Text.{escaped, literal as text_of}
@@ -10,11 +10,12 @@ use Rattle.moo_program.specs.declared.operator.UnaryOperator.{UnaryOperator}
 use Rattle.moo_program.specs.declared.operator.UnaryOperator.TheVariants.{Not, Negate}
 use Rattle.moo_program.specs.declared.operator.LogicOperator.{LogicOperator}
 use Rattle.moo_program.specs.declared.operator.LogicOperator.TheVariants.{And, Or}
-use Rattle.moo_program.specs.declared.tree.Item.{Item, Element', Splice'}
-use Rattle.moo_program.specs.Tree.{Expr, literal, variable, length_mark, unary, binary, logic, conditional, index, range, list, Items, no_items, element, splice, Stmt, return_nothing, returns, literal_value}
-use Rattle.moo_program.specs.View.{tree, with_item, items_of}
-use Rattle.moo_program.specs.Listing.{unary_sign, binary_sign, logic_sign, is_compound, is_compound_base, in_parentheses, further, listed, listed_items, listed_statement}
-use Rattle.moo_program.specs.Length.{length_in_parentheses, further_length, listed_length, items_length, item_length, further_item_length, statement_length, is_escaped, literal_length, Leaves}
+use Rattle.moo_program.specs.declared.tree.Expr.{None', Some'}
+use Rattle.moo_program.specs.declared.tree.Item.{Item, Element', Splice', Optional'}
+use Rattle.moo_program.specs.Tree.{Expr, literal, variable, length_mark, unary, binary, logic, conditional, index, range, list, property, verb_call, call, assign, catch, catch_or, Items, no_items, element, splice, optional, defaulted, Codes, any_error, listed_errors, Stmt, return_nothing, returns, literal_value}
+use Rattle.moo_program.specs.View.{with_item, items_of}
+use Rattle.moo_program.specs.Listing.{unary_sign, binary_sign, logic_sign, is_compound, is_compound_base, in_parentheses, constant_name, is_system_object, selected, further, listed, listed_items, listed_codes, listed_statement}
+use Rattle.moo_program.specs.Length.{length_in_parentheses, further_length, selector_length, shown_base_length, listed_length, items_length, codes_length, item_length, further_item_length, statement_length, is_escaped, literal_length, Leaves}
 
 unary_sign_length : (o : UnaryOperator) → length (unary_sign o) ≡ 1
 unary_sign_length Not = refl
@@ -42,6 +43,13 @@ further_text_length : (xs : Items) (text : List ℕ) (n : ℕ) → length text �
 further_text_length no_items text n e = e
 further_text_length (element a xs) text n e = omega (arith, two (codes ", ") text, e)
 further_text_length (splice a xs) text n e = omega (arith, two (codes ", ") text, e)
+further_text_length (optional s xs) text n e = omega (arith, two (codes ", ") text, e)
+further_text_length (defaulted s a xs) text n e = omega (arith, two (codes ", ") text, e)
+
+selected_text_length : (sign : List ℕ) (name : Option (List ℕ)) (system : Bool) (base text : List ℕ) (b t : ℕ) → length sign ≡ 1 → length base ≡ b → length text ≡ t → length (selected sign name system base text) ≡ shown_base_length name system b + selector_length name t
+selected_text_length sign (Some s) true base text b t one e f = omega (arith, two (codes "$") s)
+selected_text_length sign (Some s) false base text b t one e f = omega (arith, three base sign s, one, e)
+selected_text_length sign None system base text b t one e f = omega (arith, five base sign (codes "(") text (codes ")"), one, e, f)
 
 escaped_length : (b : Bool) (c : ℕ) → length (if b then 92 ∷ c ∷ [] else c ∷ []) ≡ 1 + (if b then 1 else 0)
 escaped_length true c = refl
@@ -71,11 +79,23 @@ mutual
   length_listed (index a b) = omega (arith, two (in_parentheses (is_compound_base a) (listed a) ++ codes "[" ++ listed b) (codes "]"), three (in_parentheses (is_compound_base a) (listed a)) (codes "[") (listed b), in_parentheses_length (is_compound_base a) (listed a) (listed_length a) (length_listed a), length_listed b)
   length_listed (range a b c) = omega (arith, two (in_parentheses (is_compound_base a) (listed a) ++ codes "[" ++ listed b ++ codes ".." ++ listed c) (codes "]"), five (in_parentheses (is_compound_base a) (listed a)) (codes "[") (listed b) (codes "..") (listed c), in_parentheses_length (is_compound_base a) (listed a) (listed_length a) (length_listed a), length_listed b, length_listed c)
   length_listed (list xs) = omega (arith, three (codes "{") (listed_items xs) (codes "}"), length_listed_items xs)
+  length_listed (property a b) = selected_text_length (codes ".") (constant_name b) (is_system_object a) (in_parentheses (is_compound_base a) (listed a)) (listed b) (length_in_parentheses (is_compound_base a) (listed_length a)) (listed_length b) refl (in_parentheses_length (is_compound_base a) (listed a) (listed_length a) (length_listed a)) (length_listed b)
+  length_listed (verb_call a b xs) = omega (arith, two (selected (codes ":") (constant_name b) (is_system_object a) (in_parentheses (is_compound_base a) (listed a)) (listed b) ++ codes "(" ++ listed_items xs) (codes ")"), three (selected (codes ":") (constant_name b) (is_system_object a) (in_parentheses (is_compound_base a) (listed a)) (listed b)) (codes "(") (listed_items xs), selected_text_length (codes ":") (constant_name b) (is_system_object a) (in_parentheses (is_compound_base a) (listed a)) (listed b) (length_in_parentheses (is_compound_base a) (listed_length a)) (listed_length b) refl (in_parentheses_length (is_compound_base a) (listed a) (listed_length a) (length_listed a)) (length_listed b), length_listed_items xs)
+  length_listed (call s xs) = omega (arith, two (s ++ codes "(" ++ listed_items xs) (codes ")"), three s (codes "(") (listed_items xs), length_listed_items xs)
+  length_listed (assign a b) = omega (arith, three (in_parentheses (is_compound a) (listed a)) (codes " = ") (listed b), in_parentheses_length (is_compound a) (listed a) (listed_length a) (length_listed a), length_listed b)
+  length_listed (catch a c) = omega (arith, five (codes "`") (listed a) (codes " ! ") (listed_codes c) (codes "'"), length_listed a, length_listed_codes c)
+  length_listed (catch_or a c b) = omega (arith, two (codes "`" ++ listed a ++ codes " ! " ++ listed_codes c ++ codes " => " ++ listed b) (codes "'"), two (codes "`" ++ listed a ++ codes " ! " ++ listed_codes c ++ codes " => ") (listed b), five (codes "`") (listed a) (codes " ! ") (listed_codes c) (codes " => "), length_listed a, length_listed_codes c, length_listed b)
 
   pub length_listed_items : (xs : Items) → length (listed_items xs) ≡ items_length xs
   length_listed_items no_items = refl
   length_listed_items (element a xs) = omega (arith, two (listed a) (further xs (listed_items xs)), length_listed a, further_text_length xs (listed_items xs) (items_length xs) (length_listed_items xs))
   length_listed_items (splice a xs) = omega (arith, three (codes "@") (listed a) (further xs (listed_items xs)), length_listed a, further_text_length xs (listed_items xs) (items_length xs) (length_listed_items xs))
+  length_listed_items (optional s xs) = omega (arith, three (codes "?") s (further xs (listed_items xs)), further_text_length xs (listed_items xs) (items_length xs) (length_listed_items xs))
+  length_listed_items (defaulted s a xs) = omega (arith, five (codes "?") s (codes " = ") (listed a) (further xs (listed_items xs)), length_listed a, further_text_length xs (listed_items xs) (items_length xs) (length_listed_items xs))
+
+  pub length_listed_codes : (c : Codes) → length (listed_codes c) ≡ codes_length c
+  length_listed_codes any_error = refl
+  length_listed_codes (listed_errors xs) = length_listed_items xs
 
 pub length_listed_statement : (s : Stmt) → length (listed_statement s) ≡ statement_length s
 length_listed_statement return_nothing = refl
@@ -84,10 +104,14 @@ length_listed_statement (returns a) = omega (arith, three (codes "return ") (lis
 item_in_front : (x : Item) (xs : Items) → items_length (with_item x xs) ≡ item_length x + further_length xs (items_length xs)
 item_in_front (Element' p e) xs = refl
 item_in_front (Splice' p e) xs = refl
+item_in_front (Optional' s None') xs = refl
+item_in_front (Optional' s (Some' p e)) xs = refl
 
 further_items : (x : Item) (ys : Items) (n : ℕ) → further_length (with_item x ys) n ≡ 2 + n
 further_items (Element' p e) ys n = refl
 further_items (Splice' p e) ys n = refl
+further_items (Optional' s None') ys n = refl
+further_items (Optional' s (Some' p e)) ys n = refl
 
 -- the length of items, counted one by one
 pub items_length_sum : (x : Item) (ys : List Item) → items_length (items_of (x ∷ ys)) ≡ item_length x + sum_by further_item_length ys
@@ -95,10 +119,10 @@ items_length_sum x [] = omega (arith, item_in_front x no_items)
 items_length_sum x (y ∷ ys) =
     omega (arith, sum_by-cons further_item_length y ys, item_in_front x (items_of (y ∷ ys)), further_items y (items_of ys) (items_length (items_of (y ∷ ys))), items_length_sum y ys)
 
--- a text behind another
-pub leaves_then : (room middle a n : ℕ) (result : Option ℕ) → middle + a ≡ room → Leaves middle n result → Leaves room (a + n) result
-leaves_then room middle a n None e l = omega (arith, e, l)
-leaves_then room middle a n (Some rest) e l = omega (arith, e, l)
+-- what a text at the end takes of a room
+pub leaves_behind : (room middle n total : ℕ) (result : Option ℕ) → room + n ≡ middle + total → Leaves middle n result → Leaves room total result
+leaves_behind room middle n total None e l = omega (arith, e, l)
+leaves_behind room middle n total (Some rest) e l = omega (arith, e, l)
 
 -- a text fits where there is as much room
 pub fits_where_left : (n : ℕ) (result : Option ℕ) → Leaves 999999 n result → IsTrue (is_some result) ↔ (n < 1000000)

@@ -1,7 +1,7 @@
 -- The items in a `Vec` behind a variant of the tree.
 use Rattle.std.proofs.Common.{◌≡◌, refl, ap, ◌∙◌, Vec, Global}
 use Rattle.moo_program.specs.declared.tree.Expr.{Row_of-Item, end_of-Item, more_of-Item, items-the_row-Item, items_hidden-the_row-Item-0}
-use Rattle.moo_program.specs.declared.tree.Expr.TheBlock.{hidden-the_row-Item-0}
+use Rattle.moo_program.specs.declared.tree.Codes.TheBlock.{hidden-the_row-Item-0}
 use Rattle.moo_program.specs.declared.tree.Item.{Item}
 use Rattle.moo_program.specs.Tree.{Items}
 use Rattle.moo_program.specs.View.{row, with_item, items_of}

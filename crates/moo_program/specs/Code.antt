@@ -7,7 +7,7 @@ use Rattle.moo_program.specs.declared.operator.BinaryOperator.{BinaryOperator}
 use Rattle.moo_program.specs.declared.operator.LogicOperator.{LogicOperator}
 use Rattle.moo_program.specs.declared.tree.Literal.{Literal}
 use Rattle.moo_program.specs.Tree
-use Rattle.moo_program.specs.Tree.{Expr, Items, Stmt, Block}
+use Rattle.moo_program.specs.Tree.{Expr, Items, Codes, Stmt, Block}
 
 -- what stands at a node of the tree
 pub data Mark : Type 0 where
@@ -21,9 +21,19 @@ pub data Mark : Type 0 where
   index : Mark
   range : Mark
   list : Mark
+  property : Mark
+  verb_call : Mark
+  call : List ℕ → Mark
+  assign : Mark
+  catch : Mark
+  catch_or : Mark
   no_items : Mark
   element : Mark
   splice : Mark
+  optional : List ℕ → Mark
+  defaulted : List ℕ → Mark
+  any_error : Mark
+  listed_errors : Mark
   return_nothing : Mark
   returns : Mark
   no_statement : Mark
@@ -33,6 +43,7 @@ pub data Mark : Type 0 where
 pub data Part : Type 0 where
   expr : Expr → Part
   items : Items → Part
+  codes : Codes → Part
   statement : Stmt → Part
   block : Block → Part
 
@@ -48,11 +59,23 @@ abbrev mutual
   marks (Tree.index a b) ms = index ∷ marks a (marks b ms)
   marks (Tree.range a b c) ms = range ∷ marks a (marks b (marks c ms))
   marks (Tree.list xs) ms = list ∷ items_marks xs ms
+  marks (Tree.property a b) ms = property ∷ marks a (marks b ms)
+  marks (Tree.verb_call a b xs) ms = verb_call ∷ marks a (marks b (items_marks xs ms))
+  marks (Tree.call s xs) ms = call s ∷ items_marks xs ms
+  marks (Tree.assign a b) ms = assign ∷ marks a (marks b ms)
+  marks (Tree.catch a c) ms = catch ∷ marks a (codes_marks c ms)
+  marks (Tree.catch_or a c b) ms = catch_or ∷ marks a (marks b (codes_marks c ms))
 
   items_marks : Items → List Mark → List Mark
   items_marks Tree.no_items ms = no_items ∷ ms
   items_marks (Tree.element a xs) ms = element ∷ marks a (items_marks xs ms)
   items_marks (Tree.splice a xs) ms = splice ∷ marks a (items_marks xs ms)
+  items_marks (Tree.optional s xs) ms = optional s ∷ items_marks xs ms
+  items_marks (Tree.defaulted s a xs) ms = defaulted s ∷ marks a (items_marks xs ms)
+
+  codes_marks : Codes → List Mark → List Mark
+  codes_marks Tree.any_error ms = any_error ∷ ms
+  codes_marks (Tree.listed_errors xs) ms = listed_errors ∷ items_marks xs ms
 
 abbrev statement_marks : Stmt → List Mark → List Mark
 statement_marks Tree.return_nothing ms = return_nothing ∷ ms
@@ -82,6 +105,18 @@ abbrev from_expr_and_items : (Expr → Items → Part) → List Part → List Pa
 from_expr_and_items f (expr a ∷ items xs ∷ ps) = f a xs ∷ ps
 from_expr_and_items f _ = []
 
+abbrev from_two_and_items : (Expr → Expr → Items → Part) → List Part → List Part
+from_two_and_items f (expr a ∷ expr b ∷ items xs ∷ ps) = f a b xs ∷ ps
+from_two_and_items f _ = []
+
+abbrev from_expr_and_codes : (Expr → Codes → Part) → List Part → List Part
+from_expr_and_codes f (expr a ∷ codes c ∷ ps) = f a c ∷ ps
+from_expr_and_codes f _ = []
+
+abbrev from_two_and_codes : (Expr → Expr → Codes → Part) → List Part → List Part
+from_two_and_codes f (expr a ∷ expr b ∷ codes c ∷ ps) = f a b c ∷ ps
+from_two_and_codes f _ = []
+
 abbrev from_statement_and_block : (Stmt → Block → Part) → List Part → List Part
 from_statement_and_block f (statement s ∷ block b ∷ ps) = f s b ∷ ps
 from_statement_and_block f _ = []
@@ -98,9 +133,19 @@ unmarked (conditional ∷ ms) = from_three (λ a b c. expr (Tree.conditional a b
 unmarked (index ∷ ms) = from_two (λ a b. expr (Tree.index a b)) (unmarked ms)
 unmarked (range ∷ ms) = from_three (λ a b c. expr (Tree.range a b c)) (unmarked ms)
 unmarked (list ∷ ms) = from_items (λ xs. expr (Tree.list xs)) (unmarked ms)
+unmarked (property ∷ ms) = from_two (λ a b. expr (Tree.property a b)) (unmarked ms)
+unmarked (verb_call ∷ ms) = from_two_and_items (λ a b xs. expr (Tree.verb_call a b xs)) (unmarked ms)
+unmarked (call s ∷ ms) = from_items (λ xs. expr (Tree.call s xs)) (unmarked ms)
+unmarked (assign ∷ ms) = from_two (λ a b. expr (Tree.assign a b)) (unmarked ms)
+unmarked (catch ∷ ms) = from_expr_and_codes (λ a c. expr (Tree.catch a c)) (unmarked ms)
+unmarked (catch_or ∷ ms) = from_two_and_codes (λ a b c. expr (Tree.catch_or a c b)) (unmarked ms)
 unmarked (no_items ∷ ms) = items Tree.no_items ∷ unmarked ms
 unmarked (element ∷ ms) = from_expr_and_items (λ a xs. items (Tree.element a xs)) (unmarked ms)
 unmarked (splice ∷ ms) = from_expr_and_items (λ a xs. items (Tree.splice a xs)) (unmarked ms)
+unmarked (optional s ∷ ms) = from_items (λ xs. items (Tree.optional s xs)) (unmarked ms)
+unmarked (defaulted s ∷ ms) = from_expr_and_items (λ a xs. items (Tree.defaulted s a xs)) (unmarked ms)
+unmarked (any_error ∷ ms) = codes Tree.any_error ∷ unmarked ms
+unmarked (listed_errors ∷ ms) = from_items (λ xs. codes (Tree.listed_errors xs)) (unmarked ms)
 unmarked (return_nothing ∷ ms) = statement Tree.return_nothing ∷ unmarked ms
 unmarked (returns ∷ ms) = from_expr (λ a. statement (Tree.returns a)) (unmarked ms)
 unmarked (no_statement ∷ ms) = block Tree.no_statement ∷ unmarked ms
@@ -126,6 +171,17 @@ mutual
   unmarked-marks (Tree.range a b c) ms =
       ap (from_three (λ a b c. expr (Tree.range a b c))) (unmarked-marks a (marks b (marks c ms)) ∙ behind (unmarked-marks b (marks c ms) ∙ behind (unmarked-marks c ms)))
   unmarked-marks (Tree.list xs) ms = ap (from_items (λ xs. expr (Tree.list xs))) (unmarked-items_marks xs ms)
+  unmarked-marks (Tree.property a b) ms =
+      ap (from_two (λ a b. expr (Tree.property a b))) (unmarked-marks a (marks b ms) ∙ behind (unmarked-marks b ms))
+  unmarked-marks (Tree.verb_call a b xs) ms =
+      ap (from_two_and_items (λ a b xs. expr (Tree.verb_call a b xs))) (unmarked-marks a (marks b (items_marks xs ms)) ∙ behind (unmarked-marks b (items_marks xs ms) ∙ behind (unmarked-items_marks xs ms)))
+  unmarked-marks (Tree.call s xs) ms = ap (from_items (λ xs. expr (Tree.call s xs))) (unmarked-items_marks xs ms)
+  unmarked-marks (Tree.assign a b) ms =
+      ap (from_two (λ a b. expr (Tree.assign a b))) (unmarked-marks a (marks b ms) ∙ behind (unmarked-marks b ms))
+  unmarked-marks (Tree.catch a c) ms =
+      ap (from_expr_and_codes (λ a c. expr (Tree.catch a c))) (unmarked-marks a (codes_marks c ms) ∙ behind (unmarked-codes_marks c ms))
+  unmarked-marks (Tree.catch_or a c b) ms =
+      ap (from_two_and_codes (λ a b c. expr (Tree.catch_or a c b))) (unmarked-marks a (marks b (codes_marks c ms)) ∙ behind (unmarked-marks b (codes_marks c ms) ∙ behind (unmarked-codes_marks c ms)))
 
   unmarked-items_marks : (xs : Items) (ms : List Mark) → unmarked (items_marks xs ms) ≡ items xs ∷ unmarked ms
   unmarked-items_marks Tree.no_items ms = refl
@@ -133,6 +189,13 @@ mutual
       ap (from_expr_and_items (λ a xs. items (Tree.element a xs))) (unmarked-marks a (items_marks xs ms) ∙ behind (unmarked-items_marks xs ms))
   unmarked-items_marks (Tree.splice a xs) ms =
       ap (from_expr_and_items (λ a xs. items (Tree.splice a xs))) (unmarked-marks a (items_marks xs ms) ∙ behind (unmarked-items_marks xs ms))
+  unmarked-items_marks (Tree.optional s xs) ms = ap (from_items (λ xs. items (Tree.optional s xs))) (unmarked-items_marks xs ms)
+  unmarked-items_marks (Tree.defaulted s a xs) ms =
+      ap (from_expr_and_items (λ a xs. items (Tree.defaulted s a xs))) (unmarked-marks a (items_marks xs ms) ∙ behind (unmarked-items_marks xs ms))
+
+  unmarked-codes_marks : (c : Codes) (ms : List Mark) → unmarked (codes_marks c ms) ≡ codes c ∷ unmarked ms
+  unmarked-codes_marks Tree.any_error ms = refl
+  unmarked-codes_marks (Tree.listed_errors xs) ms = ap (from_items (λ xs. codes (Tree.listed_errors xs))) (unmarked-items_marks xs ms)
 
 unmarked-statement_marks : (s : Stmt) (ms : List Mark) → unmarked (statement_marks s ms) ≡ statement s ∷ unmarked ms
 unmarked-statement_marks Tree.return_nothing ms = refl

@@ -1,13 +1,14 @@
 -- How long the full listing is, counted without writing it.
-use Rattle.std.specs.Prelude.{ℕ, ◌+◌, ◌<◌, ◌≡◌, ◌==◌, ◌||◌, List, length, count_by, Bool, true, false, Option, MatchOption}
+use Rattle.std.specs.Prelude.{ℕ, ◌+◌, ◌<◌, ◌≡◌, ◌==◌, ◌||◌, List, length, count_by, Bool, true, false, Option, Some, None, MatchOption}
 use Rattle.std.specs.Fmt.{signed_decimal}
 use Rattle.moo_value.specs.Errors.{error_name}
 use Rattle.moo_program.specs.declared.tree.Literal.{Literal}
 use Rattle.moo_program.specs.declared.tree.Literal.TheVariants.{Integer, Object, Error, Str}
-use Rattle.moo_program.specs.declared.tree.Item.{Item, Element', Splice'}
-use Rattle.moo_program.specs.Tree.{Expr, literal, variable, length_mark, unary, binary, logic, conditional, index, range, list, Items, no_items, element, splice, Stmt, return_nothing, returns}
+use Rattle.moo_program.specs.declared.tree.Expr.{None', Some'}
+use Rattle.moo_program.specs.declared.tree.Item.{Item, Element', Splice', Optional'}
+use Rattle.moo_program.specs.Tree.{Expr, literal, variable, length_mark, unary, binary, logic, conditional, index, range, list, property, verb_call, call, assign, catch, catch_or, Items, no_items, element, splice, optional, defaulted, Codes, any_error, listed_errors, Stmt, return_nothing, returns}
 use Rattle.moo_program.specs.View.{tree}
-use Rattle.moo_program.specs.Listing.{unary_sign, binary_sign, logic_sign, is_compound, is_compound_base}
+use Rattle.moo_program.specs.Listing.{binary_sign, is_compound, is_compound_base, constant_name, is_system_object}
 
 -- with two parentheses, or bare
 abbrev pub length_in_parentheses : Bool → ℕ → ℕ
@@ -19,6 +20,19 @@ abbrev pub further_length : Items → ℕ → ℕ
 further_length no_items n = n
 further_length (element a xs) n = 2 + n
 further_length (splice a xs) n = 2 + n
+further_length (optional s xs) n = 2 + n
+further_length (defaulted s a xs) n = 2 + n
+
+-- a sign of one byte, and behind it a name, or an expression in parentheses
+abbrev pub selector_length : Option (List ℕ) → ℕ → ℕ
+selector_length (Some s) name = 1 + length s
+selector_length None name = 3 + name
+
+-- the base of a name, which is left out where `$` says it
+abbrev pub shown_base_length : Option (List ℕ) → Bool → ℕ → ℕ
+shown_base_length (Some s) true base = 0
+shown_base_length (Some s) false base = base
+shown_base_length None system base = base
 
 -- a byte that stands behind a backslash in a literal
 abbrev pub is_escaped : ℕ → Bool
@@ -42,15 +56,29 @@ abbrev mutual
   listed_length (index a b) = 2 + length_in_parentheses (is_compound_base a) (listed_length a) + listed_length b
   listed_length (range a b c) = 4 + length_in_parentheses (is_compound_base a) (listed_length a) + listed_length b + listed_length c
   listed_length (list xs) = 2 + items_length xs
+  listed_length (property a b) = shown_base_length (constant_name b) (is_system_object a) (length_in_parentheses (is_compound_base a) (listed_length a)) + selector_length (constant_name b) (listed_length b)
+  listed_length (verb_call a b xs) = shown_base_length (constant_name b) (is_system_object a) (length_in_parentheses (is_compound_base a) (listed_length a)) + selector_length (constant_name b) (listed_length b) + (2 + items_length xs)
+  listed_length (call s xs) = length s + (2 + items_length xs)
+  listed_length (assign a b) = 3 + length_in_parentheses (is_compound a) (listed_length a) + listed_length b
+  listed_length (catch a c) = 5 + listed_length a + codes_length c
+  listed_length (catch_or a c b) = 9 + listed_length a + codes_length c + listed_length b
 
   pub items_length : Items → ℕ
   items_length no_items = 0
   items_length (element a xs) = listed_length a + further_length xs (items_length xs)
   items_length (splice a xs) = 1 + listed_length a + further_length xs (items_length xs)
+  items_length (optional s xs) = 1 + length s + further_length xs (items_length xs)
+  items_length (defaulted s a xs) = 4 + length s + listed_length a + further_length xs (items_length xs)
+
+  pub codes_length : Codes → ℕ
+  codes_length any_error = 3
+  codes_length (listed_errors xs) = items_length xs
 
 abbrev pub item_length : Item → ℕ
 item_length (Element' p e) = listed_length (tree e)
 item_length (Splice' p e) = 1 + listed_length (tree e)
+item_length (Optional' s None') = 1 + length s
+item_length (Optional' s (Some' p e)) = 4 + length s + listed_length (tree e)
 
 -- an item that stands behind a comma and a blank
 abbrev pub further_item_length : Item → ℕ

@@ -1,5 +1,6 @@
 pub mod Tree
 pub mod View
+pub mod Target
 pub mod Listing
 pub mod Length
 pub mod Limits

@@ -1,7 +1,7 @@
 -- The limits of a program.
 use Rattle.std.specs.Prelude.{ℕ, List, ◌+◌, ◌≤◌, ◌<◌, max, length, [], ◌∷◌}
 use Rattle.moo_value.specs.Size.{weight_limit}
-use Rattle.moo_program.specs.Tree.{Expr, literal, variable, length_mark, unary, binary, logic, conditional, index, range, list, Items, no_items, element, splice, Stmt, return_nothing, returns, Block, no_statement, then}
+use Rattle.moo_program.specs.Tree.{Expr, literal, variable, length_mark, unary, binary, logic, conditional, index, range, list, property, verb_call, call, assign, catch, catch_or, Items, no_items, element, splice, optional, defaulted, Codes, any_error, listed_errors, Stmt, return_nothing, returns, Block, no_statement, then}
 use Rattle.moo_program.specs.Listing.{listing}
 
 abbrev mutual
@@ -17,12 +17,25 @@ abbrev mutual
   height (index a b) = 1 + max (height a) (height b)
   height (range a b c) = 1 + max (height a) (max (height b) (height c))
   height (list xs) = 1 + items_height xs
+  height (property a b) = 1 + max (height a) (height b)
+  height (verb_call a b xs) = 1 + max (height a) (max (height b) (items_height xs))
+  height (call s xs) = 1 + items_height xs
+  height (assign a b) = 1 + max (height a) (height b)
+  height (catch a c) = 1 + max (height a) (codes_height c)
+  height (catch_or a c b) = 1 + max (height a) (max (codes_height c) (height b))
 
-  -- the greatest height of an item
+  -- the greatest height of an item; a name in the target of a scatter is a leaf, and a default stands where its name does
   pub items_height : Items → ℕ
   items_height no_items = 0
   items_height (element a xs) = max (height a) (items_height xs)
   items_height (splice a xs) = max (height a) (items_height xs)
+  items_height (optional s xs) = max 1 (items_height xs)
+  items_height (defaulted s a xs) = max (height a) (items_height xs)
+
+  -- the same of the errors of a catch; `ANY` is no node
+  pub codes_height : Codes → ℕ
+  codes_height any_error = 0
+  codes_height (listed_errors xs) = items_height xs
 
 abbrev pub statement_height : Stmt → ℕ
 statement_height return_nothing = 1

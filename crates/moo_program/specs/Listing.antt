@@ -1,14 +1,15 @@
 -- The full listing of a program: its lines, with all the parentheses.
-use Rattle.std.specs.Prelude.{ℕ, List, [], ◌∷◌, ◌++◌, Bool, true, false, codes}
+use Rattle.std.specs.Prelude.{ℕ, List, [], ◌∷◌, ◌++◌, Bool, true, false, Option, Some, None, zero, pos, codes}
 use Rattle.moo_value.specs.Text.{literal as text_of}
+use Rattle.moo_token.specs.Spelling.{is_name}
 use Rattle.moo_program.specs.declared.operator.UnaryOperator.{UnaryOperator}
 use Rattle.moo_program.specs.declared.operator.UnaryOperator.TheVariants.{Not, Negate}
 use Rattle.moo_program.specs.declared.operator.BinaryOperator.{BinaryOperator}
 use Rattle.moo_program.specs.declared.operator.BinaryOperator.TheVariants.{Add, Subtract, Multiply, Divide, Remainder, Power, Equal, NotEqual, Less, LessOrEqual, Greater, GreaterOrEqual, In}
 use Rattle.moo_program.specs.declared.operator.LogicOperator.{LogicOperator}
 use Rattle.moo_program.specs.declared.operator.LogicOperator.TheVariants.{And, Or}
-use Rattle.moo_program.specs.declared.tree.Literal.TheVariants.{Integer}
-use Rattle.moo_program.specs.Tree.{Expr, literal, variable, length_mark, unary, binary, logic, conditional, index, range, list, Items, no_items, element, splice, Stmt, return_nothing, returns, Block, no_statement, then, literal_value}
+use Rattle.moo_program.specs.declared.tree.Literal.TheVariants.{Integer, Object, Str}
+use Rattle.moo_program.specs.Tree.{Expr, literal, variable, length_mark, unary, binary, logic, conditional, index, range, list, property, verb_call, call, assign, catch, catch_or, Items, no_items, element, splice, optional, defaulted, Codes, any_error, listed_errors, Stmt, return_nothing, returns, Block, no_statement, then, literal_value}
 
 abbrev pub unary_sign : UnaryOperator → List ℕ
 unary_sign Not = codes "!"
@@ -33,15 +34,16 @@ abbrev pub logic_sign : LogicOperator → List ℕ
 logic_sign And = codes "&&"
 logic_sign Or = codes "||"
 
--- an operator or a conditional: it stands in parentheses as an operand
+-- an operator, a conditional or an assignment: it stands in parentheses as an operand
 abbrev pub is_compound : Expr → Bool
 is_compound (unary o a) = true
 is_compound (binary o a b) = true
 is_compound (logic o a b) = true
 is_compound (conditional a b c) = true
+is_compound (assign a b) = true
 is_compound _ = false
 
--- an integer literal stands in parentheses too, where it is indexed
+-- an integer literal stands in parentheses too, before `.`, `:` and `[`
 abbrev pub is_compound_base : Expr → Bool
 is_compound_base (literal (Integer n)) = true
 is_compound_base e = is_compound e
@@ -51,11 +53,34 @@ abbrev pub in_parentheses : Bool → List ℕ → List ℕ
 in_parentheses true text = codes "(" ++ text ++ codes ")"
 in_parentheses false text = text
 
+abbrev pub some_if : Bool → List ℕ → Option (List ℕ)
+some_if true s = Some s
+some_if false s = None
+
+-- the name that the expression is: a string that is a name and no keyword
+abbrev pub constant_name : Expr → Option (List ℕ)
+constant_name (literal (Str s)) = some_if (is_name s) s
+constant_name e = None
+
+-- `#0`
+abbrev pub is_system_object : Expr → Bool
+is_system_object (literal (Object (pos zero))) = true
+is_system_object e = false
+
+-- A property or a verb of a base, by its name: behind the sign the name or an expression in parentheses, and `$` and the
+-- name for one of `#0`.
+abbrev pub selected : (sign : List ℕ) → Option (List ℕ) → Bool → (base name : List ℕ) → List ℕ
+selected sign (Some s) true base name = codes "$" ++ s
+selected sign (Some s) false base name = base ++ sign ++ s
+selected sign None system base name = base ++ sign ++ codes "(" ++ name ++ codes ")"
+
 -- what stands behind an item: a comma, a blank and the items that follow, if any do
 abbrev pub further : Items → List ℕ → List ℕ
 further no_items text = text
 further (element a xs) text = codes ", " ++ text
 further (splice a xs) text = codes ", " ++ text
+further (optional s xs) text = codes ", " ++ text
+further (defaulted s a xs) text = codes ", " ++ text
 
 abbrev mutual
   pub listed : Expr → List ℕ
@@ -69,11 +94,23 @@ abbrev mutual
   listed (index a b) = in_parentheses (is_compound_base a) (listed a) ++ codes "[" ++ listed b ++ codes "]"
   listed (range a b c) = in_parentheses (is_compound_base a) (listed a) ++ codes "[" ++ listed b ++ codes ".." ++ listed c ++ codes "]"
   listed (list xs) = codes "{" ++ listed_items xs ++ codes "}"
+  listed (property a b) = selected (codes ".") (constant_name b) (is_system_object a) (in_parentheses (is_compound_base a) (listed a)) (listed b)
+  listed (verb_call a b xs) = selected (codes ":") (constant_name b) (is_system_object a) (in_parentheses (is_compound_base a) (listed a)) (listed b) ++ codes "(" ++ listed_items xs ++ codes ")"
+  listed (call s xs) = s ++ codes "(" ++ listed_items xs ++ codes ")"
+  listed (assign a b) = in_parentheses (is_compound a) (listed a) ++ codes " = " ++ listed b
+  listed (catch a c) = codes "`" ++ listed a ++ codes " ! " ++ listed_codes c ++ codes "'"
+  listed (catch_or a c b) = codes "`" ++ listed a ++ codes " ! " ++ listed_codes c ++ codes " => " ++ listed b ++ codes "'"
 
   pub listed_items : Items → List ℕ
   listed_items no_items = []
   listed_items (element a xs) = listed a ++ further xs (listed_items xs)
   listed_items (splice a xs) = codes "@" ++ listed a ++ further xs (listed_items xs)
+  listed_items (optional s xs) = codes "?" ++ s ++ further xs (listed_items xs)
+  listed_items (defaulted s a xs) = codes "?" ++ s ++ codes " = " ++ listed a ++ further xs (listed_items xs)
+
+  pub listed_codes : Codes → List ℕ
+  listed_codes any_error = codes "ANY"
+  listed_codes (listed_errors xs) = listed_items xs
 
 abbrev pub listed_statement : Stmt → List ℕ
 listed_statement return_nothing = codes "return;"

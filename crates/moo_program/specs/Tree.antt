@@ -24,13 +24,35 @@ mutual
     -- a[b..c]
     range : Expr → Expr → Expr → Expr
     list : Items → Expr
+    -- a.(b)
+    property : Expr → Expr → Expr
+    -- a:(b)(..)
+    verb_call : Expr → Expr → Items → Expr
+    -- a built-in function's name, as it is spelled, and the arguments
+    call : List ℕ → Items → Expr
+    -- a = b
+    assign : Expr → Expr → Expr
+    -- `a ! codes'
+    catch : Expr → Codes → Expr
+    -- `a ! codes => b'
+    catch_or : Expr → Codes → Expr → Expr
 
-  -- the items of a list
+  -- the items of a list, of a call's arguments, of a catch's errors, or of the target of a scatter
   pub data Items : Type 0 where
     no_items : Items
     element : Expr → Items → Items
     -- @a
     splice : Expr → Items → Items
+    -- ?a
+    optional : List ℕ → Items → Items
+    -- ?a = b
+    defaulted : List ℕ → Expr → Items → Items
+
+  -- the errors that are caught
+  pub data Codes : Type 0 where
+    -- ANY
+    any_error : Codes
+    listed_errors : Items → Codes
 
 pub data Stmt : Type 0 where
   return_nothing : Stmt

@@ -3,8 +3,9 @@ use Rattle.std.specs.Prelude.{Box, List, [], ◌∷◌, Some, None}
 use Rattle.std.specs.Global.{Global}
 use Rattle.moo_program.specs.Tree
 use Rattle.moo_program.specs.Tree.{Items, Block}
-use Rattle.moo_program.specs.declared.tree.Expr.{Expr, Literal, Variable, Length, Unary', Binary', Logic', Conditional', Index', Range', List', Row_of-Item, end_of-Item, more_of-Item}
-use Rattle.moo_program.specs.declared.tree.Item.{Item, Element', Splice'}
+use Rattle.moo_program.specs.declared.tree.Expr.{Expr, Literal, Variable, Length, Unary', Binary', Logic', Conditional', Index', Range', List', Property', VerbCall', Call', Assign', Catch', Row_of-Item, end_of-Item, more_of-Item, None', Some'}
+use Rattle.moo_program.specs.declared.tree.Item.{Item, Element', Splice', Optional'}
+use Rattle.moo_program.specs.declared.tree.Codes.{Codes, Any, Listed'}
 use Rattle.moo_program.specs.declared.tree.Stmt.{Stmt}
 use Rattle.moo_program.specs.declared.tree.Stmt.TheVariants.{Return}
 
@@ -20,6 +21,16 @@ abbrev mutual
   tree (Index' p a q b) = Tree.index (tree a) (tree b)
   tree (Range' p a q b r c) = Tree.range (tree a) (tree b) (tree c)
   tree (List' shape xs) = Tree.list (row xs)
+  tree (Property' p a q b) = Tree.property (tree a) (tree b)
+  tree (VerbCall' p a q b shape xs) = Tree.verb_call (tree a) (tree b) (row xs)
+  tree (Call' s shape xs) = Tree.call s (row xs)
+  tree (Assign' p a q b) = Tree.assign (tree a) (tree b)
+  tree (Catch' p a c None') = Tree.catch (tree a) (codes_of c)
+  tree (Catch' p a c (Some' q b)) = Tree.catch_or (tree a) (codes_of c) (tree b)
+
+  pub codes_of : Codes → Tree.Codes
+  codes_of Any = Tree.any_error
+  codes_of (Listed' shape xs) = Tree.listed_errors (row xs)
 
   pub row : {m : _} → Row_of-Item m → Items
   row end_of-Item = Tree.no_items
@@ -28,6 +39,8 @@ abbrev mutual
   pub with_item : Item → Items → Items
   with_item (Element' p e) xs = Tree.element (tree e) xs
   with_item (Splice' p e) xs = Tree.splice (tree e) xs
+  with_item (Optional' s None') xs = Tree.optional s xs
+  with_item (Optional' s (Some' p e)) xs = Tree.defaulted s (tree e) xs
 
 -- the items, in front of others
 abbrev pub in_front : List Item → Items → Items

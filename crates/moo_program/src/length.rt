@@ -3,13 +3,14 @@
 //! Each function but the first tells what is left of the room that a line has, or `None` where the text doesn't fit it.
 ghost use Rattle.std.specs.Prelude.{◌≡◌, ◌+◌, ◌<◌, ◌↔◌, Bool, IsTrue, count_by, length};
 ghost use Rattle.std.specs.Fmt.{signed_decimal};
-ghost use Rattle.moo_program.specs.View.{tree, statement as tree_of, block, items_of};
-ghost use Rattle.moo_program.specs.Listing.{binary_sign, is_compound, is_compound_base, listed_statement, listing};
-ghost use Rattle.moo_program.specs.Length.{Leaves, literal_length, is_escaped, listed_length, items_length, item_length, statement_length, length_in_parentheses};
+ghost use Rattle.moo_program.specs.View.{tree, statement as tree_of, block, items_of, codes_of};
+ghost use Rattle.moo_program.specs.Listing.{binary_sign, is_compound, is_compound_base, constant_name, is_system_object, listed_statement, listing};
+ghost use Rattle.moo_program.specs.Length.{Leaves, literal_length, is_escaped, listed_length, items_length, item_length, codes_length, selector_length, shown_base_length, statement_length, length_in_parentheses};
 ghost use Rattle.moo_program.specs.Limits.{FitsLine, AllFit};
 
 use crate::operator::BinaryOperator;
-use crate::tree::{Expr, Item, Literal, Stmt};
+use crate::shape::{constant_name, is_compound, is_compound_base, is_system_object};
+use crate::tree::{Codes, Expr, Item, Literal, Stmt};
 use itoa::Buffer;
 use moo_value::WEIGHT_LIMIT;
 
@@ -67,6 +68,58 @@ fn expression(value: &Expr, room: usize) -> Option<usize>
             expression(high, expression(low, room)?)
         }
         Expr::List(items) => items_rest(items, room.checked_sub(2)?),
+        Expr::Property(base, name) => shown_base_rest(base, name, selector_rest(name, room)?),
+        Expr::VerbCall(base, name, arguments) => {
+            let room = items_rest(arguments, room.checked_sub(2)?)?;
+            shown_base_rest(base, name, selector_rest(name, room)?)
+        }
+        Expr::Call(name, arguments) => {
+            let room = room.checked_sub(name.len())?;
+            items_rest(arguments, room.checked_sub(2)?)
+        }
+        Expr::Assign(target, value) => {
+            expression(value, operand_rest(target, room.checked_sub(3)?)?)
+        }
+        Expr::Catch(value, codes, None) => {
+            codes_rest(codes, expression(value, room.checked_sub(5)?)?)
+        }
+        Expr::Catch(value, codes, Some(default)) => {
+            let room = codes_rest(codes, expression(value, room.checked_sub(9)?)?)?;
+            expression(default, room)
+        }
+    }
+}
+
+/// Behind `.` or `:` and a name, with its parentheses.
+#[cycle(length)]
+fn selector_rest(name: &Expr, room: usize) -> Option<usize>
+    ensures { Leaves room (selector_length (constant_name (tree name.now)) (listed_length (tree name.now))) result }
+{
+    match constant_name(name) {
+        Some(text) => room.checked_sub(1)?.checked_sub(text.len()),
+        None => expression(name, room.checked_sub(3)?),
+    }
+}
+
+/// Behind the base of this name, which is left out where `$` says it.
+#[cycle(length)]
+fn shown_base_rest(base: &Expr, name: &Expr, room: usize) -> Option<usize>
+    ensures { Leaves room (shown_base_length (constant_name (tree name.now)) (is_system_object (tree base.now)) (length_in_parentheses (is_compound_base (tree base.now)) (listed_length (tree base.now)))) result }
+{
+    if is_system_object(base) && constant_name(name).is_some() {
+        Some(room)
+    } else {
+        base_rest(base, room)
+    }
+}
+
+#[cycle(length)]
+fn codes_rest(codes: &Codes, room: usize) -> Option<usize>
+    ensures { Leaves room (codes_length (codes_of codes.now)) result }
+{
+    match codes {
+        Codes::Any => room.checked_sub(3),
+        Codes::Listed(items) => items_rest(items, room),
     }
 }
 
@@ -115,24 +168,10 @@ fn item_rest(item: &Item, room: usize) -> Option<usize>
     match item {
         Item::Element(value) => expression(value, room),
         Item::Splice(value) => expression(value, room.checked_sub(1)?),
-    }
-}
-
-fn is_compound(value: &Expr) -> bool
-    ensures { result ≡ is_compound (tree value.now) }
-{
-    matches!(
-        value,
-        Expr::Unary(..) | Expr::Binary(..) | Expr::Logic(..) | Expr::Conditional(..)
-    )
-}
-
-fn is_compound_base(value: &Expr) -> bool
-    ensures { result ≡ is_compound_base (tree value.now) }
-{
-    match value {
-        Expr::Literal(Literal::Integer(_)) => true,
-        _ => is_compound(value),
+        Item::Optional(name, None) => room.checked_sub(1)?.checked_sub(name.len()),
+        Item::Optional(name, Some(value)) => {
+            expression(value, room.checked_sub(4)?.checked_sub(name.len())?)
+        }
     }
 }
 

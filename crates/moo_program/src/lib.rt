@@ -5,9 +5,12 @@ mod length;
 mod limits;
 pub mod operator;
 mod program;
+pub mod shape;
+mod target;
 mod tree;
 
 pub use length::fit_lines;
 pub use limits::{MOST_BRACKETS, MOST_NODES};
 pub use program::Program;
-pub use tree::{Expr, Item, Literal, Stmt};
+pub use target::is_target;
+pub use tree::{Codes, Expr, Item, Literal, Stmt};

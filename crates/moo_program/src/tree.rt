@@ -31,15 +31,36 @@ pub enum Expr {
     Range(Box<Expr>, Box<Expr>, Box<Expr>),
     /// `{..}`
     List(Vec<Item>),
+    /// `a.(b)`; `a.n` is `a.("n")`.
+    Property(Box<Expr>, Box<Expr>),
+    /// `a:(b)(..)`; `a:n(..)` is `a:("n")(..)`.
+    VerbCall(Box<Expr>, Box<Expr>, Vec<Item>),
+    /// `f(..)`, a call of a built-in function by its name, as it is spelled.
+    Call(MooStr, Vec<Item>),
+    /// `a = b`
+    Assign(Box<Expr>, Box<Expr>),
+    /// `` `a ! codes' `` or `` `a ! codes => b' ``
+    Catch(Box<Expr>, Codes, Option<Box<Expr>>),
 }
 
-/// An item of a list.
+/// An item of a list, of a call's arguments, of the errors that a catch names, or of the target of a scatter.
 #[cycle(tree)]
 #[derive(Drop)]
 pub enum Item {
     Element(Box<Expr>),
     /// `@a`
     Splice(Box<Expr>),
+    /// `?a` or `?a = b`, in the target of a scatter alone: a variable's name, as it is spelled, and its default.
+    Optional(MooStr, Option<Box<Expr>>),
+}
+
+/// The errors that a catch answers for.
+#[cycle(tree)]
+#[derive(Drop)]
+pub enum Codes {
+    /// `ANY`
+    Any,
+    Listed(Vec<Item>),
 }
 
 /// A statement.

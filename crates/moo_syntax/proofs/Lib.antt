@@ -1,10 +1,7 @@
-pub mod MachineLemmas
-pub mod Choices
-pub mod Complete
-pub mod Heights
 pub mod Steps
+pub mod Options
 pub mod Blocks
 pub mod TextLengths
+pub mod Passing
 pub mod Whole
 pub mod Sound
-pub mod Depths

@@ -1,52 +1,50 @@
 -- What the outcome of the parser says of whole texts.
-use Rattle.std.proofs.Common.{ℕ, zero, suc, ◌≤◌, ◌<◌, ap, true, List, [], ◌∷◌, ◌++◌, ◌≡◌, refl, sym, subst, length, take, drop, inr, arith, ◌+◌, inl, ⊎_elim}
+use Rattle.std.proofs.Common.{ℕ, zero, suc, ◌≤◌, ◌<◌, ap, true, List, [], ◌∷◌, ◌++◌, ◌≡◌, refl, sym, subst, length, take, drop, inr, arith, ◌+◌, ◌-◌, ◌∙◌, length-drop, inl, ⊎_elim}
 use Rattle.std.proofs.lemmas.List.{take-append-drop, drop_all}
 use Rattle.moo_token.specs.declared.token.Token.{Token}
 use Rattle.moo_token.specs.declared.token.Token.TheVariants as token
 use Rattle.moo_token.specs.declared.token.Spot.{Spot}
 use Rattle.moo_token.specs.Lexing.{IsReading}
-use Rattle.moo_token.proofs.Readings.{one_token_list, bad_is_last}
+use Rattle.moo_token.proofs.Readings.{bad_is_last}
 use Rattle.moo_program.specs.Tree.{Block}
 use Rattle.moo_program.specs.Limits.{AllFit, most_nodes, most_brackets}
 use Rattle.moo_program.specs.Listing.{listing}
-use Rattle.moo_syntax.specs.declared.syntax_fault.Names.{Names}
-use Rattle.moo_syntax.specs.declared.syntax_fault.Names.TheVariants.{Any, Known}
+use Rattle.moo_grammar.specs.declared.names.Names.{Names}
+use Rattle.moo_grammar.specs.Rules.{Rules, Admits, loose, strict}
 use Rattle.moo_syntax.specs.declared.fault.Fault.{Fault}
-use Rattle.moo_syntax.specs.declared.fault.Fault.TheVariants.{Unexpected, TooDeep, Memory}
-use Rattle.moo_syntax.specs.Stops.{StopsBy, ExceedLimits}
-use Rattle.moo_syntax.specs.Tokens.{words, is_bad}
-use Rattle.moo_syntax.specs.Programs.{IsProgramOf, SameUpTo, NoProgram, IsBadToken, IsTooDeep, line_of}
+use Rattle.moo_syntax.specs.declared.fault.Fault.TheVariants.{Unexpected, BadTarget, UnknownFunction, TooDeep, Memory}
+use Rattle.moo_syntax.specs.declared.cursor.Cursor.{Cursor}
+use Rattle.moo_syntax.specs.Cursor.{left}
+use Rattle.moo_syntax.specs.Outcome.{ToldBy, HasFailed}
+use Rattle.moo_syntax.specs.Stops.{Passes, StopsBy, ExceedLimits}
+use Rattle.moo_grammar.specs.Tokens.{words, is_sign, is_bad}
+use Rattle.moo_syntax.specs.Programs.{SameUpTo, NoProgram, with_targets, with_functions, IsCalled, IsBadToken, IsTooDeep, line_of}
 use Rattle.moo_syntax.specs.Brackets.{open_behind, most_open_behind, most_open}
-use Rattle.moo_syntax.specs.Depth.{Deep}
+use Rattle.moo_grammar.specs.Depth.{Deep}
 use Rattle.moo_token.specs.declared.sign.Sign.TheVariants as sign
-use Rattle.moo_syntax.specs.Grammar.{IsProgram, statements, block}
-use Rattle.moo_syntax.specs.Machine.{Reads, Fails, next_passes}
-use Rattle.moo_syntax.specs.Predictive.{grammar}
-use Rattle.moo_syntax.specs.Agree.{Agree, at_end, here, next}
-use Rattle.moo_syntax.proofs.MachineLemmas.{whole, reads_once, reads_again, fails_again}
-use Rattle.moo_syntax.proofs.Complete.{complete}
+use Rattle.moo_grammar.specs.Grammar.{IsProgram, IsProgramBy, statements, block}
+use Rattle.moo_grammar.specs.Machine.{Reads, Fails, next_passes}
+use Rattle.moo_grammar.specs.Predictive.{grammar}
+use Rattle.moo_grammar.specs.Agree.{Agree, at_end, here, next}
+use Rattle.moo_grammar.proofs.MachineLemmas.{whole, reads_once, reads_again, fails_again}
+use Rattle.moo_grammar.proofs.Complete.{complete}
+use Rattle.moo_grammar.proofs.Unique.{one_program}
+use Rattle.moo_grammar.proofs.Admitted.{loose_admits}
 use Rattle.moo_syntax.proofs.TextLengths.{tokens_within}
-
-pub one_program : (ts : List Token) (b c : Block) → IsProgram ts b → IsProgram ts c → b ≡ c
-one_program ts b c d e = (reads_once grammar (complete d refl) (complete e refl)).0
-
-pub one_program_of_text : (lines : List (List ℕ)) (b c : Block) → IsProgramOf lines b → IsProgramOf lines c → b ≡ c
-one_program_of_text lines b c p q =
-    let same = one_token_list lines p.spots q.spots p.tokens q.tokens in
-    one_program (words q.spots) b c (subst (λ v. IsProgram (words v) b) same p.program) q.program
+use Rattle.moo_syntax.proofs.Passing.{failure_passes}
 
 -- where the reading gives up, no tokens that agree up to the place are a program
-no_program : {ts at us : List Token} {b : Block} → Fails grammar block (grammar statements) ts at → Agree at ts us → IsProgram us b → ⊥
-no_program f a d = fails_again grammar f a (complete d refl)
+no_program : {g : Rules} {ts at us : List Token} {b : Block} → Fails (grammar g) block (grammar g statements) ts at → Agree at ts us → IsProgramBy g us b → ⊥
+no_program {g} f a d = fails_again (grammar g) f a (complete d refl)
 
 no_end : {x : Token} {at ts : List Token} → Agree at (x ∷ ts) [] → ⊥
 no_end a = elim a [ ]
 
 -- the same where the program ends, and tokens are left
-no_program_before : {x : Token} {ts r us : List Token} {b c : Block} → Reads grammar block (grammar statements) ts b (x ∷ r) → Agree (x ∷ r) ts us → IsProgram us c → ⊥
-no_program_before {x} {r = r} d a c =
-    let t = reads_again grammar d whole a in
-    let o = reads_once grammar t.1 (complete c refl) in
+no_program_before : {g : Rules} {x : Token} {ts r us : List Token} {b c : Block} → Reads (grammar g) block (grammar g statements) ts b (x ∷ r) → Agree (x ∷ r) ts us → IsProgramBy g us c → ⊥
+no_program_before {g} {x} {r = r} d a c =
+    let t = reads_again (grammar g) d whole a in
+    let o = reads_once (grammar g) t.1 (complete c refl) in
     no_end (subst (λ v. Agree (x ∷ r) (x ∷ r) v) o.1 t.2)
 
 here_at : {x y : Token} (ts us : List Token) → y ≡ x → Agree (x ∷ ts) (x ∷ ts) (y ∷ us)
@@ -76,18 +74,18 @@ words_length (x ∷ ss) = ap suc (words_length ss)
 agree_at : (n : ℕ) (ss : List Spot) (us : List Token) → n ≤ length ss → SameUpTo n (words ss) us → Agree (words (drop n ss)) (words ss) us
 agree_at n ss us h e = rw words_drop (agree_of_take n (words ss) us (omega (arith, words_length ss)) e)
 
-pub refused_at : (n : ℕ) (ss : List Spot) → n ≤ length ss → Fails grammar block (grammar statements) (words ss) (words (drop n ss)) → NoProgram (words ss) n
-refused_at n ss h f = (omega (arith, words_length ss), λ us e same d. no_program f (agree_at n ss us h same) d)
+refused_at : (g : Rules) (n : ℕ) (ss : List Spot) → n ≤ length ss → Fails (grammar g) block (grammar g statements) (words ss) (words (drop n ss)) → NoProgram g (words ss) n
+refused_at g n ss h f = (omega (arith, words_length ss), λ us e same d. no_program f (agree_at n ss us h same) d)
 
 next_word : (n : ℕ) (ss : List Spot) → n < length ss → (x : Token) × (r : List Token) × (words (drop n ss) ≡ x ∷ r)
 next_word n [] h = absurd (omega arith)
 next_word zero (x ∷ ss) h = (_, _, refl)
 next_word (suc n) (x ∷ ss) h = next_word n ss (omega arith)
 
-pub refused_before : (n : ℕ) (ss : List Spot) (b : Block) → n < length ss → Reads grammar block (grammar statements) (words ss) b (words (drop n ss)) → NoProgram (words ss) n
-refused_before n ss b h d =
+pub refused_before : (g : Rules) (n : ℕ) (ss : List Spot) (b : Block) → n < length ss → Reads (grammar g) block (grammar g statements) (words ss) b (words (drop n ss)) → NoProgram g (words ss) n
+refused_before g n ss b h d =
     let w = next_word n ss h in
-    let again = subst (λ v. Reads grammar block (grammar statements) (words ss) b v) w.2 d in (
+    let again = subst (λ v. Reads (grammar g) block (grammar g statements) (words ss) b v) w.2 d in (
       omega (arith, words_length ss),
       λ us e same c. no_program_before again (subst (λ v. Agree v (words ss) us) w.2 (agree_at n ss us (omega arith) same)) c,
     )
@@ -111,14 +109,55 @@ bad_next lines front (s ∷ ss) r h =
 pub bad_at : (lines : List (List ℕ)) (spots : List Spot) (at : ℕ) → IsReading lines spots → next_passes is_bad (words (drop at spots)) ≡ true → IsBadToken lines (line_of lines (drop at spots))
 bad_at lines spots at r h = bad_next lines (take at spots) (drop at spots) (subst (IsReading lines) (sym (take-append-drop at spots)) r) h
 
--- what the place where the statements' reading stopped says
-pub stop_of : (spots : List Spot) (at : ℕ) (f : Fault) → at ≤ length spots → (f ≡ Unexpected → Fails grammar block (grammar statements) (words spots) (words (drop at spots))) → (f ≡ TooDeep → Deep block most_nodes (grammar statements) (words spots)) → (f ≡ TooDeep → most_nodes < at) → StopsBy spots at f
-stop_of spots at Unexpected h u w d = refused_at at spots h (u refl)
-stop_of spots at TooDeep h u w d = record {
-  outside = λ b e l. let high = (w refl).too_high b [] (complete e refl) in omega (arith, high, l.program.nodes);
-  long = inl (omega (arith, d refl, h, words_length spots));
-}
-stop_of spots at Memory h u w d = tt
+targets_admit : (names : Names) → Admits with_targets (strict names)
+targets_admit names = record { targets = λ e. refl; functions = λ s e. refl; loops = λ e. absurd cc }
+
+functions_admit : (names : Names) → Admits (with_functions names) (strict names)
+functions_admit names = record { targets = λ e. absurd cc; functions = λ s e. e; loops = λ e. absurd cc }
+
+module _ (names : Names) (spots : List Spot) (old new : Cursor) (from : left old ≡ words spots) (same : new.spots.now ≡ spots) where
+  to : left new ≡ words (drop new.at spots)
+  to = ap (λ v. words (drop new.at v)) same
+
+  told_at : (f : Fault) (g : Rules) → HasFailed names statements most_nodes old new f → ToldBy f names g → NoProgram g (words spots) new.at
+  told_at f g w b =
+      let within : new.at ≤ length spots = subst (λ v. new.at ≤ length v) same new.in_range in
+      refused_at g new.at spots within (subst (λ v. Fails (grammar g) block (grammar g statements) (words spots) v) to (subst (λ v. Fails (grammar g) block (grammar g statements) v (left new)) from (w.fails g b)))
+
+  -- what the place where the statements' reading stopped says
+  pub stop_of : (f : Fault) → old.at ≡ 0 → HasFailed names statements most_nodes old new f → StopsBy names spots new.at f
+  stop_of Unexpected z w = record {
+    none = told_at Unexpected loose w (loose_admits (strict names));
+    passes = subst (λ v. Passes (words spots) v) to (subst (λ v. Passes v (left new)) from (failure_passes loose (w.fails loose (loose_admits (strict names)))));
+  }
+  stop_of BadTarget z w = record {
+    assigns = subst (λ v. next_passes (is_sign sign.Assign) v ≡ true) to w.stands;
+    none = told_at BadTarget with_targets w (targets_admit names, refl);
+  }
+  stop_of UnknownFunction z w = record {
+    name = w.stands.0;
+    unknown = w.stands.1;
+    call = subst (λ v. IsCalled v new.at w.stands.0) same w.stands.2;
+    none = told_at UnknownFunction (with_functions names) w (functions_admit names, λ s e. e);
+  }
+  stop_of TooDeep z w =
+      let within : new.at ≤ length spots = subst (λ v. new.at ≤ length v) same new.in_range in
+      let high = subst (λ v. Deep (strict names) block most_nodes (grammar (strict names) statements) v) from (w.deep refl) in
+      record {
+        outside = λ b e l. let h = high.too_high b [] (complete e refl) in omega (arith, h, l.program.nodes);
+        long = inl (omega (arith, w.long refl, z, within, words_length spots));
+      }
+  stop_of Memory z w = tt
+
+pub words_left : (n : ℕ) (ss : List Spot) → length (words (drop n ss)) ≡ length (words ss) - n
+words_left n ss = omega (arith, words_length ss, words_length (drop n ss), length-drop n ss)
+
+-- a parenthesis calls one name
+pub same_call : (spots : List Spot) (at : ℕ) (s t : List ℕ) → IsCalled spots at s → IsCalled spots at t → s ≡ t
+same_call spots at s t p q =
+    let place : p.before ≡ q.before = omega (arith, p.place, q.place) in
+    let same : (token.Name s ∷ token.Sign sign.LeftParen ∷ p.rest) ≡ (token.Name t ∷ token.Sign sign.LeftParen ∷ q.rest) = sym p.called ∙ ap (λ n. words (drop n spots)) place ∙ q.called in
+    cc
 
 pub nothing_left : (n : ℕ) (spots : List Spot) → length spots ≤ n → words (drop n spots) ≡ []
 nothing_left n spots h = ap words (drop_all n spots h)
@@ -136,27 +175,23 @@ open_within : (n : ℕ) (ts : List Token) → most_open_behind n ts ≤ n + leng
 open_within n [] = omega arith
 open_within n (x ∷ ts) = omega (arith, open_within (open_behind n x) ts, one_more_open n x)
 
-pub exceed_by_brackets : (ts : List Token) → most_brackets < most_open ts → ExceedLimits ts
-exceed_by_brackets ts h = record {
+pub exceed_by_brackets : (names : Names) (ts : List Token) → most_brackets < most_open ts → ExceedLimits names ts
+exceed_by_brackets names ts h = record {
   outside = λ b e l. omega (arith, h, l.brackets);
   long = inl (omega (arith, h, open_within 0 ts));
 }
 
 -- the lines of the tokens' program don't fit
-pub exceed_by_lines : (ts : List Token) (b : Block) → IsProgram ts b → (AllFit (listing b) → ⊥) → ExceedLimits ts
-exceed_by_lines ts b d none = record {
-  outside = λ c e w. none (subst (λ v. AllFit (listing v)) (one_program ts c b e d) w.program.lines);
+pub exceed_by_lines : (names : Names) (ts : List Token) (b : Block) → IsProgram names ts b → (AllFit (listing b) → ⊥) → ExceedLimits names ts
+exceed_by_lines names ts b d none = record {
+  outside = λ c e w. none (subst (λ v. AllFit (listing v)) (one_program (strict names) ts c b e d) w.program.lines);
   long = inr (record { tree = b; program = d; long = none });
 }
 
-pub too_deep : (lines : List (List ℕ)) (spots : List Spot) → IsReading lines spots → ExceedLimits (words spots) → IsTooDeep lines
-too_deep lines spots r x = record {
+pub too_deep : (names : Names) (lines : List (List ℕ)) (spots : List Spot) → IsReading lines spots → ExceedLimits names (words spots) → IsTooDeep names lines
+too_deep names lines spots r x = record {
   spots = spots;
   reading = r;
   outside = x.outside;
   long = ⊎_elim (λ n. inl (omega (arith, n, words_length spots, tokens_within lines spots r))) (λ l. inr l) x.long;
 }
-
-pub known_of : (n : Names) → (n ≡ Any → ⊥) → n ≡ Known
-known_of Any h = absurd (h refl)
-known_of Known h = refl

@@ -1,23 +1,11 @@
 -- What the parser knows of the nodes on a path.
-use Rattle.std.specs.Prelude.{ℕ, suc, zero, ◌+◌, ◌≤◌, ◌<◌, ◌≡◌, ◌⊎◌, Result, MatchResult}
+use Rattle.std.specs.Prelude.{ℕ, ◌≤◌, ◌<◌, ◌≡◌, ◌⊎◌, Result, MatchResult}
 use Rattle.moo_program.specs.Tree.{Expr}
 use Rattle.moo_program.specs.Limits.{height}
 use Rattle.moo_program.specs.View.{root}
-use Rattle.moo_syntax.specs.declared.cursor.Cursor.{Cursor}
 use Rattle.moo_syntax.specs.declared.fault.Fault.{Fault}
 use Rattle.moo_syntax.specs.declared.fault.Fault.TheVariants.{Memory, TooDeep}
 use Rattle.moo_syntax.specs.declared.node.Node.{Node}
-use Rattle.moo_syntax.specs.Grammar.{negated}
-
--- so many minuses before an expression
-abbrev pub negations : ℕ → Expr → Expr
-negations zero e = e
-negations (suc n) e = negated (negations n e)
-
--- a tree so high fits the room, and it was read from at least as many tokens
-pub record IsWithin (room high : ℕ) (old new : Cursor) : Type 0 where
-  pub fits : high ≤ room
-  pub tokens : old.at + high ≤ new.at
 
 -- the tree was made, or is too high, or there was no memory for it
 abbrev pub IsMade : Expr → ℕ → Result Node Fault → Type 0

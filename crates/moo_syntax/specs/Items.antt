@@ -1,9 +1,9 @@
--- The height of an item.
-use Rattle.std.specs.Prelude.{ℕ}
-use Rattle.moo_program.specs.declared.tree.Item.{Item, Element', Splice'}
-use Rattle.moo_program.specs.Limits.{height}
-use Rattle.moo_program.specs.View.{tree}
+-- What an item is.
+use Rattle.std.specs.Prelude.{Bool, true}
+use Rattle.moo_program.specs.declared.tree.Item.{Item, Element', Splice', Optional'}
 
-abbrev pub item_height : Item → ℕ
-item_height (Element' p e) = height (tree e)
-item_height (Splice' p e) = height (tree e)
+-- whether there is a `?` piece among items, with one item more
+abbrev pub optional_with : Bool → Item → Bool
+optional_with b (Element' p e) = b
+optional_with b (Splice' p e) = b
+optional_with b (Optional' s d) = true

@@ -1,15 +1,8 @@
-pub mod Tokens
-pub mod Grammar
 pub mod Brackets
 pub mod Programs
 pub mod FaultText
-pub mod Machine
-pub mod Predictive
-pub mod Agree
 pub mod Cursor
 pub mod Items
 pub mod Height
-pub mod Size
-pub mod Depth
 pub mod Outcome
 pub mod Stops

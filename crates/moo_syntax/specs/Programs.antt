@@ -1,7 +1,7 @@
 -- The program of a text, and what a fault says of the text.
-use Rattle.std.specs.Prelude.{ℕ, suc, ◌+◌, List, [], ◌∷◌, ◌++◌, ◌≡◌, ◌≤◌, ◌<◌, ◌⊎◌, length, take, drop}
+use Rattle.std.specs.Prelude.{ℕ, suc, ◌+◌, List, [], ◌∷◌, ◌++◌, ◌≡◌, ◌≤◌, ◌<◌, ◌⊎◌, true, false, length, take, drop}
 use Rattle.std.specs.List.{sum_by}
-use Rattle.moo_token.specs.declared.sign.Sign.TheVariants.{LeftParen}
+use Rattle.moo_token.specs.declared.sign.Sign.TheVariants.{LeftParen, Assign}
 use Rattle.moo_token.specs.declared.token.Token.{Token}
 use Rattle.moo_token.specs.declared.token.Token.TheVariants.{Name, Sign, Bad}
 use Rattle.moo_token.specs.declared.token.Spot.{Spot}
@@ -9,19 +9,14 @@ use Rattle.moo_token.specs.Lexing.{IsTokens, IsReading, HasNoTokens}
 use Rattle.moo_program.specs.Tree.{Block}
 use Rattle.moo_program.specs.Limits.{IsWithinLimits, AllFit, most_nodes, most_brackets}
 use Rattle.moo_program.specs.Listing.{listing}
-use Rattle.moo_syntax.specs.declared.syntax_fault.Names.{Names}
-use Rattle.moo_syntax.specs.declared.syntax_fault.Names.TheVariants.{Known}
+use Rattle.moo_grammar.specs.declared.names.Names.{Names}
 use Rattle.moo_syntax.specs.declared.syntax_fault.SyntaxFaultKind.{SyntaxFaultKind}
-use Rattle.moo_syntax.specs.declared.syntax_fault.SyntaxFaultKind.TheVariants.{BadToken, Unexpected, TooDeep, UnknownFunction, Memory}
-use Rattle.moo_syntax.specs.Tokens.{words}
+use Rattle.moo_syntax.specs.declared.syntax_fault.SyntaxFaultKind.TheVariants.{BadToken, Unexpected, BadTarget, UnknownFunction, TooDeep, Memory}
+use Rattle.moo_grammar.specs.Tokens.{words, is_sign, is_bad}
+use Rattle.moo_grammar.specs.Rules.{Rules, loose, may_call}
+use Rattle.moo_grammar.specs.Machine.{next_passes}
 use Rattle.moo_syntax.specs.Brackets.{most_open}
-use Rattle.moo_syntax.specs.Grammar.{IsProgram}
-
--- the text of these lines has tokens, and they are the program
-pub record IsProgramOf (lines : List (List ℕ)) (b : Block) : Type 0 where
-  pub spots : List Spot
-  pub tokens : IsTokens lines spots
-  pub program : IsProgram (words spots) b
+use Rattle.moo_grammar.specs.Grammar.{IsProgram, IsProgramBy}
 
 -- the program, and the brackets of its source, are within the limits
 pub record IsWithin (ts : List Token) (b : Block) : Type 0 where
@@ -29,19 +24,27 @@ pub record IsWithin (ts : List Token) (b : Block) : Type 0 where
   pub program : IsWithinLimits b
 
 -- the text is the program, within the limits
-pub record IsParsed (lines : List (List ℕ)) (b : Block) : Type 0 where
+pub record IsParsed (names : Names) (lines : List (List ℕ)) (b : Block) : Type 0 where
   pub spots : List Spot
   pub tokens : IsTokens lines spots
-  pub program : IsProgram (words spots) b
+  pub program : IsProgram names (words spots) b
   pub limits : IsWithin (words spots) b
 
 -- The lists begin alike, up to and with the token at n. The end of a list counts as a token.
 abbrev pub SameUpTo : ℕ → List Token → List Token → Type 0
 SameUpTo n ts us = take (suc n) us ≡ take (suc n) ts
 
--- no tokens that begin as these do, up to and with the one at n, are a program
-abbrev pub NoProgram : List Token → ℕ → Type 0
-NoProgram ts n = (n ≤ length ts) × ((us : List Token) (b : Block) → SameUpTo n ts us → IsProgram us b → ⊥)
+-- no tokens that begin as these do, up to and with the one at n, are a program by the rules
+abbrev pub NoProgram : Rules → List Token → ℕ → Type 0
+NoProgram g ts n = (n ≤ length ts) × ((us : List Token) (b : Block) → SameUpTo n ts us → IsProgramBy g us b → ⊥)
+
+-- what asks for targets before `=`, and for nothing else
+abbrev pub with_targets : Rules
+with_targets = record { targets = true; functions = λ _. true; loops = false }
+
+-- what asks for names that may be called, and for nothing else
+abbrev pub with_functions : Names → Rules
+with_functions names = record { targets = false; functions = may_call names; loops = false }
 
 -- the line of the first of these tokens, or the text's last line at its end
 abbrev pub line_of : List (List ℕ) → List Spot → ℕ
@@ -54,6 +57,29 @@ pub record IsBadToken (lines : List (List ℕ)) (n : ℕ) : Type 0 where
   pub reading : IsReading lines (before ++ record { token = Bad; line = n } ∷ [])
   pub none : HasNoTokens lines
 
+-- none of the tokens is bad
+abbrev pub AreSound : List Token → Type 0
+AreSound [] = Unit {0}
+AreSound (x ∷ ts) = (is_bad x ≡ false) × AreSound ts
+
+-- No program begins with the tokens of the text up to one on line n, whatever stands before `=` and is called. They are all sound.
+pub record IsUnexpected (lines : List (List ℕ)) (n : ℕ) : Type 0 where
+  pub spots : List Spot
+  pub reading : IsReading lines spots
+  pub at : ℕ
+  pub line : n ≡ line_of lines (drop at spots)
+  pub none : NoProgram loose (words spots) at
+  pub sound : AreSound (take (suc at) (words spots))
+
+-- An `=` stands on line n. No program of which targets alone are asked begins with the tokens up to it.
+pub record IsBadTarget (lines : List (List ℕ)) (n : ℕ) : Type 0 where
+  pub spots : List Spot
+  pub reading : IsReading lines spots
+  pub at : ℕ
+  pub line : n ≡ line_of lines (drop at spots)
+  pub assigns : next_passes (is_sign Assign) (words (drop at spots)) ≡ true
+  pub none : NoProgram with_targets (words spots) at
+
 -- the name stands before the place, and a parenthesis at it
 pub record IsCalled (spots : List Spot) (at : ℕ) (name : List ℕ) : Type 0 where
   pub before : ℕ
@@ -61,49 +87,43 @@ pub record IsCalled (spots : List Spot) (at : ℕ) (name : List ℕ) : Type 0 wh
   pub rest : List Token
   pub called : words (drop before spots) ≡ Name name ∷ Sign LeftParen ∷ rest
 
--- No program begins with the tokens of the text up to one on line n. Where names are known, it is no call of a name.
-pub record IsUnexpected (names : Names) (lines : List (List ℕ)) (n : ℕ) : Type 0 where
-  pub spots : List Spot
-  pub reading : IsReading lines spots
-  pub at : ℕ
-  pub line : n ≡ line_of lines (drop at spots)
-  pub none : NoProgram (words spots) at
-  pub no_call : names ≡ Known → (name : List ℕ) → ¬ IsCalled spots at name
-
--- The name stands on line n with a parenthesis behind it, and no program begins with the tokens up to the parenthesis.
-pub record IsUnknownFunction (lines : List (List ℕ)) (n : ℕ) (name : List ℕ) : Type 0 where
+-- The name stands on line n with a parenthesis behind it, and may not be called. No program of which such names alone are asked
+-- begins with the tokens up to the parenthesis.
+pub record IsUnknownFunction (names : Names) (lines : List (List ℕ)) (n : ℕ) (name : List ℕ) : Type 0 where
   pub spots : List Spot
   pub reading : IsReading lines spots
   pub at : ℕ
   pub call : IsCalled spots at name
+  pub unknown : may_call names name ≡ false
   pub line : n ≡ line_of lines (drop call.before spots)
-  pub none : NoProgram (words spots) at
+  pub none : NoProgram (with_functions names) (words spots) at
 
 -- no program within the limits has these tokens
-abbrev pub IsOutside : List Token → Type 0
-IsOutside ts = (b : Block) → IsProgram ts b → IsWithin ts b → ⊥
+abbrev pub IsOutside : Names → List Token → Type 0
+IsOutside names ts = (b : Block) → IsProgram names ts b → IsWithin ts b → ⊥
 
 -- how many bytes the lines have
 abbrev pub text_length : List (List ℕ) → ℕ
 text_length lines = sum_by length lines
 
 -- the tokens are a program with a line in its full listing that no string holds
-pub record HasLongLine (ts : List Token) : Type 0 where
+pub record HasLongLine (names : Names) (ts : List Token) : Type 0 where
   pub tree : Block
-  pub program : IsProgram ts tree
+  pub program : IsProgram names ts tree
   pub long : ¬ AllFit (listing tree)
 
 -- No program within the limits has the text, and it has more bytes than a path may have nodes, or such a line.
-pub record IsTooDeep (lines : List (List ℕ)) : Type 0 where
+pub record IsTooDeep (names : Names) (lines : List (List ℕ)) : Type 0 where
   pub spots : List Spot
   pub reading : IsReading lines spots
-  pub outside : IsOutside (words spots)
-  pub long : (most_nodes < text_length lines) ⊎ HasLongLine (words spots)
+  pub outside : IsOutside names (words spots)
+  pub long : (most_nodes < text_length lines) ⊎ HasLongLine names (words spots)
 
 -- what a fault of this kind on line n says of the text
 abbrev pub Blames : Names → List (List ℕ) → ℕ → SyntaxFaultKind → Type 0
 Blames names lines n BadToken = IsBadToken lines n
-Blames names lines n Unexpected = IsUnexpected names lines n
-Blames names lines n TooDeep = IsTooDeep lines
-Blames names lines n (UnknownFunction name) = (names ≡ Known) × IsUnknownFunction lines n name
+Blames names lines n Unexpected = IsUnexpected lines n
+Blames names lines n BadTarget = IsBadTarget lines n
+Blames names lines n (UnknownFunction name) = IsUnknownFunction names lines n name
+Blames names lines n TooDeep = IsTooDeep names lines
 Blames names lines n Memory = Unit {0}

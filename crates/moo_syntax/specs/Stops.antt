@@ -1,26 +1,54 @@
 -- What the parser knows of the tokens where it stops.
-use Rattle.std.specs.Prelude.{ℕ, List, ◌<◌, ◌⊎◌, length}
+use Rattle.std.specs.Prelude.{ℕ, List, ◌∷◌, ◌≡◌, ◌<◌, ◌⊎◌, true, false, drop, length}
+use Rattle.moo_token.specs.declared.sign.Sign.TheVariants.{Assign}
 use Rattle.moo_token.specs.declared.token.Token.{Token}
 use Rattle.moo_token.specs.declared.token.Spot.{Spot}
 use Rattle.moo_program.specs.Tree.{Block}
 use Rattle.moo_program.specs.Limits.{most_nodes}
+use Rattle.moo_grammar.specs.declared.names.Names.{Names}
+use Rattle.moo_grammar.specs.Rules.{loose, may_call}
+use Rattle.moo_grammar.specs.Tokens.{words, is_sign, is_bad}
+use Rattle.moo_grammar.specs.Grammar.{IsProgram}
+use Rattle.moo_grammar.specs.Machine.{next_passes}
 use Rattle.moo_syntax.specs.declared.fault.Fault.{Fault}
-use Rattle.moo_syntax.specs.declared.fault.Fault.TheVariants.{Unexpected, TooDeep, Memory}
-use Rattle.moo_syntax.specs.Tokens.{words}
-use Rattle.moo_syntax.specs.Grammar.{IsProgram}
-use Rattle.moo_syntax.specs.Programs.{IsWithin, NoProgram, IsOutside, HasLongLine}
+use Rattle.moo_syntax.specs.declared.fault.Fault.TheVariants.{Unexpected, BadTarget, UnknownFunction, TooDeep, Memory}
+use Rattle.moo_syntax.specs.Programs.{IsWithin, IsCalled, NoProgram, with_targets, with_functions, IsOutside, HasLongLine}
 
 -- no program within the limits has these tokens: they are many, or there is a long line
-pub record ExceedLimits (ts : List Token) : Type 0 where
-  pub outside : IsOutside ts
-  pub long : (most_nodes < length ts) ⊎ HasLongLine ts
+pub record ExceedLimits (names : Names) (ts : List Token) : Type 0 where
+  pub outside : IsOutside names ts
+  pub long : (most_nodes < length ts) ⊎ HasLongLine names ts
 
-abbrev pub StopsBy : List Spot → ℕ → Fault → Type 0
-StopsBy spots at Unexpected = NoProgram (words spots) at
-StopsBy spots at TooDeep = ExceedLimits (words spots)
-StopsBy spots at Memory = Unit {0}
+-- from the tokens to their rest, over sound ones
+pub data Passes : List Token → List Token → Type 0 where
+  none : {r : List Token} → Passes r r
+  one : {x : Token} {ts r : List Token} → is_bad x ≡ false → Passes ts r → Passes (x ∷ ts) r
+
+-- no program goes on at the place, and no bad token stands before it
+pub record IsStuckAt (spots : List Spot) (at : ℕ) : Type 0 where
+  pub none : NoProgram loose (words spots) at
+  pub passes : Passes (words spots) (words (drop at spots))
+
+-- no target stands before the `=` at the place
+pub record HasBadTarget (spots : List Spot) (at : ℕ) : Type 0 where
+  pub assigns : next_passes (is_sign Assign) (words (drop at spots)) ≡ true
+  pub none : NoProgram with_targets (words spots) at
+
+-- the name before the parenthesis at the place may not be called
+pub record CallsUnknown (names : Names) (spots : List Spot) (at : ℕ) : Type 0 where
+  pub name : List ℕ
+  pub unknown : may_call names name ≡ false
+  pub call : IsCalled spots at name
+  pub none : NoProgram (with_functions names) (words spots) at
+
+abbrev pub StopsBy : Names → List Spot → ℕ → Fault → Type 0
+StopsBy names spots at Unexpected = IsStuckAt spots at
+StopsBy names spots at BadTarget = HasBadTarget spots at
+StopsBy names spots at UnknownFunction = CallsUnknown names spots at
+StopsBy names spots at TooDeep = ExceedLimits names (words spots)
+StopsBy names spots at Memory = Unit {0}
 
 -- the tokens, all of them, are the program, within the limits
-pub record IsWhole (ts : List Token) (b : Block) : Type 0 where
-  pub program : IsProgram ts b
+pub record IsWhole (names : Names) (ts : List Token) (b : Block) : Type 0 where
+  pub program : IsProgram names ts b
   pub limits : IsWithin ts b

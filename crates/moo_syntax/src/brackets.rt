@@ -1,7 +1,7 @@
 //! How many brackets are open at once.
 ghost use Rattle.std.specs.Prelude.{◌≡◌, ◌<◌, ◌≤◌, ◌+◌, length, MatchOption};
 ghost use Rattle.moo_program.specs.Limits.{most_brackets};
-ghost use Rattle.moo_syntax.specs.Tokens.{words};
+ghost use Rattle.moo_grammar.specs.Tokens.{words};
 ghost use Rattle.moo_syntax.specs.Brackets.{open_behind, most_open};
 
 use moo_program::MOST_BRACKETS;

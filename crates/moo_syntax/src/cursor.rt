@@ -2,7 +2,7 @@
 ghost use Rattle.std.specs.Prelude.{◌≡◌, ℕ, ◌+◌, ◌≤◌, ◌<◌, ◌∷◌, Bool, true, false, length};
 
 use crate::fault::Fault;
-use crate::level::{Level, Operator, operator_at};
+use moo_grammar::{Level, Operator, operator_at};
 use moo_program::Literal;
 use moo_token::{Keyword, Sign, Spot, Token};
 use moo_value::MooStr;
@@ -17,9 +17,9 @@ pub struct Cursor<'a> {
 
 impl Cursor<'_> {
     ghost use Rattle.std.specs.Prelude.{IsTrue, IfOk, MatchBool, MatchOption, MatchResult, OnErr, is_some};
-    ghost use Rattle.moo_syntax.specs.Tokens.{is_sign, is_keyword, literal_at, name_at, operator_at, is_bad, begins_statement};
-    ghost use Rattle.moo_syntax.specs.Machine.{next_passes};
-    ghost use Rattle.moo_syntax.specs.Cursor.{left, Takes, TakesLiteral, TakesOperator, TakesMinuses, Stays};
+    ghost use Rattle.moo_grammar.specs.Tokens.{is_sign, is_keyword, literal_at, name_at, operator_at, is_closer, is_bad, begins_statement};
+    ghost use Rattle.moo_grammar.specs.Machine.{next_passes};
+    ghost use Rattle.moo_syntax.specs.Cursor.{left, Takes, TakesLiteral, TakesOperator, TakesMinuses, Stays, StaysUnless};
     ghost use Rattle.moo_syntax.specs.declared.fault.Fault.TheVariants.{Memory, Unexpected};
 
     /// Whether the sign comes next.
@@ -35,6 +35,33 @@ impl Cursor<'_> {
             ) => *found == sign,
             _ => false,
         }
+    }
+
+    /// Whether a parenthesis or a brace closes next.
+    pub fn is_at_closer(&self) -> bool
+        ensures { result ≡ next_passes is_closer (left self.now) }
+    {
+        match self.spots.get(self.at) {
+            Some(
+                Spot {
+                    token: Token::Sign(found),
+                    ..
+                },
+            ) => *found == Sign::RightParen || *found == Sign::RightBrace,
+            _ => false,
+        }
+    }
+
+    /// The sign has to come next where it is needed. It isn't taken.
+    pub fn require(&self, needed: bool, sign: Sign) -> Result<(), Fault>
+        ensures { MatchResult result
+            (λ _. needed ≡ true → next_passes (is_sign sign) (left self.now) ≡ true)
+            (λ f. (f ≡ Unexpected) × (needed ≡ true) × (next_passes (is_sign sign) (left self.now) ≡ false)) }
+    {
+        if needed && !self.is_at(sign) {
+            return Err(Fault::Unexpected);
+        }
+        Ok(())
     }
 
     /// Whether no token stands next in the text.
@@ -96,9 +123,16 @@ impl Cursor<'_> {
         }
     }
 
-    /// Takes the keyword, which has to come next.
-    pub fn expect_keyword(&mut self, keyword: Keyword) -> Result<(), Fault>
-        ensures { MatchResult result (λ _. Takes (Token.Keyword keyword) self.old self.new) (λ f. (f ≡ Unexpected) × Stays (is_keyword keyword) self.old self.new) }
+    /// Takes the sign, if it may stand there and comes next.
+    pub fn take_where(&mut self, may_stand: bool, sign: Sign) -> bool
+        ensures { MatchBool result ((may_stand ≡ true) × Takes (Token.Sign sign) self.old self.new) (StaysUnless may_stand (is_sign sign) self.old self.new) }
+    {
+        if may_stand { self.take(sign) } else { false }
+    }
+
+    /// Takes the keyword, if it comes next.
+    pub fn take_keyword(&mut self, keyword: Keyword) -> bool
+        ensures { MatchBool result (Takes (Token.Keyword keyword) self.old self.new) (Stays (is_keyword keyword) self.old self.new) }
     {
         let Some(
             Spot {
@@ -107,13 +141,24 @@ impl Cursor<'_> {
             },
         ) = self.spots.get(self.at)
         else {
-            return Err(Fault::Unexpected);
+            return false;
         };
         if *found != keyword {
-            return Err(Fault::Unexpected);
+            return false;
         }
         self.at += 1;
-        Ok(())
+        true
+    }
+
+    /// Takes the keyword, which has to come next.
+    pub fn expect_keyword(&mut self, keyword: Keyword) -> Result<(), Fault>
+        ensures { MatchResult result (λ _. Takes (Token.Keyword keyword) self.old self.new) (λ f. (f ≡ Unexpected) × Stays (is_keyword keyword) self.old self.new) }
+    {
+        if self.take_keyword(keyword) {
+            Ok(())
+        } else {
+            Err(Fault::Unexpected)
+        }
     }
 
     /// Takes an operator of the level, if one comes next.

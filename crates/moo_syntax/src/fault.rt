@@ -6,6 +6,10 @@ use std::alloc::{AllocError, AllocFailed};
 pub enum Fault {
     /// No program goes on with the next token.
     Unexpected,
+    /// The `=` that comes next has no target before it.
+    BadTarget,
+    /// The name before the parenthesis that comes next may not be called.
+    UnknownFunction,
     /// More nodes stand on a path than may.
     TooDeep,
     /// There was no memory for the tree.

@@ -1,19 +1,25 @@
-//! The grammar of programs, and the program of a text.
+//! The program of a text.
 #![tactic(auto)]
 
 mod brackets;
 mod cursor;
 mod expression;
 mod fault;
-pub mod laws;
-mod level;
 mod make;
+mod members;
 mod node;
+mod place;
+mod postfix;
+mod primary;
 mod reader;
+mod rules;
+#[cfg(test)]
+mod shown;
 mod statement;
 mod syntax_fault;
 #[cfg(test)]
 mod tests;
 
+pub use moo_grammar::Names;
 pub use reader::parse;
-pub use syntax_fault::{Names, SyntaxFault, SyntaxFaultKind};
+pub use syntax_fault::{SyntaxFault, SyntaxFaultKind};

@@ -1,14 +1,16 @@
 //! Nodes over nodes, within the room that there is.
 ghost use Rattle.std.specs.Prelude.{◌≡◌, ◌+◌, ◌≤◌, MatchResult};
 ghost use Rattle.moo_program.specs.Limits.{height as height_of};
+ghost use Rattle.moo_program.specs.Tree as tree;
 ghost use Rattle.moo_program.specs.View.{root, tree as tree_of};
-ghost use Rattle.moo_syntax.specs.declared.fault.Fault.TheVariants.{TooDeep};
-ghost use Rattle.moo_syntax.specs.Grammar.{negated, joined};
-ghost use Rattle.moo_syntax.specs.Height.{IsMade, negations};
+ghost use Rattle.moo_syntax.specs.declared.fault.Fault.TheVariants.{Memory, TooDeep};
+ghost use Rattle.moo_grammar.specs.Grammar.{negated, joined};
+ghost use Rattle.moo_syntax.specs.Height.{IsMade};
+ghost use Rattle.moo_grammar.specs.Minuses.{negations};
 
 use crate::fault::Fault;
-use crate::level::Operator;
 use crate::node::Node;
+use moo_grammar::Operator;
 use moo_program::operator::UnaryOperator;
 use moo_program::{Expr, Literal};
 use std::alloc::Global;
@@ -33,6 +35,14 @@ pub fn node_over(alloc: Global, tree: Expr, below: u32, room: u32) -> Result<Nod
         tree,
         height: below + 1,
     })
+}
+
+/// A constant.
+pub fn constant(alloc: Global, literal: Literal) -> Result<Node, Fault>
+    ensures { MatchResult result (λ n. root n.tree ≡ tree.literal literal) (λ f. f ≡ Memory) }
+{
+    let tree = Box::new(alloc, Expr::Literal(literal))?;
+    Ok(Node { tree, height: 1 })
 }
 
 /// The operator between the two operands.

@@ -1,15 +1,16 @@
 //! The program of a text, or why it is none.
 ghost use Rattle.std.specs.Prelude.{◌≡◌, ◌≤◌, ◌+◌, length, drop, ℕ, List, IfOk, IfErr, MatchOption};
 ghost use Rattle.moo_token.specs.Lexing.{IsReading};
-ghost use Rattle.moo_syntax.specs.Tokens.{words};
-ghost use Rattle.moo_syntax.specs.Programs.{IsParsed, Blames, NoProgram, IsCalled, line_of};
-ghost use Rattle.moo_syntax.specs.Stops.{StopsBy, IsWhole};
+ghost use Rattle.moo_grammar.specs.Tokens.{words};
+ghost use Rattle.moo_syntax.specs.Programs.{IsParsed, Blames, IsCalled, line_of};
+ghost use Rattle.moo_syntax.specs.Stops.{StopsBy, IsStuckAt, CallsUnknown, IsWhole};
 
 use crate::brackets::bracket_too_many;
 use crate::cursor::Cursor;
 use crate::fault::Fault;
 use crate::statement::statements;
-use crate::syntax_fault::{Names, SyntaxFault, SyntaxFaultKind};
+use crate::syntax_fault::{SyntaxFault, SyntaxFaultKind};
+use moo_grammar::Names;
 use moo_program::{Program, fit_lines};
 use moo_token::{Sign, Spot, tokens};
 use moo_value::MooStr;
@@ -17,7 +18,7 @@ use std::alloc::Global;
 
 /// The program of the text of these lines, or the fault that is met first.
 pub fn parse(alloc: Global, lines: &[MooStr], names: Names) -> Result<Program, SyntaxFault>
-    ensures program { IfOk result (λ p. IsParsed lines.now p) }
+    ensures program { IfOk result (λ p. IsParsed names lines.now p) }
     ensures fault { IfErr result (λ f. Blames names lines.now f.line f.kind) }
 {
     let Ok(spots) = tokens(alloc, lines) else {
@@ -26,7 +27,7 @@ pub fn parse(alloc: Global, lines: &[MooStr], names: Names) -> Result<Program, S
             kind: SyntaxFaultKind::Memory,
         });
     };
-    match read(alloc, &spots) {
+    match read(alloc, &spots, names) {
         Ok(program) => Ok(program),
         Err(stop) => Err(blame(lines, &spots, stop, names)),
     }
@@ -40,9 +41,9 @@ struct Stop {
 }
 
 /// The program of these tokens.
-fn read(alloc: Global, spots: &[Spot]) -> Result<Program, Stop>
-    ensures program { IfOk result (λ p. IsWhole (words spots.now) p) }
-    ensures stopped { IfErr result (λ s. StopsBy spots.now s.at s.fault) }
+fn read(alloc: Global, spots: &[Spot], names: Names) -> Result<Program, Stop>
+    ensures program { IfOk result (λ p. IsWhole names (words spots.now) p) }
+    ensures stopped { IfErr result (λ s. StopsBy names spots.now s.at s.fault) }
 {
     if let Some(at) = bracket_too_many(spots) {
         return Err(Stop {
@@ -51,7 +52,7 @@ fn read(alloc: Global, spots: &[Spot]) -> Result<Program, Stop>
         });
     }
     let mut tokens = Cursor { spots, at: 0 };
-    let found = match statements(alloc, &mut tokens) {
+    let found = match statements(alloc, &mut tokens, names) {
         Ok(found) => found,
         Err(fault) => return Err(Stop {
             at: tokens.at,
@@ -82,12 +83,17 @@ fn read(alloc: Global, spots: &[Spot]) -> Result<Program, Stop>
 /// What the place where the parser stopped says of the text.
 fn blame(lines: &[MooStr], spots: &[Spot], stop: Stop, names: Names) -> SyntaxFault
     requires reading { IsReading lines.now spots.now }
-    requires stopped { StopsBy spots.now stop.at stop.fault }
+    requires stopped { StopsBy names spots.now stop.at stop.fault }
     ensures { Blames names lines.now result.line result.kind }
 {
     let line = line_at(lines, spots, stop.at);
     match stop.fault {
-        Fault::Unexpected => unexpected(lines, spots, stop.at, names),
+        Fault::Unexpected => unexpected(lines, spots, stop.at),
+        Fault::BadTarget => SyntaxFault {
+            line,
+            kind: SyntaxFaultKind::BadTarget,
+        },
+        Fault::UnknownFunction => unknown(lines, spots, stop.at, names),
         Fault::TooDeep => SyntaxFault {
             line,
             kind: SyntaxFaultKind::TooDeep,
@@ -100,10 +106,10 @@ fn blame(lines: &[MooStr], spots: &[Spot], stop: Stop, names: Names) -> SyntaxFa
 }
 
 /// The fault at a place at which no program goes on.
-fn unexpected(lines: &[MooStr], spots: &[Spot], at: usize, names: Names) -> SyntaxFault
+fn unexpected(lines: &[MooStr], spots: &[Spot], at: usize) -> SyntaxFault
     requires reading { IsReading lines.now spots.now }
-    requires none { NoProgram (words spots.now) at }
-    ensures { Blames names lines.now result.line result.kind }
+    requires stuck { IsStuckAt spots.now at }
+    ensures { (names : Names) → Blames names lines.now result.line result.kind }
 {
     let line = line_at(lines, spots, at);
     let tokens = Cursor { spots, at };
@@ -113,23 +119,26 @@ fn unexpected(lines: &[MooStr], spots: &[Spot], at: usize, names: Names) -> Synt
             kind: SyntaxFaultKind::BadToken,
         };
     }
-    if let Names::Any = names {
-        return SyntaxFault {
-            line,
-            kind: SyntaxFaultKind::Unexpected,
-        };
+    SyntaxFault {
+        line,
+        kind: SyntaxFaultKind::Unexpected,
     }
+}
+
+/// The fault at a parenthesis behind a name that may not be called.
+fn unknown(lines: &[MooStr], spots: &[Spot], at: usize, names: Names) -> SyntaxFault
+    requires reading { IsReading lines.now spots.now }
+    requires calls { CallsUnknown names spots.now at }
+    ensures { Blames names lines.now result.line result.kind }
+{
     match called_name(spots, at) {
         Ok(Some(name)) => SyntaxFault {
             line: line_at(lines, spots, at - 1),
             kind: SyntaxFaultKind::UnknownFunction(name),
         },
-        Ok(None) => SyntaxFault {
-            line,
-            kind: SyntaxFaultKind::Unexpected,
-        },
+        Ok(None) => unreachable!(),
         Err(_) => SyntaxFault {
-            line,
+            line: line_at(lines, spots, at),
             kind: SyntaxFaultKind::Memory,
         },
     }

@@ -6,15 +6,6 @@ use itoa::Buffer;
 use moo_value::MooStr;
 use std::alloc::{AllocError, Global};
 
-/// Which function names a program may use.
-#[derive(Clone, Copy, Debug, PartialEq, Eq)]
-pub enum Names {
-    /// Every name.
-    Any,
-    /// The names of the built-in functions alone.
-    Known,
-}
-
 /// What is wrong with a text.
 #[derive(Drop)]
 pub enum SyntaxFaultKind {
@@ -22,10 +13,12 @@ pub enum SyntaxFaultKind {
     BadToken,
     /// No program goes on so.
     Unexpected,
-    /// More nodes on a path, more open brackets or a longer line in the full listing than a program may have.
-    TooDeep,
+    /// What stands before the `=` can't be assigned to.
+    BadTarget,
     /// No built-in function has this name.
     UnknownFunction(MooStr),
+    /// More nodes on a path, more open brackets or a longer line in the full listing than a program may have.
+    TooDeep,
     /// There was no memory for the program.
     Memory,
 }
@@ -56,8 +49,9 @@ fn write_kind(kind: &SyntaxFaultKind, text: &mut Vec<u8>) -> Result<(), AllocErr
     match kind {
         SyntaxFaultKind::BadToken => text.extend_from_slice(b"Bad token"),
         SyntaxFaultKind::Unexpected => text.extend_from_slice(b"Parse error"),
-        SyntaxFaultKind::TooDeep => text.extend_from_slice(b"Too deeply nested"),
+        SyntaxFaultKind::BadTarget => text.extend_from_slice(b"Illegal assignment target"),
         SyntaxFaultKind::UnknownFunction(name) => write_unknown(name, text),
+        SyntaxFaultKind::TooDeep => text.extend_from_slice(b"Too deeply nested"),
         SyntaxFaultKind::Memory => text.extend_from_slice(b"Out of memory"),
     }
 }

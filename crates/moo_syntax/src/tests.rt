@@ -1,100 +1,7 @@
 // Texts and their programs, printed as trees, or the lines of their faults.
-use crate::{Names, parse};
-use moo_program::{Expr, Item, Literal, Stmt};
-use moo_value::MooStr;
-use std::alloc::Global;
+use crate::Names;
+use crate::shown::{nested, shown};
 use std::test::Fail;
-
-fn write_literal(shown: &mut Vec<u8>, alloc: Global, literal: &Literal) -> Result<(), Fail> {
-    let text = match literal {
-        Literal::Integer(number) => format!(in alloc; " {number}")?,
-        Literal::Object(number) => format!(in alloc; " #{number}")?,
-        Literal::Error(error) => format!(in alloc; " {error:?}")?,
-        Literal::Str(_) => format!(in alloc; " string")?,
-    };
-    shown.extend_from_slice(text.as_bytes())?;
-    Ok(())
-}
-
-/// Writes the tree with its operators behind their operands.
-fn write_tree(shown: &mut Vec<u8>, alloc: Global, tree: &Expr) -> Result<(), Fail> {
-    let name = match tree {
-        Expr::Literal(literal) => return write_literal(shown, alloc, literal),
-        Expr::Variable(_) => format!(in alloc; " name")?,
-        Expr::Length => format!(in alloc; " $")?,
-        Expr::Unary(operator, operand) => {
-            write_tree(shown, alloc, operand)?;
-            format!(in alloc; " {operator:?}")?
-        }
-        Expr::Binary(operator, left, right) => {
-            write_tree(shown, alloc, left)?;
-            write_tree(shown, alloc, right)?;
-            format!(in alloc; " {operator:?}")?
-        }
-        Expr::Logic(operator, left, right) => {
-            write_tree(shown, alloc, left)?;
-            write_tree(shown, alloc, right)?;
-            format!(in alloc; " {operator:?}")?
-        }
-        Expr::Conditional(test, yes, no) => {
-            write_tree(shown, alloc, test)?;
-            write_tree(shown, alloc, yes)?;
-            write_tree(shown, alloc, no)?;
-            format!(in alloc; " Conditional")?
-        }
-        Expr::Index(base, index) => {
-            write_tree(shown, alloc, base)?;
-            write_tree(shown, alloc, index)?;
-            format!(in alloc; " Index")?
-        }
-        Expr::Range(base, low, high) => {
-            write_tree(shown, alloc, base)?;
-            write_tree(shown, alloc, low)?;
-            write_tree(shown, alloc, high)?;
-            format!(in alloc; " Range")?
-        }
-        Expr::List(items) => format!(in alloc; " List{}", items.len())?,
-    };
-    shown.extend_from_slice(name.as_bytes())?;
-    Ok(())
-}
-
-/// The trees of the program's statements, or what a player is told.
-fn shown(alloc: Global, text: &str, names: Names) -> Result<Vec<u8>, Fail> {
-    let mut lines = Vec::new(alloc);
-    for line in text.lines() {
-        lines.push(MooStr::try_from_bytes(alloc, line.as_bytes())?)?;
-    }
-    let mut shown = Vec::new(alloc);
-    match parse(alloc, &lines, names) {
-        Ok(program) => {
-            for statement in program.statements() {
-                shown.extend_from_slice(b"return")?;
-                if let Stmt::Return(Some(value)) = statement {
-                    write_tree(&mut shown, alloc, value)?;
-                }
-                shown.push(b';')?;
-            }
-        }
-        Err(fault) => shown.extend_from_slice(fault.text(alloc)?.as_slice())?,
-    }
-    Ok(shown)
-}
-
-/// `return ` and the text in the middle of so many copies of others.
-fn nested(alloc: Global, before: &str, after: &str, count: usize) -> Result<String, Fail> {
-    let mut text = String::new(alloc);
-    text.push_str("return ")?;
-    for _ in 0..count {
-        text.push_str(before)?;
-    }
-    text.push_str("1")?;
-    for _ in 0..count {
-        text.push_str(after)?;
-    }
-    text.push_str(";")?;
-    Ok(text)
-}
 
 #[test]
 fn groups_operators(rt: HostRuntime) -> Result<(), Fail> {
@@ -103,7 +10,7 @@ fn groups_operators(rt: HostRuntime) -> Result<(), Fail> {
         ("return;return ;", "return;return;"),
         ("return 2 ^ 3 ^ 2;", "return 2 3 2 Power Power;"),
         ("return -2 ^ 2;", "return -2 2 Power;"),
-        ("return -x ^ 2;", "return name Negate 2 Power;"),
+        ("return -x ^ 2;", "return x Negate 2 Power;"),
         ("return 1 || 0 && 0;", "return 1 0 Or 0 And;"),
         (
             "return 1 - 2 - 3 * 4;",
@@ -111,33 +18,150 @@ fn groups_operators(rt: HostRuntime) -> Result<(), Fail> {
         ),
         (
             "return 1 IN {} == 2 < 3;",
-            "return 1 List0 In 2 Equal 3 Less;",
+            "return 1 0 Items List In 2 Equal 3 Less;",
         ),
-        (
-            "return 1 + 2 in x && !y;",
-            "return 1 2 Add name In name Not And;",
-        ),
+        ("return 1 + 2 in x && !y;", "return 1 2 Add x In y Not And;"),
         (
             "return a ? b | c ? d | e;",
-            "return name name name name name Conditional Conditional;",
+            "return a b c d e Conditional Conditional;",
         ),
         (
             "return a ? b ? c | d | e;",
-            "return name name name name Conditional name Conditional;",
+            "return a b c d Conditional e Conditional;",
         ),
         ("return --1;", "return 1;"),
         ("return -(1);", "return -1;"),
-        ("return - - -x;", "return name Negate Negate Negate;"),
+        ("return - - -x;", "return x Negate Negate Negate;"),
         ("return -2147483648;", "return -2147483648;"),
         ("return -1[2];", "return 1 2 Index Negate;"),
         (
             "return \"abc\"[2..$][$];",
-            "return string 2 $ Range $ Index;",
+            "return \"abc\" 2 $ Range $ Index;",
         ),
         (
             "return {1, @x, (E_div)}[({$})];",
-            "return List3 List1 Index;",
+            "return 1 x Splice Division 3 Items List $ 1 Items List Index;",
         ),
+    ] {
+        assert_eq!(rt;
+            shown(rt.alloc(), text, Names::Known)?.as_slice(),
+            expected.as_bytes(),
+            "{text}"
+        );
+    }
+    Ok(())
+}
+
+#[test]
+fn reads_each_form(rt: HostRuntime) -> Result<(), Fail> {
+    for (text, expected) in [
+        ("x.Name", " x \"Name\" Property"),
+        ("x.(\"a b\").c", " x \"a b\" Property \"c\" Property"),
+        ("x.(y + 1)", " x y 1 Add Property"),
+        ("x:look()", " x \"look\" 0 Items VerbCall"),
+        ("x:(y)(1, @z)", " x y 1 z Splice 2 Items VerbCall"),
+        ("#3:look(1)[2]", " #3 \"look\" 1 1 Items VerbCall 2 Index"),
+        ("$Room", " #0 \"Room\" Property"),
+        ("$ room.x", " #0 \"room\" Property \"x\" Property"),
+        ("$room(1)", " #0 \"room\" 1 1 Items VerbCall"),
+        (
+            "$room:look()",
+            " #0 \"room\" Property \"look\" 0 Items VerbCall",
+        ),
+        ("x[$room..$]", " x #0 \"room\" Property $ Range"),
+        ("FooBar()", " 0 Items FooBar Call"),
+        (
+            "foo(1, @{x}, bar(y))",
+            " 1 x 1 Items List Splice y 1 Items bar Call 3 Items foo Call",
+        ),
+        ("a = b = 1", " a b 1 Assign Assign"),
+        ("x.n = 1", " x \"n\" Property 1 Assign"),
+        ("$n = 1", " #0 \"n\" Property 1 Assign"),
+        ("x[1][2] = 3", " x 1 Index 2 Index 3 Assign"),
+        ("x.n[1..2] = y", " x \"n\" Property 1 2 Range y Assign"),
+        ("(a) = 1", " a 1 Assign"),
+        ("a = b ? c | d", " a b c d Conditional Assign"),
+        ("b ? c = 1 | d", " b c 1 Assign d Conditional"),
+        ("{a, @b} = x", " a b Splice 2 Items List x Assign"),
+        (
+            "{?a, b, ?c = 1 + 2, @d} = x",
+            " a Optional b 1 2 Add Default c Optional d Splice 4 Items List x Assign",
+        ),
+        ("`x.y ! any'", " x \"y\" Property Any Catch"),
+        (
+            "`x ! E_TYPE, @y => 0'",
+            " x TypeMismatch y Splice 2 Items 0 Instead Catch",
+        ),
+        ("`x ! ANY => `y ! ANY''", " x Any y Any Catch Instead Catch"),
+        ("x[`$ ! ANY']", " x $ Any Catch Index"),
+        ("!x != y", " x Not y NotEqual"),
+    ] {
+        let text = format!(in rt.alloc(); "return {text};")?;
+        let expected = format!(in rt.alloc(); "return{expected};")?;
+        assert_eq!(rt;
+            shown(rt.alloc(), text.as_str(), Names::Any)?.as_slice(),
+            expected.as_bytes(),
+            "{text}"
+        );
+    }
+    Ok(())
+}
+
+#[test]
+fn tells_bad_targets_and_forms(rt: HostRuntime) -> Result<(), Fail> {
+    for (text, expected) in [
+        ("1 = 2", "Line 1:  Illegal assignment target"),
+        ("a + b\n= 1", "Line 2:  Illegal assignment target"),
+        ("a ? b | c = 1", "Line 1:  Illegal assignment target"),
+        ("a = 1 + b = 2", "Line 1:  Illegal assignment target"),
+        ("{} = x", "Line 1:  Illegal assignment target"),
+        ("{a, 1} = x", "Line 1:  Illegal assignment target"),
+        ("{@a, @b} = x", "Line 1:  Illegal assignment target"),
+        ("{?a, b.c} = x", "Line 1:  Illegal assignment target"),
+        ("x[1..2][3] = 4", "Line 1:  Illegal assignment target"),
+        ("f(1)\n= 2", "Line 2:  Illegal assignment target"),
+        ("x:y() = 2", "Line 1:  Illegal assignment target"),
+        ("{?a\n}", "Line 2:  Parse error"),
+        ("{?a = 1} + x", "Line 1:  Parse error"),
+        ("{?a.b} = x", "Line 1:  Parse error"),
+        ("{?1} = x", "Line 1:  Parse error"),
+        ("f(?a) = x", "Line 1:  Parse error"),
+        ("`a ! '", "Line 1:  Parse error"),
+        ("`a'", "Line 1:  Parse error"),
+        ("`a ! ANY, E_TYPE'", "Line 1:  Parse error"),
+        ("`a ! ?b'", "Line 1:  Parse error"),
+        ("`a ! ANY => '", "Line 1:  Parse error"),
+        ("x.", "Line 1:  Parse error"),
+        ("x.if", "Line 1:  Parse error"),
+        ("x.y(1)", "Line 1:  Parse error"),
+        ("x.(y", "Line 1:  Parse error"),
+        ("x:y", "Line 1:  Parse error"),
+        ("x:(y)", "Line 1:  Parse error"),
+        ("f(1,)", "Line 1:  Parse error"),
+        ("f(1", "Line 1:  Parse error"),
+        ("f(1}", "Line 1:  Parse error"),
+        ("a =", "Line 1:  Parse error"),
+        ("$", "Line 1:  Parse error"),
+        ("$(1)", "Line 1:  Parse error"),
+        ("x[1].$", "Line 1:  Parse error"),
+        ("x = 2.5", "Line 1:  Bad token"),
+    ] {
+        let text = format!(in rt.alloc(); "return {text};")?;
+        assert_eq!(rt;
+            shown(rt.alloc(), text.as_str(), Names::Any)?.as_slice(),
+            expected.as_bytes(),
+            "{text}"
+        );
+    }
+    for (text, expected) in [
+        ("return 1 = foo(1);", "Line 1:  Illegal assignment target"),
+        (
+            "return Foo(1) = 2;",
+            "Line 1:  Unknown built-in function: Foo",
+        ),
+        ("return x.foo(1);", "Line 1:  Parse error"),
+        ("return x:foo(1);", "return x \"foo\" 1 1 Items VerbCall;"),
+        ("return $foo(1);", "return #0 \"foo\" 1 1 Items VerbCall;"),
     ] {
         assert_eq!(rt;
             shown(rt.alloc(), text, Names::Known)?.as_slice(),
@@ -158,7 +182,6 @@ fn tells_faults_with_their_lines(rt: HostRuntime) -> Result<(), Fail> {
         ("return $;", "Line 1:  Parse error"),
         ("return x[{$\n$}];", "Line 2:  Parse error"),
         ("return {1,};", "Line 1:  Parse error"),
-        ("return x = 1;", "Line 1:  Parse error"),
         ("return (1;\n 2.5", "Line 1:  Parse error"),
         ("return 1 +\n2.5;", "Line 2:  Bad token"),
         ("return 1; /*\n\n", "Line 1:  Bad token"),
@@ -174,8 +197,6 @@ fn tells_faults_with_their_lines(rt: HostRuntime) -> Result<(), Fail> {
             "{text}"
         );
     }
-    let unknown = shown(rt.alloc(), "return foo\n(1);", Names::Any)?;
-    assert_eq!(rt; unknown.as_slice(), b"Line 2:  Parse error".as_slice());
     Ok(())
 }
 
@@ -191,6 +212,17 @@ fn refuses_deep_nesting(rt: HostRuntime) -> Result<(), Fail> {
         ("2 ^ ", "", 98),
         ("", "[1]", 98),
         ("1 ? 2 | ", "", 98),
+        ("", " .n", 98),
+        ("x.(", ")", 98),
+        ("", ":n()", 98),
+        ("x:n(", ")", 98),
+        ("$n(", ")", 98),
+        ("f(", ")", 98),
+        ("x = ", "", 98),
+        ("{?x = ", "} = y", 49),
+        ("`", " ! ANY'", 98),
+        ("`x ! ", "'", 98),
+        ("`x ! ANY => ", "'", 98),
     ] {
         let fits = shown(
             alloc,

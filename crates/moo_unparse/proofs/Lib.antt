@@ -1,9 +1,12 @@
 pub mod Fits
+pub mod Forms
 pub mod Good
 pub mod Items
 pub mod Law
 pub mod Listed
+pub mod Names
 pub mod Read
+pub mod Scatters
 pub mod Sizes
 pub mod Sound
 pub mod Texts

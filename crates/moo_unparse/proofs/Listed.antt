@@ -1,5 +1,5 @@
 -- The tokens of the full listing, written in front of others.
-use Rattle.std.specs.Prelude.{ℕ, ℤ, pos, negsuc, List, [], ◌∷◌, ◌≡◌, Bool, true, false, FitsSigned}
+use Rattle.std.specs.Prelude.{ℕ, ℤ, pos, negsuc, List, ◌∷◌, ◌≡◌, Bool, true, false, Option, Some, None, FitsSigned}
 use Rattle.std.specs.Int.{int_wrapping_neg, w32}
 use Rattle.moo_token.specs.declared.sign.Sign.{Sign}
 use Rattle.moo_token.specs.declared.sign.Sign.TheVariants as sign
@@ -15,8 +15,8 @@ use Rattle.moo_program.specs.declared.operator.LogicOperator.{LogicOperator}
 use Rattle.moo_program.specs.declared.operator.LogicOperator.TheVariants.{And, Or}
 use Rattle.moo_program.specs.declared.tree.Literal.{Literal}
 use Rattle.moo_program.specs.declared.tree.Literal.TheVariants.{Integer, Object, Error, Str}
-use Rattle.moo_program.specs.Tree.{Expr, literal, variable, length_mark, unary, binary, logic, conditional, index, range, list, Items, no_items, element, splice, Stmt, return_nothing, returns, Block, no_statement, then}
-use Rattle.moo_program.specs.Listing.{is_compound, is_compound_base}
+use Rattle.moo_program.specs.Tree.{Expr, literal, variable, length_mark, unary, binary, logic, conditional, index, range, list, property, verb_call, call, assign, catch, catch_or, Items, no_items, element, splice, optional, defaulted, Codes, any_error, listed_errors, Stmt, return_nothing, returns, Block, no_statement, then}
+use Rattle.moo_program.specs.Listing.{is_compound, is_compound_base, constant_name, is_system_object}
 
 abbrev pub unary_mark : UnaryOperator → Sign
 unary_mark Not = sign.Bang
@@ -57,11 +57,19 @@ abbrev pub parens : Bool → (List Token → List Token) → List Token → List
 parens true f r = token.Sign sign.LeftParen ∷ f (token.Sign sign.RightParen ∷ r)
 parens false f r = f r
 
+-- a property or a verb of what f writes, by its name, which g writes
+abbrev pub selected : Sign → Option (List ℕ) → Bool → (f g : List Token → List Token) → List Token → List Token
+selected m (Some s) true f g r = token.Sign sign.Dollar ∷ token.Name s ∷ r
+selected m (Some s) false f g r = f (token.Sign m ∷ token.Name s ∷ r)
+selected m None system f g r = f (token.Sign m ∷ token.Sign sign.LeftParen ∷ g (token.Sign sign.RightParen ∷ r))
+
 -- a comma and the items behind it, if any follow
 abbrev pub further : Items → List Token → List Token
 further no_items ts = ts
 further (element a xs) ts = token.Sign sign.Comma ∷ ts
 further (splice a xs) ts = token.Sign sign.Comma ∷ ts
+further (optional s xs) ts = token.Sign sign.Comma ∷ ts
+further (defaulted s a xs) ts = token.Sign sign.Comma ∷ ts
 
 abbrev mutual
   pub spell : Expr → List Token → List Token
@@ -75,11 +83,23 @@ abbrev mutual
   spell (index a b) r = parens (is_compound_base a) (spell a) (token.Sign sign.LeftBracket ∷ spell b (token.Sign sign.RightBracket ∷ r))
   spell (range a b c) r = parens (is_compound_base a) (spell a) (token.Sign sign.LeftBracket ∷ spell b (token.Sign sign.DotDot ∷ spell c (token.Sign sign.RightBracket ∷ r)))
   spell (list xs) r = token.Sign sign.LeftBrace ∷ spell_items xs (token.Sign sign.RightBrace ∷ r)
+  spell (property a b) r = selected sign.Dot (constant_name b) (is_system_object a) (λ ts. parens (is_compound_base a) (spell a) ts) (spell b) r
+  spell (verb_call a b xs) r = selected sign.Colon (constant_name b) (is_system_object a) (λ ts. parens (is_compound_base a) (spell a) ts) (spell b) (token.Sign sign.LeftParen ∷ spell_items xs (token.Sign sign.RightParen ∷ r))
+  spell (call s xs) r = token.Name s ∷ token.Sign sign.LeftParen ∷ spell_items xs (token.Sign sign.RightParen ∷ r)
+  spell (assign a b) r = parens (is_compound a) (spell a) (token.Sign sign.Assign ∷ spell b r)
+  spell (catch a c) r = token.Sign sign.Backquote ∷ spell a (token.Sign sign.Bang ∷ spell_codes c (token.Sign sign.Quote ∷ r))
+  spell (catch_or a c b) r = token.Sign sign.Backquote ∷ spell a (token.Sign sign.Bang ∷ spell_codes c (token.Sign sign.Arrow ∷ spell b (token.Sign sign.Quote ∷ r)))
 
   pub spell_items : Items → List Token → List Token
   spell_items no_items r = r
   spell_items (element a xs) r = spell a (further xs (spell_items xs r))
   spell_items (splice a xs) r = token.Sign sign.At ∷ spell a (further xs (spell_items xs r))
+  spell_items (optional s xs) r = token.Sign sign.Question ∷ token.Name s ∷ further xs (spell_items xs r)
+  spell_items (defaulted s a xs) r = token.Sign sign.Question ∷ token.Name s ∷ token.Sign sign.Assign ∷ spell a (further xs (spell_items xs r))
+
+  pub spell_codes : Codes → List Token → List Token
+  spell_codes any_error r = token.Keyword keyword.Any ∷ r
+  spell_codes (listed_errors xs) r = spell_items xs r
 
 abbrev pub spell_statement : Stmt → List Token → List Token
 spell_statement return_nothing r = token.Keyword keyword.Return ∷ token.Sign sign.Semicolon ∷ r
@@ -96,7 +116,7 @@ IsSoundLiteral (Object n) = FitsSigned w32 n
 IsSoundLiteral (Error e) = Unit {0}
 IsSoundLiteral (Str s) = Unit {0}
 
--- numbers of 32 bits, and variables by names
+-- numbers of 32 bits, and names of variables and functions
 abbrev mutual
   pub IsSound : Expr → Type 0
   IsSound (literal l) = IsSoundLiteral l
@@ -109,11 +129,23 @@ abbrev mutual
   IsSound (index a b) = IsSound a × IsSound b
   IsSound (range a b c) = IsSound a × IsSound b × IsSound c
   IsSound (list xs) = AreSound xs
+  IsSound (property a b) = IsSound a × IsSound b
+  IsSound (verb_call a b xs) = IsSound a × IsSound b × AreSound xs
+  IsSound (call s xs) = (is_name s ≡ true) × AreSound xs
+  IsSound (assign a b) = IsSound a × IsSound b
+  IsSound (catch a c) = IsSound a × AreSoundCodes c
+  IsSound (catch_or a c b) = IsSound a × AreSoundCodes c × IsSound b
 
   pub AreSound : Items → Type 0
   AreSound no_items = Unit {0}
   AreSound (element a xs) = IsSound a × AreSound xs
   AreSound (splice a xs) = IsSound a × AreSound xs
+  AreSound (optional s xs) = (is_name s ≡ true) × AreSound xs
+  AreSound (defaulted s a xs) = (is_name s ≡ true) × IsSound a × AreSound xs
+
+  pub AreSoundCodes : Codes → Type 0
+  AreSoundCodes any_error = Unit {0}
+  AreSoundCodes (listed_errors xs) = AreSound xs
 
 -- the same of a token
 abbrev pub IsSoundToken : Token → Type 0

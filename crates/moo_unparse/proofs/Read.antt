@@ -1,5 +1,5 @@
 -- The listing of a program is read as its tokens.
-use Rattle.std.proofs.Common.{ℕ, zero, suc, ℤ, pos, negsuc, List, [], ◌∷◌, ◌++◌, ◌≡◌, ◌+◌, ◌^◌, ◌<◌, ◌≤◌, ◌%◌, refl, ap, ◌∙◌, sym, subst, Bool, true, false, Some, ◌⊎◌, inl, inr, nat_eq, ◌&&◌, ◌||◌, length, take, drop, append_assoc, codes, rules, arith}
+use Rattle.std.proofs.Common.{ℕ, suc, ℤ, pos, negsuc, List, [], ◌∷◌, ◌++◌, ◌≡◌, ◌^◌, ◌<◌, ◌≤◌, ◌%◌, refl, ap, ◌∙◌, sym, subst, Bool, true, false, Option, Some, None, ◌⊎◌, inl, inr, nat_eq, length, take, drop, append_assoc, codes, rules, arith}
 use Rattle.std.specs.Prelude.{FitsSigned}
 use Rattle.std.specs.List.{list_all, prefix_len}
 use Rattle.std.specs.Int.{int_wrapping_neg, w32}
@@ -31,11 +31,12 @@ use Rattle.moo_program.specs.declared.operator.LogicOperator.TheVariants as logi
 use Rattle.moo_program.specs.declared.tree.Literal.{Literal}
 use Rattle.moo_program.specs.declared.tree.Literal.TheVariants as literal
 use Rattle.moo_program.specs.Tree
-use Rattle.moo_program.specs.Tree.{Expr, Items, Stmt, Block, literal_value}
+use Rattle.moo_program.specs.Tree.{Expr, Items, Codes, Stmt, Block, literal_value}
 use Rattle.moo_program.specs.Listing
-use Rattle.moo_program.specs.Listing.{is_compound, is_compound_base, in_parentheses, listed, listed_items, listed_statement, listing, binary_sign, logic_sign}
-use Rattle.moo_syntax.specs.Tokens.{words}
-use Rattle.moo_unparse.proofs.Listed.{binary_token, logic_mark, literal_tokens, parens, further, spell, spell_items, spell_statement, spell_block, IsSoundLiteral, IsSound, AreSound, IsSoundStatement, IsSoundBlock}
+use Rattle.moo_program.specs.Listing.{is_compound, is_compound_base, in_parentheses, constant_name, is_system_object, listed, listed_items, listed_codes, listed_statement, listing, binary_sign, logic_sign}
+use Rattle.moo_grammar.specs.Tokens.{words}
+use Rattle.moo_unparse.proofs.Names.{constant_is}
+use Rattle.moo_unparse.proofs.Listed.{binary_token, logic_mark, literal_tokens, parens, further, spell, spell_items, spell_codes, spell_statement, spell_block, selected, IsSoundLiteral, IsSound, AreSound, AreSoundCodes, IsSoundStatement, IsSoundBlock}
 
 -- at line n these bytes and the lines below have these tokens
 pub record Reads (n : ℕ) (below : List (List ℕ)) (bs : List ℕ) (ts : List Token) : Type 0 where
@@ -43,27 +44,42 @@ pub record Reads (n : ℕ) (below : List (List ℕ)) (bs : List ℕ) (ts : List 
   pub lexes : Lexes complete outside n bs below spots
   pub same : words spots ≡ ts
 
--- no token that is written goes on with these bytes
-pub record Ends (rest : List ℕ) : Type 0 where
+-- no token that is written goes on with these bytes; where it is known to be no integer, a dot may stand there
+pub record Ends (integer : Bool) (rest : List ℕ) : Type 0 where
   pub name : begins_with continues_name rest ≡ false
   pub digit : begins_with is_digit rest ≡ false
-  pub fraction : begins_fraction rest ≡ false
-
-ends_nil : Ends []
-unfolding begins_fraction
-ends_nil = record { name = refl; digit = refl; fraction = refl }
+  pub fraction : integer ≡ true → begins_fraction rest ≡ false
 
 no_fraction : (c : ℕ) (x : List ℕ) → nat_eq c 69 ≡ false → nat_eq c 101 ≡ false → nat_eq c 46 ≡ false → begins_fraction (c ∷ x) ≡ false
 unfolding begins_fraction
 no_fraction c [] e f g = rw (e, f, g) refl
 no_fraction c (b ∷ x) e f g = rw (e, f, g) refl
 
-ends_at : (c : ℕ) (x : List ℕ) → continues_name c ≡ false → is_digit c ≡ false → nat_eq c 69 ≡ false → nat_eq c 101 ≡ false → nat_eq c 46 ≡ false → Ends (c ∷ x)
-ends_at c x n d e f g = record { name = n; digit = d; fraction = no_fraction c x e f g }
+ends_at : (i : Bool) (c : ℕ) (x : List ℕ) → continues_name c ≡ false → is_digit c ≡ false → nat_eq c 69 ≡ false → nat_eq c 101 ≡ false → nat_eq c 46 ≡ false → Ends i (c ∷ x)
+ends_at i c x n d e f g = record { name = n; digit = d; fraction = λ h. no_fraction c x e f g }
 
-ends_dots : (x : List ℕ) → Ends (46 ∷ 46 ∷ x)
+ends_dots : (i : Bool) (x : List ℕ) → Ends i (46 ∷ 46 ∷ x)
 unfolding begins_fraction
-ends_dots x = record { name = refl; digit = refl; fraction = refl }
+ends_dots i x = record { name = refl; digit = refl; fraction = λ h. refl }
+
+-- `.` or `:`
+abbrev IsSelector : Sign → Type 0
+IsSelector sign.Dot = Unit {0}
+IsSelector sign.Colon = Unit {0}
+IsSelector s = ⊥
+
+ends_selector : (m : Sign) → IsSelector m → (x : List ℕ) → Ends false (sign_text m ++ x)
+ends_selector sign.Dot h x = record { name = refl; digit = refl; fraction = λ h. absurd cc }
+ends_selector sign.Colon h x = record { name = refl; digit = refl; fraction = λ h. absurd cc }
+ends_selector _ h x = absurd h
+
+-- what ends an integer ends all
+loosely : (i : Bool) (x : List ℕ) → Ends true x → Ends i x
+loosely i x e = record { name = e.name; digit = e.digit; fraction = λ h. e.fraction refl }
+
+never : (s : Sign) → ((b : ℕ) → joins_sign s b ≡ false) → (rest : List ℕ) → begins_with (joins_sign s) rest ≡ false
+never s h [] = refl
+never s h (b ∷ bs) = h b
 
 -- what may stand behind `!`
 NoEqual : List ℕ → Type 0
@@ -75,6 +91,24 @@ letter_no_equal b h = grind (arith, nat_tests)
 digit_no_equal : (b : ℕ) → is_digit b ≡ true → nat_eq b 61 ≡ false
 digit_no_equal b h = grind (arith, nat_tests)
 
+letter_no_dot : (b : ℕ) → begins_name b ≡ true → nat_eq b 46 ≡ false
+letter_no_dot b h = grind (arith, nat_tests)
+
+word_no_dot : (w rest : List ℕ) → is_word w ≡ true → begins_with (joins_sign sign.Dot) (w ++ rest) ≡ false
+word_no_dot [] rest h = absurd cc
+word_no_dot (b ∷ bs) rest h = letter_no_dot b (both (begins_name b) (list_all continues_name bs) h).0
+
+-- behind `.` or `:` stands a name or a parenthesis
+name_apart : (m : Sign) → IsSelector m → (s rest : List ℕ) → is_name s ≡ true → begins_with (joins_sign m) (s ++ rest) ≡ false
+name_apart sign.Dot h s rest is = word_no_dot s rest (name_is_word s is)
+name_apart sign.Colon h s rest is = never sign.Colon (λ b. refl) (s ++ rest)
+name_apart _ h s rest is = absurd h
+
+parenthesis_apart : (m : Sign) → IsSelector m → (rest : List ℕ) → begins_with (joins_sign m) (40 ∷ rest) ≡ false
+parenthesis_apart sign.Dot h rest = refl
+parenthesis_apart sign.Colon h rest = refl
+parenthesis_apart _ h rest = absurd h
+
 word_no_equal : (w rest : List ℕ) → is_word w ≡ true → NoEqual (w ++ rest)
 unfolding NoEqual
 word_no_equal [] rest h = absurd cc
@@ -84,6 +118,12 @@ digits_no_equal : (ds rest : List ℕ) → list_all is_digit ds ≡ true → 0 <
 unfolding NoEqual
 digits_no_equal [] rest d s = absurd (omega arith)
 digits_no_equal (b ∷ bs) rest d s = digit_no_equal b (both (is_digit b) (list_all is_digit bs) d).0
+
+selected_no_equal : (text : List ℕ) (s : Option (List ℕ)) (system : Bool) (base name rest : List ℕ) → ((more : List ℕ) → NoEqual (base ++ more)) → NoEqual (Listing.selected text s system base name ++ rest)
+unfolding NoEqual
+selected_no_equal text (Some s) true base name rest h = refl
+selected_no_equal text (Some s) false base name rest h = simp append_assoc (h (text ++ (s ++ rest)))
+selected_no_equal text None system base name rest h = simp append_assoc (h (text ++ (40 ∷ (name ++ (41 ∷ rest)))))
 
 base_no_equal : (e : Expr) → IsSound e → (rest : List ℕ) → NoEqual (in_parentheses (is_compound_base e) (listed e) ++ rest)
 unfolding NoEqual
@@ -100,6 +140,12 @@ base_no_equal (Tree.conditional a b c) s rest = refl
 base_no_equal (Tree.index a b) s rest = simp append_assoc (base_no_equal a s.0 (91 ∷ (listed b ++ (93 ∷ rest))))
 base_no_equal (Tree.range a b c) s rest = simp append_assoc (base_no_equal a s.0 (91 ∷ (listed b ++ (46 ∷ 46 ∷ (listed c ++ (93 ∷ rest))))))
 base_no_equal (Tree.list xs) s rest = refl
+base_no_equal (Tree.property a b) s rest = selected_no_equal (codes ".") (constant_name b) (is_system_object a) (in_parentheses (is_compound_base a) (listed a)) (listed b) rest (base_no_equal a s.0)
+base_no_equal (Tree.verb_call a b xs) s rest = simp append_assoc (selected_no_equal (codes ":") (constant_name b) (is_system_object a) (in_parentheses (is_compound_base a) (listed a)) (listed b) (40 ∷ (listed_items xs ++ (41 ∷ rest))) (base_no_equal a s.0))
+base_no_equal (Tree.call w xs) s rest = simp append_assoc (word_no_equal w (40 ∷ (listed_items xs ++ (41 ∷ rest))) (name_is_word w s.0))
+base_no_equal (Tree.assign a b) s rest = refl
+base_no_equal (Tree.catch a c) s rest = refl
+base_no_equal (Tree.catch_or a c b) s rest = refl
 
 operand_no_equal : (e : Expr) → IsSound e → (rest : List ℕ) → NoEqual (in_parentheses (is_compound e) (listed e) ++ rest)
 unfolding NoEqual
@@ -117,6 +163,12 @@ operand_no_equal (Tree.conditional a b c) s rest = refl
 operand_no_equal (Tree.index a b) s rest = base_no_equal (Tree.index a b) s rest
 operand_no_equal (Tree.range a b c) s rest = base_no_equal (Tree.range a b c) s rest
 operand_no_equal (Tree.list xs) s rest = refl
+operand_no_equal (Tree.property a b) s rest = base_no_equal (Tree.property a b) s rest
+operand_no_equal (Tree.verb_call a b xs) s rest = base_no_equal (Tree.verb_call a b xs) s rest
+operand_no_equal (Tree.call w xs) s rest = base_no_equal (Tree.call w xs) s rest
+operand_no_equal (Tree.assign a b) s rest = refl
+operand_no_equal (Tree.catch a c) s rest = refl
+operand_no_equal (Tree.catch_or a c b) s rest = refl
 
 no_equal : (e : Expr) → IsSound e → (rest : List ℕ) → begins_with (joins_sign sign.Bang) (in_parentheses (is_compound e) (listed e) ++ rest) ≡ false
 unfolding NoEqual
@@ -136,13 +188,13 @@ at_digits (b ∷ bs) rest d s =
     rw (digit_begins_none b h, h) refl
 
 -- digits are an integer, from 2 ^ 31 on a negative one
-digits_token : (ds rest : List ℕ) → list_all is_digit ds ≡ true → Ends rest → integer_at (ds ++ rest) ≡ Some (token.Integer (wrapped ds), length ds)
+digits_token : (ds rest : List ℕ) → list_all is_digit ds ≡ true → Ends true rest → integer_at (ds ++ rest) ≡ Some (token.Integer (wrapped ds), length ds)
 unfolding integer_at
 digits_token ds rest d e =
     let front : prefix_len is_digit (ds ++ rest) ≡ length ds = front_length is_digit ds rest d e.digit in
     let part : take (length ds) (ds ++ rest) ≡ ds = take_at ds rest (length ds) refl in
     let behind : drop (length ds) (ds ++ rest) ≡ rest = drop_at ds rest (length ds) refl in
-    let f = e.fraction in
+    let f = e.fraction refl in
     rw (front, behind, f, part) refl
 
 digits_no_comment : (ds rest : List ℕ) → list_all is_digit ds ≡ true → 0 < length ds → begins_comment (ds ++ rest) ≡ false
@@ -167,14 +219,12 @@ magnitude_by k ds v h (inr g) =
 magnitude : (k : ℕ) (ds : List ℕ) → number ds ≡ suc k → k < 2 ^ 31 → wrapped ds ≡ int_wrapping_neg w32 (negsuc k)
 magnitude k ds v h = magnitude_by k ds v h (cases_lt (suc k) (2 ^ 31))
 
-ends_further : (xs : Items) (rest : List ℕ) → Ends rest → Ends (Listing.further xs (listed_items xs) ++ rest)
+ends_further : (xs : Items) (rest : List ℕ) → Ends true rest → Ends true (Listing.further xs (listed_items xs) ++ rest)
 ends_further Tree.no_items rest e = e
-ends_further (Tree.element a xs) rest e = ends_at 44 _ refl refl refl refl refl
-ends_further (Tree.splice a xs) rest e = ends_at 44 _ refl refl refl refl refl
-
-never : (s : Sign) → ((b : ℕ) → joins_sign s b ≡ false) → (rest : List ℕ) → begins_with (joins_sign s) rest ≡ false
-never s h [] = refl
-never s h (b ∷ bs) = h b
+ends_further (Tree.element a xs) rest e = ends_at true 44 _ refl refl refl refl refl
+ends_further (Tree.splice a xs) rest e = ends_at true 44 _ refl refl refl refl refl
+ends_further (Tree.optional s xs) rest e = ends_at true 44 _ refl refl refl refl refl
+ends_further (Tree.defaulted s a xs) rest e = ends_at true 44 _ refl refl refl refl refl
 
 module _ {n : ℕ} {below : List (List ℕ)} where
   -- one token, which nothing behind it joins
@@ -194,7 +244,7 @@ module _ {n : ℕ} {below : List (List ℕ)} where
   plain : (s : Sign) → ((b : ℕ) → joins_sign s b ≡ false) → (rest : List ℕ) (ts : List Token) → Reads n below rest ts → Reads n below (sign_text s ++ rest) (token.Sign s ∷ ts)
   plain s h rest ts r = mark s rest ts (never s h rest) r
 
-  digits : (k : ℕ) (rest : List ℕ) (ts : List Token) → k < 2 ^ 31 → Ends rest → Reads n below rest ts → Reads n below (decimal (suc k) ++ rest) (token.Integer (int_wrapping_neg w32 (negsuc k)) ∷ ts)
+  digits : (k : ℕ) (rest : List ℕ) (ts : List Token) → k < 2 ^ 31 → Ends true rest → Reads n below rest ts → Reads n below (decimal (suc k) ++ rest) (token.Integer (int_wrapping_neg w32 (negsuc k)) ∷ ts)
   digits k rest ts h e r =
       let d = decimal_is (suc k) (omega arith) in
       let at : token_at (decimal (suc k) ++ rest) ≡ Some (token.Integer (int_wrapping_neg w32 (negsuc k)), length (decimal (suc k))) =
@@ -206,8 +256,8 @@ module _ {n : ℕ} {below : List (List ℕ)} where
         same = ap (λ (us : List Token). token.Integer (int_wrapping_neg w32 (negsuc k)) ∷ us) r.same;
       }
 
-  read_literal : (l : Literal) → IsSoundLiteral l → (rest : List ℕ) (ts : List Token) → Ends rest → Reads n below rest ts → Reads n below (text_of (literal_value l) ++ rest) (literal_tokens l ts)
-  read_literal (literal.Integer (pos k)) f rest ts e r = step (token.Integer (pos k)) rest ts (search rules, f) (rw (e.digit, e.fraction) refl) r
+  read_literal : (l : Literal) → IsSoundLiteral l → (rest : List ℕ) (ts : List Token) → Ends (is_compound_base (Tree.literal l)) rest → Reads n below rest ts → Reads n below (text_of (literal_value l) ++ rest) (literal_tokens l ts)
+  read_literal (literal.Integer (pos k)) f rest ts e r = step (token.Integer (pos k)) rest ts (search rules, f) (rw (e.digit, e.fraction refl) refl) r
   read_literal (literal.Integer (negsuc k)) f rest ts e r = plain sign.Minus (λ b. refl) _ _ (digits k rest ts f.sfits e r)
   read_literal (literal.Object o) f rest ts e r = step (token.Object o) rest ts f e.digit r
   read_literal (literal.Error c) f rest ts e r = step (token.Error c) rest ts tt e.name r
@@ -233,46 +283,88 @@ module _ {n : ℕ} {below : List (List ℕ)} where
   read_logic logic.Or rest ts r = mark sign.OrOr _ _ refl (blank _ _ r)
 
   -- a text that is read, in parentheses or bare
-  group : (p : Bool) (text : List ℕ) (f : List Token → List Token) → ((rest : List ℕ) (ts : List Token) → Ends rest → Reads n below rest ts → Reads n below (text ++ rest) (f ts)) → (rest : List ℕ) (ts : List Token) → Ends rest → Reads n below rest ts → Reads n below (in_parentheses p text ++ rest) (parens p f ts)
-  group true text f k rest ts e r =
-      rw (append_assoc text (codes ")") rest) (plain sign.LeftParen (λ b. refl) _ _ (k (41 ∷ rest) _ (ends_at 41 rest refl refl refl refl refl) (plain sign.RightParen (λ b. refl) rest ts r)))
-  group false text f k rest ts e r = k rest ts e r
+  bracketed : (i : Bool) (text : List ℕ) (f : List Token → List Token) → ((rest : List ℕ) (ts : List Token) → Ends i rest → Reads n below rest ts → Reads n below (text ++ rest) (f ts)) → (rest : List ℕ) (ts : List Token) → Reads n below rest ts → Reads n below (in_parentheses true text ++ rest) (parens true f ts)
+  bracketed i text f k rest ts r =
+      rw (append_assoc text (codes ")") rest) (plain sign.LeftParen (λ b. refl) _ _ (k (41 ∷ rest) _ (ends_at i 41 rest refl refl refl refl refl) (plain sign.RightParen (λ b. refl) rest ts r)))
+
+  group : (p i : Bool) (text : List ℕ) (f : List Token → List Token) → ((rest : List ℕ) (ts : List Token) → Ends i rest → Reads n below rest ts → Reads n below (text ++ rest) (f ts)) → (rest : List ℕ) (ts : List Token) → Ends true rest → Reads n below rest ts → Reads n below (in_parentheses p text ++ rest) (parens p f ts)
+  group true i text f k rest ts e r = bracketed i text f k rest ts r
+  group false i text f k rest ts e r = k rest ts (loosely i rest e) r
+
+  -- the same of a base, behind which a dot may stand
+  base : (i : Bool) (text : List ℕ) (f : List Token → List Token) → ((rest : List ℕ) (ts : List Token) → Ends i rest → Reads n below rest ts → Reads n below (text ++ rest) (f ts)) → (rest : List ℕ) (ts : List Token) → Ends false rest → Reads n below rest ts → Reads n below (in_parentheses i text ++ rest) (parens i f ts)
+  base true text f k rest ts e r = bracketed true text f k rest ts r
+  base false text f k rest ts e r = k rest ts e r
 
   read_further : (xs : Items) (rest : List ℕ) (ts : List Token) → Reads n below (listed_items xs ++ rest) (spell_items xs ts) → Reads n below (Listing.further xs (listed_items xs) ++ rest) (further xs (spell_items xs ts))
   read_further Tree.no_items rest ts r = r
   read_further (Tree.element a xs) rest ts r = plain sign.Comma (λ b. refl) _ _ (blank _ _ r)
   read_further (Tree.splice a xs) rest ts r = plain sign.Comma (λ b. refl) _ _ (blank _ _ r)
+  read_further (Tree.optional s xs) rest ts r = plain sign.Comma (λ b. refl) _ _ (blank _ _ r)
+  read_further (Tree.defaulted s a xs) rest ts r = plain sign.Comma (λ b. refl) _ _ (blank _ _ r)
+
+  -- a sign with a blank on each side
+  spaced : (m : Sign) (rest : List ℕ) (ts : List Token) → begins_with (joins_sign m) (32 ∷ rest) ≡ false → Reads n below rest ts → Reads n below (32 ∷ (sign_text m ++ (32 ∷ rest))) (token.Sign m ∷ ts)
+  spaced m rest ts h r = blank _ _ (mark m _ _ h (blank _ _ r))
+
+  -- a property or a verb of a base
+  read_selected : (m : Sign) → IsSelector m → (b : Expr) (s : Option (List ℕ)) → constant_name b ≡ s → (system : Bool) (base name : List ℕ) (f g : List Token → List Token) → ((rest : List ℕ) (ts : List Token) → Ends false rest → Reads n below rest ts → Reads n below (base ++ rest) (f ts)) → ((rest : List ℕ) (ts : List Token) → Ends true rest → Reads n below rest ts → Reads n below (name ++ rest) (g ts)) → (rest : List ℕ) (ts : List Token) → Ends false rest → Reads n below rest ts → Reads n below (Listing.selected (sign_text m) s system base name ++ rest) (selected m s system f g ts)
+  read_selected m h b (Some s) is true base name f g k l rest ts e r = plain sign.Dollar (λ b. refl) _ _ (step (token.Name s) rest ts (constant_is b s is).name e.name r)
+  read_selected m h b (Some s) is false base name f g k l rest ts e r =
+      simp append_assoc (k _ _ (ends_selector m h (s ++ rest)) (mark m _ _ (name_apart m h s rest (constant_is b s is).name) (step (token.Name s) rest ts (constant_is b s is).name e.name r)))
+  read_selected m h b None is system base name f g k l rest ts e r =
+      simp append_assoc (k _ _ (ends_selector m h (40 ∷ (name ++ (41 ∷ rest)))) (mark m _ _ (parenthesis_apart m h (name ++ (41 ∷ rest))) (plain sign.LeftParen (λ b. refl) _ _ (l _ _ (ends_at true 41 rest refl refl refl refl refl) (plain sign.RightParen (λ b. refl) rest ts r)))))
 
   mutual
-    read : (e : Expr) → IsSound e → (rest : List ℕ) (ts : List Token) → Ends rest → Reads n below rest ts → Reads n below (listed e ++ rest) (spell e ts)
+    read : (e : Expr) → IsSound e → (rest : List ℕ) (ts : List Token) → Ends (is_compound_base e) rest → Reads n below rest ts → Reads n below (listed e ++ rest) (spell e ts)
     read (Tree.literal l) s rest ts e r = read_literal l s rest ts e r
     read (Tree.variable w) s rest ts e r = step (token.Name w) rest ts s e.name r
     read Tree.length_mark s rest ts e r = plain sign.Dollar (λ b. refl) rest ts r
-    read (Tree.unary unary.Not a) s rest ts e r = mark sign.Bang _ _ (no_equal a s rest) (group (is_compound a) (listed a) (spell a) (read a s) rest ts e r)
-    read (Tree.unary unary.Negate a) s rest ts e r = plain sign.Minus (λ b. refl) _ _ (group (is_compound a) (listed a) (spell a) (read a s) rest ts e r)
+    read (Tree.unary unary.Not a) s rest ts e r = mark sign.Bang _ _ (no_equal a s rest) (group (is_compound a) (is_compound_base a) (listed a) (spell a) (read a s) rest ts e r)
+    read (Tree.unary unary.Negate a) s rest ts e r = plain sign.Minus (λ b. refl) _ _ (group (is_compound a) (is_compound_base a) (listed a) (spell a) (read a s) rest ts e r)
     read (Tree.binary o a b) s rest ts e r =
-        simp append_assoc (group (is_compound a) (listed a) (spell a) (read a s.0) _ _ (ends_at 32 _ refl refl refl refl refl) (blank _ _ (read_binary o _ _ (group (is_compound b) (listed b) (spell b) (read b s.1) rest ts e r))))
+        simp append_assoc (group (is_compound a) (is_compound_base a) (listed a) (spell a) (read a s.0) _ _ (ends_at true 32 _ refl refl refl refl refl) (blank _ _ (read_binary o _ _ (group (is_compound b) (is_compound_base b) (listed b) (spell b) (read b s.1) rest ts e r))))
     read (Tree.logic o a b) s rest ts e r =
-        simp append_assoc (group (is_compound a) (listed a) (spell a) (read a s.0) _ _ (ends_at 32 _ refl refl refl refl refl) (blank _ _ (read_logic o _ _ (group (is_compound b) (listed b) (spell b) (read b s.1) rest ts e r))))
+        simp append_assoc (group (is_compound a) (is_compound_base a) (listed a) (spell a) (read a s.0) _ _ (ends_at true 32 _ refl refl refl refl refl) (blank _ _ (read_logic o _ _ (group (is_compound b) (is_compound_base b) (listed b) (spell b) (read b s.1) rest ts e r))))
     read (Tree.conditional a b c) s rest ts e r =
-        simp append_assoc (group (is_compound a) (listed a) (spell a) (read a s.0) _ _ (ends_at 32 _ refl refl refl refl refl) (blank _ _ (mark sign.Question _ _ refl (blank _ _ (group (is_compound b) (listed b) (spell b) (read b s.1) _ _ (ends_at 32 _ refl refl refl refl refl) (blank _ _ (mark sign.Pipe _ _ refl (blank _ _ (group (is_compound c) (listed c) (spell c) (read c s.2) rest ts e r)))))))))
+        simp append_assoc (group (is_compound a) (is_compound_base a) (listed a) (spell a) (read a s.0) _ _ (ends_at true 32 _ refl refl refl refl refl) (spaced sign.Question _ _ refl (group (is_compound b) (is_compound_base b) (listed b) (spell b) (read b s.1) _ _ (ends_at true 32 _ refl refl refl refl refl) (spaced sign.Pipe _ _ refl (group (is_compound c) (is_compound_base c) (listed c) (spell c) (read c s.2) rest ts e r)))))
     read (Tree.index a b) s rest ts e r =
-        simp append_assoc (group (is_compound_base a) (listed a) (spell a) (read a s.0) _ _ (ends_at 91 _ refl refl refl refl refl) (plain sign.LeftBracket (λ b. refl) _ _ (read b s.1 _ _ (ends_at 93 _ refl refl refl refl refl) (plain sign.RightBracket (λ b. refl) rest ts r))))
+        simp append_assoc (base (is_compound_base a) (listed a) (spell a) (read a s.0) _ _ (ends_at false 91 _ refl refl refl refl refl) (plain sign.LeftBracket (λ b. refl) _ _ (read b s.1 _ _ (ends_at (is_compound_base b) 93 _ refl refl refl refl refl) (plain sign.RightBracket (λ b. refl) rest ts r))))
     read (Tree.range a b c) s rest ts e r =
-        simp append_assoc (group (is_compound_base a) (listed a) (spell a) (read a s.0) _ _ (ends_at 91 _ refl refl refl refl refl) (plain sign.LeftBracket (λ b. refl) _ _ (read b s.1 _ _ (ends_dots _) (plain sign.DotDot (λ b. refl) _ _ (read c s.2 _ _ (ends_at 93 _ refl refl refl refl refl) (plain sign.RightBracket (λ b. refl) rest ts r))))))
+        simp append_assoc (base (is_compound_base a) (listed a) (spell a) (read a s.0) _ _ (ends_at false 91 _ refl refl refl refl refl) (plain sign.LeftBracket (λ b. refl) _ _ (read b s.1 _ _ (ends_dots (is_compound_base b) _) (plain sign.DotDot (λ b. refl) _ _ (read c s.2 _ _ (ends_at (is_compound_base c) 93 _ refl refl refl refl refl) (plain sign.RightBracket (λ b. refl) rest ts r))))))
     read (Tree.list xs) s rest ts e r =
-        simp append_assoc (plain sign.LeftBrace (λ b. refl) _ _ (read_items xs s _ _ (ends_at 125 _ refl refl refl refl refl) (plain sign.RightBrace (λ b. refl) rest ts r)))
+        simp append_assoc (plain sign.LeftBrace (λ b. refl) _ _ (read_items xs s _ _ (ends_at true 125 _ refl refl refl refl refl) (plain sign.RightBrace (λ b. refl) rest ts r)))
+    read (Tree.property a b) s rest ts e r =
+        read_selected sign.Dot tt b (constant_name b) refl (is_system_object a) (in_parentheses (is_compound_base a) (listed a)) (listed b) (λ ts. parens (is_compound_base a) (spell a) ts) (spell b) (base (is_compound_base a) (listed a) (spell a) (read a s.0)) (λ rest ts e r. read b s.1 rest ts (loosely (is_compound_base b) rest e) r) rest ts e r
+    read (Tree.verb_call a b xs) s rest ts e r =
+        simp append_assoc (read_selected sign.Colon tt b (constant_name b) refl (is_system_object a) (in_parentheses (is_compound_base a) (listed a)) (listed b) (λ ts. parens (is_compound_base a) (spell a) ts) (spell b) (base (is_compound_base a) (listed a) (spell a) (read a s.0)) (λ rest ts e r. read b s.1 rest ts (loosely (is_compound_base b) rest e) r) _ _ (ends_at false 40 _ refl refl refl refl refl) (plain sign.LeftParen (λ b. refl) _ _ (read_items xs s.2 _ _ (ends_at true 41 _ refl refl refl refl refl) (plain sign.RightParen (λ b. refl) rest ts r))))
+    read (Tree.call w xs) s rest ts e r =
+        simp append_assoc (step (token.Name w) _ _ s.0 refl (plain sign.LeftParen (λ b. refl) _ _ (read_items xs s.1 _ _ (ends_at true 41 _ refl refl refl refl refl) (plain sign.RightParen (λ b. refl) rest ts r))))
+    read (Tree.assign a b) s rest ts e r =
+        simp append_assoc (group (is_compound a) (is_compound_base a) (listed a) (spell a) (read a s.0) _ _ (ends_at true 32 _ refl refl refl refl refl) (spaced sign.Assign _ _ refl (read b s.1 rest ts (loosely (is_compound_base b) rest e) r)))
+    read (Tree.catch a c) s rest ts e r =
+        simp append_assoc (plain sign.Backquote (λ b. refl) _ _ (read a s.0 _ _ (ends_at (is_compound_base a) 32 _ refl refl refl refl refl) (spaced sign.Bang _ _ refl (read_codes c s.1 _ _ (ends_at true 39 _ refl refl refl refl refl) (plain sign.Quote (λ b. refl) rest ts r)))))
+    read (Tree.catch_or a c b) s rest ts e r =
+        simp append_assoc (plain sign.Backquote (λ b. refl) _ _ (read a s.0 _ _ (ends_at (is_compound_base a) 32 _ refl refl refl refl refl) (spaced sign.Bang _ _ refl (read_codes c s.1 _ _ (ends_at true 32 _ refl refl refl refl refl) (spaced sign.Arrow _ _ refl (read b s.2 _ _ (ends_at (is_compound_base b) 39 _ refl refl refl refl refl) (plain sign.Quote (λ b. refl) rest ts r)))))))
 
-    read_items : (xs : Items) → AreSound xs → (rest : List ℕ) (ts : List Token) → Ends rest → Reads n below rest ts → Reads n below (listed_items xs ++ rest) (spell_items xs ts)
+    read_items : (xs : Items) → AreSound xs → (rest : List ℕ) (ts : List Token) → Ends true rest → Reads n below rest ts → Reads n below (listed_items xs ++ rest) (spell_items xs ts)
     read_items Tree.no_items s rest ts e r = r
     read_items (Tree.element a xs) s rest ts e r =
-        simp append_assoc (read a s.0 _ _ (ends_further xs rest e) (read_further xs rest ts (read_items xs s.1 rest ts e r)))
+        simp append_assoc (read a s.0 _ _ (loosely (is_compound_base a) _ (ends_further xs rest e)) (read_further xs rest ts (read_items xs s.1 rest ts e r)))
     read_items (Tree.splice a xs) s rest ts e r =
-        simp append_assoc (plain sign.At (λ b. refl) _ _ (read a s.0 _ _ (ends_further xs rest e) (read_further xs rest ts (read_items xs s.1 rest ts e r))))
+        simp append_assoc (plain sign.At (λ b. refl) _ _ (read a s.0 _ _ (loosely (is_compound_base a) _ (ends_further xs rest e)) (read_further xs rest ts (read_items xs s.1 rest ts e r))))
+    read_items (Tree.optional w xs) s rest ts e r =
+        simp append_assoc (plain sign.Question (λ b. refl) _ _ (step (token.Name w) _ _ s.0 (ends_further xs rest e).name (read_further xs rest ts (read_items xs s.1 rest ts e r))))
+    read_items (Tree.defaulted w a xs) s rest ts e r =
+        simp append_assoc (plain sign.Question (λ b. refl) _ _ (step (token.Name w) _ _ s.0 refl (spaced sign.Assign _ _ refl (read a s.1 _ _ (loosely (is_compound_base a) _ (ends_further xs rest e)) (read_further xs rest ts (read_items xs s.2 rest ts e r))))))
+
+    read_codes : (c : Codes) → AreSoundCodes c → (rest : List ℕ) (ts : List Token) → Ends true rest → Reads n below rest ts → Reads n below (listed_codes c ++ rest) (spell_codes c ts)
+    read_codes Tree.any_error s rest ts e r = step (token.Keyword keyword.Any) rest ts tt e.name r
+    read_codes (Tree.listed_errors xs) s rest ts e r = read_items xs s rest ts e r
 
   read_statement : (s : Stmt) → IsSoundStatement s → (ts : List Token) → Reads n below [] ts → Reads n below (listed_statement s) (spell_statement s ts)
   read_statement Tree.return_nothing s ts r = step (token.Keyword keyword.Return) _ _ tt refl (plain sign.Semicolon (λ b. refl) [] ts r)
-  read_statement (Tree.returns a) s ts r = step (token.Keyword keyword.Return) _ _ tt refl (blank _ _ (read a s (59 ∷ []) _ (ends_at 59 [] refl refl refl refl refl) (plain sign.Semicolon (λ b. refl) [] ts r)))
+  read_statement (Tree.returns a) s ts r = step (token.Keyword keyword.Return) _ _ tt refl (blank _ _ (read a s (59 ∷ []) _ (ends_at (is_compound_base a) 59 [] refl refl refl refl refl) (plain sign.Semicolon (λ b. refl) [] ts r)))
 
 pub read_block : (b : Block) → IsSoundBlock b → (n : ℕ) → Reads n (listing b) [] (spell_block b [])
 read_block Tree.no_statement s n = record { spots = []; lexes = text_end; same = refl }

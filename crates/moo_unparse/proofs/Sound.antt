@@ -1,10 +1,9 @@
 -- The tokens of a text: numbers of 32 bits, and names.
-use Rattle.std.proofs.Common.{ℕ, ℤ, List, [], ◌∷◌, ◌≡◌, ◌+◌, refl, rules, subst, Bool, true, false, Option, Some, None, if◌then◌else◌, ◌%◌, ◌^◌, nat_eq, take, drop}
-use Rattle.std.specs.Prelude.{FitsSigned, All}
+use Rattle.std.proofs.Common.{ℕ, ℤ, List, [], ◌∷◌, ◌+◌, rules, subst, Bool, true, false, Option, Some, None, if◌then◌else◌, nat_eq, take, drop}
+use Rattle.std.specs.Prelude.{FitsSigned}
 use Rattle.std.specs.List.{AllByRecursion, prefix_len}
 use Rattle.std.specs.Int.{w32}
 use Rattle.std.specs.Option.{option_map}
-use Rattle.std.proofs.Math.IntN.{neg_ℤ}
 use Rattle.std.proofs.lemmas.List.Elements.{recursion_from_All}
 use Rattle.moo_value.specs.declared.error_code.ErrorCode.{ErrorCode}
 use Rattle.moo_token.specs.declared.sign.Sign.{Sign}
@@ -14,13 +13,13 @@ use Rattle.moo_token.specs.declared.token.Token.TheVariants as token
 use Rattle.moo_token.specs.declared.token.Spot.{Spot}
 use Rattle.moo_token.specs.Words.{keyword_of, error_of}
 use Rattle.moo_token.specs.Signs.{sign_at}
-use Rattle.moo_token.specs.Tokens.{begins_name, is_digit, continues_name, begins_fraction, word, named, number, wrapped, integer_at, number_at, object_at, unquoted, token_at}
+use Rattle.moo_token.specs.Tokens.{begins_name, is_digit, continues_name, begins_fraction, word, named, wrapped, integer_at, number_at, object_at, unquoted, token_at}
 use Rattle.moo_token.specs.Lexing
 use Rattle.moo_token.specs.Lexing.{Ending, Place, Lexes, IsTokens, complete}
 use Rattle.moo_token.specs.Spelling.{HoldsName}
 use Rattle.moo_token.proofs.Readings.{names_are_names}
-use Rattle.moo_syntax.specs.Tokens.{words}
-use Rattle.moo_unparse.proofs.Good.{minus_fits}
+use Rattle.moo_grammar.specs.Tokens.{words}
+use Rattle.moo_unparse.proofs.Forms.{minus_fits}
 use Rattle.moo_unparse.proofs.Listed.{IsSoundToken}
 
 abbrev Fits : Token → Type 0

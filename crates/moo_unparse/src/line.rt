@@ -58,6 +58,13 @@ impl Line {
         self.text(keyword.text().as_bytes())
     }
 
+    /// `ANY`, which stands for every error.
+    pub(crate) fn any(&mut self) -> Result<(), AllocError>
+        ensures { OnOk result (self.new ≡ self.old ++ codes "ANY") }
+    {
+        self.text(b"ANY")
+    }
+
     pub(crate) fn blank(&mut self) -> Result<(), AllocError>
         ensures { OnOk result (self.new ≡ self.old ++ codes " ") }
     {

@@ -1,5 +1,5 @@
 use Rattle.std.proofs.Common.{[], ◌∷◌, ap, ◌∙◌, refl, subst}
-use Rattle.moo_syntax.specs.declared.syntax_fault.Names.TheVariants.{Known}
+use Rattle.moo_grammar.specs.declared.names.Names.TheVariants.{Known}
 use Rattle.moo_syntax.specs.Programs.{IsParsed, Blames}
 use Rattle.moo_eval.specs.Line.{refused, runs}
 use Rattle.moo_eval.proofs.line.eval_line.Goals as goal
@@ -8,7 +8,7 @@ pub returns-in-Ok : goal.returns-in-Ok
 returns-in-Ok c =
     let text = rw c.in-Some.is at c.in_ok-text.ensures.text in
     let ended = c.in_ok-lines-in-Ok.ensures in
-    runs (rw c.in-Some.is at c.in_ok-text.ensures.fits) ended.0 (record { program = c.in-Ok.program; parsed = subst (λ x. IsParsed (x ∷ []) c.in-Ok.program) text c.in-Ok.ensures.program; ends = ended.1 }) ended.2 refl
+    runs (rw c.in-Some.is at c.in_ok-text.ensures.fits) ended.0 (record { program = c.in-Ok.program; parsed = subst (λ x. IsParsed Known (x ∷ []) c.in-Ok.program) text c.in-Ok.ensures.program; ends = ended.1 }) ended.2 refl
 
 pub returns : goal.returns
 returns c =

@@ -1,4 +1,4 @@
-use Rattle.std.proofs.Common.{◌≡◌, ◌+◌, ◌∷◌, ◌∙◌, ◌<◌, ℕ, List, [], length, get_or, drop, ap, sym, subst, refl}
+use Rattle.std.proofs.Common.{◌≡◌, ◌+◌, ◌∷◌, ◌∙◌, ◌<◌, ℕ, List, length, get_or, drop, ap, sym, subst, refl}
 use Rattle.std.proofs.lemmas.List.{drop_more, drop_all}
 use Rattle.moo_program.specs.declared.tree.Stmt.{Stmt}
 use Rattle.moo_program.specs.Limits.{AllFit}

@@ -1,4 +1,3 @@
-use Rattle.std.proofs.Common.{ap}
 use Rattle.moo_program.specs.View.{statement as tree_of}
 use Rattle.moo_program.proofs.Lengths.{length_listed_statement, fits_where_left}
 use Rattle.moo_program.proofs.length.fits_line.Goals as goal

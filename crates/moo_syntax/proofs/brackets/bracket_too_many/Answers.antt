@@ -2,7 +2,7 @@ use Rattle.std.proofs.Common.{ℕ, ◌+◌, ◌<◌, ◌≤◌, ◌≡◌, ◌�
 use Rattle.std.proofs.lemmas.List.{drop_more}
 use Rattle.moo_token.specs.declared.token.Token.{Token}
 use Rattle.moo_token.specs.declared.token.Spot.{Spot}
-use Rattle.moo_syntax.specs.Tokens.{words}
+use Rattle.moo_grammar.specs.Tokens.{words}
 use Rattle.moo_syntax.specs.Brackets.{open_behind, most_open_behind}
 use Rattle.moo_syntax.proofs.brackets.bracket_too_many.Goals as goal
 

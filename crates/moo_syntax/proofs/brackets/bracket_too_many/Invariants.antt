@@ -1,7 +1,7 @@
 -- The brackets that are still to come decide.
 use Rattle.std.proofs.Common.{◌≤◌, ◌<◌, drop}
 use Rattle.moo_program.specs.Limits.{most_brackets}
-use Rattle.moo_syntax.specs.Tokens.{words}
+use Rattle.moo_grammar.specs.Tokens.{words}
 use Rattle.moo_syntax.specs.Brackets.{most_open_behind, most_open}
 use Rattle.moo_syntax.proofs.brackets.bracket_too_many.Given as goal
 

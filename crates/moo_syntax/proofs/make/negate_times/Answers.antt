@@ -2,9 +2,9 @@ use Rattle.std.proofs.Common.{arith, inl, inr, ⊎_elim, add-one, ap, ◌∙◌,
 use Rattle.std.proofs.lemmas.Result.{err_from_is_err_and}
 use Rattle.moo_program.specs.Limits.{height}
 use Rattle.moo_program.specs.View.{root}
-use Rattle.moo_syntax.specs.Height.{negations}
-use Rattle.moo_syntax.specs.Grammar.{negated}
-use Rattle.moo_syntax.proofs.Heights.{negations_higher}
+use Rattle.moo_grammar.specs.Minuses.{negations}
+use Rattle.moo_grammar.specs.Grammar.{negated}
+use Rattle.moo_grammar.proofs.Heights.{negations_higher}
 use Rattle.moo_syntax.proofs.make.negate_times.Goals as goal
 
 pub returns-in_err-operand : goal.returns-in_err-operand

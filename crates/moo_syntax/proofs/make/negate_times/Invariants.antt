@@ -1,6 +1,6 @@
 use Rattle.std.proofs.Common.{◌≡◌, ◌≤◌}
 use Rattle.moo_program.specs.View.{root}
-use Rattle.moo_syntax.specs.Height.{negations}
+use Rattle.moo_grammar.specs.Minuses.{negations}
 use Rattle.moo_syntax.proofs.make.negate_times.Given as goal
 
 abbrev pub invariant-loop : goal.invariant-loop

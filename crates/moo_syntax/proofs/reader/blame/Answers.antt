@@ -1,5 +1,20 @@
 use Rattle.moo_syntax.proofs.Whole.{too_deep}
 use Rattle.moo_syntax.proofs.reader.blame.Goals as goal
 
+pub returns-in-BadTarget : goal.returns-in-BadTarget
+returns-in-BadTarget c =
+    let stopped = rw c.in-BadTarget.is at c.requires.stopped in
+    record {
+      spots = c.args.spots.now;
+      reading = c.requires.reading;
+      at = c.args.stop.at;
+      line = c.line_at-line.ensures;
+      assigns = stopped.assigns;
+      none = stopped.none;
+    }
+
 pub returns-in-TooDeep : goal.returns-in-TooDeep
-returns-in-TooDeep c = too_deep c.args.lines.now c.args.spots.now c.requires.reading (rw c.in-TooDeep.is at c.requires.stopped)
+returns-in-TooDeep c = too_deep c.args.names c.args.lines.now c.args.spots.now c.requires.reading (rw c.in-TooDeep.is at c.requires.stopped)
+
+pub returns-in-Unexpected : goal.returns-in-Unexpected
+returns-in-Unexpected c = c.unexpected.ensures c.args.names

@@ -1,10 +1,11 @@
 use Rattle.std.proofs.Common.{Ok, Err, refl, arith}
 use Rattle.std.proofs.lemmas.Result.{err_from_is_err_and}
 use Rattle.std.proofs.Math.ListN.{drop_of_length-le}
-use Rattle.moo_eval.specs.Outcome.{next}
+use Rattle.moo_outcome.specs.Outcome.{next}
 use Rattle.moo_eval.specs.Meaning.{ends, leaves, proceeds}
-use Rattle.moo_eval.specs.Seen.{stop_of, flow_of}
-use Rattle.moo_eval.proofs.Exits.{drop_next, goes_on-not}
+use Rattle.moo_outcome.specs.Seen.{stop_of, flow_of}
+use Rattle.moo_eval.proofs.Exits.{goes_on-not}
+use Rattle.moo_outcome.proofs.Rest.{drop_next}
 use Rattle.moo_eval.proofs.interpreter.Task.run_all.Goals as goal
 
 pub returns-in_err-flow-clause-meaning : goal.returns-in_err-flow-clause-meaning

@@ -1,9 +1,10 @@
 use Rattle.std.proofs.Common.{◌≤◌, None, drop, Result}
 use Rattle.moo_program.specs.View.{block}
-use Rattle.moo_eval.specs.Outcome.{Flow, Stop}
-use Rattle.moo_eval.specs.State.{State}
+use Rattle.moo_outcome.specs.Outcome.{Flow, Stop}
+use Rattle.moo_outcome.specs.State.{State}
 use Rattle.moo_eval.specs.Meaning.{RunsAll}
-use Rattle.moo_eval.specs.Seen.{state_of, context_of}
+use Rattle.moo_outcome.specs.Seen.{context_of}
+use Rattle.moo_eval.specs.Seen.{state_of}
 use Rattle.moo_eval.proofs.interpreter.Task.run_all.Given as goal
 
 -- what the rest does is what all statements do

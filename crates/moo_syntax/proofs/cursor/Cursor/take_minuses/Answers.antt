@@ -2,7 +2,7 @@ use Rattle.std.proofs.Common.{ℕ, zero, suc, List, ◌∷◌, ◌≡◌, refl, 
 use Rattle.moo_token.specs.declared.sign.Sign.TheVariants.{Minus}
 use Rattle.moo_token.specs.declared.token.Token.{Token}
 use Rattle.moo_token.specs.declared.token.Token.TheVariants.{Sign}
-use Rattle.moo_syntax.specs.Cursor.{minuses}
+use Rattle.moo_grammar.specs.Minuses.{minuses}
 use Rattle.moo_syntax.proofs.cursor.Cursor.take_minuses.Goals as goal
 
 minuses_more : (n : ℕ) (ts : List Token) → minuses n (Sign Minus ∷ ts) ≡ minuses (suc n) ts

@@ -1,6 +1,7 @@
 -- The minuses so far, before those that are left.
 use Rattle.std.proofs.Common.{◌≡◌, ◌+◌, ◌-◌, length}
-use Rattle.moo_syntax.specs.Cursor.{left, minuses}
+use Rattle.moo_syntax.specs.Cursor.{left}
+use Rattle.moo_grammar.specs.Minuses.{minuses}
 use Rattle.moo_syntax.proofs.cursor.Cursor.take_minuses.Given as goal
 
 abbrev pub invariant-loop-count : goal.invariant-loop-count

@@ -1,0 +1,182 @@
+//! Assignments.
+ghost use Rattle.std.specs.Prelude.{◌≡◌, ◌≤◌, map};
+ghost use Rattle.moo_program.specs.Tree.{assign};
+ghost use Rattle.moo_program.specs.View.{tree, items_of};
+ghost use Rattle.moo_value.specs.View.{tree as value_tree};
+ghost use Rattle.moo_outcome.specs.Target.{Path, scattered};
+ghost use Rattle.moo_eval.specs.Meaning.{Computes, Locates, Finds, Steps, Stores, Puts, SetsDefaults};
+ghost use Rattle.moo_outcome.specs.Seen.{context_of, seen_answer, seen_by, seen_done, IsKnownFailure};
+ghost use Rattle.moo_eval.specs.Seen.{state_of};
+ghost use Rattle.moo_outcome.specs.SeenTarget.{root_seen, step_of, steps_of, path_of, spot_of, left_out_of};
+
+use crate::interpreter::Task;
+use moo_outcome::{
+    Activation, CallStack, Failure, LeftOut, Path, Places, Root, Spot, Step, as_property, dealt,
+    missing, push_step, put_refusal, rebuilt, root_alone, set_shares, set_variable, taken_apart,
+};
+use moo_program::{Expr, Item};
+use moo_value::Value;
+
+impl Task {
+    // The target is found first, then the value is evaluated, then it is stored.
+    #[cycle(evaluation)]
+    pub(crate) fn assign(
+        &mut self,
+        active: &mut Activation,
+        stack: &CallStack,
+        indexed: Option<&Value>,
+        target: &Expr,
+        value: &Expr,
+    ) -> Result<Value, Failure>
+        ensures meaning { IsKnownFailure result → Computes (context_of stack.now indexed.entry) (assign (tree target.now) (tree value.now)) (state_of self.old active.old) (seen_answer result) (state_of self.new active.new) }
+        ensures ticks { self.new.ticks_left ≤ self.old.ticks_left }
+    {
+        let path = self.locate(active, stack, indexed, target)?;
+        let value = self.evaluate(active, stack, indexed, value)?;
+        self.store(active, stack, indexed, path, &value)?;
+        Ok(value)
+    }
+
+    // The way to what a target sets, whose containers are read from the root on.
+    #[cycle(evaluation)]
+    fn locate<'a>(
+        &mut self,
+        active: &mut Activation,
+        stack: &CallStack,
+        indexed: Option<&Value>,
+        target: &'a Expr,
+    ) -> Result<Path<'a>, Failure>
+        ensures meaning { IsKnownFailure result → Locates (context_of stack.now indexed.entry) (tree target.now) (state_of self.old active.old) (seen_by path_of result) (state_of self.new active.new) }
+        ensures ticks { self.new.ticks_left ≤ self.old.ticks_left }
+    {
+        let parts = taken_apart(self.alloc(), target)?;
+        let root = self.find(active, stack, indexed, parts.root)?;
+        let mut path = Path {
+            root,
+            steps: Vec::new(self.alloc()),
+        };
+        for spot in &parts.spots {
+            let step = self.step(active, stack, indexed, &path, spot)?;
+            push_step(&mut path, step)?;
+        }
+        Ok(path)
+    }
+
+    // What the root of a target names.
+    #[cycle(evaluation)]
+    fn find<'a>(
+        &mut self,
+        active: &mut Activation,
+        stack: &CallStack,
+        indexed: Option<&Value>,
+        root: &'a Expr,
+    ) -> Result<Root<'a>, Failure>
+        ensures meaning { IsKnownFailure result → Finds (context_of stack.now indexed.entry) (tree root.now) (state_of self.old active.old) (seen_by root_seen result) (state_of self.new active.new) }
+        ensures ticks { self.new.ticks_left ≤ self.old.ticks_left }
+    {
+        match as_property(root) {
+            Some((base, name)) => {
+                let base = self.evaluate(active, stack, indexed, base)?;
+                let name = self.evaluate(active, stack, indexed, name)?;
+                Ok(Root::Property(base, name))
+            }
+            None => root_alone(root),
+        }
+    }
+
+    // The container at the end of a path, and the places in it, where `$` measures it.
+    #[cycle(evaluation)]
+    fn step(
+        &mut self,
+        active: &mut Activation,
+        stack: &CallStack,
+        indexed: Option<&Value>,
+        path: &Path<'_>,
+        spot: &Spot<'_>,
+    ) -> Result<Step, Failure>
+        ensures meaning { IsKnownFailure result → Steps (context_of stack.now indexed.entry) (root_seen path.now.root) (steps_of path.now.steps.items) (spot_of spot.now) (state_of self.old active.old) (seen_by step_of result) (state_of self.new active.new) }
+        ensures ticks { self.new.ticks_left ≤ self.old.ticks_left }
+    {
+        let container = path.value(self.alloc(), active)?;
+        match spot {
+            Spot::Element(place) => {
+                let place = self.evaluate(active, stack, Some(&container), place)?;
+                let places = Places::Element(place);
+                Ok(Step { container, places })
+            }
+            Spot::Part(low, high) => {
+                let low = self.evaluate(active, stack, Some(&container), low)?;
+                let high = self.evaluate(active, stack, Some(&container), high)?;
+                let places = Places::Part(low, high);
+                Ok(Step { container, places })
+            }
+        }
+    }
+
+    #[cycle(evaluation)]
+    fn store(
+        &mut self,
+        active: &mut Activation,
+        stack: &CallStack,
+        indexed: Option<&Value>,
+        path: Path<'_>,
+        value: &Value,
+    ) -> Result<(), Failure>
+        ensures meaning { IsKnownFailure result → Stores (context_of stack.now indexed.entry) (root_seen path.entry.root) (steps_of path.entry.steps.items) (value_tree value.now) (state_of self.old active.old) (seen_done result) (state_of self.new active.new) }
+        ensures ticks { self.new.ticks_left ≤ self.old.ticks_left }
+    {
+        let Path { root, steps } = path;
+        let value = value.try_clone()?;
+        match root {
+            Root::Variable(name) => {
+                set_variable(self.alloc(), &mut active.variables, name, steps, value)?;
+                Ok(())
+            }
+            Root::Property(base, name) => {
+                let whole = rebuilt(self.alloc(), steps, value)?;
+                Err(Failure::Fails(put_refusal(&base, &name, &whole)))
+            }
+            Root::Scatter(items) => {
+                let whole = rebuilt(self.alloc(), steps, value)?;
+                self.scatter(active, stack, indexed, items, &whole)
+            }
+        }
+    }
+
+    // Names that get an element are set first, then those with a default, from the left.
+    #[cycle(evaluation)]
+    fn scatter(
+        &mut self,
+        active: &mut Activation,
+        stack: &CallStack,
+        indexed: Option<&Value>,
+        items: &[Item],
+        value: &Value,
+    ) -> Result<(), Failure>
+        ensures meaning { IsKnownFailure result → Puts (context_of stack.now indexed.entry) (scattered (items_of items.now)) (value_tree value.now) (state_of self.old active.old) (seen_done result) (state_of self.new active.new) }
+        ensures ticks { self.new.ticks_left ≤ self.old.ticks_left }
+    {
+        let list = dealt(items, value)?;
+        set_shares(self.alloc(), active, items, list)?;
+        let defaults = missing(self.alloc(), items, list)?;
+        self.set_defaults(active, stack, indexed, &defaults)
+    }
+
+    #[cycle(evaluation)]
+    fn set_defaults(
+        &mut self,
+        active: &mut Activation,
+        stack: &CallStack,
+        indexed: Option<&Value>,
+        defaults: &[LeftOut<'_>],
+    ) -> Result<(), Failure>
+        ensures meaning { IsKnownFailure result → SetsDefaults (context_of stack.now indexed.entry) (map left_out_of defaults.now) (state_of self.old active.old) (seen_done result) (state_of self.new active.new) }
+        ensures ticks { self.new.ticks_left ≤ self.old.ticks_left }
+    {
+        for default in defaults {
+            let value = self.evaluate(active, stack, indexed, default.value)?;
+            active.variables.set(default.name, value)?;
+        }
+        Ok(())
+    }
+}

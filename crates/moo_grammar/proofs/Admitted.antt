@@ -1,0 +1,77 @@
+-- What stricter rules derive, looser ones derive too.
+use Rattle.std.proofs.Common.{List, ◌≡◌, refl, Bool, true, false, not, ◌||◌}
+use Rattle.moo_token.specs.declared.token.Token.{Token}
+use Rattle.moo_program.specs.Tree.{Expr, Block}
+use Rattle.moo_program.specs.Target.{is_target}
+use Rattle.moo_grammar.specs.declared.names.Names.{Names}
+use Rattle.moo_grammar.specs.Rules.{Rules, Admits, loose, strict, may_assign}
+use Rattle.moo_grammar.specs.Grammar
+use Rattle.moo_grammar.specs.Grammar.{Of, Kind, Derives, sort, IsProgram, IsProgramBy}
+
+by_targets : (b c t : Bool) → (b ≡ true → c ≡ true) → (not c || t) ≡ true → (not b || t) ≡ true
+by_targets false c t k e = refl
+by_targets true true t k e = e
+by_targets true false t k e = absurd (let f = k refl in cc)
+
+-- what may be assigned to where more is asked
+may_assign_still : {g h : Rules} → Admits g h → (a : Expr) → may_assign h a ≡ true → may_assign g a ≡ true
+may_assign_still {g} {h} k a e = by_targets g.targets h.targets (is_target a) k.targets e
+
+pub admitted : {g h : Rules} {k : Kind} {ts r : List Token} {e : Of (sort k)} → Admits g h → Derives h k ts e r → Derives g k ts e r
+admitted h (Grammar.plain d) = Grammar.plain (admitted h d)
+admitted h (Grammar.assigns {a = a} is c d) = Grammar.assigns (may_assign_still h a is) (admitted h c) (admitted h d)
+admitted h (Grammar.unconditional d) = Grammar.unconditional (admitted h d)
+admitted h (Grammar.chooses b c d) = Grammar.chooses (admitted h b) (admitted h c) (admitted h d)
+admitted h (Grammar.chained c d) = Grammar.chained (admitted h c) (admitted h d)
+admitted h Grammar.no_more = Grammar.no_more
+admitted h (Grammar.one_more is c d) = Grammar.one_more is (admitted h c) (admitted h d)
+admitted h (Grammar.relations d) = Grammar.relations (admitted h d)
+admitted h (Grammar.sums d) = Grammar.sums (admitted h d)
+admitted h (Grammar.products d) = Grammar.products (admitted h d)
+admitted h (Grammar.powers d) = Grammar.powers (admitted h d)
+admitted h (Grammar.unraised d) = Grammar.unraised (admitted h d)
+admitted h (Grammar.raised c d) = Grammar.raised (admitted h c) (admitted h d)
+admitted h (Grammar.inverts d) = Grammar.inverts (admitted h d)
+admitted h (Grammar.negates d) = Grammar.negates (admitted h d)
+admitted h (Grammar.unsigned d) = Grammar.unsigned (admitted h d)
+admitted h (Grammar.based c d) = Grammar.based (admitted h c) (admitted h d)
+admitted h Grammar.no_suffix = Grammar.no_suffix
+admitted h (Grammar.property_named d) = Grammar.property_named (admitted h d)
+admitted h (Grammar.property_computed c d) = Grammar.property_computed (admitted h c) (admitted h d)
+admitted h (Grammar.verb_named c d) = Grammar.verb_named (admitted h c) (admitted h d)
+admitted h (Grammar.verb_computed b c d) = Grammar.verb_computed (admitted h b) (admitted h c) (admitted h d)
+admitted h (Grammar.indexed c d) = Grammar.indexed (admitted h c) (admitted h d)
+admitted h (Grammar.ranged b c d) = Grammar.ranged (admitted h b) (admitted h c) (admitted h d)
+admitted h (Grammar.constant is) = Grammar.constant is
+admitted h Grammar.name = Grammar.name
+admitted h (Grammar.called {s = s} is d) = Grammar.called (h.functions s is) (admitted h d)
+admitted h Grammar.system_property = Grammar.system_property
+admitted h (Grammar.system_verb d) = Grammar.system_verb (admitted h d)
+admitted h Grammar.dollar = Grammar.dollar
+admitted h (Grammar.grouped d) = Grammar.grouped (admitted h d)
+admitted h (Grammar.listed is d) = Grammar.listed is (admitted h d)
+admitted h (Grammar.scattered d) = Grammar.scattered (admitted h d)
+admitted h (Grammar.catches c d) = Grammar.catches (admitted h c) (admitted h d)
+admitted h (Grammar.catches_or b c d) = Grammar.catches_or (admitted h b) (admitted h c) (admitted h d)
+admitted h Grammar.any_code = Grammar.any_code
+admitted h (Grammar.these_codes d) = Grammar.these_codes (admitted h d)
+admitted h Grammar.no_arguments = Grammar.no_arguments
+admitted h (Grammar.some_arguments d) = Grammar.some_arguments (admitted h d)
+admitted h (Grammar.one_element d) = Grammar.one_element (admitted h d)
+admitted h (Grammar.an_element c d) = Grammar.an_element (admitted h c) (admitted h d)
+admitted h (Grammar.one_splice d) = Grammar.one_splice (admitted h d)
+admitted h (Grammar.a_splice c d) = Grammar.a_splice (admitted h c) (admitted h d)
+admitted h Grammar.one_optional = Grammar.one_optional
+admitted h (Grammar.an_optional d) = Grammar.an_optional (admitted h d)
+admitted h (Grammar.one_default d) = Grammar.one_default (admitted h d)
+admitted h (Grammar.a_default c d) = Grammar.a_default (admitted h c) (admitted h d)
+admitted h Grammar.returns_nothing = Grammar.returns_nothing
+admitted h (Grammar.returns_value d) = Grammar.returns_value (admitted h d)
+admitted h Grammar.no_statements = Grammar.no_statements
+admitted h (Grammar.one_statement c d) = Grammar.one_statement (admitted h c) (admitted h d)
+
+pub loose_admits : (h : Rules) → Admits loose h
+loose_admits h = record { targets = λ e. absurd cc; functions = λ s e. refl; loops = λ e. absurd cc }
+
+pub strict_is_loose : (names : Names) (ts : List Token) (b : Block) → IsProgram names ts b → IsProgramBy loose ts b
+strict_is_loose names ts b d = admitted (loose_admits (strict names)) d

@@ -1,0 +1,11 @@
+pub mod MachineLemmas
+pub mod Choices
+pub mod Complete
+pub mod Sound
+pub mod Leads
+pub mod Derived
+pub mod Admitted
+pub mod Kept
+pub mod Unique
+pub mod Heights
+pub mod Depths

@@ -1,0 +1,11 @@
+pub mod Rules
+pub mod Tokens
+pub mod Grammar
+pub mod Texts
+pub mod Machine
+pub mod Predictive
+pub mod Agree
+pub mod Items
+pub mod Minuses
+pub mod Size
+pub mod Depth

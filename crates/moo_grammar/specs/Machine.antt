@@ -1,0 +1,37 @@
+-- How a predictive parser reads: at each place it takes a token that passes a test, or reads a phrase, or gives up.
+use Rattle.std.specs.Prelude.{List, [], ◌∷◌, ◌≡◌, Bool, true, false}
+use Rattle.moo_token.specs.declared.token.Token.{Token}
+use Rattle.moo_grammar.specs.Grammar.{Sort, Of, Kind, sort}
+
+pub data Reading : Sort → Type 0 where
+  -- the tree is complete
+  give : {s : Sort} → Of s → Reading s
+  -- no token can stand here
+  refuse : {s : Sort} → Reading s
+  -- takes the next token
+  take : {s : Sort} → (Token → Reading s) → Reading s
+  -- goes on by whether the next token passes the test
+  peek : {s : Sort} → (Token → Bool) → Reading s → Reading s → Reading s
+  phrase : {s : Sort} → (k : Kind) → (Of (sort k) → Reading s) → Reading s
+
+abbrev pub next_passes : (Token → Bool) → List Token → Bool
+next_passes f [] = false
+next_passes f (x ∷ ts) = f x
+
+module _ (grammar : (k : Kind) → Reading (sort k)) where
+  -- the reading comes to its end with this tree, and leaves r
+  pub data Reads : (s : Sort) → Reading s → List Token → Of s → List Token → Type 0 where
+    gives : {s : Sort} {e : Of s} {r : List Token} → Reads s (give e) r e r
+    takes : {s : Sort} {p : Token → Reading s} {x : Token} {ts r : List Token} {e : Of s} → Reads s (p x) ts e r → Reads s (take p) (x ∷ ts) e r
+    sees : {s : Sort} {f : Token → Bool} {p q : Reading s} {ts r : List Token} {e : Of s} → next_passes f ts ≡ true → Reads s p ts e r → Reads s (peek f p q) ts e r
+    misses : {s : Sort} {f : Token → Bool} {p q : Reading s} {ts r : List Token} {e : Of s} → next_passes f ts ≡ false → Reads s q ts e r → Reads s (peek f p q) ts e r
+    reads : {s : Sort} {k : Kind} {p : Of (sort k) → Reading s} {ts m r : List Token} {a : Of (sort k)} {e : Of s} → Reads (sort k) (grammar k) ts a m → Reads s (p a) m e r → Reads s (phrase k p) ts e r
+
+  -- the reading gives up where r is left
+  pub data Fails : (s : Sort) → Reading s → List Token → List Token → Type 0 where
+    refuses : {s : Sort} {r : List Token} → Fails s (refuse {s = s}) r r
+    takes_fails : {s : Sort} {p : Token → Reading s} {x : Token} {ts r : List Token} → Fails s (p x) ts r → Fails s (take p) (x ∷ ts) r
+    sees_fails : {s : Sort} {f : Token → Bool} {p q : Reading s} {ts r : List Token} → next_passes f ts ≡ true → Fails s p ts r → Fails s (peek f p q) ts r
+    misses_fails : {s : Sort} {f : Token → Bool} {p q : Reading s} {ts r : List Token} → next_passes f ts ≡ false → Fails s q ts r → Fails s (peek f p q) ts r
+    phrase_fails : {s : Sort} {k : Kind} {p : Of (sort k) → Reading s} {ts r : List Token} → Fails (sort k) (grammar k) ts r → Fails s (phrase k p) ts r
+    then_fails : {s : Sort} {k : Kind} {p : Of (sort k) → Reading s} {ts m r : List Token} {a : Of (sort k)} → Reads (sort k) (grammar k) ts a m → Fails s (p a) m r → Fails s (phrase k p) ts r

@@ -1,0 +1,138 @@
+-- The choices of a predictive parser for the grammar.
+use Rattle.std.specs.Prelude.{ℕ, List, [], Bool, true, false, pos, is_some, unwrap_or}
+use Rattle.moo_token.specs.declared.sign.Sign.{Sign}
+use Rattle.moo_token.specs.declared.sign.Sign.TheVariants.{LeftParen, RightParen, LeftBrace, RightBrace, LeftBracket, RightBracket, Comma, Dot, DotDot, Colon, Semicolon, Question, Pipe, Assign, Arrow, Backquote, Quote, Bang, Dollar, At, Minus, Caret}
+use Rattle.moo_token.specs.declared.keyword.Keyword.{Keyword}
+use Rattle.moo_token.specs.declared.keyword.Keyword.TheVariants.{Return, Any}
+use Rattle.moo_token.specs.declared.token.Token.{Token}
+use Rattle.moo_program.specs.declared.operator.UnaryOperator.TheVariants.{Not}
+use Rattle.moo_program.specs.declared.operator.BinaryOperator.TheVariants.{Power}
+use Rattle.moo_program.specs.declared.tree.Literal.{Literal}
+use Rattle.moo_program.specs.declared.tree.Literal.TheVariants.{Integer}
+use Rattle.moo_program.specs.Tree.{Expr, Items, Codes, literal, variable, length_mark, binary, index, range, list, property, verb_call, call, assign, catch, catch_or, no_items, element, splice, optional, defaulted, any_error, listed_errors, return_nothing, returns, no_statement, then}
+use Rattle.moo_program.specs.Tree as tree
+use Rattle.moo_grammar.specs.declared.level.Level.{Level}
+use Rattle.moo_grammar.specs.declared.level.Level.TheVariants.{Logic, Relation, Sum, Product}
+use Rattle.moo_grammar.specs.declared.level.Operator.{Operator}
+use Rattle.moo_grammar.specs.declared.level.Operator.TheVariants as operator
+use Rattle.moo_grammar.specs.Tokens.{is_sign, is_keyword, operator_at, literal_at, name_at, is_closer, begins_statement}
+use Rattle.moo_grammar.specs.Grammar.{Sort, Kind, expression, conditional, chain, more, operand, power, unary, postfix, suffixes, primary, arguments, members, codes, statement, statements, sort, negated, joined, text, system_object, has_optional}
+use Rattle.moo_grammar.specs.Rules.{Rules, may_assign}
+use Rattle.moo_grammar.specs.Machine.{Reading, give, refuse, take, peek, phrase}
+
+-- takes the next token where it passes the test
+abbrev pub test : {s : Sort} → (Token → Bool) → (Token → Reading s) → Reading s → Reading s
+test f p q = peek f (take p) q
+
+-- takes the sign, where it comes next
+abbrev pub if_sign : {s : Sort} → Sign → Reading s → Reading s → Reading s
+if_sign m p q = test (is_sign m) (λ _. p) q
+
+-- the sign must come next
+abbrev pub expect : {s : Sort} → Sign → Reading s → Reading s
+expect m p = if_sign m p refuse
+
+-- takes the keyword, where it comes next
+abbrev pub if_keyword : {s : Sort} → Keyword → Reading s → Reading s → Reading s
+if_keyword k p q = test (is_keyword k) (λ _. p) q
+
+-- the keyword must come next
+abbrev pub expect_keyword : {s : Sort} → Keyword → Reading s → Reading s
+expect_keyword k p = if_keyword k p refuse
+
+abbrev pub if_name : {s : Sort} → (List ℕ → Reading s) → Reading s → Reading s
+if_name p q = test (λ x. is_some (name_at x)) (λ x. p (unwrap_or (name_at x) [])) q
+
+abbrev pub if_literal : {s : Sort} → (Literal → Reading s) → Reading s → Reading s
+if_literal p q = test (λ x. is_some (literal_at x)) (λ x. p (unwrap_or (literal_at x) (Integer (pos 0)))) q
+
+abbrev pub if_operator : {s : Sort} → Level → (Operator → Reading s) → Reading s → Reading s
+if_operator l p q = test (λ x. is_some (operator_at l x)) (λ x. p (unwrap_or (operator_at l x) (operator.Binary Power))) q
+
+-- goes on where a rule is kept
+abbrev pub allowed : {s : Sort} → Bool → Reading s → Reading s
+allowed true p = p
+allowed false p = refuse
+
+-- behind the comma of a member, or at the end of the members
+abbrev pub after_member : Bool → Bool → (Items → Items) → Reading Sort.items
+after_member i o f = if_sign Comma (phrase (members i o) λ xs. give (f xs)) (give (f no_items))
+
+-- behind the `?` of a member
+abbrev pub behind_question : Bool → Reading Sort.items
+behind_question i = if_name (λ s. if_sign Assign (phrase (expression i) λ a. after_member i true (defaulted s a)) (after_member i true (optional s))) refuse
+
+-- a member with `?`, where one may stand
+abbrev pub if_optional : Bool → Reading Sort.items → Reading Sort.items → Reading Sort.items
+if_optional true p q = if_sign Question p q
+if_optional false p q = q
+
+abbrev pub behind_codes : Bool → Expr → Codes → Reading Sort.expr
+behind_codes i a c = if_sign Arrow (phrase (expression i) λ b. expect Quote (give (catch_or a c b))) (expect Quote (give (catch a c)))
+
+abbrev pub guarded : Bool → Reading Sort.expr
+guarded i = if_sign Backquote (phrase (expression i) λ a. expect Bang (phrase (codes i) λ c. behind_codes i a c)) refuse
+
+-- `$` alone, inside an index
+abbrev pub mark : Bool → Reading Sort.expr
+mark false = refuse
+mark true = give length_mark
+
+abbrev pub behind_dollar : Bool → Reading Sort.expr
+behind_dollar i = if_name (λ s. if_sign LeftParen
+    (phrase (arguments i false) λ xs. expect RightParen (give (verb_call system_object (text s) xs)))
+    (give (property system_object (text s)))) (mark i)
+
+abbrev pub dollar : Bool → Reading Sort.expr
+dollar i = if_sign Dollar (behind_dollar i) (guarded i)
+
+-- behind the items of braces: `=`, where a `?` piece stands among them
+abbrev pub behind_brace : Bool → Expr → Reading Sort.expr
+behind_brace false e = give e
+behind_brace true e = peek (is_sign Assign) (give e) refuse
+
+abbrev pub braced : Bool → Reading Sort.expr
+braced i = if_sign LeftBrace (phrase (arguments i true) λ xs. expect RightBrace (behind_brace (has_optional xs) (list xs))) (dollar i)
+
+-- a variable, or a call
+abbrev pub named : Rules → Bool → List ℕ → Reading Sort.expr
+named g i s = peek (is_sign LeftParen) (allowed (g.functions s) (take λ _. phrase (arguments i false) λ xs. expect RightParen (give (call s xs)))) (give (variable s))
+
+abbrev pub behind_dot : Bool → Expr → Reading Sort.expr
+behind_dot i a = if_name (λ s. phrase (suffixes i (property a (text s))) λ e. give e)
+    (expect LeftParen (phrase (expression i) λ b. expect RightParen (phrase (suffixes i (property a b)) λ e. give e)))
+
+abbrev pub verb_arguments : Bool → Expr → Expr → Reading Sort.expr
+verb_arguments i a b = expect LeftParen (phrase (arguments i false) λ xs. expect RightParen (phrase (suffixes i (verb_call a b xs)) λ e. give e))
+
+abbrev pub behind_colon : Bool → Expr → Reading Sort.expr
+behind_colon i a = if_name (λ s. verb_arguments i a (text s))
+    (expect LeftParen (phrase (expression i) λ b. expect RightParen (verb_arguments i a b)))
+
+abbrev pub behind_bracket : Bool → Expr → Reading Sort.expr
+behind_bracket i a = phrase (expression true) λ b. if_sign DotDot
+    (phrase (expression true) λ c. expect RightBracket (phrase (suffixes i (range a b c)) λ e. give e))
+    (expect RightBracket (phrase (suffixes i (index a b)) λ e. give e))
+
+unfoldable pub grammar : Rules → (k : Kind) → Reading (sort k)
+grammar g (expression i) = phrase (conditional i) λ a. peek (is_sign Assign) (allowed (may_assign g a) (take λ _. phrase (expression i) λ b. give (assign a b))) (give a)
+grammar g (conditional i) = phrase (chain i Logic) λ a. if_sign Question (phrase (expression i) λ b. expect Pipe (phrase (conditional i) λ c. give (tree.conditional a b c))) (give a)
+grammar g (chain i l) = phrase (operand i l) λ a. phrase (more i l a) λ e. give e
+grammar g (more i l a) = if_operator l (λ o. phrase (operand i l) λ b. phrase (more i l (joined o a b)) λ e. give e) (give a)
+grammar g (operand i Logic) = phrase (chain i Relation) λ e. give e
+grammar g (operand i Relation) = phrase (chain i Sum) λ e. give e
+grammar g (operand i Sum) = phrase (chain i Product) λ e. give e
+grammar g (operand i Product) = phrase (power i) λ e. give e
+grammar g (power i) = phrase (unary i) λ a. if_sign Caret (phrase (power i) λ b. give (binary Power a b)) (give a)
+grammar g (unary i) = if_sign Bang (phrase (unary i) λ a. give (tree.unary Not a)) (if_sign Minus (phrase (unary i) λ a. give (negated a)) (phrase (postfix i) λ a. give a))
+grammar g (postfix i) = phrase (primary i) λ a. phrase (suffixes i a) λ e. give e
+grammar g (suffixes i a) = if_sign Dot (behind_dot i a) (if_sign Colon (behind_colon i a) (if_sign LeftBracket (behind_bracket i a) (give a)))
+grammar g (primary i) = if_literal (λ l. give (literal l))
+    (if_name (named g i)
+    (if_sign LeftParen (phrase (expression i) λ a. expect RightParen (give a)) (braced i)))
+grammar g (codes i) = if_keyword Any (give any_error) (phrase (members i false) λ xs. give (listed_errors xs))
+grammar g (arguments i o) = peek is_closer (give no_items) (phrase (members i o) λ xs. give xs)
+grammar g (members i o) = if_sign At (phrase (expression i) λ a. after_member i o (splice a))
+    (if_optional o (behind_question i) (phrase (expression i) λ a. after_member i o (element a)))
+grammar g statement = expect_keyword Return (if_sign Semicolon (give return_nothing) (phrase (expression false) λ a. expect Semicolon (give (returns a))))
+grammar g statements = peek begins_statement (phrase statement λ s. phrase statements λ ss. give (then s ss)) (give no_statement)

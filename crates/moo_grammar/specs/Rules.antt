@@ -1,0 +1,39 @@
+-- What a grammar asks for beside its forms.
+use Rattle.std.specs.Prelude.{ℕ, List, ◌≡◌, Bool, true, false, not, ◌||◌}
+use Rattle.moo_function.specs.Names.{function_of}
+use Rattle.moo_function.specs.Hand.{is_known}
+use Rattle.moo_program.specs.Tree.{Expr}
+use Rattle.moo_program.specs.Target.{is_target}
+use Rattle.moo_grammar.specs.declared.names.Names.{Names}
+use Rattle.moo_grammar.specs.declared.names.Names.TheVariants.{Any, Known}
+
+pub record Rules : Type 0 where
+  -- whether targets alone may stand before `=`
+  pub targets : Bool
+  -- the names that may be called
+  pub functions : List ℕ → Bool
+  -- whether a jump must have its loop round it
+  pub loops : Bool
+
+-- the forms alone
+abbrev pub loose : Rules
+loose = record { targets = false; functions = λ _. true; loops = false }
+
+-- the names that a program may call: all, or those of the functions that look at their arguments alone
+abbrev pub may_call : Names → List ℕ → Bool
+may_call Any name = true
+may_call Known name = is_known (function_of name)
+
+-- whether the expression may stand before `=`
+abbrev pub may_assign : Rules → Expr → Bool
+may_assign g a = not g.targets || is_target a
+
+-- all that is asked of a program
+abbrev pub strict : Names → Rules
+strict names = record { targets = true; functions = may_call names; loops = true }
+
+-- g asks for nothing that h doesn't ask for
+pub record Admits (g h : Rules) : Type 0 where
+  pub targets : g.targets ≡ true → h.targets ≡ true
+  pub functions : (name : List ℕ) → h.functions name ≡ true → g.functions name ≡ true
+  pub loops : g.loops ≡ true → h.loops ≡ true

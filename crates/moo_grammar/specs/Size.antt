@@ -1,0 +1,11 @@
+-- How high the tree of a phrase is.
+use Rattle.std.specs.Prelude.{ℕ}
+use Rattle.moo_program.specs.Limits.{height, items_height, codes_height, statement_height, block_height}
+use Rattle.moo_grammar.specs.Grammar.{Sort, expr, items, errors, stmt, block, Of}
+
+abbrev pub size : (s : Sort) → Of s → ℕ
+size expr e = height e
+size items xs = items_height xs
+size errors c = codes_height c
+size stmt s = statement_height s
+size block b = block_height b

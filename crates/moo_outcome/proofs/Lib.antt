@@ -1,0 +1,5 @@
+pub mod Names
+pub mod Containers
+pub mod Rest
+pub mod Scattered
+pub mod Stored

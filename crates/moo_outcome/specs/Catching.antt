@@ -1,0 +1,24 @@
+-- Which errors a catch answers for.
+use Rattle.std.specs.Prelude.{List, Bool, true, Option, Some, None, if◌then◌else◌, Result, Ok, Err}
+use Rattle.std.specs.List.{list_any}
+use Rattle.moo_value.specs.declared.error_code.ErrorCode.{ErrorCode}
+use Rattle.moo_value.specs.Tree.{Tree, error}
+use Rattle.moo_program.specs.Tree.{Items, no_items, Codes, any_error, listed_errors}
+use Rattle.moo_operation.specs.Truth.{same_tree}
+use Rattle.moo_outcome.specs.Outcome.{Stop, raised, out_of_ticks}
+
+-- what is evaluated for the errors that are caught
+abbrev pub guards : Codes → Items
+guards any_error = no_items
+guards (listed_errors items) = items
+
+-- The error is one of these values. A value that is no error is none that is raised.
+abbrev pub is_caught : Codes → List Tree → ErrorCode → Bool
+is_caught any_error vs code = true
+is_caught (listed_errors items) vs code = list_any (same_tree (error code)) vs
+
+-- the error that is caught, if one is: an end of the ticks passes
+abbrev pub caught : Codes → List Tree → Result Tree Stop → Option ErrorCode
+caught codes vs (Ok v) = None
+caught codes vs (Err (out_of_ticks trace)) = None
+caught codes vs (Err (raised raise)) = if is_caught codes vs raise.code then Some raise.code else None

@@ -1,0 +1,12 @@
+pub mod Variables
+pub mod State
+pub mod Outcome
+pub mod Catching
+pub mod Calls
+pub mod Scatter
+pub mod Target
+pub mod Traceback
+pub mod Seen
+pub mod SeenTarget
+pub mod Fault
+pub mod LetGo

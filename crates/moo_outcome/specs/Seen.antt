@@ -1,0 +1,112 @@
+-- What the program's values stand for in the meaning.
+use Rattle.std.specs.Prelude.{ℕ, List, [], Box, Option, Some, None, Result, Ok, Err, map, option_map}
+use Rattle.std.specs.Borrow.{Bor}
+use Rattle.std.specs.declared.vec.Vec.{Vec}
+use Rattle.std.specs.declared.alloc.Global.{Global}
+use Rattle.moo_value.specs.declared.value.Value.{Value}
+use Rattle.moo_value.specs.Tree.{Tree}
+use Rattle.moo_value.specs.View.{tree, trees}
+use Rattle.moo_program.specs.declared.tree.Expr as code_expr
+use Rattle.moo_program.specs.Tree.{Expr, catch, catch_or, Codes}
+use Rattle.moo_program.specs.View.{root}
+use Rattle.moo_outcome.specs.declared.frame.CallStack.{CallStack}
+use Rattle.moo_outcome.specs.declared.frame.Activation.{Activation}
+use Rattle.moo_outcome.specs.declared.variables.Variables.{Variables}
+use Rattle.moo_outcome.specs.declared.variables.Variable.{Variable}
+use Rattle.moo_outcome.specs.declared.outcome.Raise as code_raise
+use Rattle.moo_outcome.specs.declared.outcome.Stop as code_stop
+use Rattle.moo_outcome.specs.declared.outcome.Stop.TheVariants as stop_case
+use Rattle.moo_outcome.specs.declared.outcome.Failure as code_failure
+use Rattle.moo_outcome.specs.declared.outcome.Failure.TheVariants as failure_case
+use Rattle.moo_outcome.specs.declared.outcome.Flow as code_flow
+use Rattle.moo_outcome.specs.declared.outcome.Flow.TheVariants as flow_case
+use Rattle.moo_outcome.specs.Variables.{Binding, value_of_name}
+use Rattle.moo_outcome.specs.State.{Context, entries}
+use Rattle.moo_outcome.specs.declared.frame.TraceEntry.{TraceEntry}
+use Rattle.moo_outcome.specs.Outcome.{Raise, Stop, raised, out_of_ticks, Failure, fails, stops, Flow, next, returned}
+
+abbrev pub binding_of : Variable → Binding
+binding_of v = record { name = v.name; value = tree v.value }
+
+abbrev pub bindings_of : Variables → List Binding
+bindings_of variables = map binding_of variables.bindings.items
+
+abbrev pub variables_of : Variables → List ℕ → Option Tree
+variables_of variables = value_of_name (bindings_of variables)
+
+abbrev pub indexed_of : Option (Bor Value) → Option Tree
+indexed_of indexed = option_map (λ v. tree v.now) indexed
+
+-- what the program is given
+abbrev pub context_of : CallStack → Option (Bor Value) → Context
+context_of stack indexed = record { frame = stack.running; callers = stack.callers.items; indexed = indexed_of indexed }
+
+-- the entries from the running frame down
+abbrev pub trace_of : CallStack → Activation → List TraceEntry
+trace_of stack active = entries stack.running active.programmer stack.callers.items
+
+abbrev pub raise_of : code_raise.Raise → Raise
+raise_of raise = record { code = raise.code; message = raise.message; value = tree raise.value; trace = raise.trace.items }
+
+-- Want of memory has no meaning: `IsKnown` is false of it, so what stands here for it is never read.
+abbrev pub stop_of : code_stop.Stop → Stop
+stop_of (stop_case.Raised raise) = raised (raise_of raise)
+stop_of (stop_case.OutOfTicks trace) = out_of_ticks trace.items
+stop_of stop_case.Memory = out_of_ticks []
+
+abbrev pub failure_of : code_failure.Failure → Failure
+failure_of (failure_case.Fails code) = fails code
+failure_of (failure_case.Stops stop) = stops (stop_of stop)
+
+abbrev pub flow_of : code_flow.Flow → Flow
+flow_of flow_case.Next = next
+flow_of (flow_case.Return v) = returned (tree v)
+
+abbrev pub seen_value : Result Value code_stop.Stop → Result Tree Stop
+seen_value (Ok v) = Ok (tree v)
+seen_value (Err stop) = Err (stop_of stop)
+
+abbrev pub seen_answer : Result Value code_failure.Failure → Result Tree Failure
+seen_answer (Ok v) = Ok (tree v)
+seen_answer (Err failure) = Err (failure_of failure)
+
+abbrev pub seen_answers : Result (Vec Value Global) code_failure.Failure → Result (List Tree) Failure
+seen_answers (Ok vs) = Ok (trees vs.items)
+seen_answers (Err failure) = Err (failure_of failure)
+
+-- what an answer stands for, by what its value stands for
+abbrev pub seen_by : {A B : Type 0} → (A → B) → Result A code_failure.Failure → Result B Failure
+seen_by f (Ok v) = Ok (f v)
+seen_by f (Err failure) = Err (failure_of failure)
+
+abbrev pub seen_done : Result (Unit {0}) code_failure.Failure → Result (Unit {0}) Failure
+seen_done (Ok done) = Ok tt
+seen_done (Err failure) = Err (failure_of failure)
+
+abbrev pub seen_flow : Result code_flow.Flow code_stop.Stop → Result Flow Stop
+seen_flow (Ok flow) = Ok (flow_of flow)
+seen_flow (Err stop) = Err (stop_of stop)
+
+-- a catch, with or without what it goes on to
+abbrev pub catch_of : Expr → Codes → Option (Box code_expr.Expr Global) → Expr
+catch_of a codes None = catch a codes
+catch_of a codes (Some b) = catch_or a codes (root b)
+
+-- there was memory enough
+abbrev pub HadMemory : code_stop.Stop → Type 0
+HadMemory (stop_case.Raised raise) = Unit {0}
+HadMemory (stop_case.OutOfTicks trace) = Unit {0}
+HadMemory stop_case.Memory = ⊥
+
+-- an outcome that the meaning speaks of: want of memory may come anywhere, and nothing is said of it
+abbrev pub IsKnown : {A : Type 0} → Result A code_stop.Stop → Type 0
+IsKnown (Ok v) = Unit {0}
+IsKnown (Err stop) = HadMemory stop
+
+abbrev pub HadMemoryIn : code_failure.Failure → Type 0
+HadMemoryIn (failure_case.Fails code) = Unit {0}
+HadMemoryIn (failure_case.Stops stop) = HadMemory stop
+
+abbrev pub IsKnownFailure : {A : Type 0} → Result A code_failure.Failure → Type 0
+IsKnownFailure (Ok v) = Unit {0}
+IsKnownFailure (Err failure) = HadMemoryIn failure

@@ -1,0 +1,78 @@
+//! Values that a node reads or gathers.
+ghost use Rattle.std.specs.Prelude.{◌≡◌, ◌++◌, ◌∷◌, [], List, Ok, Err, IfOk, IfErr, OnOk};
+ghost use Rattle.moo_value.specs.Tree.{Tree};
+ghost use Rattle.moo_operation.specs.Places.{spliced_of};
+ghost use Rattle.moo_value.specs.declared.error_code.ErrorCode.TheVariants.{VariableNotFound};
+ghost use Rattle.moo_value.specs.Compare.{folded};
+ghost use Rattle.moo_value.specs.View.{tree, trees};
+ghost use Rattle.moo_program.specs.Tree.{literal_value};
+ghost use Rattle.moo_outcome.specs.Outcome.{answers, or_error};
+ghost use Rattle.moo_outcome.specs.State.{measured};
+ghost use Rattle.moo_outcome.specs.Seen.{variables_of, indexed_of, failure_of, seen_answer, HadMemoryIn, IsKnownFailure};
+
+use crate::frame::Activation;
+use crate::outcome::Failure;
+use moo_operation::{length_of, spliced};
+use moo_program::Literal;
+use moo_value::{ErrorCode, MooStr, Value};
+use std::alloc::AllocError;
+
+/// The value of a literal.
+pub fn literal_value(literal: &Literal) -> Result<Value, AllocError>
+    ensures { IfOk result (λ v. tree v ≡ literal_value literal.now) }
+{
+    match literal {
+        Literal::Integer(number) => Ok(Value::Int(*number)),
+        Literal::Object(number) => Ok(Value::Obj(*number)),
+        Literal::Error(code) => Ok(Value::Err(*code)),
+        Literal::Str(text) => Ok(Value::Str(text.try_clone()?)),
+    }
+}
+
+/// The value of a variable.
+pub fn read_variable(active: &Activation, name: &MooStr) -> Result<Value, Failure>
+    ensures { IsKnownFailure result → answers (or_error (variables_of active.now.variables (folded name.now)) VariableNotFound) ≡ seen_answer result }
+{
+    match active.variables.get(name) {
+        Some(value) => Ok(value.try_clone()?),
+        None => Err(Failure::Fails(ErrorCode::VariableNotFound)),
+    }
+}
+
+/// The length of what is indexed.
+pub fn measure(indexed: Option<&Value>) -> Result<Value, Failure>
+    ensures { IsKnownFailure result → answers (measured (indexed_of indexed.entry)) ≡ seen_answer result }
+{
+    match indexed {
+        Some(value) => Ok(length_of(value)?),
+        None => Err(Failure::Fails(ErrorCode::TypeMismatch)),
+    }
+}
+
+/// Puts a value at the end.
+pub fn push(values: &mut Vec<Value>, value: Value) -> Result<(), AllocError>
+    ensures { OnOk result (values.new.items ≡ values.old.items ++ value ∷ []) }
+{
+    values.push(value)?;
+    Ok(())
+}
+
+/// Puts the elements of a list at the end.
+pub fn splice(values: &mut Vec<Value>, list: Value) -> Result<(), Failure>
+    ensures ok { OnOk result ((more : List Tree) × (answers (spliced_of (tree list)) ≡ Ok more) × (trees values.new.items ≡ trees values.old.items ++ more)) }
+    ensures err { IfErr result (λ failure. HadMemoryIn failure → answers (spliced_of (tree list)) ≡ Err (failure_of failure)) }
+{
+    let elements = spliced(&list)?;
+    append(values, elements)?;
+    Ok(())
+}
+
+// Puts copies of these values at the end.
+fn append(values: &mut Vec<Value>, more: &[Value]) -> Result<(), AllocError>
+    ensures { OnOk result (values.new.items ≡ values.old.items ++ more.now) }
+{
+    for value in more {
+        values.push(value.try_clone()?)?;
+    }
+    Ok(())
+}

@@ -1,0 +1,131 @@
+//! Frames, and what a traceback tells of them.
+ghost use Rattle.std.specs.Prelude.{◌≡◌, ◌++◌, IfOk, OnOk};
+ghost use Rattle.moo_outcome.specs.State.{trace_frame};
+ghost use Rattle.moo_outcome.specs.Seen.{trace_of};
+
+use crate::variables::Variables;
+use moo_program::Program;
+use moo_value::{MooList, MooStr};
+use std::alloc::{AllocError, Global};
+
+/// A program that is to run, and what its code is told.
+#[derive(Drop)]
+pub struct Frame {
+    pub program: Program,
+    /// The d bit: errors are raised. Without it an expression that fails has the error as its value.
+    pub d: bool,
+    pub programmer: i32,
+    pub this: i32,
+    /// The object that has the verb.
+    pub definer: i32,
+    pub caller: i32,
+    pub player: i32,
+    pub dobj: i32,
+    pub iobj: i32,
+    /// All names of the verb.
+    pub names: MooStr,
+    /// The name that it was called by.
+    pub verb: MooStr,
+    pub argstr: MooStr,
+    pub dobjstr: MooStr,
+    pub prepstr: MooStr,
+    pub iobjstr: MooStr,
+    pub args: MooList,
+}
+
+/// What is told of one frame of a task.
+#[derive(Drop)]
+pub struct TraceFrame {
+    pub this: i32,
+    pub verb: MooStr,
+    pub programmer: i32,
+    pub definer: i32,
+    pub player: i32,
+    pub names: MooStr,
+}
+
+/// A step from the running code down to the one that began the task.
+#[derive(Drop)]
+pub enum TraceEntry {
+    Verb(TraceFrame),
+    /// A built-in function that called what stands before it, by its name.
+    BuiltIn(MooStr),
+}
+
+/// The running frame and what it was called from, the nearest first.
+#[derive(Drop)]
+pub struct CallStack {
+    pub running: Frame,
+    pub callers: Vec<TraceEntry>,
+}
+
+impl TraceFrame {
+    fn try_clone(&self) -> Result<TraceFrame, AllocError>
+        ensures { IfOk result (λ copy. copy ≡ self.now) }
+    {
+        Ok(TraceFrame {
+            this: self.this,
+            verb: self.verb.try_clone()?,
+            programmer: self.programmer,
+            definer: self.definer,
+            player: self.player,
+            names: self.names.try_clone()?,
+        })
+    }
+}
+
+impl TraceEntry {
+    fn try_clone(&self) -> Result<TraceEntry, AllocError>
+        ensures { IfOk result (λ copy. copy ≡ self.now) }
+    {
+        match self {
+            TraceEntry::Verb(frame) => Ok(TraceEntry::Verb(frame.try_clone()?)),
+            TraceEntry::BuiltIn(name) => Ok(TraceEntry::BuiltIn(name.try_clone()?)),
+        }
+    }
+}
+
+impl Frame {
+    /// What is told of the frame while it runs for this programmer.
+    fn trace_frame(&self, programmer: i32) -> Result<TraceFrame, AllocError>
+        ensures { IfOk result (λ told. told ≡ trace_frame self.now programmer) }
+    {
+        Ok(TraceFrame {
+            this: self.this,
+            verb: self.verb.try_clone()?,
+            programmer,
+            definer: self.definer,
+            player: self.player,
+            names: self.names.try_clone()?,
+        })
+    }
+}
+
+impl CallStack {
+    /// The entries from the running frame down.
+    pub fn trace(&self, alloc: Global, active: &Activation) -> Result<Vec<TraceEntry>, AllocError>
+        ensures { IfOk result (λ all. all.items ≡ trace_of self.now active.now) }
+    {
+        let mut all = Vec::new(alloc);
+        all.push(TraceEntry::Verb(self.running.trace_frame(active.programmer)?))?;
+        append(&mut all, &self.callers)?;
+        Ok(all)
+    }
+}
+
+// Puts copies of these entries at the end.
+fn append(all: &mut Vec<TraceEntry>, entries: &[TraceEntry]) -> Result<(), AllocError>
+    ensures { OnOk result (all.new.items ≡ all.old.items ++ entries.now) }
+{
+    for entry in entries {
+        all.push(entry.try_clone()?)?;
+    }
+    Ok(())
+}
+
+/// What changes while a frame runs.
+#[derive(Drop)]
+pub struct Activation {
+    pub variables: Variables,
+    pub programmer: i32,
+}

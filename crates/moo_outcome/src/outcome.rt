@@ -1,0 +1,134 @@
+//! How evaluation may end.
+ghost use Rattle.std.specs.Prelude.{◌≡◌, IfOk};
+ghost use Rattle.moo_outcome.specs.Outcome.{settled, plain_raise};
+ghost use Rattle.moo_outcome.specs.Seen.{raise_of, trace_of, seen_value, seen_answer, IsKnown, IsKnownFailure};
+
+use crate::frame::{Activation, CallStack, TraceEntry};
+use moo_operation::OperationFault;
+use moo_value::{ErrorCode, MooStr, Value};
+use std::alloc::{AllocError, Global};
+
+/// An error that was raised, and the entries from where it was raised.
+#[derive(Drop)]
+pub struct Raise {
+    pub code: ErrorCode,
+    pub message: MooStr,
+    pub value: Value,
+    pub trace: Vec<TraceEntry>,
+}
+
+/// Why an expression or a statement did not come to its end.
+#[derive(Drop)]
+pub enum Stop {
+    Raised(Raise),
+    OutOfTicks(Vec<TraceEntry>),
+    Memory,
+}
+
+/// Where a statement leads.
+#[derive(Drop)]
+pub enum Flow {
+    Next,
+    Return(Value),
+}
+
+/// Why a node gave no value: an error of its own, or a stop of a part of it.
+#[derive(Drop)]
+pub enum Failure {
+    Fails(ErrorCode),
+    Stops(Stop),
+}
+
+impl From<AllocError> for Stop {
+    ghost use Rattle.moo_outcome.specs.declared.outcome.Stop.{Stop};
+
+    ghost from_gives = { λ _ stop. stop ≡ Stop.Memory };
+
+    fn from(_: AllocError) -> Stop {
+        Stop::Memory
+    }
+}
+
+impl From<AllocError> for Failure {
+    ghost use Rattle.moo_outcome.specs.declared.outcome.Failure.{Failure};
+    ghost use Rattle.moo_outcome.specs.declared.outcome.Stop.{Stop};
+
+    ghost from_gives = { λ _ failure. failure ≡ Failure.Stops Stop.Memory };
+
+    fn from(_: AllocError) -> Failure {
+        Failure::Stops(Stop::Memory)
+    }
+}
+
+impl From<ErrorCode> for Failure {
+    ghost use Rattle.moo_outcome.specs.declared.outcome.Failure.{Failure};
+
+    ghost from_gives = { λ code failure. failure ≡ Failure.Fails code };
+
+    fn from(code: ErrorCode) -> Failure {
+        Failure::Fails(code)
+    }
+}
+
+impl From<Stop> for Failure {
+    ghost use Rattle.moo_outcome.specs.declared.outcome.Failure.{Failure};
+    ghost use Rattle.moo_outcome.specs.declared.outcome.Stop.{Stop};
+
+    ghost from_gives = { λ stop failure. failure ≡ Failure.Stops stop };
+
+    fn from(stop: Stop) -> Failure {
+        Failure::Stops(stop)
+    }
+}
+
+impl From<OperationFault> for Failure {
+    ghost use Rattle.moo_outcome.specs.declared.outcome.Failure.{Failure};
+    ghost use Rattle.moo_outcome.specs.Fault.{failed};
+
+    ghost from_gives = { λ fault failure. failure ≡ failed fault };
+
+    fn from(fault: OperationFault) -> Failure {
+        match fault {
+            OperationFault::Raise(code) => Failure::Fails(code),
+            OperationFault::Memory => Failure::Stops(Stop::Memory),
+        }
+    }
+}
+
+/// The error as it is raised: with its message, and 0 as its value.
+fn plain_raise(alloc: Global, code: ErrorCode, trace: Vec<TraceEntry>) -> Result<Raise, AllocError>
+    ensures { IfOk result (λ raise. raise_of raise ≡ plain_raise code trace.items) }
+{
+    let Ok(message) = MooStr::try_from_bytes(alloc, code.message().as_bytes()) else {
+        return Err(AllocError);
+    };
+    Ok(Raise {
+        code,
+        message,
+        value: Value::Int(0),
+        trace,
+    })
+}
+
+/// With the d bit an error is raised, and without it the error is the value.
+pub fn settle(
+    alloc: Global,
+    stack: &CallStack,
+    active: &Activation,
+    outcome: Result<Value, Failure>,
+) -> Result<Value, Stop>
+    ensures outcome { IsKnown result → settled stack.now.running.d (trace_of stack.now active.now) (seen_answer outcome) ≡ seen_value result }
+    ensures known { IsKnown result → IsKnownFailure outcome }
+{
+    match outcome {
+        Ok(value) => Ok(value),
+        Err(Failure::Stops(stop)) => Err(stop),
+        Err(Failure::Fails(code)) => {
+            if !stack.running.d {
+                return Ok(Value::Err(code));
+            }
+            let trace = stack.trace(alloc, active)?;
+            Err(Stop::Raised(plain_raise(alloc, code, trace)?))
+        }
+    }
+}

@@ -1,0 +1,49 @@
+//! What an expression is to those who write it.
+ghost use Rattle.std.specs.Prelude.{◌≡◌, Some, None, MatchOption};
+ghost use Rattle.moo_program.specs.View.{tree};
+ghost use Rattle.moo_program.specs.Listing.{is_compound, is_compound_base, constant_name, is_system_object};
+
+use crate::tree::{Expr, Literal};
+use moo_token::is_name;
+use moo_value::MooStr;
+
+/// Whether the expression is an operator, a conditional or an assignment, which stands in parentheses as an operand.
+pub fn is_compound(value: &Expr) -> bool
+    ensures { result ≡ is_compound (tree value.now) }
+{
+    matches!(
+        value,
+        Expr::Unary(..)
+            | Expr::Binary(..)
+            | Expr::Logic(..)
+            | Expr::Conditional(..)
+            | Expr::Assign(..)
+    )
+}
+
+/// Whether the expression is one of these or an integer literal, which stands in parentheses before `.`, `:` and `[`.
+pub fn is_compound_base(value: &Expr) -> bool
+    ensures { result ≡ is_compound_base (tree value.now) }
+{
+    match value {
+        Expr::Literal(Literal::Integer(_)) => true,
+        _ => is_compound(value),
+    }
+}
+
+/// The name that the expression is, if it is a string that is a name and no keyword.
+pub fn constant_name(value: &Expr) -> Option<&MooStr>
+    ensures { MatchOption result (constant_name (tree value.now) ≡ None) (λ name. constant_name (tree value.now) ≡ Some name.now) }
+{
+    match value {
+        Expr::Literal(Literal::Str(text)) if is_name(text.as_bytes()) => Some(text),
+        _ => None,
+    }
+}
+
+/// Whether the expression is `#0`, written out.
+pub fn is_system_object(value: &Expr) -> bool
+    ensures { result ≡ is_system_object (tree value.now) }
+{
+    matches!(value, Expr::Literal(Literal::Object(0)))
+}

@@ -1,0 +1,167 @@
+//! A recogniser that follows all derivations at once: for each place of a text the rules that may stand there, how far
+//! each has come, and where it began.
+use std::alloc::{AllocError, Global};
+
+/// A rule, how far it has come, and the place where it began.
+#[derive(Clone, Copy, PartialEq, Eq)]
+pub struct Item {
+    rule: &'static str,
+    inside: bool,
+    next: usize,
+    start: usize,
+}
+
+/// What has been read, and what may stand behind it: the items at each place.
+#[derive(Drop)]
+pub struct Recogniser {
+    rules: Vec<&'static str>,
+    places: Vec<Vec<Item>>,
+}
+
+/// The most items that stand at a place.
+const MOST_ITEMS: usize = 2000;
+
+impl Item {
+    /// What comes next in the rule.
+    fn symbol(&self) -> Option<u8> {
+        let symbol = *self.rule.as_bytes().get(self.next)?;
+        if self.inside {
+            Some(symbol.to_ascii_lowercase())
+        } else {
+            Some(symbol)
+        }
+    }
+
+    /// What the rule is a rule of.
+    fn name(&self) -> Option<u8> {
+        let name = *self.rule.as_bytes().get(0)?;
+        if self.inside {
+            Some(name.to_ascii_lowercase())
+        } else {
+            Some(name)
+        }
+    }
+
+    fn moved(&self) -> Item {
+        Item {
+            rule: self.rule,
+            inside: self.inside,
+            next: self.next.wrapping_add(1),
+            start: self.start,
+        }
+    }
+}
+
+fn add(items: &mut Vec<Item>, item: Item) -> Result<(), AllocError> {
+    if items.iter().any(|other| *other == item) {
+        return Ok(());
+    }
+    items.push(item)?;
+    Ok(())
+}
+
+impl Recogniser {
+    /// A recogniser of these rules, at the beginning of a program.
+    pub fn new(alloc: Global, lists: &[&[&'static str]]) -> Result<Recogniser, AllocError> {
+        let mut rules = Vec::new(alloc);
+        for list in lists {
+            rules.extend_from_slice(list)?;
+        }
+        let mut recogniser = Recogniser {
+            rules,
+            places: Vec::new(alloc),
+        };
+        let mut first = Vec::new(alloc);
+        recogniser.predict(b'P', &mut first)?;
+        recogniser.close(&mut first)?;
+        recogniser.places.push(first)?;
+        Ok(recogniser)
+    }
+
+    /// Reads a token.
+    pub fn read(&mut self, alloc: Global, token: u8) -> Result<(), AllocError> {
+        let mut items = Vec::new(alloc);
+        if let Some(last) = self.places.last() {
+            for item in last {
+                if item.symbol() == Some(token) {
+                    items.push(item.moved())?;
+                }
+            }
+        }
+        self.close(&mut items)?;
+        self.places.push(items)?;
+        Ok(())
+    }
+
+    /// Takes the last token back.
+    pub fn back(&mut self) {
+        self.places.pop();
+    }
+
+    /// With how many of the tokens a program begins.
+    pub fn viable(&self) -> usize {
+        let places = self
+            .places
+            .iter()
+            .take_while(|items| !items.is_empty())
+            .count();
+        places.saturating_sub(1)
+    }
+
+    /// Whether the tokens are a program.
+    pub fn accepts(&self) -> bool {
+        match self.places.last() {
+            Some(items) => items.iter().any(|item| item.symbol() == None
+                && item.name() == Some(b'P')
+                && item.start == 0),
+            None => false,
+        }
+    }
+
+    /// Puts in what the items of the last place lead to.
+    fn close(&self, items: &mut Vec<Item>) -> Result<(), AllocError> {
+        for at in 0..MOST_ITEMS {
+            let Some(item) = items.get(at).copied() else {
+                return Ok(());
+            };
+            match item.symbol() {
+                Some(symbol) if symbol.is_ascii_alphabetic() => self.predict(symbol, items)?,
+                Some(_) => {}
+                None => self.complete(item, items)?,
+            }
+        }
+        Ok(())
+    }
+
+    /// Puts in the rules of the symbol.
+    fn predict(&self, symbol: u8, items: &mut Vec<Item>) -> Result<(), AllocError> {
+        for rule in &self.rules {
+            let name = *rule.as_bytes().get(0).unwrap_or(&0);
+            let inside = symbol.is_ascii_lowercase();
+            if name == symbol || inside && name == symbol.to_ascii_uppercase() {
+                add(
+                    items,
+                    Item {
+                        rule: *rule,
+                        inside,
+                        next: 2,
+                        start: self.places.len(),
+                    },
+                )?;
+            }
+        }
+        Ok(())
+    }
+
+    /// Puts in the items that waited for what the rule is a rule of.
+    fn complete(&self, item: Item, items: &mut Vec<Item>) -> Result<(), AllocError> {
+        if let Some(waiting) = self.places.get(item.start) {
+            for other in waiting {
+                if other.symbol() == item.name() {
+                    add(items, other.moved())?;
+                }
+            }
+        }
+        Ok(())
+    }
+}

@@ -1,0 +1,211 @@
+// All lists of tokens up to a length of which all but the last go on with those before them: the parser takes those that the
+// recogniser takes, and tells each fault at the first token at which no program goes on.
+use crate::recogniser::Recogniser;
+use crate::rules::{CALLS, COMMON, LOOSE, SCATTERS, TARGETS};
+use moo_syntax::{Names, SyntaxFaultKind, parse};
+use moo_value::MooStr;
+use std::alloc::Global;
+use std::test::Fail;
+
+fn text_of(token: u8) -> &'static str {
+    match token {
+        b'0' => "7",
+        b'1' => "x",
+        b'2' => "any",
+        b'3' => "return",
+        b'4' => "..",
+        b'5' => "=>",
+        b'&' => "&&",
+        b'<' => "<",
+        b'+' => "+",
+        b'-' => "-",
+        b'*' => "*",
+        b'^' => "^",
+        b'!' => "!",
+        b'?' => "?",
+        b'|' => "|",
+        b'=' => "=",
+        b'.' => ".",
+        b':' => ":",
+        b'(' => "(",
+        b')' => ")",
+        b'[' => "[",
+        b']' => "]",
+        b'{' => "{",
+        b'}' => "}",
+        b',' => ",",
+        b'@' => "@",
+        b'$' => "$",
+        b'`' => "`",
+        b'\'' => "'",
+        _ => ";",
+    }
+}
+
+/// What the parser has to say.
+#[derive(Clone, Copy, PartialEq, Eq)]
+enum Verdict {
+    Program,
+    Unexpected(usize),
+    BadTarget(usize),
+    UnknownFunction(usize),
+    Other,
+}
+
+/// What the parser says of the tokens, each on a line.
+fn told(alloc: Global, tokens: &[u8], names: Names) -> Result<Verdict, Fail> {
+    let mut lines = Vec::new(alloc);
+    for token in tokens {
+        lines.push(MooStr::try_from_bytes(alloc, text_of(*token).as_bytes())?)?;
+    }
+    match parse(alloc, &lines, names) {
+        Ok(_) => Ok(Verdict::Program),
+        Err(fault) => {
+            let line = fault.line;
+            Ok(match fault.kind {
+                SyntaxFaultKind::Unexpected => Verdict::Unexpected(line),
+                SyntaxFaultKind::BadTarget => Verdict::BadTarget(line),
+                SyntaxFaultKind::UnknownFunction(_) => Verdict::UnknownFunction(line),
+                SyntaxFaultKind::BadToken | SyntaxFaultKind::TooDeep | SyntaxFaultKind::Memory =>
+                    Verdict::Other,
+            })
+        }
+    }
+}
+
+/// What the recognisers say.
+fn expected(tokens: &[u8], strict: &Recogniser, loose: &Recogniser) -> Verdict {
+    if strict.accepts() {
+        return Verdict::Program;
+    }
+    let place = strict.viable();
+    let line = place.saturating_add(1);
+    if place == loose.viable() {
+        return Verdict::Unexpected(line.min(tokens.len()));
+    }
+    match tokens.get(place) {
+        Some(b'=') => Verdict::BadTarget(line),
+        Some(b'(') => Verdict::UnknownFunction(place),
+        _ => Verdict::Other,
+    }
+}
+
+/// Goes on with each token of the alphabet, up to so many more, and gives the first list on which the two differ.
+fn explore(
+    alloc: Global,
+    alphabet: &[u8],
+    names: Names,
+    tokens: &mut Vec<u8>,
+    strict: &mut Recogniser,
+    loose: &mut Recogniser,
+    left: u32,
+) -> Result<bool, Fail> {
+    for token in alphabet {
+        tokens.push(*token)?;
+        strict.read(alloc, *token)?;
+        loose.read(alloc, *token)?;
+        if told(alloc, tokens, names)? != expected(tokens, strict, loose) {
+            return Ok(false);
+        }
+        if left > 0 && loose.viable() == tokens.len() {
+            if !explore(alloc, alphabet, names, tokens, strict, loose, left - 1)? {
+                return Ok(false);
+            }
+        }
+        tokens.pop();
+        strict.back();
+        loose.back();
+    }
+    Ok(true)
+}
+
+/// The tokens on which parser and recogniser differ first, of all lists that begin with these and have at most so many more;
+/// none where they agree.
+fn difference(
+    alloc: Global,
+    begin: &[u8],
+    alphabet: &[u8],
+    names: Names,
+    more: u32,
+) -> Result<Vec<u8>, Fail> {
+    let mut strict = match names {
+        Names::Any => Recogniser::new(alloc, &[&COMMON, &SCATTERS, &TARGETS, &CALLS])?,
+        Names::Known => Recogniser::new(alloc, &[&COMMON, &SCATTERS, &TARGETS])?,
+    };
+    let mut loose = Recogniser::new(alloc, &[&COMMON, &SCATTERS, &LOOSE, &CALLS])?;
+    let mut tokens = Vec::new(alloc);
+    for token in begin {
+        tokens.push(*token)?;
+        strict.read(alloc, *token)?;
+        loose.read(alloc, *token)?;
+    }
+    let left = more.saturating_sub(1);
+    if explore(
+        alloc,
+        alphabet,
+        names,
+        &mut tokens,
+        &mut strict,
+        &mut loose,
+        left,
+    )? {
+        tokens.clear();
+    }
+    Ok(tokens)
+}
+
+#[test]
+fn assignments(rt: HostRuntime) -> Result<(), Fail> {
+    let found = difference(rt.alloc(), b"3", b"1;()[].=@{}", Names::Any, 5)?;
+    assert_eq!(rt; found.as_slice(), b"".as_slice());
+    Ok(())
+}
+
+#[test]
+fn scatters(rt: HostRuntime) -> Result<(), Fail> {
+    let found = difference(rt.alloc(), b"3{", b"1?=,@}0;", Names::Any, 7)?;
+    assert_eq!(rt; found.as_slice(), b"".as_slice());
+    Ok(())
+}
+
+#[test]
+fn scatters_in_parentheses(rt: HostRuntime) -> Result<(), Fail> {
+    let found = difference(rt.alloc(), b"3({", b"1?=@})(;", Names::Any, 7)?;
+    assert_eq!(rt; found.as_slice(), b"".as_slice());
+    Ok(())
+}
+
+#[test]
+fn calls_and_properties(rt: HostRuntime) -> Result<(), Fail> {
+    let found = difference(rt.alloc(), b"3", b"1;().:$@,=", Names::Known, 5)?;
+    assert_eq!(rt; found.as_slice(), b"".as_slice());
+    Ok(())
+}
+
+#[test]
+fn verbs(rt: HostRuntime) -> Result<(), Fail> {
+    let found = difference(rt.alloc(), b"3$1:", b"1;().,=", Names::Any, 6)?;
+    assert_eq!(rt; found.as_slice(), b"".as_slice());
+    Ok(())
+}
+
+#[test]
+fn indexes_and_ranges(rt: HostRuntime) -> Result<(), Fail> {
+    let found = difference(rt.alloc(), b"31[", b"1;[]4$={", Names::Any, 6)?;
+    assert_eq!(rt; found.as_slice(), b"".as_slice());
+    Ok(())
+}
+
+#[test]
+fn catches(rt: HostRuntime) -> Result<(), Fail> {
+    let found = difference(rt.alloc(), b"3`0", b"0;`!'25,?|", Names::Any, 6)?;
+    assert_eq!(rt; found.as_slice(), b"".as_slice());
+    Ok(())
+}
+
+#[test]
+fn operators(rt: HostRuntime) -> Result<(), Fail> {
+    let found = difference(rt.alloc(), b"3", b"0;+-*^<&!?|", Names::Any, 5)?;
+    assert_eq!(rt; found.as_slice(), b"".as_slice());
+    Ok(())
+}

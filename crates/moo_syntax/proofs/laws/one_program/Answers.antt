@@ -1,5 +1,0 @@
-use Rattle.moo_syntax.proofs.Whole as whole
-use Rattle.moo_syntax.proofs.laws.one_program.Goals as goal
-
-pub returns : goal.returns
-returns c = whole.one_program

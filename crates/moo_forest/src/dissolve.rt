@@ -47,8 +47,8 @@ fn put_all_below(nodes: &mut Vec<Node>, xs: &[usize], to: Option<usize>) -> Resu
     Ok(())
 }
 
-// Puts another node right above each of these.
-fn join_all(nodes: &mut Vec<Node>, xs: &[usize], to: Option<usize>)
+/// Puts another node right above each of these.
+pub fn join_all(nodes: &mut Vec<Node>, xs: &[usize], to: Option<usize>)
     requires { All (λ x. x < vec_len nodes.old) xs.now }
     ensures { nodes.new.items ≡ with_all_joined nodes.old.items xs.now to }
 {

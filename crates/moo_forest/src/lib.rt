@@ -2,16 +2,21 @@
 //! The world has two: what an object inherits from, and where it is.
 #![tactic(auto)]
 
-ghost use Rattle.std.specs.Prelude.{◌≡◌, ◌+◌, ◌<◌, ◌++◌, ◌∷◌, [], ◌↔◌, Option, length, IsTrue, IfOk, OnOk, OnErr, IsOk, true, false, vec_len, slice_index_or, take, ◌-◌};
+ghost use Rattle.std.specs.Prelude.{◌≡◌, ◌≢◌, ◌+◌, ◌<◌, ◌++◌, ◌∷◌, [], ◌↔◌, Option, length, IsTrue, IfOk, OnOk, OnErr, IsOk, true, false, vec_len, slice_index_or, take, ◌-◌};
 ghost use Rattle.std.specs.Option.{ForSome};
 ghost use Rattle.moo_forest.specs.Forest.{Links, alone, above_of, below_of, is_within, moved, IsForest};
 ghost use Rattle.moo_forest.specs.Steps.{with_newest, with_taken_out};
 
 mod dissolve;
+mod listed;
 mod node;
+mod rooted;
+mod scatter;
 mod walk;
 
-use node::Node;
+pub use listed::first_unlisted;
+pub use node::Node;
+pub use rooted::first_endless;
 use std::alloc::{AllocError, Global};
 use std::marker::Model;
 pub use walk::Step;
@@ -35,12 +40,21 @@ impl Model for Forest {
 }
 
 impl Forest {
+    /// A forest without nodes.
     pub fn new(alloc: Global) -> Self
         ensures { result ≡ [] }
     {
         Forest {
             nodes: Vec::new(alloc),
         }
+    }
+
+    /// The forest of these nodes.
+    pub fn from_nodes(nodes: Vec<Node>) -> Self
+        requires { IsForest nodes.items }
+        ensures { result ≡ nodes.items }
+    {
+        Forest { nodes }
     }
 
     /// What every forest keeps.
@@ -50,6 +64,7 @@ impl Forest {
         let _nodes = &self.nodes;
     }
 
+    /// How many nodes there are.
     pub fn len(&self) -> usize
         ensures { result ≡ length self.now }
     {
@@ -104,13 +119,14 @@ impl Forest {
     }
 
     /// Moves a node, which becomes the newest in its new place. Nothing changes where it is there
-    /// already.
+    /// already, and no memory is taken.
     pub fn move_to(&mut self, x: usize, to: Option<usize>) -> Result<(), AllocError>
         requires node { x < length self.old }
         requires place { ForSome to (λ up. up < length self.old) }
         requires apart { ForSome to (λ up. is_within self.old up x ≡ false) }
         ensures ok { OnOk result (self.new ≡ moved self.old x to) }
         ensures err { OnErr result (self.new ≡ self.old) }
+        ensures elsewhere { OnErr result (above_of self.old x ≢ to) }
     {
         let from = self.nodes[x].above();
         if from == to {

@@ -20,6 +20,14 @@ impl Model for Node {
 }
 
 impl Node {
+    /// A node with the one right above it, and those right below it in order.
+    pub fn new(above: Option<usize>, below: Vec<usize>) -> Self
+        ensures { result ≡ record { above = above; below = below.items } }
+    {
+        Node { above, below }
+    }
+
+    /// A node that is joined to none.
     pub fn alone(alloc: Global) -> Self
         ensures { result ≡ alone }
     {
@@ -29,24 +37,28 @@ impl Node {
         }
     }
 
+    /// The node right above.
     pub fn above(&self) -> Option<usize>
         ensures { result ≡ self.now.above }
     {
         self.above
     }
 
+    /// The nodes right below, the newest last.
     pub fn below(&self) -> &[usize]
         ensures { result.now ≡ self.now.below }
     {
         &self.below
     }
 
+    /// Joins the node to another one above it, or to none. The list of that one is not changed.
     pub fn set_above(&mut self, to: Option<usize>)
         ensures { self.new ≡ record self.old { above = to } }
     {
         self.above = to;
     }
 
+    /// Adds one behind the others below. Where memory is short, nothing changes.
     pub fn add_below(&mut self, x: usize) -> Result<(), AllocError>
         ensures ok { OnOk result (self.new ≡ record self.old { below = self.old.below ++ x ∷ [] }) }
         ensures err { OnErr result (self.new ≡ self.old) }
@@ -72,6 +84,7 @@ impl Node {
         self.below.clear();
     }
 
+    /// Takes every entry of a node out of those below.
     pub fn remove_below(&mut self, x: usize)
         ensures { self.new ≡ record self.old { below = without x self.old.below } }
     {

@@ -123,6 +123,13 @@ impl PropCell {
         self.definer
     }
 
+    /// The name of the definition, as it was spelled for this cell.
+    pub fn name(&self) -> &MooStr
+        ensures { folded result.now ≡ self.now.name }
+    {
+        &self.name
+    }
+
     /// Whether this is the cell for a definition.
     pub fn is_for(&self, definer: usize, name: &[u8]) -> bool
         ensures { result ≡ is_key (definer, folded name.now) self.now }

@@ -53,8 +53,6 @@ pub enum Preposition {
 }
 
 /// For which commands a verb is.
-ghost use Rattle.std.specs.Prelude.{◌≡◌, ◌≤◌, IfSome, IfNone, ◌≢◌, ◌<ℤ◌, negsuc, pos, ◌⊎◌};
-
 #[derive(Clone, Copy, Debug, PartialEq, Eq)]
 pub struct VerbArgs {
     pub direct: ObjectSpecifier,

@@ -1,14 +1,14 @@
 -- When the calls on a world raise, and what they leave.
-use Rattle.std.specs.Prelude.{◌≡◌, ℕ, zero, suc, ℤ, pos, negsuc, List, Option, Some, None, Bool, false, Result, Ok, Err, is_some, if◌then◌else◌, ⊤, nat_lt, length}
+use Rattle.std.specs.Prelude.{◌≡◌, ℕ, zero, suc, ℤ, pos, negsuc, List, Option, Some, None, Result, Ok, Err, is_some, if◌then◌else◌, ⊤, nat_lt, length}
 use Rattle.std.specs.Option.{option_map}
 use Rattle.moo_value.specs.declared.error_code.ErrorCode.{ErrorCode}
 use Rattle.moo_value.specs.declared.error_code.ErrorCode.TheVariants.{RecursiveMove, InvalidArgument, Permission, Quota}
-use Rattle.moo_forest.specs.Forest.{Links, is_within, moved}
+use Rattle.moo_forest.specs.Forest.{Links, above_of, moved}
 use Rattle.moo_object.specs.Objects.{Object}
 use Rattle.moo_world.specs.declared.fault.WorldFault.{WorldFault}
 use Rattle.moo_world.specs.declared.fault.WorldFault.TheVariants.{Raise, Memory}
-use Rattle.moo_world.specs.World.{World, object_of, clashes, crowds, most}
-use Rattle.moo_world.specs.Changes.{after_create, after_chparent, after_move}
+use Rattle.moo_table.specs.World.{World, object_of, clashes, crowds, most}
+use Rattle.moo_table.specs.Changes.{after_create, after_chparent, after_move, would_loop}
 
 -- a call raises where it must, and else comes to `after`; where it raises, or memory is short, the world stays as it was
 abbrev pub Changes : {T : Type 0} → Result T WorldFault → World → World → Option ErrorCode → World → Type 0
@@ -26,6 +26,12 @@ Answers (Err Memory) raises Right = ⊤
 abbrev pub Tests : {T : Type 0} → Result T WorldFault → Option ErrorCode → Type 0
 Tests result raises = Answers result raises (λ v. ⊤)
 
+-- a call that takes no memory: it never answers that memory is short
+abbrev pub TakesNoMemory : {T : Type 0} → Result T WorldFault → Type 0
+TakesNoMemory (Ok v) = ⊤
+TakesNoMemory (Err (Raise e)) = ⊤
+TakesNoMemory (Err Memory) = ⊥
+
 -- the number of a valid object
 abbrev pub number_of : List (Option Object) → ℤ → Option ℕ
 number_of objects (pos n) = if is_some (object_of objects n) then Some n else None
@@ -37,15 +43,14 @@ place_of objects (negsuc zero) = Some None
 place_of objects (negsuc (suc n)) = None
 place_of objects (pos n) = option_map (λ x. Some x) (number_of objects (pos n))
 
+-- an object is right below a place in a tree
+abbrev pub IsThere : List (Option Object) → List Links → ℤ → ℤ → Type 0
+IsThere objects tree o to = (x : ℕ) → number_of objects o ≡ Some x → place_of objects to ≡ Some (above_of tree x)
+
 -- the highest number that was given out, -1 for none
 abbrev pub highest : ℕ → ℤ
 highest zero = negsuc 0
 highest (suc n) = pos n
-
--- x is the new place, or stands above it
-abbrev pub would_loop : List Links → ℕ → Option ℕ → Bool
-would_loop tree x None = false
-would_loop tree x (Some up) = is_within tree up x
 
 -- what making an object raises, and the world after it
 abbrev pub create_raises : World → Option (Option ℕ) → Option ErrorCode

@@ -1,16 +1,17 @@
 -- Properties by their names, the built-in ones among them.
-use Rattle.std.specs.Prelude.{ℕ, ℤ, pos, negsuc, List, Option, Some, None, Bool, map, length, nat_lt, if◌then◌else◌, is_some}
+use Rattle.std.specs.Prelude.{ℕ, ℤ, pos, negsuc, List, Option, Some, None, Bool, map, length, nat_lt, if◌then◌else◌}
 use Rattle.moo_value.specs.Tree.{Tree, integer, object, string, list_of}
 use Rattle.moo_value.specs.Size.{weight_limit}
 use Rattle.moo_value.specs.declared.error_code.ErrorCode.{ErrorCode}
-use Rattle.moo_value.specs.declared.error_code.ErrorCode.TheVariants.{InvalidIndirection, PropertyNotFound, Quota}
+use Rattle.moo_value.specs.declared.error_code.ErrorCode.TheVariants.{InvalidIndirection, Quota}
 use Rattle.moo_forest.specs.Forest.{above_of, below_of}
 use Rattle.moo_object.specs.BuiltIn.{built_in_of}
 use Rattle.moo_object.specs.declared.built_in_property.BuiltInProperty.{BuiltInProperty}
 use Rattle.moo_object.specs.declared.built_in_property.BuiltInProperty.TheVariants as property
 use Rattle.moo_object.specs.Objects.{Object}
-use Rattle.moo_world.specs.World.{World, thing_of}
-use Rattle.moo_world.specs.Properties.{read}
+use Rattle.moo_table.specs.World.{World, thing_of}
+use Rattle.moo_table.specs.Properties.{read}
+use Rattle.moo_world.specs.PropertyCalls.{plain_raises}
 
 abbrev pub truth : Bool → Tree
 truth b = integer (if b then pos 1 else pos 0)
@@ -62,9 +63,9 @@ built_in_raises w x property.Read = None
 built_in_raises w x property.Write = None
 built_in_raises w x property.Fertile = None
 
--- a built-in property of the name, or else the nearest value for it
+-- a built-in property of the name, or else one that is defined
 abbrev pub named_raises : World → ℕ → List ℕ → Option BuiltInProperty → Option ErrorCode
-named_raises w x name None = if is_some (read w x name) then None else Some PropertyNotFound
+named_raises w x name None = plain_raises w x name
 named_raises w x name (Some property) = built_in_raises w x property
 
 abbrev pub named_value : World → ℕ → List ℕ → Option BuiltInProperty → Option Tree

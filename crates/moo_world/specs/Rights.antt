@@ -1,10 +1,8 @@
 -- Who may do what.
-use Rattle.std.specs.Prelude.{ℕ, ℤ, List, Option, Some, None, Bool, true, false, ◌&&◌, ◌||◌, not, is_some, slice_get, if◌then◌else◌}
+use Rattle.std.specs.Prelude.{ℕ, ℤ, List, Option, Some, None, Bool, false, ◌&&◌, ◌||◌, not, is_some, slice_get}
 use Rattle.std.specs.Option.{unwrap_or, option_and_then}
 use Rattle.std.specs.Ordering.{int_eq}
 use Rattle.moo_value.specs.Compare.{folded}
-use Rattle.moo_value.specs.declared.error_code.ErrorCode.{ErrorCode}
-use Rattle.moo_value.specs.declared.error_code.ErrorCode.TheVariants.{InvalidArgument, PropertyNotFound}
 use Rattle.moo_world.specs.declared.rights.Action.{Action}
 use Rattle.moo_world.specs.declared.rights.Action.TheVariants as action
 use Rattle.moo_object.specs.BuiltIn.{built_in_of}
@@ -13,7 +11,7 @@ use Rattle.moo_object.specs.declared.built_in_property.BuiltInProperty.TheVarian
 use Rattle.moo_object.specs.Cells.{Cell, cell_named}
 use Rattle.moo_object.specs.Objects.{Object}
 use Rattle.moo_object.specs.declared.verb.Verb.{Verb}
-use Rattle.moo_world.specs.World.{World, nothing, object_of}
+use Rattle.moo_table.specs.World.{World, nothing, object_of}
 use Rattle.moo_world.specs.Calls.{number_of}
 
 -- the object of a number, if it is valid
@@ -99,8 +97,3 @@ may w p (action.Fertile o) = may_inherit_from w p o
 may w p (action.Own o) = may_own w p o
 may w p (action.ReadVerb o i) = may_read_this_verb w p (verb_numbered w o i)
 may w p (action.WriteVerb o i) = may_write_this_verb w p (verb_numbered w o i)
-
--- what looking at the owner and permissions of a property raises
-abbrev pub info_raises : World → ℤ → List ℕ → Option ErrorCode
-info_raises w o name =
-    if is_some (object_numbered w o) then (if is_some (cell_numbered w o name) then None else Some PropertyNotFound) else Some InvalidArgument

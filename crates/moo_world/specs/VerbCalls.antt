@@ -1,17 +1,11 @@
 -- When the calls on verbs raise, and what they leave.
-use Rattle.std.specs.Prelude.{ℕ, ℤ, pos, List, ◌∷◌, Option, Some, None, if◌then◌else◌, nat_lt, length, slice_get}
-use Rattle.std.specs.Option.{option_map}
-use Rattle.std.specs.List.{filter_map, position}
+use Rattle.std.specs.Prelude.{ℕ, pos, List, Option, Some, None, if◌then◌else◌, nat_lt, length}
 use Rattle.moo_value.specs.declared.error_code.ErrorCode.{ErrorCode}
 use Rattle.moo_value.specs.declared.error_code.ErrorCode.TheVariants.{InvalidArgument, VerbNotFound, Quota}
-use Rattle.moo_forest.specs.Forest.{ancestors}
 use Rattle.moo_object.specs.Objects.{Object}
 use Rattle.moo_object.specs.Patterns.{has_word}
-use Rattle.moo_object.specs.Verbs.{fits_verb}
-use Rattle.moo_object.specs.declared.verb.Verb.{Verb}
-use Rattle.moo_object.specs.declared.verb.Need.{Need}
-use Rattle.moo_world.specs.World.{World, object_of, thing_of, most}
-use Rattle.moo_world.specs.Changes.{with_object}
+use Rattle.moo_table.specs.World.{World, thing_of, most}
+use Rattle.moo_table.specs.Changes.{with_object}
 use Rattle.moo_world.specs.declared.looking.VerbAt.{VerbAt}
 
 -- what looking at a verb of an object raises
@@ -35,14 +29,6 @@ add_verb_raises w (Some x) names =
 abbrev pub world_with_object : World → Option ℕ → (Object → Object) → World
 world_with_object w None f = w
 world_with_object w (Some x) f = with_object w x f
-
--- an object's first verb that fits, as the object's number and the verb's place
-abbrev pub verb_at : List (Option Object) → Need → List ℕ → ℕ → Option (ℕ × ℕ)
-verb_at objects need name y = option_map (λ i. (y, i)) (position (fits_verb need name) (thing_of objects y).verbs)
-
--- the first fitting verb on the nearest of an object and its ancestors that has one
-abbrev pub verb_found : World → Need → List ℕ → ℕ → Option (ℕ × ℕ)
-verb_found w need name x = slice_get (filter_map (verb_at w.objects need name) (x ∷ ancestors w.inheritance x)) 0
 
 abbrev pub verb_place : ℕ × ℕ → VerbAt
 verb_place found = record { definer = pos found.0; index = found.1 }

@@ -2,20 +2,23 @@
 
 ghost use Rattle.std.specs.Prelude.{◌≡◌, ◌<◌, Option, Some, length, IfOk, OnOk, IsSome, pos};
 ghost use Rattle.std.specs.Option.{ForSome};
-ghost use Rattle.moo_world.specs.World.{object_of, cells_of, most};
-ghost use Rattle.moo_world.specs.Changes.{after_create};
-ghost use Rattle.moo_world.specs.Calls.{Changes, Tests, place_of, create_raises, world_create};
+ghost use Rattle.moo_table.specs.World.{object_of, cells_of, most};
+ghost use Rattle.moo_table.specs.Changes.{after_create};
+ghost use Rattle.moo_world.specs.Calls.{Changes, Tests, place_of, create_raises, world_create, TakesNoMemory};
 
+use crate::World;
 use crate::fault::WorldFault;
-use crate::{MOST, World};
-use moo_object::{Object, PropCell};
+use moo_object::Object;
+use moo_table::MOST;
+use moo_table::properties::cells_of;
 use moo_value::ErrorCode;
 use std::alloc::Global;
 
 impl World {
     /// What making an object under a parent raises.
     pub fn try_create(&self, parent: i32) -> Result<(), WorldFault>
-        ensures { Tests result (create_raises self.now (place_of self.now.objects parent)) }
+        ensures raises { Tests result (create_raises self.now (place_of self.now.objects parent)) }
+        ensures memory { TakesNoMemory result }
     {
         if self.place(parent).is_none() {
             return Err(WorldFault::Raise(ErrorCode::Permission));
@@ -62,19 +65,5 @@ impl World {
             return Err(WorldFault::Memory);
         }
         Ok(())
-    }
-}
-
-/// The cells of an object, and none for no object.
-pub fn cells_of(objects: &[Option<Object>], p: Option<usize>) -> &[PropCell]
-    requires { ForSome p (λ up. up < length objects.now) }
-    ensures { result.now ≡ cells_of objects.now p }
-{
-    match p {
-        Some(p) => match &objects[p] {
-            Some(object) => object.cells(),
-            None => &[],
-        },
-        None => &[],
     }
 }

@@ -1,26 +1,24 @@
 //! New properties.
 
-ghost use Rattle.std.specs.Prelude.{◌≡◌, ◌<◌, length, IsSome, OnOk, OnErr, Some, ℕ, nat_le};
-ghost use Rattle.std.specs.Option.{unwrap_or};
-ghost use Rattle.std.specs.List.{list_any};
+ghost use Rattle.std.specs.Prelude.{◌<◌, IsSome, Some, None};
 ghost use Rattle.moo_value.specs.Compare.{folded};
-ghost use Rattle.moo_value.specs.Size.{IsStored};
 ghost use Rattle.moo_value.specs.View.{tree};
-ghost use Rattle.moo_forest.specs.Walk.{IsWalkDown, met, step_at};
-ghost use Rattle.moo_object.specs.Cells.{is_named, own_cell};
-ghost use Rattle.moo_world.specs.World.{object_of, thing_of, nothing, most};
-ghost use Rattle.moo_world.specs.Rows.{without_last};
-ghost use Rattle.moo_world.specs.Changes.{with_definition, after_define};
-ghost use Rattle.moo_world.specs.Properties.{define_raises, add_property_raises, world_define};
+ghost use Rattle.moo_forest.specs.Walk.{IsWalkDown};
+ghost use Rattle.moo_object.specs.Cells.{own_cell};
+ghost use Rattle.moo_table.specs.World.{object_of};
+ghost use Rattle.moo_table.specs.Changes.{after_define};
+ghost use Rattle.moo_world.specs.PropertyCalls.{define_raises, add_property_raises, world_define};
 ghost use Rattle.moo_world.specs.Calls.{Answers, Changes, Tests, number_of};
+ghost use Rattle.moo_table.specs.Properties.{IsDefinable};
 
+use crate::World;
 use crate::fault::WorldFault;
-use crate::fitting::{put_rows, rows_below};
-use crate::{MOST, World};
 use moo_forest::Step;
-use moo_object::{Object, PropCell, PropPerms, built_in, cell_named};
+use moo_object::{PropCell, PropPerms, built_in};
+use moo_table::defining::{define_in, some_full, some_named, undefine_in};
+use moo_table::fitting::{put_rows, rows_below};
 use moo_value::{ErrorCode, MooStr, Value};
-use std::alloc::{AllocError, Global};
+use std::alloc::Global;
 
 impl World {
     /// What defining a property of this name on an object raises.
@@ -124,71 +122,5 @@ impl World {
                 Err(WorldFault::Memory)
             }
         }
-    }
-}
-
-ghost use Rattle.std.specs.Prelude.{None};
-ghost use Rattle.moo_world.specs.Properties.{IsDefinable};
-
-// Whether some object on a walk has a property of this name.
-fn some_named(objects: &[Option<Object>], walk: &[Step], name: &[u8]) -> bool
-    requires { (k : ℕ) → k < length walk.now → (step_at walk.now k).node < length objects.now }
-    ensures { result ≡ list_any (λ y. list_any (is_named (folded name.now)) (thing_of objects.now y).cells) (met walk.now) }
-{
-    for step in walk {
-        if named_in(&objects[step.node], name) {
-            return true;
-        }
-    }
-    false
-}
-
-fn named_in(slot: &Option<Object>, name: &[u8]) -> bool
-    ensures { result ≡ list_any (is_named (folded name.now)) (unwrap_or slot.now nothing).cells }
-{
-    match slot {
-        Some(object) => object.cells().iter().any(|cell| cell.is_named(name)),
-        None => false,
-    }
-}
-
-// Whether some object on a walk has as many properties as it may have.
-fn some_full(objects: &[Option<Object>], walk: &[Step]) -> bool
-    requires { (k : ℕ) → k < length walk.now → (step_at walk.now k).node < length objects.now }
-    ensures { result ≡ list_any (λ y. nat_le most (length (thing_of objects.now y).cells)) (met walk.now) }
-{
-    for step in walk {
-        if full_in(&objects[step.node]) {
-            return true;
-        }
-    }
-    false
-}
-
-fn full_in(slot: &Option<Object>) -> bool
-    ensures { result ≡ nat_le most (length (unwrap_or slot.now nothing).cells) }
-{
-    match slot {
-        Some(object) => object.cells().len() >= MOST,
-        None => false,
-    }
-}
-
-fn define_in(slot: &mut Option<Object>, name: MooStr, cell: PropCell) -> Result<(), AllocError>
-    ensures ok { OnOk result (slot.new ≡ with_definition name cell slot.old) }
-    ensures err { OnErr result (slot.new ≡ slot.old) }
-{
-    match slot {
-        Some(object) => object.define(name, cell),
-        None => Ok(()),
-    }
-}
-
-// Takes the last definition and the last cell away.
-fn undefine_in(slot: &mut Option<Object>)
-    ensures { slot.new ≡ without_last slot.old }
-{
-    if let Some(object) = slot {
-        object.undefine();
     }
 }

@@ -1,11 +1,14 @@
 //! The object world: objects in a tree of parents and a tree of places, with properties and verbs, and the players.
 #![tactic(auto)]
 
+mod clearing;
 mod creating;
 mod defining;
 mod deleting;
 mod fault;
-mod fitting;
+mod info;
+pub mod laws;
+mod lending;
 mod looking;
 mod named;
 mod numbers;
@@ -13,7 +16,11 @@ mod parents;
 mod places;
 mod players;
 mod properties;
+mod property_info;
+mod recycling;
+mod restoring;
 mod rights;
+mod setting;
 #[cfg(test)]
 mod tests;
 mod verbs;
@@ -21,13 +28,13 @@ mod verbs;
 pub use fault::WorldFault;
 pub use looking::VerbAt;
 use moo_forest::Forest;
-use moo_object::Object;
+pub use moo_object::{
+    BuiltInProperty, Flags, Need, Object, ObjectSpecifier, Preposition, PrepositionSpecifier,
+    PropCell, PropPerms, Verb, VerbArgs, VerbPerms,
+};
+pub use moo_table::MOST;
 pub use rights::{Action, Rights};
 use std::marker::Model;
-
-/// How many object numbers may be given out, how many properties and verbs an object may have,
-/// and how many players there may be.
-pub const MOST: usize = 1_000_000;
 
 /// The objects by their numbers, which count from 0, and the players.
 #[derive(Drop)]
@@ -39,7 +46,7 @@ pub struct World {
 }
 
 impl Model for World {
-    ghost use Rattle.moo_world.specs.World.{World as Contents, IsWellFormed};
+    ghost use Rattle.moo_table.specs.World.{World as Contents, IsWellFormed};
     ghost use Rattle.std.specs.Coded.{codes};
     ghost use Rattle.moo_value.specs.TreeCode.{tree_code};
     ghost use Rattle.moo_program.specs.Code.{block_code};

@@ -1,21 +1,16 @@
 //! Look-up along the ancestors of an object: verbs that fit a name, and values through clear cells.
 
-ghost use Rattle.std.specs.Prelude.{◌≡◌, ◌<◌, ◌∷◌, length, slice_get, None, Some};
-ghost use Rattle.std.specs.Option.{option_map, option_copied, option_and_then, unwrap_or};
-ghost use Rattle.std.specs.List.{filter_map, position};
-ghost use Rattle.moo_value.specs.Compare.{folded};
-ghost use Rattle.moo_value.specs.View.{tree};
+ghost use Rattle.std.specs.Prelude.{◌≡◌, ◌<◌, Some, IsSome, IfSome};
+ghost use Rattle.std.specs.Option.{option_map, option_and_then};
 ghost use Rattle.moo_forest.specs.Forest.{ancestors};
-ghost use Rattle.moo_object.specs.Verbs.{fits_verb};
-ghost use Rattle.moo_world.specs.World.{nothing};
-ghost use Rattle.moo_world.specs.VerbCalls.{verb_at, verb_found, verb_place};
-ghost use Rattle.moo_world.specs.Properties.{value_in, value_at};
+ghost use Rattle.moo_table.specs.Verbs.{verb_found};
+ghost use Rattle.moo_world.specs.VerbCalls.{verb_place};
 ghost use Rattle.moo_world.specs.Calls.{number_of};
+ghost use Rattle.moo_table.specs.World.{object_of, most};
 
 use crate::World;
-use moo_forest::Forest;
-use moo_object::{Need, Object, cell_at};
-use moo_value::Value;
+use moo_object::Need;
+use moo_table::looking::nearest_verb;
 
 /// Where a verb is: on which object, and at which place among its verbs.
 #[derive(Clone, Copy, Debug, PartialEq, Eq)]
@@ -44,84 +39,5 @@ impl World {
         ensures low { IfSome result (λ found. found.0 < most) }
     {
         nearest_verb(&self.objects, &self.inheritance, x, name, need)
-    }
-}
-
-ghost use Rattle.std.specs.Prelude.{IsSome, IfSome};
-ghost use Rattle.moo_world.specs.World.{object_of, most};
-
-// The nearest verb that fits.
-fn nearest_verb(
-    objects: &[Option<Object>],
-    tree: &Forest,
-    x: usize,
-    name: &[u8],
-    need: Need,
-) -> Option<(usize, usize)>
-    requires many { length objects.now ≡ length tree.now }
-    requires first { x < length objects.now }
-    ensures value { result ≡ slice_get (filter_map (verb_at objects.now need name.now) (x ∷ ancestors tree.now x)) 0 }
-    ensures low { IfSome result (λ found. found.0 < length objects.now) }
-{
-    let mut at = x;
-    if let Some(index) = verb_in(&objects[x], name, need) {
-        return Some((x, index));
-    }
-    for _ in 0..objects.len() {
-        match tree.above(at) {
-            Some(up) => at = up,
-            None => return None,
-        }
-        if let Some(index) = verb_in(&objects[at], name, need) {
-            return Some((at, index));
-        }
-    }
-    None
-}
-
-fn verb_in(slot: &Option<Object>, name: &[u8], need: Need) -> Option<usize>
-    ensures { result ≡ position (fits_verb need name.now) (unwrap_or slot.now nothing).verbs }
-{
-    match slot {
-        Some(object) => object.verb_position(need, name),
-        None => None,
-    }
-}
-
-/// The value for a definition that is nearest to `x` on its way up.
-pub fn nearest_value<'a>(
-    objects: &'a [Option<Object>],
-    parents: &Forest,
-    x: usize,
-    definer: usize,
-    name: &[u8],
-) -> Option<&'a Value>
-    requires many { length objects.now ≡ length parents.now }
-    requires first { x < length objects.now }
-    ensures { option_map tree (option_copied result) ≡ slice_get (filter_map (value_at objects.now (definer, folded name.now)) (x ∷ ancestors parents.now x)) 0 }
-{
-    let mut at = x;
-    if let Some(value) = value_in(&objects[x], definer, name) {
-        return Some(value);
-    }
-    for _ in 0..objects.len() {
-        match parents.above(at) {
-            Some(up) => at = up,
-            None => return None,
-        }
-        if let Some(value) = value_in(&objects[at], definer, name) {
-            return Some(value);
-        }
-    }
-    None
-}
-
-// The value of the cell for a definition.
-fn value_in<'a>(slot: &'a Option<Object>, definer: usize, name: &[u8]) -> Option<&'a Value>
-    ensures { option_map tree (option_copied result) ≡ value_in slot.now (definer, folded name.now) }
-{
-    match slot {
-        Some(object) => cell_at(object.cells(), definer, name)?.value(),
-        None => None,
     }
 }

@@ -1,14 +1,16 @@
 //! Properties by their names, the built-in ones among them.
 
-ghost use Rattle.std.specs.Prelude.{◌≡◌, ◌<◌, IsSome, Some, length, IfOk};
+ghost use Rattle.std.specs.Prelude.{◌≡◌, ◌<◌, IsSome, Some, IfOk, None};
 ghost use Rattle.std.specs.List.{All};
 ghost use Rattle.moo_value.specs.Compare.{folded};
 ghost use Rattle.moo_value.specs.View.{tree};
 ghost use Rattle.moo_object.specs.BuiltIn.{built_in_of};
-ghost use Rattle.moo_world.specs.World.{object_of, most};
-ghost use Rattle.moo_world.specs.Properties.{read};
-ghost use Rattle.moo_world.specs.NamedProperties.{truth, number_of_place, objects_list, contents_raise, built_in_value, built_in_raises, named_raises, named_value, get_raises, value_got};
+ghost use Rattle.moo_table.specs.World.{object_of, most, nothing};
+ghost use Rattle.moo_table.specs.Properties.{read};
+ghost use Rattle.moo_world.specs.NamedProperties.{truth, number_of_place, objects_list, contents_raise, built_in_value, built_in_raises, named_raises, named_value, get_raises, value_got, own_value};
 ghost use Rattle.moo_world.specs.Calls.{Answers, number_of};
+ghost use Rattle.std.specs.Option.{unwrap_or, ForSome};
+ghost use Rattle.moo_value.specs.Tree.{object};
 
 use crate::World;
 use crate::fault::WorldFault;
@@ -43,6 +45,7 @@ impl World {
         requires { IsSome (object_of self.now.objects x) }
         ensures { Answers result (named_raises self.now x (folded name.now) None) (λ v. read self.now x (folded name.now) ≡ Some (tree v)) }
     {
+        self.is_well_formed();
         match self.value_from(x, name) {
             Some(value) => Ok(value.try_clone()?),
             None => Err(WorldFault::Raise(ErrorCode::PropertyNotFound)),
@@ -66,23 +69,23 @@ impl World {
     }
 }
 
-ghost use Rattle.std.specs.Prelude.{None};
-ghost use Rattle.std.specs.Option.{unwrap_or, ForSome};
-ghost use Rattle.moo_world.specs.World.{nothing};
-ghost use Rattle.moo_world.specs.NamedProperties.{own_value};
-
-// The number of a place.
 fn place_value(place: Option<usize>) -> Value
     requires { ForSome place (λ up. up < most) }
     ensures { tree result ≡ object (number_of_place place) }
 {
-    match place {
-        Some(up) => Value::Obj(up as i32),
-        None => Value::Obj(-1),
-    }
+    Value::Obj(place_number(place))
 }
 
-ghost use Rattle.moo_value.specs.Tree.{object};
+// The number of a place, -1 for none.
+pub(crate) fn place_number(place: Option<usize>) -> i32
+    requires { ForSome place (λ up. up < most) }
+    ensures { result ≡ number_of_place place }
+{
+    match place {
+        Some(up) => up as i32,
+        None => -1,
+    }
+}
 
 // The objects in a place, as a list of their numbers.
 fn contents_value(alloc: Global, below: &[usize]) -> Result<Value, WorldFault>

@@ -1,20 +1,22 @@
 //! Where objects are.
 
-ghost use Rattle.std.specs.Prelude.{◌≡◌, ◌<◌, length, IsSome, Option};
+ghost use Rattle.std.specs.Prelude.{◌≡◌, ◌<◌, IsSome, Option};
 ghost use Rattle.std.specs.Option.{ForSome};
-ghost use Rattle.moo_world.specs.World.{object_of};
-ghost use Rattle.moo_world.specs.Changes.{after_move};
-ghost use Rattle.moo_world.specs.Calls.{Changes, Tests, number_of, place_of, would_loop, place_raises, move_raises, world_move};
+ghost use Rattle.moo_forest.specs.Forest.{above_of};
+ghost use Rattle.moo_table.specs.World.{object_of};
+ghost use Rattle.moo_table.specs.Changes.{after_move, would_loop};
+ghost use Rattle.moo_world.specs.Calls.{Changes, Tests, number_of, place_of, place_raises, move_raises, world_move, TakesNoMemory, IsThere};
 
 use crate::World;
 use crate::fault::WorldFault;
-use moo_forest::Forest;
+use moo_table::places::would_loop;
 use moo_value::ErrorCode;
 
 impl World {
     /// What moving an object raises.
     pub fn try_move(&self, o: i32, to: i32) -> Result<(), WorldFault>
-        ensures { Tests result (move_raises self.now (number_of self.now.objects o) (place_of self.now.objects to)) }
+        ensures raises { Tests result (move_raises self.now (number_of self.now.objects o) (place_of self.now.objects to)) }
+        ensures memory { TakesNoMemory result }
     {
         match (self.number(o), self.place(to)) {
             (Some(x), Some(to)) => self.test_place(x, to),
@@ -22,10 +24,12 @@ impl World {
         }
     }
 
-    /// Moves an object into another, or to no place, without asking anybody. It becomes the newest there.
+    /// Moves an object into another, or to no place, without asking anybody. It becomes the newest
+    /// there; where it is there already nothing changes, and no memory is taken.
     pub fn move_bare(&mut self, o: i32, to: i32) -> Result<(), WorldFault>
-        ensures { let x = number_of self.old.objects o in let place = place_of self.old.objects to in
+        ensures world { let x = number_of self.old.objects o in let place = place_of self.old.objects to in
             Changes result self.old self.new (move_raises self.old x place) (world_move self.old x place) }
+        ensures memory { IsThere self.old.objects self.old.containment o to → TakesNoMemory result }
     {
         match (self.number(o), self.place(to)) {
             (Some(x), Some(to)) => self.set_place(x, to),
@@ -36,7 +40,8 @@ impl World {
     fn test_place(&self, x: usize, to: Option<usize>) -> Result<(), WorldFault>
         requires object { IsSome (object_of self.now.objects x) }
         requires place { ForSome to (λ up. IsSome (object_of self.now.objects up)) }
-        ensures { Tests result (place_raises self.now x to) }
+        ensures raises { Tests result (place_raises self.now x to) }
+        ensures memory { TakesNoMemory result }
     {
         if would_loop(&self.containment, x, to) {
             return Err(WorldFault::Raise(ErrorCode::RecursiveMove));
@@ -48,21 +53,11 @@ impl World {
     fn set_place(&mut self, x: usize, to: Option<usize>) -> Result<(), WorldFault>
         requires object { IsSome (object_of self.old.objects x) }
         requires place { ForSome to (λ up. IsSome (object_of self.old.objects up)) }
-        ensures { Changes result self.old self.new (place_raises self.old x to) (after_move self.old x to) }
+        ensures world { Changes result self.old self.new (place_raises self.old x to) (after_move self.old x to) }
+        ensures memory { above_of self.old.containment x ≡ to → TakesNoMemory result }
     {
         self.test_place(x, to)?;
         self.containment.move_to(x, to)?;
         Ok(())
-    }
-}
-
-/// Whether `x` is the new place or stands above it.
-pub fn would_loop(tree: &Forest, x: usize, to: Option<usize>) -> bool
-    requires { ForSome to (λ up. up < length tree.now) }
-    ensures { result ≡ would_loop tree.now x to }
-{
-    match to {
-        Some(up) => tree.is_within(up, x),
-        None => false,
     }
 }

@@ -1,20 +1,23 @@
 //! Values of properties that are not built in.
 
-ghost use Rattle.std.specs.Prelude.{◌≡◌, IsSome, Some};
-ghost use Rattle.std.specs.Option.{option_map, option_copied, option_and_then, unwrap_or};
+ghost use Rattle.std.specs.Prelude.{◌≡◌, IsSome, Some, List};
+ghost use Rattle.std.specs.Option.{option_map, option_copied, option_and_then};
 ghost use Rattle.moo_value.specs.Compare.{folded};
 ghost use Rattle.moo_value.specs.View.{tree};
-ghost use Rattle.moo_object.specs.Cells.{Cell, cell_named};
-ghost use Rattle.moo_world.specs.World.{object_of, nothing};
-ghost use Rattle.moo_world.specs.Changes.{with_object, with_value_of};
+ghost use Rattle.moo_object.specs.Cells.{Cell};
+ghost use Rattle.moo_table.specs.World.{object_of, thing_of};
+ghost use Rattle.moo_table.specs.Changes.{with_object, with_value_of};
 ghost use Rattle.moo_world.specs.VerbCalls.{world_with_object};
-ghost use Rattle.moo_world.specs.Properties.{read, plain_raises, set_value_raises};
-ghost use Rattle.moo_world.specs.Calls.{Changes, Tests, number_of};
+ghost use Rattle.moo_table.specs.Properties.{read};
+ghost use Rattle.moo_world.specs.PropertyCalls.{plain_raises, set_value_raises};
+ghost use Rattle.moo_world.specs.Calls.{Changes, Tests, number_of, TakesNoMemory};
+ghost use Rattle.std.specs.Borrow.{Bor};
 
 use crate::World;
 use crate::fault::WorldFault;
-use crate::looking::nearest_value;
-use moo_object::{Object, PropCell, cell_named};
+use moo_object::PropCell;
+use moo_table::looking::nearest_value;
+use moo_table::properties::{cells_in, definer_in, set_in};
 use moo_value::{ErrorCode, Value};
 
 impl World {
@@ -45,7 +48,8 @@ impl World {
 
     /// What giving a property that is not built in a value raises.
     pub fn try_set_property_value(&self, o: i32, name: &[u8]) -> Result<(), WorldFault>
-        ensures { Tests result (set_value_raises self.now (number_of self.now.objects o) (folded name.now)) }
+        ensures raises { Tests result (set_value_raises self.now (number_of self.now.objects o) (folded name.now)) }
+        ensures memory { TakesNoMemory result }
     {
         match self.number(o) {
             Some(x) => self.test_defined(x, name),
@@ -53,9 +57,10 @@ impl World {
         }
     }
 
-    fn test_defined(&self, x: usize, name: &[u8]) -> Result<(), WorldFault>
+    pub(crate) fn test_defined(&self, x: usize, name: &[u8]) -> Result<(), WorldFault>
         requires { IsSome (object_of self.now.objects x) }
-        ensures { Tests result (plain_raises self.now x (folded name.now)) }
+        ensures raises { Tests result (plain_raises self.now x (folded name.now)) }
+        ensures memory { TakesNoMemory result }
     {
         if definer_in(&self.objects[x], name).is_none() {
             return Err(WorldFault::Raise(ErrorCode::PropertyNotFound));
@@ -70,8 +75,9 @@ impl World {
         name: &[u8],
         value: Value,
     ) -> Result<(), WorldFault>
-        ensures { let x = number_of self.old.objects o in
+        ensures world { let x = number_of self.old.objects o in
             Changes result self.old self.new (set_value_raises self.old x (folded name.now)) (world_with_object self.old x (with_value_of (folded name.now) (tree value))) }
+        ensures memory { TakesNoMemory result }
     {
         match self.number(o) {
             Some(x) => self.set_value(x, name, value),
@@ -79,43 +85,19 @@ impl World {
         }
     }
 
-    fn set_value(&mut self, x: usize, name: &[u8], value: Value) -> Result<(), WorldFault>
+    pub(crate) fn set_value(
+        &mut self,
+        x: usize,
+        name: &[u8],
+        value: Value,
+    ) -> Result<(), WorldFault>
         requires { IsSome (object_of self.old.objects x) }
-        ensures { Changes result self.old self.new (plain_raises self.old x (folded name.now)) (with_object self.old x (with_value_of (folded name.now) (tree value))) }
+        ensures world { Changes result self.old self.new (plain_raises self.old x (folded name.now)) (with_object self.old x (with_value_of (folded name.now) (tree value))) }
+        ensures memory { TakesNoMemory result }
     {
         let _weight = value.weight();
         self.test_defined(x, name)?;
         set_in(&mut self.objects[x], name, value);
         Ok(())
-    }
-}
-
-ghost use Rattle.std.specs.Prelude.{List};
-ghost use Rattle.std.specs.Borrow.{Bor};
-ghost use Rattle.moo_world.specs.World.{thing_of};
-
-// The object whose definition an object's cell of a name is for.
-fn definer_in(slot: &Option<Object>, name: &[u8]) -> Option<usize>
-    ensures { result ≡ option_map (λ (c : Cell). c.definer) (cell_named (unwrap_or slot.now nothing).cells (folded name.now)) }
-{
-    let object = slot.as_ref()?;
-    let cell = cell_named(object.cells(), name)?;
-    Some(cell.definer())
-}
-
-fn cells_in(slot: &Option<Object>) -> &[PropCell]
-    ensures { result.now ≡ (unwrap_or slot.now nothing).cells }
-{
-    match slot {
-        Some(object) => object.cells(),
-        None => &[],
-    }
-}
-
-fn set_in(slot: &mut Option<Object>, name: &[u8], value: Value)
-    ensures { slot.new ≡ option_map (with_value_of (folded name.now) (tree value)) slot.old }
-{
-    if let Some(object) = slot {
-        object.set_value(name, value);
     }
 }

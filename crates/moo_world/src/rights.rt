@@ -1,27 +1,14 @@
 //! Who may do what: to wizards all is allowed, to others what is theirs or open to all.
 
-ghost use Rattle.std.specs.Prelude.{◌≡◌, is_some, slice_get, not, Some};
-ghost use Rattle.std.specs.Option.{unwrap_or, option_copied, option_map};
-ghost use Rattle.moo_value.specs.Compare.{folded};
+ghost use Rattle.std.specs.Prelude.{◌≡◌, is_some, not, Some};
+ghost use Rattle.std.specs.Option.{option_copied, option_map};
 ghost use Rattle.moo_object.specs.Cells.{Cell, cell_named};
-ghost use Rattle.moo_world.specs.World.{nothing};
-ghost use Rattle.moo_world.specs.Rights.{object_numbered, is_wizard, controls, may_own, may_read_object, may_write_object, may_inherit_from, may_read_this_verb, may_write_this_verb, verb_numbered, may_read_cell, may_write_cell, cell_numbered, may_set_built_in, may_read_property, may_write_property, may, info_raises};
-ghost use Rattle.moo_world.specs.Calls.{Answers};
+ghost use Rattle.moo_world.specs.Rights.{is_wizard, controls, may_own, may_read_object, may_write_object, may_inherit_from, may_read_this_verb, may_write_this_verb, verb_numbered, may_read_cell, may_write_cell, cell_numbered, may_set_built_in, may_read_property, may_write_property, may};
 
 use crate::World;
-use crate::fault::WorldFault;
-use moo_object::{BuiltInProperty, Object, PropCell, PropPerms, Verb, built_in, cell_named};
-use moo_value::ErrorCode;
+use moo_object::{BuiltInProperty, Object, PropCell, Verb, built_in, cell_named};
 
 impl World {
-    /// An object by its number, where it is valid.
-    fn object(&self, o: i32) -> Option<&Object>
-        ensures { option_copied result ≡ object_numbered self.now o }
-    {
-        let x = self.number(o)?;
-        self.objects[x].as_ref()
-    }
-
     pub(crate) fn is_wizard(&self, programmer: i32) -> bool
         ensures { result ≡ is_wizard self.now programmer }
     {
@@ -48,6 +35,8 @@ impl World {
         }
     }
 
+    /// Whether the programmer may read an object: it is readable, the programmer's own, or the
+    /// programmer a wizard.
     pub fn may_read_object(&self, programmer: i32, o: i32) -> bool
         ensures { result ≡ may_read_object self.now programmer o }
     {
@@ -57,6 +46,8 @@ impl World {
         }
     }
 
+    /// Whether the programmer may write an object: it is writable, the programmer's own, or the
+    /// programmer a wizard.
     pub fn may_write_object(&self, programmer: i32, o: i32) -> bool
         ensures { result ≡ may_write_object self.now programmer o }
     {
@@ -76,6 +67,7 @@ impl World {
         }
     }
 
+    /// Whether the programmer may read the verb at a place of an object.
     pub fn may_read_verb(&self, programmer: i32, o: i32, index: usize) -> bool
         ensures { result ≡ may_read_this_verb self.now programmer (verb_numbered self.now o index) }
     {
@@ -85,6 +77,7 @@ impl World {
         }
     }
 
+    /// Whether the programmer may write the verb at a place of an object.
     pub fn may_write_verb(&self, programmer: i32, o: i32, index: usize) -> bool
         ensures { result ≡ may_write_this_verb self.now programmer (verb_numbered self.now o index) }
     {
@@ -103,6 +96,8 @@ impl World {
         }
     }
 
+    /// Whether the programmer may read a property of an object by its name. All may read the
+    /// built-in ones.
     pub fn may_read_property(&self, programmer: i32, o: i32, name: &[u8]) -> bool
         ensures { result ≡ may_read_property self.now programmer o name.now }
     {
@@ -115,6 +110,8 @@ impl World {
         }
     }
 
+    /// Whether the programmer may set a property of an object by its name. A built-in one is set
+    /// by whom its own rule names, and the place and the contents by nobody.
     pub fn may_write_property(&self, programmer: i32, o: i32, name: &[u8]) -> bool
         ensures { result ≡ may_write_property self.now programmer o name.now }
     {
@@ -160,36 +157,6 @@ impl World {
             BuiltInProperty::Read | BuiltInProperty::Write | BuiltInProperty::Fertile => {
                 self.controls(programmer, object.owner())
             }
-        }
-    }
-
-    /// The owner and the permissions of a property that is not built in, as the object has it.
-    pub fn property_info(&self, o: i32, name: &[u8]) -> Result<(i32, PropPerms), WorldFault>
-        ensures { Answers result (info_raises self.now o name.now)
-            (λ info. option_map (λ (c : Cell). (c.owner, c.perms)) (cell_numbered self.now o name.now) ≡ Some info) }
-    {
-        let cell = self.property_cell(o, name)?;
-        Ok((cell.owner(), cell.perms()))
-    }
-
-    /// Whether a property that is not built in has no value of its own on the object.
-    pub fn is_clear(&self, o: i32, name: &[u8]) -> Result<bool, WorldFault>
-        ensures { Answers result (info_raises self.now o name.now)
-            (λ clear. option_map (λ (c : Cell). not (is_some c.value)) (cell_numbered self.now o name.now) ≡ Some clear) }
-    {
-        let cell = self.property_cell(o, name)?;
-        Ok(cell.value().is_none())
-    }
-
-    fn property_cell(&self, o: i32, name: &[u8]) -> Result<&PropCell, WorldFault>
-        ensures { Answers result (info_raises self.now o name.now) (λ cell. cell_numbered self.now o name.now ≡ Some cell.now) }
-    {
-        let Some(object) = self.object(o) else {
-            return Err(WorldFault::Raise(ErrorCode::InvalidArgument));
-        };
-        match cell_named(object.cells(), name) {
-            Some(cell) => Ok(cell),
-            None => Err(WorldFault::Raise(ErrorCode::PropertyNotFound)),
         }
     }
 }

@@ -1,20 +1,24 @@
 //! The verbs of objects.
 
-ghost use Rattle.std.specs.Prelude.{◌≡◌, ◌<◌, length, IsSome, IfOk, OnOk, OnErr, Option, Some, None, slice_get, nat_lt};
-ghost use Rattle.std.specs.Option.{option_copied, option_map, option_and_then, unwrap_or};
+ghost use Rattle.std.specs.Prelude.{◌≡◌, ◌<◌, length, IsSome, IfOk, OnOk, Option, Some, None, slice_get};
+ghost use Rattle.std.specs.Option.{option_copied, option_map, option_and_then};
 ghost use Rattle.moo_value.specs.Size.{IsString};
 ghost use Rattle.moo_object.specs.Verbs.{with_verb_info, with_args, with_program};
-ghost use Rattle.moo_world.specs.World.{object_of, thing_of, nothing, most};
-ghost use Rattle.moo_world.specs.Changes.{with_object, with_verb, without_verb, with_changed_verb};
-ghost use Rattle.moo_world.specs.Calls.{Changes, Tests, number_of};
+ghost use Rattle.moo_table.specs.World.{object_of, thing_of};
+ghost use Rattle.moo_table.specs.Changes.{with_object, with_verb, without_verb, with_changed_verb};
+ghost use Rattle.moo_world.specs.Calls.{Changes, Tests, number_of, TakesNoMemory};
 ghost use Rattle.moo_world.specs.VerbCalls.{verb_raises, verb_info_raises, add_verb_raises, world_with_object};
 
+use crate::World;
 use crate::fault::WorldFault;
-use crate::{MOST, World};
-use moo_object::{Object, Verb, VerbArgs, VerbPerms, has_word};
+use moo_object::{Verb, VerbArgs, VerbPerms, has_word};
 use moo_program::Program;
+use moo_table::MOST;
+use moo_table::verbs::{
+    add_verb_in, remove_verb_in, set_program_in, set_verb_args_in, set_verb_info_in, verb_in,
+    verbs_of,
+};
 use moo_value::{ErrorCode, MooStr};
-use std::alloc::AllocError;
 
 impl World {
     /// A verb of a valid object, by its place.
@@ -34,7 +38,8 @@ impl World {
 
     /// What adding a verb with these names raises.
     pub fn try_add_verb(&self, o: i32, names: &MooStr) -> Result<(), WorldFault>
-        ensures { Tests result (add_verb_raises self.now (number_of self.now.objects o) names.now) }
+        ensures raises { Tests result (add_verb_raises self.now (number_of self.now.objects o) names.now) }
+        ensures memory { TakesNoMemory result }
     {
         match self.number(o) {
             Some(x) => self.test_new_verb(x, names),
@@ -87,6 +92,7 @@ impl World {
         requires { IsSome (object_of self.now.objects x) }
         ensures raises { Tests result (add_verb_raises self.now (Some x) names.now) }
         ensures string { IsString names.now }
+        ensures memory { TakesNoMemory result }
     {
         if !has_word(names.as_bytes()) {
             return Err(WorldFault::Raise(ErrorCode::InvalidArgument));
@@ -100,7 +106,8 @@ impl World {
     /// What looking at a verb of an object raises; so do taking it away and changing its
     /// specifiers and its program.
     pub fn try_verb(&self, o: i32, index: usize) -> Result<(), WorldFault>
-        ensures { Tests result (verb_raises self.now (number_of self.now.objects o) index) }
+        ensures raises { Tests result (verb_raises self.now (number_of self.now.objects o) index) }
+        ensures memory { TakesNoMemory result }
     {
         match self.number(o) {
             Some(x) => self.test_verb(x, index),
@@ -110,7 +117,8 @@ impl World {
 
     fn test_verb(&self, x: usize, index: usize) -> Result<(), WorldFault>
         requires { IsSome (object_of self.now.objects x) }
-        ensures { Tests result (verb_raises self.now (Some x) index) }
+        ensures raises { Tests result (verb_raises self.now (Some x) index) }
+        ensures memory { TakesNoMemory result }
     {
         if index >= verbs_of(&self.objects[x]).len() {
             return Err(WorldFault::Raise(ErrorCode::VerbNotFound));
@@ -120,8 +128,9 @@ impl World {
 
     /// Takes a verb away. Those behind it move up.
     pub fn delete_verb(&mut self, o: i32, index: usize) -> Result<(), WorldFault>
-        ensures { let x = number_of self.old.objects o in
+        ensures world { let x = number_of self.old.objects o in
             Changes result self.old self.new (verb_raises self.old x index) (world_with_object self.old x (without_verb index)) }
+        ensures memory { TakesNoMemory result }
     {
         match self.number(o) {
             Some(x) => self.remove_verb(x, index),
@@ -131,7 +140,8 @@ impl World {
 
     fn remove_verb(&mut self, x: usize, index: usize) -> Result<(), WorldFault>
         requires { IsSome (object_of self.old.objects x) }
-        ensures { Changes result self.old self.new (verb_raises self.old (Some x) index) (with_object self.old x (without_verb index)) }
+        ensures world { Changes result self.old self.new (verb_raises self.old (Some x) index) (with_object self.old x (without_verb index)) }
+        ensures memory { TakesNoMemory result }
     {
         self.test_verb(x, index)?;
         remove_verb_in(&mut self.objects[x], index);
@@ -140,7 +150,8 @@ impl World {
 
     /// What giving a verb other names raises.
     pub fn try_set_verb_info(&self, o: i32, index: usize, names: &MooStr) -> Result<(), WorldFault>
-        ensures { Tests result (verb_info_raises self.now (number_of self.now.objects o) index names.now) }
+        ensures raises { Tests result (verb_info_raises self.now (number_of self.now.objects o) index names.now) }
+        ensures memory { TakesNoMemory result }
     {
         match self.number(o) {
             Some(x) => self.test_verb_info(x, index, names),
@@ -152,6 +163,7 @@ impl World {
         requires { IsSome (object_of self.now.objects x) }
         ensures raises { Tests result (verb_info_raises self.now (Some x) index names.now) }
         ensures string { OnOk result (IsString names.now) }
+        ensures memory { TakesNoMemory result }
     {
         self.test_verb(x, index)?;
         if !has_word(names.as_bytes()) {
@@ -169,8 +181,9 @@ impl World {
         owner: i32,
         perms: VerbPerms,
     ) -> Result<(), WorldFault>
-        ensures { let x = number_of self.old.objects o in
+        ensures world { let x = number_of self.old.objects o in
             Changes result self.old self.new (verb_info_raises self.old x index names) (world_with_object self.old x (with_changed_verb index (with_verb_info names owner perms))) }
+        ensures memory { TakesNoMemory result }
     {
         match self.number(o) {
             Some(x) => self.change_verb_info(x, index, names, owner, perms),
@@ -187,7 +200,8 @@ impl World {
         perms: VerbPerms,
     ) -> Result<(), WorldFault>
         requires { IsSome (object_of self.old.objects x) }
-        ensures { Changes result self.old self.new (verb_info_raises self.old (Some x) index names) (with_object self.old x (with_changed_verb index (with_verb_info names owner perms))) }
+        ensures world { Changes result self.old self.new (verb_info_raises self.old (Some x) index names) (with_object self.old x (with_changed_verb index (with_verb_info names owner perms))) }
+        ensures memory { TakesNoMemory result }
     {
         self.test_verb_info(x, index, &names)?;
         set_verb_info_in(&mut self.objects[x], index, names, owner, perms);
@@ -196,8 +210,9 @@ impl World {
 
     /// Gives a verb other specifiers.
     pub fn set_verb_args(&mut self, o: i32, index: usize, args: VerbArgs) -> Result<(), WorldFault>
-        ensures { let x = number_of self.old.objects o in
+        ensures world { let x = number_of self.old.objects o in
             Changes result self.old self.new (verb_raises self.old x index) (world_with_object self.old x (with_changed_verb index (with_args args))) }
+        ensures memory { TakesNoMemory result }
     {
         match self.number(o) {
             Some(x) => self.change_verb_args(x, index, args),
@@ -207,7 +222,8 @@ impl World {
 
     fn change_verb_args(&mut self, x: usize, index: usize, args: VerbArgs) -> Result<(), WorldFault>
         requires { IsSome (object_of self.old.objects x) }
-        ensures { Changes result self.old self.new (verb_raises self.old (Some x) index) (with_object self.old x (with_changed_verb index (with_args args))) }
+        ensures world { Changes result self.old self.new (verb_raises self.old (Some x) index) (with_object self.old x (with_changed_verb index (with_args args))) }
+        ensures memory { TakesNoMemory result }
     {
         self.test_verb(x, index)?;
         set_verb_args_in(&mut self.objects[x], index, args);
@@ -221,8 +237,9 @@ impl World {
         index: usize,
         program: Option<Program>,
     ) -> Result<(), WorldFault>
-        ensures { let x = number_of self.old.objects o in
+        ensures world { let x = number_of self.old.objects o in
             Changes result self.old self.new (verb_raises self.old x index) (world_with_object self.old x (with_changed_verb index (with_program program))) }
+        ensures memory { TakesNoMemory result }
     {
         match self.number(o) {
             Some(x) => self.change_program(x, index, program),
@@ -237,81 +254,11 @@ impl World {
         program: Option<Program>,
     ) -> Result<(), WorldFault>
         requires { IsSome (object_of self.old.objects x) }
-        ensures { Changes result self.old self.new (verb_raises self.old (Some x) index) (with_object self.old x (with_changed_verb index (with_program program))) }
+        ensures world { Changes result self.old self.new (verb_raises self.old (Some x) index) (with_object self.old x (with_changed_verb index (with_program program))) }
+        ensures memory { TakesNoMemory result }
     {
         self.test_verb(x, index)?;
         set_program_in(&mut self.objects[x], index, program);
         Ok(())
-    }
-}
-
-/// The verbs of what stands at a number.
-pub fn verbs_of(slot: &Option<Object>) -> &[Verb]
-    ensures { result.now ≡ (unwrap_or slot.now nothing).verbs }
-{
-    match slot {
-        Some(object) => object.verbs(),
-        None => &[],
-    }
-}
-
-fn verb_in(slot: &Option<Object>, index: usize) -> Option<&Verb>
-    ensures { option_copied result ≡ slice_get (unwrap_or slot.now nothing).verbs index }
-{
-    match slot {
-        Some(object) => object.verb(index),
-        None => None,
-    }
-}
-
-fn add_verb_in(slot: &mut Option<Object>, verb: Verb) -> Result<(), AllocError>
-    ensures ok { OnOk result (slot.new ≡ option_map (with_verb verb) slot.old) }
-    ensures err { OnErr result (slot.new ≡ slot.old) }
-{
-    match slot {
-        Some(object) => object.add_verb(verb),
-        None => Ok(()),
-    }
-}
-
-fn remove_verb_in(slot: &mut Option<Object>, index: usize)
-    requires { index < length (unwrap_or slot.old nothing).verbs }
-    ensures { slot.new ≡ option_map (without_verb index) slot.old }
-{
-    if let Some(object) = slot {
-        object.delete_verb(index);
-    }
-}
-
-fn set_verb_info_in(
-    slot: &mut Option<Object>,
-    index: usize,
-    names: MooStr,
-    owner: i32,
-    perms: VerbPerms,
-)
-    requires { index < length (unwrap_or slot.old nothing).verbs }
-    ensures { slot.new ≡ option_map (with_changed_verb index (with_verb_info names owner perms)) slot.old }
-{
-    if let Some(object) = slot {
-        object.set_verb_info(index, names, owner, perms);
-    }
-}
-
-fn set_verb_args_in(slot: &mut Option<Object>, index: usize, args: VerbArgs)
-    requires { index < length (unwrap_or slot.old nothing).verbs }
-    ensures { slot.new ≡ option_map (with_changed_verb index (with_args args)) slot.old }
-{
-    if let Some(object) = slot {
-        object.set_verb_args(index, args);
-    }
-}
-
-fn set_program_in(slot: &mut Option<Object>, index: usize, program: Option<Program>)
-    requires { index < length (unwrap_or slot.old nothing).verbs }
-    ensures { slot.new ≡ option_map (with_changed_verb index (with_program program)) slot.old }
-{
-    if let Some(object) = slot {
-        object.set_program(index, program);
     }
 }

@@ -1,14 +1,13 @@
-use Rattle.std.proofs.Common.{◌≡◌, ◌<◌, ◌≤◌, Option, Some, None, true, false, not, cond, ltb, sym, ◌∙◌, ap, subst, arith, length, IsSome, refl, vec_len, w32}
+use Rattle.std.proofs.Common.{◌≡◌, Some, sym, ◌∙◌, ap, subst, arith, length, IsSome, w32}
 use Rattle.std.proofs.lemmas.Int.{to_z-of_z}
-use Rattle.std.specs.Option.{unwrap_or, option_map}
-use Rattle.std.proofs.lemmas.Bool.{lt-ltb, le-ltb, cases_Bool}
+use Rattle.std.specs.Option.{option_map}
 use Rattle.moo_object.specs.Patterns.{has_word}
-use Rattle.moo_object.specs.Verbs.{with_verb_info, with_args, with_program}
-use Rattle.moo_world.specs.World.{World, nothing, object_of, thing_of, most}
-use Rattle.moo_world.specs.Changes.{with_object, with_verb, without_verb, with_changed_verb}
-use Rattle.moo_world.specs.VerbCalls.{verb_raises, verb_info_raises, add_verb_raises}
-use Rattle.moo_world.proofs.Single.{KeepsShape, slot_changed, object_changed}
-use Rattle.moo_world.proofs.VerbChanges.{verb_added, verb_removed, verb_changed, thing_read, verb_free, info_free, room_free}
+use Rattle.moo_object.specs.Verbs.{with_verb_info}
+use Rattle.moo_table.specs.World.{World, object_of, thing_of}
+use Rattle.moo_table.specs.Changes.{with_object, with_changed_verb}
+use Rattle.moo_world.specs.VerbCalls.{verb_info_raises}
+use Rattle.moo_table.proofs.Single.{slot_changed, object_changed}
+use Rattle.moo_table.proofs.VerbChanges.{verb_changed, thing_read, info_free}
 use Rattle.moo_world.proofs.World.change_verb_info.Goals as goal
 
 pub set_verb_info_in-requires : goal.set_verb_info_in-requires
@@ -28,8 +27,8 @@ invariant_of-self c =
     let slot = slot_changed w.objects c.args.x (with_changed_verb c.args.index (with_verb_info c.args.names c.args.owner c.args.perms)) c.index_mut.result.now c.set_verb_info_in.new.slot valid c.index_mut.ensures.value wrote in
     rw slot (object_changed w c.args.x (with_changed_verb c.args.index (with_verb_info c.args.names c.args.owner c.args.perms)) c.self.invariant valid (verb_changed c.args.x c.args.index (with_verb_info c.args.names c.args.owner c.args.perms) (thing_of w.objects c.args.x) (λ v h. c.in_ok-test_verb_info.ensures.string)))
 
-pub returns : goal.returns
-returns c =
+pub returns-clause-world : goal.returns-clause-world
+returns-clause-world c =
     let w : World = record { objects = c.self.inside.objects.items; inheritance = c.self.inside.inheritance; containment = c.self.inside.containment; players = c.self.inside.players.items } in
     let valid = subst (λ v. IsSome (object_of v.objects c.args.x)) (sym c.self.view_is) c.requires in
     let owner = to_z-of_z w32 c.args.owner c.ranges.owner in

@@ -1,4 +1,4 @@
-use Rattle.std.proofs.Common.{◌≡◌, ℤ, Some, None, sym, ◌∙◌, ap, subst, refl, w32}
+use Rattle.std.proofs.Common.{◌≡◌, Some, None, sym, ◌∙◌, ap, subst, w32}
 use Rattle.std.specs.Option.{is_some}
 use Rattle.std.proofs.lemmas.Int.{to_z-of_z}
 use Rattle.moo_value.specs.Compare.{folded}
@@ -6,11 +6,12 @@ use Rattle.moo_value.specs.View.{tree}
 use Rattle.moo_forest.specs.Walk.{IsWalkDown}
 use Rattle.moo_object.specs.BuiltIn.{built_in_of}
 use Rattle.moo_object.specs.Cells.{Cell, key_of, own_cell}
-use Rattle.moo_world.specs.World.{HasStored}
-use Rattle.moo_world.specs.Changes.{after_define}
+use Rattle.moo_table.specs.World.{HasStored}
+use Rattle.moo_table.specs.Changes.{after_define}
 use Rattle.moo_world.specs.Calls.{Changes}
-use Rattle.moo_world.specs.Properties.{add_property_raises, define_raises, is_taken, is_full}
-use Rattle.moo_world.proofs.Allowing.{define_free, property_free}
+use Rattle.moo_world.specs.PropertyCalls.{add_property_raises, define_raises}
+use Rattle.moo_table.specs.Properties.{is_taken, is_full}
+use Rattle.moo_table.proofs.Allowing.{define_free, property_free}
 use Rattle.moo_world.proofs.World.define.Goals as goal
 
 pub put_definition-requires : goal.put_definition-requires

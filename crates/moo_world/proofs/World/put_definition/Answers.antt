@@ -1,12 +1,12 @@
-use Rattle.std.proofs.Common.{◌≡◌, ◌<◌, ℕ, Some, sym, ◌∙◌, ap, subst, arith, length, IsSome, refl, vec_len}
+use Rattle.std.proofs.Common.{sym, ◌∙◌, ap, subst, arith, length, IsSome, refl}
 use Rattle.std.proofs.lemmas.List.{length-set}
 use Rattle.moo_forest.specs.Walk.{met, step_at, IsWalkDown}
-use Rattle.moo_world.specs.World.{World, object_of, fitted_over, cells_of}
-use Rattle.moo_world.specs.Rows.{AreFitted, AreReady, with_rows}
-use Rattle.moo_world.specs.Changes.{with_definition_on, after_define}
-use Rattle.moo_world.specs.Properties.{IsDefinable}
-use Rattle.moo_world.proofs.Joining.{walk_valid}
-use Rattle.moo_world.proofs.Definitions.{slot_defined, slot_restored, still_valid, defined_well_formed, ready_then}
+use Rattle.moo_table.specs.World.{World, object_of, fitted_over, cells_of}
+use Rattle.moo_table.specs.Rows.{AreFitted, with_rows}
+use Rattle.moo_table.specs.Changes.{with_definition_on, after_define}
+use Rattle.moo_table.specs.Properties.{IsDefinable}
+use Rattle.moo_table.proofs.Joining.{walk_valid}
+use Rattle.moo_table.proofs.Definitions.{slot_defined, slot_restored, still_valid, defined_well_formed, ready_then}
 use Rattle.moo_world.proofs.World.put_definition.Goals as goal
 
 pub rows_below-requires : goal.rows_below-requires

@@ -1,13 +1,10 @@
-use Rattle.std.proofs.Common.{◌≡◌, ◌<◌, ◌≤◌, Option, Some, None, true, false, not, cond, ltb, sym, ◌∙◌, ap, subst, arith, length, IsSome, refl, vec_len}
-use Rattle.std.specs.Option.{unwrap_or, option_map}
-use Rattle.std.proofs.lemmas.Bool.{lt-ltb, le-ltb, cases_Bool}
+use Rattle.std.proofs.Common.{Some, sym, ◌∙◌, ap, subst, length, IsSome}
 use Rattle.moo_object.specs.Patterns.{has_word}
-use Rattle.moo_object.specs.Verbs.{with_verb_info, with_args, with_program}
-use Rattle.moo_world.specs.World.{World, nothing, object_of, thing_of, most}
-use Rattle.moo_world.specs.Changes.{with_object, with_verb, without_verb, with_changed_verb}
-use Rattle.moo_world.specs.VerbCalls.{verb_raises, verb_info_raises, add_verb_raises}
-use Rattle.moo_world.proofs.Single.{KeepsShape, slot_changed, object_changed}
-use Rattle.moo_world.proofs.VerbChanges.{verb_added, verb_removed, verb_changed, thing_read, verb_free, info_free, room_free}
+use Rattle.moo_table.specs.World.{World, object_of, thing_of}
+use Rattle.moo_table.specs.Changes.{with_object, with_verb}
+use Rattle.moo_world.specs.VerbCalls.{add_verb_raises}
+use Rattle.moo_table.proofs.Single.{slot_changed, object_changed}
+use Rattle.moo_table.proofs.VerbChanges.{verb_added, thing_read, room_free}
 use Rattle.moo_world.proofs.World.put_verb.Goals as goal
 
 pub invariant_of-self-2 : goal.invariant_of-self-2

@@ -1,16 +1,14 @@
-use Rattle.std.proofs.Common.{◌≡◌, ◌<◌, ℕ, Option, Some, None, true, false, not, leb, sym, ◌∙◌, ap, subst, arith, length, IsSome, refl}
-use Rattle.std.specs.Option.{unwrap_or, option_map, is_some}
+use Rattle.std.proofs.Common.{◌≡◌, ◌<◌, ℕ, leb, sym, ◌∙◌, ap, subst, arith, length, IsSome, refl}
 use Rattle.std.specs.List.{list_any}
 use Rattle.moo_value.specs.Compare.{folded}
-use Rattle.moo_value.specs.View.{tree}
 use Rattle.moo_forest.specs.Walk.{met, step_at, IsWalkDown}
-use Rattle.moo_object.specs.BuiltIn.{built_in_of}
-use Rattle.moo_object.specs.Cells.{is_named, own_cell}
-use Rattle.moo_world.specs.World.{World, nothing, object_of, thing_of, most}
-use Rattle.moo_world.specs.Properties.{define_raises, add_property_raises, is_taken, is_full, IsDefinable}
-use Rattle.moo_world.proofs.Changing.{valid_within}
-use Rattle.moo_world.proofs.Joining.{walk_low}
-use Rattle.moo_world.proofs.Allowing.{taken_tested, full_tested, define_free, property_free}
+use Rattle.moo_object.specs.Cells.{is_named}
+use Rattle.moo_table.specs.World.{World, object_of, thing_of, most}
+use Rattle.moo_world.specs.PropertyCalls.{define_raises}
+use Rattle.moo_table.specs.Properties.{is_taken, is_full}
+use Rattle.moo_table.proofs.Changing.{valid_within}
+use Rattle.moo_table.proofs.Joining.{walk_low}
+use Rattle.moo_table.proofs.Allowing.{taken_tested, full_tested}
 use Rattle.moo_world.proofs.World.test_definition.Goals as goal
 
 pub walk_down-requires : goal.walk_down-requires

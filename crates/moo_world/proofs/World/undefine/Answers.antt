@@ -1,12 +1,12 @@
-use Rattle.std.proofs.Common.{◌≡◌, ◌<◌, ℕ, None, sym, ◌∙◌, ap, subst, arith, length, IsSome, set, refl, vec_len}
-use Rattle.std.proofs.lemmas.List.{get_or_read, length-set}
+use Rattle.std.proofs.Common.{◌<◌, ℕ, None, sym, ◌∙◌, ap, subst, arith, length, IsSome, set}
+use Rattle.std.proofs.lemmas.List.{get_or_read}
 use Rattle.moo_value.specs.Compare.{folded}
 use Rattle.moo_forest.specs.Walk.{met, step_at}
-use Rattle.moo_world.specs.World.{World, object_of}
-use Rattle.moo_world.specs.Changes.{without_name, after_undefine, lost_along}
-use Rattle.moo_world.proofs.Changing.{valid_within}
-use Rattle.moo_world.proofs.Joining.{walk_low}
-use Rattle.moo_world.proofs.Removals.{lost_is, undefined_well_formed}
+use Rattle.moo_table.specs.World.{World, object_of}
+use Rattle.moo_table.specs.Changes.{without_name, without_cell, after_undefine, changed_along}
+use Rattle.moo_table.proofs.Changing.{valid_within}
+use Rattle.moo_table.proofs.Joining.{walk_low}
+use Rattle.moo_table.proofs.Removals.{lost_is, undefined_well_formed}
 use Rattle.moo_world.proofs.World.undefine.Goals as goal
 
 pub walk_down-requires : goal.walk_down-requires
@@ -31,7 +31,7 @@ invariant_of-self c =
     let name = folded c.args.name.now in
     let slot = c.forget_in.ensures ∙ ap (without_name name) (get_or_read w.objects c.args.x c.index_mut.result.now (valid_within w.objects c.args.x valid) c.index_mut.ensures.value None) in
     let start = ap (set w.objects c.args.x) slot in
-    let lost = c.lose_along.ensures ∙ ap (λ ys. lost_along (c.args.x, name) (set w.objects c.args.x c.forget_in.new.slot) (met ys)) c.deref.ensures.value ∙
+    let lost = c.lose_along.ensures ∙ ap (λ ys. changed_along (without_cell (c.args.x, name)) (set w.objects c.args.x c.forget_in.new.slot) (met ys)) c.deref.ensures.value ∙
     lost_is w c.args.x name c.self.invariant valid c.in_ok-walk.walk.items c.in_ok-walk.ensures (set w.objects c.args.x c.forget_in.new.slot) start in
     rw lost (undefined_well_formed w c.args.x name c.self.invariant valid)
 
@@ -42,6 +42,6 @@ returns c =
     let name = folded c.args.name.now in
     let slot = c.forget_in.ensures ∙ ap (without_name name) (get_or_read w.objects c.args.x c.index_mut.result.now (valid_within w.objects c.args.x valid) c.index_mut.ensures.value None) in
     let start = ap (set w.objects c.args.x) slot in
-    let lost = c.lose_along.ensures ∙ ap (λ ys. lost_along (c.args.x, name) (set w.objects c.args.x c.forget_in.new.slot) (met ys)) c.deref.ensures.value ∙
+    let lost = c.lose_along.ensures ∙ ap (λ ys. changed_along (without_cell (c.args.x, name)) (set w.objects c.args.x c.forget_in.new.slot) (met ys)) c.deref.ensures.value ∙
     lost_is w c.args.x name c.self.invariant valid c.in_ok-walk.walk.items c.in_ok-walk.ensures (set w.objects c.args.x c.forget_in.new.slot) start in
-    (c.in_ok-test_own_property.ensures.0, (rw lost (ap (λ v. after_undefine v c.args.x name) c.self.view_is)))
+    (c.in_ok-test_own_property.ensures.raises.0, (rw lost (ap (λ v. after_undefine v c.args.x name) c.self.view_is)))

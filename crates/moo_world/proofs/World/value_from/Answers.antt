@@ -1,12 +1,10 @@
-use Rattle.std.proofs.Common.{◌≡◌, ◌<◌, Option, Some, None, true, false, not, sym, ◌∙◌, ap, subst, arith, length, IsSome, refl, slice_get}
-use Rattle.std.specs.Option.{unwrap_or, option_map, option_copied}
+use Rattle.std.proofs.Common.{◌≡◌, sym, ◌∙◌, ap, subst, IsSome, slice_get}
+use Rattle.std.specs.Option.{option_map, option_copied}
 use Rattle.moo_value.specs.Compare.{folded}
 use Rattle.moo_value.specs.View.{tree}
-use Rattle.moo_world.specs.World.{World, nothing, object_of, thing_of}
-use Rattle.moo_world.specs.Changes.{with_object, with_value_of}
-use Rattle.moo_world.specs.Properties.{read, plain_raises, values_above}
-use Rattle.moo_world.proofs.Single.{slot_changed, object_changed}
-use Rattle.moo_world.proofs.ValueChanges.{definition_is, nothing_read, nearest_read, plain_allowed, plain_refused, value_kept}
+use Rattle.moo_table.specs.World.{World, object_of}
+use Rattle.moo_table.specs.Properties.{read, values_above}
+use Rattle.moo_table.proofs.ValueChanges.{definition_is, nothing_read, nearest_read}
 use Rattle.moo_world.proofs.World.value_from.Goals as goal
 
 pub returns-in_err-definer : goal.returns-in_err-definer

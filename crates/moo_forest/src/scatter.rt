@@ -1,0 +1,22 @@
+//! A node taken out of its forest, and those right below it left without a node above them.
+
+ghost use Rattle.std.specs.Prelude.{◌≡◌, ◌<◌, None, length};
+ghost use Rattle.moo_forest.specs.Forest.{below_of, dissolved};
+
+use crate::dissolve::join_all;
+use crate::{Forest, take_out};
+
+impl Forest {
+    /// Joins a node, and those right below it, to none. Hand in a copy of its list: then the call
+    /// takes no memory.
+    pub fn scatter(&mut self, x: usize, below: &[usize])
+        requires node { x < length self.old }
+        requires all { below.now ≡ below_of self.old x }
+        ensures { self.new ≡ dissolved self.old x None }
+    {
+        let from = self.nodes[x].above();
+        join_all(&mut self.nodes, below, None);
+        take_out(&mut self.nodes, x, from);
+        self.nodes[x].leave_all();
+    }
+}

@@ -1,0 +1,64 @@
+-- One change made along a walk down.
+use Rattle.std.proofs.Common.{◌≡◌, ℕ, ◌<◌, List, [], ◌∷◌, Option, None, false, cond, eqb, refl, sym, ◌∙◌, ap, subst, ⊎_elim, arith, length, set, map, IsSome}
+use Rattle.std.specs.List.{list_any, All}
+use Rattle.std.proofs.lemmas.List.{get_or-set_same, get_or-set_other, length-set, length-map, get_or-map, get_or_default, same_lists}
+use Rattle.std.proofs.lemmas.List.Elements.{All-head, All-tail}
+use Rattle.std.proofs.lemmas.Bool.{cases_Bool, eqb-true, eqb-false}
+use Rattle.moo_forest.specs.Forest.{Links, is_within}
+use Rattle.moo_forest.specs.Walk.{met, IsWalkDown}
+use Rattle.moo_forest.specs.declared.walk.Step.{Step}
+use Rattle.moo_forest.proofs.Walking.{node_met}
+use Rattle.moo_object.specs.Objects.{Object}
+use Rattle.moo_table.specs.World.{object_of, IsJoined}
+use Rattle.moo_table.specs.Changes.{changed_along}
+use Rattle.moo_table.proofs.Joining.{walk_low}
+use Rattle.moo_table.proofs.Rowing.{walk_lists}
+
+-- a change that does no more when it is made again
+module _ (f : Option Object → Option Object) (twice : (o : Option Object) → f (f o) ≡ f o) where
+  pub length_along : (objects : List (Option Object)) (ys : List ℕ) → length (changed_along f objects ys) ≡ length objects
+  length_along objects [] = refl
+  length_along objects (y ∷ ys) = length_along (set objects y (f (object_of objects y))) ys ∙ length-set objects y (f (object_of objects y))
+
+  -- what stands at each number afterwards
+  along_at : (objects : List (Option Object)) (ys : List ℕ) → All (λ y. y < length objects) ys → (y : ℕ) →
+      object_of (changed_along f objects ys) y ≡ cond (list_any (eqb y) ys) (f (object_of objects y)) (object_of objects y)
+  along_at objects [] all y = refl
+  along_at objects (z ∷ ys) all y =
+      let next = set objects z (f (object_of objects z)) in
+      let len = length-set objects z (f (object_of objects z)) in
+      let low : z < length objects = All-head (λ n. n < length objects) z ys all in
+      let tail = subst (λ n. All (λ q. q < n) ys) (sym len) (All-tail (λ n. n < length objects) z ys all) in
+      along_at next ys tail y ∙
+      ⊎_elim
+      (λ e.
+      let same = eqb-true y z e in
+      let here : object_of next y ≡ f (object_of objects y) = ap (object_of next) same ∙ get_or-set_same objects z (f (object_of objects z)) None low ∙ ap (λ n. f (object_of objects n)) (sym same) in
+      rw e (ap (λ o. cond (list_any (eqb y) ys) (f o) o) here ∙
+      ⊎_elim (λ on. rw on (twice (object_of objects y))) (λ off. rw off refl) (cases_Bool (list_any (eqb y) ys))))
+      (λ e. rw e (ap (λ o. cond (list_any (eqb y) ys) (f o) o) (get_or-set_other objects z y (f (object_of objects z)) None (eqb-false y z e))))
+      (cases_Bool (eqb y z))
+
+  -- a change of all that stand within x is one of all, where it leaves the others as they are
+  pub all_along : (objects : List (Option Object)) (tree : List Links) (x : ℕ) (walk : List Step) → IsWalkDown tree x walk → All (λ y. y < length objects) (met walk) →
+      ((y : ℕ) → is_within tree y x ≡ false → f (object_of objects y) ≡ object_of objects y) → changed_along f objects (met walk) ≡ map f objects
+  all_along objects tree x walk d members elsewhere =
+      same_lists (changed_along f objects (met walk)) (map f objects) (length_along objects (met walk) ∙ sym (length-map objects f))
+      (λ y e h.
+      let long = length_along objects (met walk) in
+      let low : y < length objects = omega (arith, long) in
+      let mapped = length-map objects f in
+      get_or_default (changed_along f objects (met walk)) y e None h ∙ along_at objects (met walk) members y ∙
+      ap (λ b. cond b (f (object_of objects y)) (object_of objects y)) (walk_lists tree x walk d y) ∙
+      ⊎_elim (λ on. rw on refl) (λ off. rw off (sym (elsewhere y off))) (cases_Bool (is_within tree y x)) ∙
+      sym (get_or_default (map f objects) y e None (omega (arith, mapped)) ∙ get_or-map f objects y None None low))
+
+-- what a walk meets has a number that was given out
+pub walk_members : (objects : List (Option Object)) (tree : List Links) → IsJoined objects tree → (x : ℕ) → IsSome (object_of objects x) → (walk : List Step) → IsWalkDown tree x walk →
+    (new : List (Option Object)) → length new ≡ length objects → All (λ y. y < length new) (met walk)
+walk_members objects tree f x valid walk d new same k e h =
+    let n = length-map walk (λ (s : Step). s.node) in
+    let small : k < length walk = omega (arith, n) in
+    let low = walk_low objects tree f x valid walk d k small in
+    let place = get_or_default (met walk) k e 0 h ∙ node_met walk k small in
+    subst (λ y. y < length new) (sym place) (omega (arith, low, same))

@@ -1,0 +1,10 @@
+pub mod Changes
+pub mod Players
+pub mod Properties
+pub mod Recycling
+pub mod Restoring
+pub mod Rows
+pub mod Verbs
+pub mod World
+pub mod Edits
+pub mod Renames

@@ -1,0 +1,89 @@
+//! The verbs of one object.
+
+ghost use Rattle.std.specs.Prelude.{◌≡◌, ◌<◌, length, OnOk, OnErr, Option, Some, None, slice_get};
+ghost use Rattle.std.specs.Option.{option_copied, option_map, unwrap_or};
+ghost use Rattle.moo_object.specs.Verbs.{with_verb_info, with_args, with_program};
+ghost use Rattle.moo_table.specs.World.{nothing};
+ghost use Rattle.moo_table.specs.Changes.{with_verb, without_verb, with_changed_verb};
+
+use moo_object::{Object, Verb, VerbArgs, VerbPerms};
+use moo_program::Program;
+use moo_value::MooStr;
+use std::alloc::AllocError;
+
+/// The verbs of what stands at a number.
+pub fn verbs_of(slot: &Option<Object>) -> &[Verb]
+    ensures { result.now ≡ (unwrap_or slot.now nothing).verbs }
+{
+    match slot {
+        Some(object) => object.verbs(),
+        None => &[],
+    }
+}
+
+/// The verb at a place, which counts from 0, of what stands at a number.
+pub fn verb_in(slot: &Option<Object>, index: usize) -> Option<&Verb>
+    ensures { option_copied result ≡ slice_get (unwrap_or slot.now nothing).verbs index }
+{
+    match slot {
+        Some(object) => object.verb(index),
+        None => None,
+    }
+}
+
+/// Adds a verb behind the others of an object. Where memory is short, nothing changes.
+pub fn add_verb_in(slot: &mut Option<Object>, verb: Verb) -> Result<(), AllocError>
+    ensures ok { OnOk result (slot.new ≡ option_map (with_verb verb) slot.old) }
+    ensures err { OnErr result (slot.new ≡ slot.old) }
+{
+    match slot {
+        Some(object) => object.add_verb(verb),
+        None => Ok(()),
+    }
+}
+
+/// Takes the verb at a place of an object away. Those behind it move up.
+pub fn remove_verb_in(slot: &mut Option<Object>, index: usize)
+    requires { index < length (unwrap_or slot.old nothing).verbs }
+    ensures { slot.new ≡ option_map (without_verb index) slot.old }
+{
+    if let Some(object) = slot {
+        object.delete_verb(index);
+    }
+}
+
+/// Gives the verb at a place other names, another owner and other permissions.
+pub fn set_verb_info_in(
+    slot: &mut Option<Object>,
+    index: usize,
+    names: MooStr,
+    owner: i32,
+    perms: VerbPerms,
+)
+    requires { index < length (unwrap_or slot.old nothing).verbs }
+    ensures { slot.new ≡ option_map (with_changed_verb index (with_verb_info names owner perms)) slot.old }
+{
+    if let Some(object) = slot {
+        object.set_verb_info(index, names, owner, perms);
+    }
+}
+
+/// Gives the verb at a place other specifiers.
+pub fn set_verb_args_in(slot: &mut Option<Object>, index: usize, args: VerbArgs)
+    requires { index < length (unwrap_or slot.old nothing).verbs }
+    ensures { slot.new ≡ option_map (with_changed_verb index (with_args args)) slot.old }
+{
+    if let Some(object) = slot {
+        object.set_verb_args(index, args);
+    }
+}
+
+/// Gives the verb at a place another program, or none.
+pub fn set_program_in(slot: &mut Option<Object>, index: usize, program: Option<Program>)
+    requires { index < length (unwrap_or slot.old nothing).verbs }
+    ensures { slot.new ≡ option_map (with_changed_verb index (with_program program)) slot.old }
+{
+    if let Some(object) = slot {
+        object.set_program(index, program);
+    }
+}

@@ -1,0 +1,24 @@
+use Rattle.std.proofs.Common.{sym, ap, subst, IsSome}
+use Rattle.moo_value.specs.View.{tree}
+use Rattle.moo_table.specs.World.{World, object_of, thing_of}
+use Rattle.moo_table.specs.Changes.{with_object}
+use Rattle.moo_table.specs.Edits.{with_built_in}
+use Rattle.moo_table.proofs.Single.{slot_changed, object_changed}
+use Rattle.moo_table.proofs.Edited.{built_in_kept}
+use Rattle.moo_world.proofs.World.set_built_in.Goals as goal
+
+pub invariant_of-self : goal.invariant_of-self
+invariant_of-self c =
+    let w : World = record { objects = c.self.inside.objects.items; inheritance = c.self.inside.inheritance; containment = c.self.inside.containment; players = c.self.inside.players.items } in
+    let valid = subst (λ v. IsSome (object_of v.objects c.args.x)) (sym c.self.view_is) c.requires in
+    let f = with_built_in c.args.property (tree c.args.value) in
+    let slot = slot_changed w.objects c.args.x f c.index_mut.result.now c.set_built_in_in.new.slot valid c.index_mut.ensures.value c.set_built_in_in.ensures in
+    rw slot (object_changed w c.args.x f c.self.invariant valid (built_in_kept c.args.x c.args.property (tree c.args.value) (thing_of w.objects c.args.x) (c.weight-weight.ensures.value, c.weight-weight.ensures.limits)))
+
+pub returns-clause-world : goal.returns-clause-world
+returns-clause-world c =
+    let w : World = record { objects = c.self.inside.objects.items; inheritance = c.self.inside.inheritance; containment = c.self.inside.containment; players = c.self.inside.players.items } in
+    let valid = subst (λ v. IsSome (object_of v.objects c.args.x)) (sym c.self.view_is) c.requires in
+    let f = with_built_in c.args.property (tree c.args.value) in
+    let slot = slot_changed w.objects c.args.x f c.index_mut.result.now c.set_built_in_in.new.slot valid c.index_mut.ensures.value c.set_built_in_in.ensures in
+    (c.in_ok-test_built_in.ensures.raises.0, (rw slot (ap (λ v. with_object v c.args.x f) c.self.view_is)))

@@ -1,0 +1,55 @@
+-- When the calls on properties raise, and what they leave.
+use Rattle.std.specs.Prelude.{ℕ, ℤ, List, Option, Some, None, if◌then◌else◌, is_some}
+use Rattle.std.specs.List.{list_any}
+use Rattle.moo_value.specs.Tree.{Tree}
+use Rattle.moo_value.specs.declared.error_code.ErrorCode.{ErrorCode}
+use Rattle.moo_value.specs.declared.error_code.ErrorCode.TheVariants.{InvalidArgument, InvalidIndirection, PropertyNotFound, Quota}
+use Rattle.moo_object.specs.Names.{same_name}
+use Rattle.moo_object.specs.Cells.{own_cell}
+use Rattle.moo_object.specs.BuiltIn.{built_in_of}
+use Rattle.moo_object.specs.declared.cell.PropPerms.{PropPerms}
+use Rattle.moo_value.specs.Compare.{folded}
+use Rattle.moo_table.specs.World.{World, thing_of}
+use Rattle.moo_table.specs.Changes.{after_define, after_undefine}
+use Rattle.moo_table.specs.Properties.{definition_named, is_taken, is_full}
+
+-- what looking a property up raises, where no built-in one has the name
+abbrev pub plain_raises : World → ℕ → List ℕ → Option ErrorCode
+plain_raises w x name = if is_some (definition_named w x name) then None else Some PropertyNotFound
+
+-- what one more definition raises, on a valid object
+abbrev pub define_raises : World → ℕ → List ℕ → Option ErrorCode
+define_raises w x name =
+    if is_taken w.objects w.inheritance x name then Some InvalidArgument
+    else if is_full w.objects w.inheritance x then Some Quota
+    else None
+
+abbrev pub add_property_raises : World → Option ℕ → List ℕ → Option ErrorCode
+add_property_raises w None name = Some InvalidArgument
+add_property_raises w (Some x) name = if is_some (built_in_of name) then Some InvalidArgument else define_raises w x name
+
+-- the world once a valid object has one more property
+abbrev pub world_define : World → Option ℕ → List ℕ → Tree → ℤ → PropPerms → World
+world_define w None name v owner perms = w
+world_define w (Some x) name v owner perms = after_define w x name (own_cell x (folded name) v owner perms)
+
+abbrev pub set_value_raises : World → Option ℕ → List ℕ → Option ErrorCode
+set_value_raises w None name = Some InvalidIndirection
+set_value_raises w (Some x) name = plain_raises w x name
+
+-- what taking a definition away raises: the object itself has to have it
+abbrev pub undefine_raises : World → ℕ → List ℕ → Option ErrorCode
+undefine_raises w x name = if list_any (λ n. same_name name (folded n)) (thing_of w.objects x).defined then None else Some PropertyNotFound
+
+abbrev pub delete_property_raises : World → Option ℕ → List ℕ → Option ErrorCode
+delete_property_raises w None name = Some InvalidArgument
+delete_property_raises w (Some x) name = undefine_raises w x name
+
+abbrev pub world_undefine : World → Option ℕ → List ℕ → World
+world_undefine w None name = w
+world_undefine w (Some x) name = after_undefine w x name
+
+-- what looking at the owner and permissions of a property raises, and whether it is clear
+abbrev pub info_raises : World → Option ℕ → List ℕ → Option ErrorCode
+info_raises w None name = Some InvalidArgument
+info_raises w (Some x) name = plain_raises w x name

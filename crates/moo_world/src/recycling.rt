@@ -1,0 +1,56 @@
+//! Objects taken away.
+
+ghost use Rattle.std.specs.Prelude.{◌≡◌, IsSome, None};
+ghost use Rattle.moo_table.specs.World.{object_of};
+ghost use Rattle.moo_table.specs.Recycling.{after_recycle};
+ghost use Rattle.moo_world.specs.Calls.{Changes, Tests, number_of, TakesNoMemory};
+ghost use Rattle.moo_world.specs.RecycleCalls.{recycle_raises, world_recycle};
+
+use crate::World;
+use crate::fault::WorldFault;
+use moo_table::players::take_player_out;
+use moo_table::recycling::{empty, lose_all_along};
+use moo_value::ErrorCode;
+use std::alloc::Global;
+
+impl World {
+    /// What recycling an object raises.
+    pub fn try_recycle(&self, o: i32) -> Result<(), WorldFault>
+        ensures raises { Tests result (recycle_raises (number_of self.now.objects o)) }
+        ensures memory { TakesNoMemory result }
+    {
+        match self.number(o) {
+            Some(_) => Ok(()),
+            None => Err(WorldFault::Raise(ErrorCode::InvalidArgument)),
+        }
+    }
+
+    /// Takes an object away, without asking anybody. Its children go to its parent, last and in
+    /// their order, and they and their descendants lose the properties that it defined. What is in
+    /// it is moved to no place. Its number is no player's, and isn't given out again.
+    pub fn recycle_bare(&mut self, alloc: Global, o: i32) -> Result<(), WorldFault>
+        ensures { let x = number_of self.old.objects o in
+            Changes result self.old self.new (recycle_raises x) (world_recycle self.old x) }
+    {
+        match self.number(o) {
+            Some(x) => self.remove_object(alloc, x),
+            None => Err(WorldFault::Raise(ErrorCode::InvalidArgument)),
+        }
+    }
+
+    // The same, of a valid object. What takes memory comes first.
+    fn remove_object(&mut self, alloc: Global, x: usize) -> Result<(), WorldFault>
+        requires { IsSome (object_of self.old.objects x) }
+        ensures { Changes result self.old self.new None (after_recycle self.old x) }
+    {
+        let walk = self.inheritance.walk_down(alloc, x)?;
+        let contents = Vec::from_slice(alloc, self.containment.below(x))?;
+        let parent = self.inheritance.above(x);
+        self.inheritance.dissolve(alloc, x, parent)?;
+        self.containment.scatter(x, &contents);
+        empty(&mut self.objects[x]);
+        lose_all_along(&mut self.objects, &walk, x);
+        take_player_out(&mut self.players, x as i32);
+        Ok(())
+    }
+}

@@ -1,0 +1,28 @@
+//! A world of given parts.
+
+ghost use Rattle.std.specs.Prelude.{◌≡◌};
+ghost use Rattle.moo_table.specs.World.{World as Contents, IsWellFormed};
+
+use crate::World;
+use moo_forest::Forest;
+use moo_object::Object;
+
+impl World {
+    /// The world of these objects, trees and players, as a database gives them.
+    pub fn from_parts(
+        objects: Vec<Option<Object>>,
+        inheritance: Forest,
+        containment: Forest,
+        players: Vec<i32>,
+    ) -> Self
+        requires { let w : Contents = record { objects = objects.items; inheritance = inheritance; containment = containment; players = players.items } in IsWellFormed w }
+        ensures { result ≡ record { objects = objects.items; inheritance = inheritance; containment = containment; players = players.items } }
+    {
+        World {
+            objects,
+            inheritance,
+            containment,
+            players,
+        }
+    }
+}

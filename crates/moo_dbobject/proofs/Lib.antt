@@ -1,0 +1,6 @@
+pub mod NumberLaws
+pub mod ObjectAgain
+pub mod ObjectFound
+pub mod ObjectLines
+pub mod ObjectClean
+pub mod ObjectCut

@@ -1,0 +1,4 @@
+-- What an object says, and its lines.
+pub mod Objects
+-- Reading objects line by line.
+pub mod ObjectReading

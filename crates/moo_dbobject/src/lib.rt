@@ -1,0 +1,14 @@
+//! Objects as lines of a database text.
+#![tactic(auto)]
+
+mod field;
+pub mod laws;
+mod object_reader;
+mod object_record;
+#[cfg(test)]
+mod tests;
+mod writing;
+
+pub use object_reader::ObjectReader;
+pub use object_record::{ObjectRecord, PropertyRecord, VerbRecord};
+pub use writing::put_object;

@@ -1,0 +1,354 @@
+//! An object, read a line at a time.
+ghost use Rattle.std.specs.Prelude.{◌≡◌, ◌++◌, map, option_map, None, OnOk};
+ghost use Rattle.moo_value.specs.View.{tree};
+ghost use Rattle.moo_dbvalue.specs.Lines.{Gives, limited};
+ghost use Rattle.moo_dbobject.specs.Objects.{object_of, verb_of};
+ghost use Rattle.moo_object.specs.Numbers.{preposition_specifier_number};
+ghost use Rattle.moo_dbobject.specs.ObjectReading.{draft_of, body_of, part_verb_of, fresh_draft, empty_body, is_clear, object_line, after_verb, after_name, after_cell, verbs_made, value_line_step};
+
+use crate::field::{VerbBits, flags, note, preposition, property_perms, verb_bits};
+use crate::object_record::{ObjectRecord, PropertyRecord, VerbRecord};
+use moo_dbvalue::{Refusal, ValueReader, bounded_count, number, text};
+use moo_object::{Flags, ObjectSpecifier, PrepositionSpecifier, VerbArgs, VerbPerms};
+use moo_value::{MooStr, Value};
+use std::alloc::{AllocError, Global};
+use std::mem;
+
+/// What the next line is.
+#[derive(Clone, Copy)]
+enum Awaited {
+    Name,
+    Note,
+    Flags,
+    Owner,
+    Location,
+    Contents,
+    Next,
+    Parent,
+    Child,
+    Sibling,
+    VerbCount,
+    VerbNames,
+    VerbOwner,
+    VerbBits,
+    VerbPreposition,
+    NameCount,
+    PropertyName,
+    CellCount,
+    Value,
+    /// A later line of a value.
+    Inside,
+    CellOwner,
+    CellPerms,
+}
+
+/// A verb that is being read.
+#[derive(Drop)]
+struct VerbDraft {
+    names: Option<MooStr>,
+    owner: i32,
+    bits: VerbBits,
+}
+
+/// What an object has so far, without its name.
+#[derive(Drop)]
+struct BodyDraft {
+    flags: Flags,
+    owner: i32,
+    location: i32,
+    contents: i32,
+    next: i32,
+    parent: i32,
+    child: i32,
+    sibling: i32,
+    verbs: Vec<VerbRecord>,
+    names: Vec<MooStr>,
+    cells: Vec<PropertyRecord>,
+}
+
+/// An object that is being read.
+#[derive(Drop)]
+pub struct ObjectReader {
+    awaited: Awaited,
+    name: Option<MooStr>,
+    body: BodyDraft,
+    /// How many verbs, names or cells follow the one that is read now.
+    left: u32,
+    verb: VerbDraft,
+    value: ValueReader,
+    cell: Option<Value>,
+    cell_owner: i32,
+}
+
+fn empty(alloc: Global) -> BodyDraft
+    ensures { body_of result ≡ empty_body }
+{
+    BodyDraft {
+        flags: Flags::none(),
+        owner: 0,
+        location: 0,
+        contents: 0,
+        next: 0,
+        parent: 0,
+        child: 0,
+        sibling: 0,
+        verbs: Vec::new(alloc),
+        names: Vec::new(alloc),
+        cells: Vec::new(alloc),
+    }
+}
+
+fn no_verb() -> VerbDraft
+    ensures { part_verb_of result ≡ fresh_draft.verb }
+{
+    let perms = VerbPerms {
+        read: false,
+        write: false,
+        execute: false,
+        debug: false,
+    };
+    VerbDraft {
+        names: None,
+        owner: 0,
+        bits: VerbBits {
+            perms,
+            direct: ObjectSpecifier::None,
+            indirect: ObjectSpecifier::None,
+        },
+    }
+}
+
+fn named(name: MooStr, body: BodyDraft) -> ObjectRecord
+    ensures { object_of result ≡ record { name = name; body = body_of body } }
+{
+    ObjectRecord {
+        name,
+        flags: body.flags,
+        owner: body.owner,
+        location: body.location,
+        contents: body.contents,
+        next: body.next,
+        parent: body.parent,
+        child: body.child,
+        sibling: body.sibling,
+        verbs: body.verbs,
+        names: body.names,
+        cells: body.cells,
+    }
+}
+
+impl ObjectReader {
+    /// A reader of an object, before the line of its name.
+    pub fn new(alloc: Global) -> ObjectReader
+        ensures { draft_of result ≡ fresh_draft }
+    {
+        ObjectReader {
+            awaited: Awaited::Name,
+            name: None,
+            body: empty(alloc),
+            left: 0,
+            verb: no_verb(),
+            value: ValueReader::new(alloc),
+            cell: None,
+            cell_owner: 0,
+        }
+    }
+
+    fn expect_verbs(&mut self, left: u32)
+        ensures { draft_of self.new ≡ after_verb (draft_of self.old) (body_of self.old.body) left }
+    {
+        if left == 0 {
+            self.awaited = Awaited::NameCount;
+            return;
+        }
+        self.left = left - 1;
+        self.awaited = Awaited::VerbNames;
+    }
+
+    fn expect_names(&mut self, left: u32)
+        ensures { draft_of self.new ≡ after_name (draft_of self.old) (body_of self.old.body) left }
+    {
+        if left == 0 {
+            self.awaited = Awaited::CellCount;
+            return;
+        }
+        self.left = left - 1;
+        self.awaited = Awaited::PropertyName;
+    }
+
+    fn expect_cells(&mut self, alloc: Global, left: u32) -> Option<ObjectRecord>
+        ensures { (draft_of self.new, option_map object_of result) ≡ after_cell (draft_of self.old) (body_of self.old.body) left }
+    {
+        if left == 0 {
+            let ObjectReader { name, body, .. } = mem::replace(self, ObjectReader::new(alloc));
+            return match name {
+                Some(name) => Some(named(name, body)),
+                None => None,
+            };
+        }
+        self.left = left - 1;
+        self.awaited = Awaited::Value;
+        None
+    }
+
+    fn is_clear(&self, line: &[u8]) -> bool
+        ensures { result ≡ is_clear (body_of self.now.body) line.now }
+    {
+        self.body.names.len() <= self.body.cells.len() && line == b"5".as_slice()
+    }
+
+    fn value_line(&mut self, alloc: Global, line: &[u8]) -> Result<(), Refusal>
+        ensures { Gives (λ _. draft_of self.new) result (value_line_step limited (draft_of self.old) line.now) }
+    {
+        match self.value.step(alloc, line)? {
+            None => self.awaited = Awaited::Inside,
+            Some(value) => {
+                self.cell = Some(value);
+                self.awaited = Awaited::CellOwner;
+            }
+        }
+        Ok(())
+    }
+
+    fn push_verb(&mut self, preposition: PrepositionSpecifier) -> Result<(), AllocError>
+        ensures { OnOk result (draft_of self.new ≡ record (draft_of self.old) { verb = record (part_verb_of self.old.verb) { names = None }; body = record (body_of self.old.body) { verbs = map verb_of self.old.body.verbs.items ++ verbs_made self.old.verb.names (part_verb_of self.old.verb) (preposition_specifier_number preposition) } }) }
+    {
+        let Some(names) = self.verb.names.take() else {
+            return Ok(());
+        };
+        let bits = self.verb.bits;
+        let args = VerbArgs {
+            direct: bits.direct,
+            preposition,
+            indirect: bits.indirect,
+        };
+        self.body.verbs.push(VerbRecord {
+            names,
+            owner: self.verb.owner,
+            perms: bits.perms,
+            args,
+        })?;
+        Ok(())
+    }
+
+    /// Takes the next line of an object, and gives the object at its last.
+    #[tactic(auto, unfolding(crate::specs::ObjectReading::object_step))]
+    pub fn step(&mut self, alloc: Global, line: &[u8]) -> Result<Option<ObjectRecord>, Refusal>
+        ensures { Gives (λ o. (draft_of self.new, option_map object_of o)) result (object_line limited (draft_of self.old) line.now) }
+    {
+        match self.awaited {
+            Awaited::Name => {
+                self.name = Some(text(alloc, line)?);
+                self.awaited = Awaited::Note;
+                Ok(None)
+            }
+            Awaited::Note => {
+                note(line)?;
+                self.awaited = Awaited::Flags;
+                Ok(None)
+            }
+            Awaited::Flags => {
+                self.body.flags = flags(line)?;
+                self.awaited = Awaited::Owner;
+                Ok(None)
+            }
+            Awaited::Owner => {
+                self.body.owner = number(line)?;
+                self.awaited = Awaited::Location;
+                Ok(None)
+            }
+            Awaited::Location => {
+                self.body.location = number(line)?;
+                self.awaited = Awaited::Contents;
+                Ok(None)
+            }
+            Awaited::Contents => {
+                self.body.contents = number(line)?;
+                self.awaited = Awaited::Next;
+                Ok(None)
+            }
+            Awaited::Next => {
+                self.body.next = number(line)?;
+                self.awaited = Awaited::Parent;
+                Ok(None)
+            }
+            Awaited::Parent => {
+                self.body.parent = number(line)?;
+                self.awaited = Awaited::Child;
+                Ok(None)
+            }
+            Awaited::Child => {
+                self.body.child = number(line)?;
+                self.awaited = Awaited::Sibling;
+                Ok(None)
+            }
+            Awaited::Sibling => {
+                self.body.sibling = number(line)?;
+                self.awaited = Awaited::VerbCount;
+                Ok(None)
+            }
+            Awaited::VerbCount => {
+                self.expect_verbs(bounded_count(line)?);
+                Ok(None)
+            }
+            Awaited::VerbNames => {
+                self.verb.names = Some(text(alloc, line)?);
+                self.awaited = Awaited::VerbOwner;
+                Ok(None)
+            }
+            Awaited::VerbOwner => {
+                self.verb.owner = number(line)?;
+                self.awaited = Awaited::VerbBits;
+                Ok(None)
+            }
+            Awaited::VerbBits => {
+                self.verb.bits = verb_bits(line)?;
+                self.awaited = Awaited::VerbPreposition;
+                Ok(None)
+            }
+            Awaited::VerbPreposition => {
+                self.push_verb(preposition(line)?)?;
+                self.expect_verbs(self.left);
+                Ok(None)
+            }
+            Awaited::NameCount => {
+                self.expect_names(bounded_count(line)?);
+                Ok(None)
+            }
+            Awaited::PropertyName => {
+                self.body.names.push(text(alloc, line)?)?;
+                self.expect_names(self.left);
+                Ok(None)
+            }
+            Awaited::CellCount => {
+                let count = bounded_count(line)?;
+                Ok(self.expect_cells(alloc, count))
+            }
+            Awaited::Value if self.is_clear(line) => {
+                self.cell = None;
+                self.awaited = Awaited::CellOwner;
+                Ok(None)
+            }
+            Awaited::Value | Awaited::Inside => {
+                self.value_line(alloc, line)?;
+                Ok(None)
+            }
+            Awaited::CellOwner => {
+                self.cell_owner = number(line)?;
+                self.awaited = Awaited::CellPerms;
+                Ok(None)
+            }
+            Awaited::CellPerms => {
+                let perms = property_perms(line)?;
+                let value = self.cell.take();
+                let owner = self.cell_owner;
+                self.body.cells.push(PropertyRecord {
+                    value,
+                    owner,
+                    perms,
+                })?;
+                Ok(self.expect_cells(alloc, self.left))
+            }
+        }
+    }
+}

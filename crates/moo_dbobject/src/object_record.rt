@@ -1,0 +1,46 @@
+//! An object as its lines give it, before anything is asked across objects.
+
+use moo_object::{Flags, PropPerms, VerbArgs, VerbPerms};
+use moo_value::{MooStr, Value};
+
+/// A verb, without its program.
+#[derive(Drop)]
+pub struct VerbRecord {
+    /// Patterns with blanks between them.
+    pub names: MooStr,
+    pub owner: i32,
+    pub perms: VerbPerms,
+    pub args: VerbArgs,
+}
+
+/// What an object has for a property.
+#[derive(Drop)]
+pub struct PropertyRecord {
+    /// `None` where the cell is clear, so that the value is the parent's.
+    pub value: Option<Value>,
+    pub owner: i32,
+    pub perms: PropPerms,
+}
+
+/// An object as its lines give it. The links to other objects are as they were read.
+#[derive(Drop)]
+pub struct ObjectRecord {
+    pub name: MooStr,
+    pub flags: Flags,
+    pub owner: i32,
+    pub location: i32,
+    /// The first of its contents, or -1.
+    pub contents: i32,
+    /// The next in the contents of its location, or -1.
+    pub next: i32,
+    pub parent: i32,
+    /// The first of its children, or -1.
+    pub child: i32,
+    /// The next child of its parent, or -1.
+    pub sibling: i32,
+    pub verbs: Vec<VerbRecord>,
+    /// The names of the properties that it defines.
+    pub names: Vec<MooStr>,
+    /// Its cells: those of its own definitions, then those of its parent's, and so on to the root.
+    pub cells: Vec<PropertyRecord>,
+}

@@ -1,0 +1,16 @@
+pub mod HeadingLaws
+pub mod TakenLaws
+pub mod TableLaws
+pub mod HeadingAgain
+pub mod DumpCut
+pub mod DumpAgain
+pub mod DumpProgress
+pub mod DumpLines
+pub mod DumpFound
+pub mod DumpClean
+pub mod AnswerFound
+pub mod AnswerAgain
+pub mod AnswerCut
+pub mod ReadLaws
+pub mod Canonical
+pub mod CanonicalText

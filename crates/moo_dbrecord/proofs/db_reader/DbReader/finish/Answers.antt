@@ -1,0 +1,12 @@
+use Rattle.std.proofs.Common.{subst, sym}
+use Rattle.moo_dbvalue.specs.Lines.{limited}
+use Rattle.moo_dbrecord.specs.Texts.{text_of}
+use Rattle.moo_dbrecord.specs.Answer.{Answers, taken_of}
+use Rattle.moo_dbrecord.proofs.TakenLaws.{finish_fails, finish_answers}
+use Rattle.moo_dbrecord.proofs.db_reader.DbReader.finish.Goals as goal
+
+pub returns-in-Some-clause-answer : goal.returns-in-Some-clause-answer
+returns-in-Some-clause-answer c = λ bytes taken. finish_fails limited c.args.self.failed c.in-Some.fault (taken_of c.args.self) bytes c.in-Some.is taken
+
+pub returns-clause-answer : goal.returns-clause-answer
+returns-clause-answer c = λ bytes taken. subst (Answers text_of c.end.result) (sym (finish_answers limited c.args.self.failed (taken_of c.args.self) bytes c.in_default.is taken)) c.end.ensures

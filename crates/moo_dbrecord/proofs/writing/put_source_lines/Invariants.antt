@@ -1,0 +1,6 @@
+use Rattle.std.proofs.Common.{◌≡◌, ◌++◌, take}
+use Rattle.moo_dbvalue.specs.Lines.{unlines}
+use Rattle.moo_dbrecord.proofs.writing.put_source_lines.Given as goal
+
+abbrev pub invariant-loop-line : goal.invariant-loop-line
+invariant-loop-line l = l.out.items ≡ l.initial.out.items ++ unlines (take l.line-index l.source)

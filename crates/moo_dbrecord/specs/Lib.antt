@@ -1,0 +1,10 @@
+-- Programs by object and verb.
+pub mod Programs
+-- What a database text says, and its lines.
+pub mod Texts
+-- Reading line by line, and in pieces.
+pub mod Headings
+pub mod DumpReading
+pub mod Answer
+-- Writing a text.
+pub mod Writing

@@ -1,0 +1,179 @@
+//! A text that comes in pieces.
+ghost use Rattle.std.specs.Prelude.{◌≡◌, ℕ, ◌++◌, List, [], Some, None, Ok, OnOk, IfErr, IfOk, IfSome, IsErrOf, MatchOption};
+ghost use Rattle.moo_dbvalue.specs.Lines.{Gives, limited};
+ghost use Rattle.moo_dbrecord.specs.Texts.{Text, Spells, SpellsWithin, text_of};
+ghost use Rattle.moo_dbrecord.specs.DumpReading.{progress_of, dump_step};
+ghost use Rattle.moo_dbrecord.specs.Answer.{Answers, HasTaken, taken_of, taken_on, line_ended, finished, answer_to, HasNoEnd, BeginsWithLine, IsOfLine, IsOfSize, IsReadOrTooLarge, front_lines};
+
+use crate::dump::Dump;
+use crate::dump_reader::DumpReader;
+use memchr::memchr;
+use moo_dbvalue::{LineFault, Refusal};
+use std::alloc::Global;
+use thiserror::Error;
+
+/// Why a text was refused, and the number of the line where, from 1.
+#[derive(Clone, Copy, Debug, PartialEq, Eq, Error)]
+#[error("line {line}: {kind}")]
+pub struct RecordFault {
+    pub line: u64,
+    pub kind: Refusal,
+}
+
+/// The first line without its end, and the bytes after it.
+fn split_line(bytes: &[u8]) -> Option<(&[u8], &[u8])>
+    ensures { MatchOption result (HasNoEnd bytes.now) (λ p. BeginsWithLine bytes.now p.0.now p.1.now) }
+{
+    let at = memchr(b'\n', bytes)?;
+    Some((&bytes[..at], &bytes[at + 1..]))
+}
+
+/// Reads a text in pieces. After a fault each call answers that fault.
+#[derive(Drop)]
+pub struct DbReader {
+    lines: u64,
+    reader: DumpReader,
+    rest: Vec<u8>,
+    failed: Option<RecordFault>,
+}
+
+impl DbReader {
+    /// A reader before the first byte.
+    #[tactic(auto, unfolding(crate::specs::Answer::taken_on))]
+    pub fn new(alloc: Global) -> DbReader
+        ensures { HasTaken result [] }
+    {
+        DbReader {
+            lines: 0,
+            reader: DumpReader::new(alloc),
+            rest: Vec::new(alloc),
+            failed: None,
+        }
+    }
+
+    /// Ends the line that the bytes end.
+    fn line(&mut self, alloc: Global, tail: &[u8]) -> Result<(), Refusal>
+        ensures steps { Gives (λ _. progress_of self.new.reader) result (dump_step limited self.old.reader.section (progress_of self.old.reader) (self.old.rest.items ++ tail.now)) }
+        ensures same { (self.new.lines ≡ self.old.lines) × OnOk result (self.new.rest.items ≡ []) × (self.new.failed ≡ self.old.failed) }
+    {
+        if self.rest.is_empty() {
+            return self.reader.step(alloc, tail);
+        }
+        self.rest.extend_from_slice(tail)?;
+        self.reader.step(alloc, &self.rest)?;
+        self.rest.clear();
+        Ok(())
+    }
+
+    #[tactic(auto, unfolding(crate::specs::Answer::line_ended))]
+    fn end_line(&mut self, alloc: Global, tail: &[u8]) -> Result<(), RecordFault>
+        ensures steps { Answers (λ _. taken_of self.new) result (line_ended limited (taken_of self.old) (self.old.rest.items ++ tail.now)) }
+        ensures same { self.new.failed ≡ self.old.failed }
+    {
+        let Some(line) = self.lines.checked_add(1) else {
+            return Err(RecordFault {
+                line: self.lines,
+                kind: Refusal::Memory,
+            });
+        };
+        match self.line(alloc, tail) {
+            Ok(()) => {
+                self.lines = line;
+                Ok(())
+            }
+            Err(kind) => Err(RecordFault { line, kind }),
+        }
+    }
+
+    fn take(&mut self, alloc: Global, piece: &[u8]) -> Result<(), RecordFault>
+        ensures steps { Answers (λ _. taken_of self.new) result (taken_on limited (taken_of self.old) piece.now) }
+        ensures same { self.new.failed ≡ self.old.failed }
+    {
+        let mut more = piece;
+        while let Some((line, after)) = split_line(more) {
+            self.end_line(alloc, line)?;
+            more = after;
+        }
+        match self.rest.extend_from_slice(more) {
+            Ok(()) => Ok(()),
+            Err(_) => Err(RecordFault {
+                line: self.lines,
+                kind: Refusal::Memory,
+            }),
+        }
+    }
+
+    /// Takes the next piece of the text.
+    pub fn feed(&mut self, alloc: Global, piece: &[u8]) -> Result<(), RecordFault>
+        ensures taken { (text : List ℕ) → HasTaken self.old text → HasTaken self.new (text ++ piece.now) }
+        ensures ok { OnOk result (self.new.failed ≡ None) }
+        ensures failed { IfErr result (λ e. self.new.failed ≡ Some e) }
+        ensures again { IfSome self.old.failed (λ e. IsErrOf result e) }
+    {
+        if let Some(fault) = self.failed {
+            return Err(fault);
+        }
+        let taken = self.take(alloc, piece);
+        if let Err(fault) = taken {
+            self.failed = Some(fault);
+        }
+        taken
+    }
+
+    #[tactic(auto, unfolding(crate::specs::Answer::finished))]
+    fn end(self) -> Result<Dump, RecordFault>
+        ensures { Answers text_of result (finished (taken_of self)) }
+    {
+        let Some(line) = self.lines.checked_add(1) else {
+            return Err(RecordFault {
+                line: self.lines,
+                kind: Refusal::Memory,
+            });
+        };
+        if !self.rest.is_empty() {
+            let kind = Refusal::Fault(self.reader.unended());
+            return Err(RecordFault { line, kind });
+        }
+        match self.reader.finish() {
+            Ok(dump) => Ok(dump),
+            Err(kind) => Err(RecordFault { line, kind }),
+        }
+    }
+
+    /// The records of the whole text, once all of it has been fed.
+    pub fn finish(self) -> Result<Dump, RecordFault>
+        ensures answer { (text : List ℕ) → HasTaken self text → Answers text_of result (answer_to limited text) }
+        ensures again { IfSome self.failed (λ e. IsErrOf result e) }
+    {
+        if let Some(fault) = self.failed {
+            return Err(fault);
+        }
+        self.end()
+    }
+}
+
+fn read_all(alloc: Global, bytes: &[u8]) -> Result<Dump, RecordFault>
+    ensures { Answers text_of result (answer_to limited bytes.now) }
+{
+    let mut reader = DbReader::new(alloc);
+    reader.feed(alloc, bytes)?;
+    reader.finish()
+}
+
+/// What the bytes of a whole text say, line by line.
+pub fn read_records(alloc: Global, bytes: &[u8]) -> Result<Dump, RecordFault>
+    // What is read is spelled so.
+    ensures found { IfOk result (λ d. Spells bytes.now (text_of d)) }
+    // What is spelled so is read, unless memory ends it or it is past a limit.
+    ensures only { (t : Text) → Spells bytes.now t → IsReadOrTooLarge text_of t result }
+    // What is within the limits is read, unless memory ends it.
+    ensures within { (t : Text) → SpellsWithin bytes.now t → Answers text_of result (Ok t) }
+    // No text begins with the lines up to the one that is told.
+    ensures place { IfErr result (λ e. IsOfLine e.kind → (more : List ℕ) (t : Text) → ¬ (Spells (front_lines e.line bytes.now ++ more) t)) }
+    // Where a size is told, no text within the limits begins with the lines up to it.
+    ensures size { IfErr result (λ e. IsOfSize e.kind → (more : List ℕ) (t : Text) → ¬ (SpellsWithin (front_lines e.line bytes.now ++ more) t)) }
+    // The answer of a reader that is fed the same bytes in any pieces.
+    ensures exact { Answers text_of result (answer_to limited bytes.now) }
+{
+    read_all(alloc, bytes)
+}

@@ -1,0 +1,19 @@
+//! A whole database text: its records, read in pieces.
+#![tactic(auto)]
+
+mod db_reader;
+mod dump;
+mod dump_reader;
+mod heading;
+pub mod laws;
+mod program_table;
+#[cfg(test)]
+mod tests;
+mod writing;
+
+pub use db_reader::{DbReader, RecordFault, read_records};
+pub use dump::{Connection, Dump, Form};
+pub use program_table::Source;
+pub use writing::{
+    put_connections, put_header, put_live, put_players, put_program, put_recycled, put_tasks,
+};

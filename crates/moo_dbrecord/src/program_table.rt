@@ -1,0 +1,68 @@
+//! The programs of verbs, by object and verb.
+ghost use Rattle.std.specs.Prelude.{◌≡◌, map, OnOk, IfOk};
+ghost use Rattle.moo_dbobject.specs.Objects.{object_of};
+ghost use Rattle.moo_dbrecord.specs.Programs.{source_of, row_of, table_of, blank_row, is_open_in, is_open, with_source_in, with_source};
+
+use moo_dbobject::ObjectRecord;
+use moo_value::MooStr;
+use std::alloc::{AllocError, Global};
+
+/// The lines of a program.
+pub type Source = Vec<MooStr>;
+
+/// The programs of an object's verbs, of which none was read yet.
+pub(crate) fn no_programs(
+    alloc: Global,
+    object: &ObjectRecord,
+) -> Result<Vec<Option<Source>>, AllocError>
+    ensures { IfOk result (λ row. row_of row ≡ blank_row (object_of object.now)) }
+{
+    let mut row = Vec::new(alloc);
+    for verb in &object.verbs {
+        row.push(None)?;
+    }
+    Ok(row)
+}
+
+fn is_open_in(row: &[Option<Source>], verb: usize) -> bool
+    ensures { result ≡ is_open_in verb (map source_of row.now) }
+{
+    if verb >= row.len() {
+        return false;
+    }
+    row[verb].is_none()
+}
+
+/// Whether there is such a verb, and it has no program.
+pub(crate) fn is_open(table: &[Vec<Option<Source>>], object: usize, verb: usize) -> bool
+    ensures { result ≡ is_open object verb (map row_of table.now) }
+{
+    if object >= table.len() {
+        return false;
+    }
+    is_open_in(&table[object], verb)
+}
+
+fn put_source_in(row: &mut Vec<Option<Source>>, verb: usize, source: Source)
+    ensures { row_of row.new ≡ with_source_in verb source.items (row_of row.old) }
+{
+    if verb >= row.len() {
+        return;
+    }
+    row[verb] = Some(source);
+}
+
+/// Gives a verb its program, if there is such a verb.
+pub(crate) fn put_source(
+    table: &mut Vec<Vec<Option<Source>>>,
+    object: usize,
+    verb: usize,
+    source: Source,
+)
+    ensures { table_of table.new ≡ with_source object verb source.items (table_of table.old) }
+{
+    if object >= table.len() {
+        return;
+    }
+    put_source_in(&mut table[object], verb, source);
+}

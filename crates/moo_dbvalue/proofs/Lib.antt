@@ -1,0 +1,10 @@
+pub mod LineLaws
+pub mod Steps
+pub mod TextLaws
+pub mod Stack
+pub mod WritingLaws
+pub mod Resuming
+pub mod ValueAgain
+pub mod ValueFound
+pub mod Cutting
+pub mod Clean

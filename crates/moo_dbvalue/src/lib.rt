@@ -1,0 +1,15 @@
+//! Values as lines of a database text, and the numbers and strings that stand on a line.
+#![tactic(auto)]
+
+mod fault;
+pub mod laws;
+mod line;
+#[cfg(test)]
+mod tests;
+mod value_reader;
+mod writing;
+
+pub use fault::{LineFault, Refusal};
+pub use line::{bounded_count, count, number, small, text};
+pub use value_reader::ValueReader;
+pub use writing::{put_count, put_line, put_number, put_value};

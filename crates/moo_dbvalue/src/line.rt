@@ -1,0 +1,96 @@
+//! Numbers and strings, one on a line.
+ghost use Rattle.std.specs.Prelude.{◌≡◌, ◌≢◌, ℕ, ℤ, MatchOption, IfSome, Some, IsTrue, ◌↔◌, FitsSigned};
+ghost use Rattle.std.specs.Fmt.{signed_decimal};
+ghost use Rattle.std.specs.Int.{w32};
+ghost use Rattle.moo_dbvalue.specs.Lines.{Gives, limited, number_of, count_of, bounded_count_of, small_of, text_of};
+
+use crate::fault::{LineFault, Refusal};
+use itoa::Buffer;
+use moo_value::{MooStr, ValueFault};
+use std::alloc::Global;
+
+/// What the library's parser makes of a line, which takes other spellings too.
+fn parsed(line: &[u8]) -> Option<i32>
+    ensures every { (z : ℤ) → FitsSigned w32 z → line.now ≡ signed_decimal z → result ≡ Some z }
+    ensures fits { IfSome result (FitsSigned w32) }
+{
+    let text = str::from_utf8(line).ok()?;
+    text.parse::<i32>().ok()
+}
+
+fn is_spelled(line: &[u8], number: i32) -> bool
+    requires { FitsSigned w32 number }
+    ensures { IsTrue result ↔ (line.now ≡ signed_decimal number) }
+{
+    let mut buffer = Buffer::new();
+    buffer.format(number).as_bytes() == line
+}
+
+/// The number that a line spells in the one decimal form.
+fn decimal(line: &[u8]) -> Option<i32>
+    ensures { MatchOption result ((z : ℤ) → FitsSigned w32 z → line.now ≢ signed_decimal z) (λ z. FitsSigned w32 z × (line.now ≡ signed_decimal z)) }
+{
+    match parsed(line) {
+        Some(number) if is_spelled(line, number) => Some(number),
+        _ => None,
+    }
+}
+
+/// The number of 32 bits, with a sign, that a line spells in the one decimal form.
+#[tactic(auto, using(crate::proofs::LineLaws::number_is, crate::proofs::LineLaws::number_is_not))]
+pub fn number(line: &[u8]) -> Result<i32, Refusal>
+    ensures { Gives (λ z. z) result (number_of line.now) }
+{
+    match decimal(line) {
+        Some(number) => Ok(number),
+        None => Err(Refusal::Fault(LineFault::BadNumber)),
+    }
+}
+
+/// The number on a line, which is 0 or more.
+#[tactic(auto, unfolding(crate::specs::Lines::count_of))]
+pub fn count(line: &[u8]) -> Result<u32, Refusal>
+    ensures { Gives (λ n. n) result (count_of line.now) }
+{
+    let number = number(line)?;
+    if number < 0 {
+        return Err(Refusal::Fault(LineFault::BadNumber));
+    }
+    Ok(number as u32)
+}
+
+/// The number on a line, which counts records: 1,000,000 at the most.
+#[tactic(auto, unfolding(crate::specs::Lines::bounded_count_of))]
+pub fn bounded_count(line: &[u8]) -> Result<u32, Refusal>
+    ensures { Gives (λ n. n) result (bounded_count_of limited line.now) }
+{
+    let count = count(line)?;
+    if count > 1_000_000 {
+        return Err(Refusal::Fault(LineFault::TooLarge));
+    }
+    Ok(count)
+}
+
+/// The number on a line, from 0 to `most`.
+#[tactic(auto, unfolding(crate::specs::Lines::small_of))]
+pub fn small(line: &[u8], most: u8) -> Result<u8, Refusal>
+    ensures { Gives (λ n. n) result (small_of most line.now) }
+{
+    let count = count(line)?;
+    if count > most as u32 {
+        return Err(Refusal::Fault(LineFault::BadNumber));
+    }
+    Ok(count as u8)
+}
+
+/// The string that a line is.
+pub fn text(alloc: Global, line: &[u8]) -> Result<MooStr, Refusal>
+    ensures { Gives (λ s. s) result (text_of limited line.now) }
+{
+    match MooStr::try_from_bytes(alloc, line) {
+        Ok(string) => Ok(string),
+        Err(ValueFault::BadByte) => Err(Refusal::Fault(LineFault::BadString)),
+        Err(ValueFault::TooHeavy) => Err(Refusal::Fault(LineFault::TooLarge)),
+        Err(ValueFault::Memory) => Err(Refusal::Memory),
+    }
+}

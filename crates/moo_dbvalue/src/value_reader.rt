@@ -1,0 +1,173 @@
+//! A value, read a line at a time.
+ghost use Rattle.std.specs.Prelude.{◌≡◌, ◌≤◌, length, option_map};
+ghost use Rattle.moo_value.specs.View.{tree, trees};
+ghost use Rattle.moo_dbvalue.specs.Lines.{Gives, limited};
+ghost use Rattle.std.specs.Prelude.{nat_lt};
+ghost use Rattle.moo_value.specs.Size.{depth_limit};
+ghost use Rattle.moo_dbvalue.specs.Reading.{type_of, error_of, take_room, closed, after_value, after_count, value_line, begun, partial_of, innermost_first};
+
+use crate::fault::{LineFault, Refusal};
+use crate::line::{count, number, small, text};
+use moo_value::{DEPTH_LIMIT, ErrorCode, ListFault, MooList, Value};
+use std::alloc::Global;
+
+/// What the next line is.
+#[derive(Clone, Copy)]
+enum Expected {
+    Type,
+    Int,
+    Obj,
+    Str,
+    Error,
+    Count,
+}
+
+/// A list that is being read.
+#[derive(Drop)]
+struct OpenList {
+    items: Vec<Value>,
+    /// How many values follow the one that is read now.
+    left: u32,
+}
+
+/// A value that is being read.
+#[derive(Drop)]
+pub struct ValueReader {
+    expected: Expected,
+    /// What the value may still weigh more than the least that goes on from here.
+    room: u32,
+    /// The lists round the value that is read now, the innermost last.
+    lists: Vec<OpenList>,
+}
+
+/// What a value may weigh more than 1.
+const FULL_ROOM: u32 = 999_999;
+
+#[tactic(auto, unfolding(crate::specs::Reading::type_of))]
+fn expected_after(line: &[u8]) -> Result<Expected, Refusal>
+    ensures { Gives (λ e. e) result (type_of line.now) }
+{
+    match number(line)? {
+        0 => Ok(Expected::Int),
+        1 => Ok(Expected::Obj),
+        2 => Ok(Expected::Str),
+        3 => Ok(Expected::Error),
+        4 => Ok(Expected::Count),
+        9 => Err(Refusal::Fault(LineFault::FloatValue)),
+        _ => Err(Refusal::Fault(LineFault::BadType)),
+    }
+}
+
+#[tactic(auto, unfolding(crate::specs::Reading::error_of))]
+fn error(line: &[u8]) -> Result<ErrorCode, Refusal>
+    ensures { Gives (λ e. e) result (error_of line.now) }
+{
+    let number = small(line, 15)?;
+    match ErrorCode::from_number(number) {
+        Some(error) => Ok(error),
+        None => Err(Refusal::Fault(LineFault::BadNumber)),
+    }
+}
+
+fn left_of(room: u32, amount: u32) -> Result<u32, Refusal>
+    ensures { Gives (λ n. n) result (take_room limited amount room) }
+{
+    if amount > room {
+        return Err(Refusal::Fault(LineFault::TooLarge));
+    }
+    Ok(room - amount)
+}
+
+fn list(alloc: Global, elements: Vec<Value>) -> Result<Value, Refusal>
+    ensures { Gives tree result (closed limited (trees elements.items)) }
+{
+    match MooList::try_from_vec(alloc, elements) {
+        Ok(list) => Ok(Value::List(list)),
+        Err(ListFault::TooLarge) => Err(Refusal::Fault(LineFault::TooLarge)),
+        Err(ListFault::Memory) => Err(Refusal::Memory),
+    }
+}
+
+impl ValueReader {
+    /// A reader of a value, before its first line.
+    pub fn new(alloc: Global) -> ValueReader
+        ensures { partial_of result ≡ begun }
+    {
+        ValueReader {
+            expected: Expected::Type,
+            room: FULL_ROOM,
+            lists: Vec::new(alloc),
+        }
+    }
+
+    fn complete(&mut self, alloc: Global, value: Value) -> Result<Option<Value>, Refusal>
+        ensures { Gives (λ o. (partial_of self.new, option_map tree o)) result (after_value limited (tree value) self.old.room (innermost_first self.old.lists.items)) }
+    {
+        let mut value = value;
+        self.expected = Expected::Type;
+        while let Some(mut open) = self.lists.pop() {
+            open.items.push(value)?;
+            if open.left > 0 {
+                open.left -= 1;
+                self.lists.push(open)?;
+                return Ok(None);
+            }
+            value = list(alloc, open.items)?;
+        }
+        self.room = FULL_ROOM;
+        Ok(Some(value))
+    }
+
+    #[tactic(auto, using(crate::proofs::Stack::innermost_first_push))]
+    fn open(&mut self, alloc: Global, length: u32) -> Result<Option<Value>, Refusal>
+        ensures { Gives (λ o. (partial_of self.new, option_map tree o)) result (after_count limited length self.old.room (innermost_first self.old.lists.items)) }
+    {
+        if length == 0 {
+            let empty = list(alloc, Vec::new(alloc))?;
+            return self.complete(alloc, empty);
+        }
+        self.expected = Expected::Type;
+        self.lists.push(OpenList {
+            items: Vec::new(alloc),
+            left: length - 1,
+        })?;
+        Ok(None)
+    }
+
+    fn may_open(&self) -> bool
+        ensures { result ≡ nat_lt (length (innermost_first self.now.lists.items)) depth_limit }
+    {
+        self.lists.len() < DEPTH_LIMIT as usize
+    }
+
+    /// Takes the next line of a value, and gives the value at its last. Limits on sizes are told at the
+    /// first line after which no value is within them.
+    #[tactic(auto, unfolding(crate::specs::Reading::value_step))]
+    pub fn step(&mut self, alloc: Global, line: &[u8]) -> Result<Option<Value>, Refusal>
+        ensures { Gives (λ o. (partial_of self.new, option_map tree o)) result (value_line limited (partial_of self.old) line.now) }
+    {
+        match self.expected {
+            Expected::Type => {
+                let expected = expected_after(line)?;
+                if matches!(expected, Expected::Count) && !self.may_open() {
+                    return Err(Refusal::Fault(LineFault::TooLarge));
+                }
+                self.expected = expected;
+                Ok(None)
+            }
+            Expected::Int => self.complete(alloc, Value::Int(number(line)?)),
+            Expected::Obj => self.complete(alloc, Value::Obj(number(line)?)),
+            Expected::Error => self.complete(alloc, Value::Err(error(line)?)),
+            Expected::Str => {
+                let string = text(alloc, line)?;
+                self.room = left_of(self.room, string.len() as u32)?;
+                self.complete(alloc, Value::Str(string))
+            }
+            Expected::Count => {
+                let length = count(line)?;
+                self.room = left_of(self.room, length)?;
+                self.open(alloc, length)
+            }
+        }
+    }
+}

@@ -1,9 +1,9 @@
-//! Tests of the parser against a plain recogniser that knows the grammar as a list of rules.
+//! A plain recogniser that knows the grammar as a list of rules, and tests of the parser against it.
 #![tactic(auto)]
 
-#[cfg(test)]
 mod recogniser;
-#[cfg(test)]
-mod rules;
+pub mod rules;
 #[cfg(test)]
 mod tests;
+
+pub use recogniser::Recogniser;

@@ -1,5 +1,7 @@
 //! A recogniser that follows all derivations at once: for each place of a text the rules that may stand there, how far
 //! each has come, and where it began.
+ghost use Rattle.std.specs.Prelude.{◌≡◌, ◌-◌, ◌+◌, ◌≤◌, length, IfOk, OnOk};
+
 use std::alloc::{AllocError, Global};
 
 /// A rule, how far it has come, and the place where it began.
@@ -62,7 +64,9 @@ fn add(items: &mut Vec<Item>, item: Item) -> Result<(), AllocError> {
 
 impl Recogniser {
     /// A recogniser of these rules, at the beginning of a program.
-    pub fn new(alloc: Global, lists: &[&[&'static str]]) -> Result<Recogniser, AllocError> {
+    pub fn new(alloc: Global, lists: &[&[&'static str]]) -> Result<Recogniser, AllocError>
+        ensures { IfOk result (λ r. length r.places.items ≡ 1) }
+    {
         let mut rules = Vec::new(alloc);
         for list in lists {
             rules.extend_from_slice(list)?;
@@ -78,8 +82,10 @@ impl Recogniser {
         Ok(recogniser)
     }
 
-    /// Reads a token.
-    pub fn read(&mut self, alloc: Global, token: u8) -> Result<(), AllocError> {
+    /// Reads a token, behind which is a place more.
+    pub fn read(&mut self, alloc: Global, token: u8) -> Result<(), AllocError>
+        ensures { OnOk result (length self.new.places.items ≡ length self.old.places.items + 1) }
+    {
         let mut items = Vec::new(alloc);
         if let Some(last) = self.places.last() {
             for item in last {
@@ -93,13 +99,17 @@ impl Recogniser {
         Ok(())
     }
 
-    /// Takes the last token back.
-    pub fn back(&mut self) {
+    /// Takes the last token back, and the place behind it.
+    pub fn back(&mut self)
+        ensures { length self.new.places.items ≡ length self.old.places.items - 1 }
+    {
         self.places.pop();
     }
 
     /// With how many of the tokens a program begins.
-    pub fn viable(&self) -> usize {
+    pub fn viable(&self) -> usize
+        ensures { result ≤ length self.now.places.items - 1 }
+    {
         let places = self
             .places
             .iter()

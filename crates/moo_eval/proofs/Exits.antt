@@ -1,5 +1,5 @@
 -- What the exits of a function say.
-use Rattle.std.proofs.Common.{◌≡◌, ℕ, ℤ, Option, List, [], ◌∷◌, ◌++◌, append_assoc, false, Result, Ok, Err, refl, sym, ap, ◌∙◌}
+use Rattle.std.proofs.Common.{◌≡◌, ℕ, ℤ, Option, Some, None, List, [], ◌∷◌, ◌++◌, append_assoc, false, Result, Ok, Err, refl, sym, ap, ◌∙◌}
 use Rattle.std.proofs.lemmas.List.{map-append}
 use Rattle.moo_value.specs.declared.value.Value.{Value}
 use Rattle.moo_value.specs.declared.error_code.ErrorCode.{ErrorCode}
@@ -16,7 +16,8 @@ use Rattle.moo_program.specs.declared.tree.Item.{Item, Element', Splice', Option
 use Rattle.moo_program.specs.Tree.{Items}
 use Rattle.moo_program.specs.View.{with_item}
 use Rattle.moo_outcome.specs.State.{Context, State}
-use Rattle.moo_outcome.specs.Outcome.{Failure, fails, answers, goes_on}
+use Rattle.moo_outcome.specs.Handling.{Guarded, guarded_before}
+use Rattle.moo_outcome.specs.Outcome.{Stop, Failure, fails, answers, goes_on}
 use Rattle.moo_eval.specs.Meaning.{EvaluatesAll, optional_fails, defaulted_fails, before}
 use Rattle.moo_outcome.specs.Seen.{failure_of, flow_of, HadMemoryIn}
 use Rattle.moo_outcome.specs.Fault.{failed}
@@ -41,6 +42,8 @@ trees_pushed vs us v p = ap trees p ∙ map-append tree vs (v ∷ [])
 pub goes_on-not : (flow : code_flow.Flow) → (flow ≡ flow_case.Next → ⊥) → goes_on (Ok (flow_of flow)) ≡ false
 goes_on-not flow_case.Next h = absurd (h refl)
 goes_on-not (flow_case.Return v) h = refl
+goes_on-not (flow_case.Break n) h = refl
+goes_on-not (flow_case.Continue n) h = refl
 
 -- states with the same variables and programmer
 pub same_state : {n : ℕ} {f g : List ℕ → Option Tree} {p q : ℤ} → f ≡ g → p ≡ q → ◌≡◌ {A = State} (record { ticks = n; variables = f; programmer = p }) (record { ticks = n; variables = g; programmer = q })
@@ -57,3 +60,17 @@ optional_ends (Element' p e) xs h = absurd h
 optional_ends (Splice' p e) xs h = absurd h
 optional_ends (Optional' x None') xs h = optional_fails
 optional_ends (Optional' x (Some' p e)) xs h = defaulted_fails
+
+-- the handlers so far before one more
+pub guarded_on : (gs us : List Guarded) (g : Guarded) (o : Result (List Guarded) Stop) → us ≡ gs ++ g ∷ [] → guarded_before gs (guarded_before (g ∷ []) o) ≡ guarded_before us o
+guarded_on gs us g (Ok hs) p = ap Ok (sym (append_assoc gs (g ∷ []) hs) ∙ ap (λ x. x ++ hs) (sym p))
+guarded_on gs us g (Err stop) p = refl
+
+-- states with as many ticks and the same variables
+pub state_at : {n m : ℕ} {f g : List ℕ → Option Tree} {p : ℤ} → n ≡ m → f ≡ g → ◌≡◌ {A = State} (record { ticks = n; variables = f; programmer = p }) (record { ticks = m; variables = g; programmer = p })
+state_at {p = p} e h = λ i. record { ticks = e i; variables = h i; programmer = p }
+
+-- a turn after which the loop goes on
+pub no_flow : (o : Option code_flow.Flow) → ((flow : code_flow.Flow) → o ≡ Some flow → ⊥) → o ≡ None
+no_flow None h = refl
+no_flow (Some flow) h = absurd (h flow refl)

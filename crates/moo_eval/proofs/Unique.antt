@@ -1,29 +1,27 @@
--- For one input there is at most one result.
+-- For one input an expression has at most one result.
 use Rattle.std.proofs.Common.{◌≡◌, List, [], ◌∷◌, Result, Ok, Err, refl, sym, ap, ◌∙◌, subst, arith}
 use Rattle.moo_value.specs.Tree.{Tree}
-use Rattle.moo_program.specs.Tree.{Expr, Items, Stmt, Block}
-use Rattle.moo_outcome.specs.Outcome.{Stop, Failure, fails, Flow, answers, passes, settled, goes_out, goes_on}
+use Rattle.moo_program.specs.Tree.{Expr, Items}
+use Rattle.moo_outcome.specs.Outcome.{Stop, Failure, fails, answers, passes, settled}
 use Rattle.moo_outcome.specs.Variables.{bind}
 use Rattle.moo_outcome.specs.Catching.{caught}
 use Rattle.moo_outcome.specs.Scatter.{given, LeftOut, missing}
 use Rattle.moo_outcome.specs.Target.{Root, Step, Path, spots, root_from}
-use Rattle.moo_outcome.specs.declared.frame.Frame.{Frame}
-use Rattle.moo_eval.specs.Task.{End, TaskEnds, end_of}
 use Rattle.moo_outcome.specs.State.{Context, State, within, bound, trace}
-use Rattle.moo_eval.specs.Meaning.{Evaluates, Computes, EvaluatesAll, Applies, Assigns, Locates, Finds, Enters, Steps, Stores, Puts, SetsDefaults, Runs, Does, RunsAll, places, before, with_value, spent, begins, operands_end, places_end, applies, no_more, element_stops, element_then, splice_stops, splice_fails, splice_then, optional_fails, defaulted_fails, literal_is, variable_is, length_is, unary_is, binary_is, logic_decides, logic_goes_on, conditional_true, conditional_false, index_is, range_is, list_is, property_is, verb_is, call_is, assign_is, catch_passes, catch_gives, catch_or_passes, catch_or_goes_on, target_ends, value_stops, assigns, root_ends, locates, parts_end, finds, inside, step_ends, enters, unread, spot_ends, steps_in, no_store, stores, puts_variable, puts_property, scatter_fails, scatters, none_missing, default_stops, default_then, statement_spent, statement_begins, gives_zero, gives, ends, leaves, proceeds}
+use Rattle.moo_eval.specs.Meaning.{Evaluates, Computes, EvaluatesAll, Applies, Assigns, Locates, Finds, Enters, Steps, Stores, Puts, SetsDefaults, places, before, with_value, spent, begins, operands_end, places_end, applies, no_more, element_stops, element_then, splice_stops, splice_fails, splice_then, optional_fails, defaulted_fails, literal_is, variable_is, length_is, unary_is, binary_is, logic_decides, logic_goes_on, conditional_true, conditional_false, index_is, range_is, list_is, property_is, verb_is, call_is, assign_is, catch_passes, catch_gives, catch_or_passes, catch_or_goes_on, target_ends, value_stops, assigns, root_ends, locates, parts_end, finds, inside, step_ends, enters, unread, spot_ends, steps_in, no_store, stores, puts_variable, puts_property, scatter_fails, scatters, none_missing, default_stops, default_then}
 
 -- two outcomes are the same, and so are the states after them
 abbrev pub Same : {O : Type 0} → O → State → O → State → Type 0
 Same o s p t = (o ≡ p) × (s ≡ t)
 
 -- a fact at the same places
-moved : {A : Type 0} (P : A → State → Type 0) {a b : A} {s t : State} → a ≡ b → s ≡ t → P b t → P a s
+pub moved : {A : Type 0} (P : A → State → Type 0) {a b : A} {s t : State} → a ≡ b → s ≡ t → P b t → P a s
 moved P {s = s} p q h = subst (λ x. P x s) (sym p) (subst (P _) (sym q) h)
 
-moved_twice : {A B : Type 0} (P : A → B → State → Type 0) {a b : A} {x y : B} {s t : State} → a ≡ b → x ≡ y → s ≡ t → P b y t → P a x s
+pub moved_twice : {A B : Type 0} (P : A → B → State → Type 0) {a b : A} {x y : B} {s t : State} → a ≡ b → x ≡ y → s ≡ t → P b y t → P a x s
 moved_twice P {b = b} {x = x} {y = y} {s = s} p r q h = subst (λ u. P u x s) (sym p) (subst (λ u. P b u s) (sym r) (subst (λ u. P b y u) (sym q) h))
 
-at_state : (P : State → Type 0) {s t : State} → s ≡ t → P t → P s
+pub at_state : (P : State → Type 0) {s t : State} → s ≡ t → P t → P s
 at_state P q h = subst P (sym q) h
 
 mutual
@@ -63,7 +61,7 @@ mutual
       let r : ws ≡ ws' = cc in
       one_applied a (moved_twice (λ x y z. Applies c e x y z p u) q r k.1 a')
 
-  one_list : {c : Context} {es : Items} {s s' t : State} {o p : Result (List Tree) Failure} → EvaluatesAll c es s o s' → EvaluatesAll c es s p t → Same o s' p t
+  pub one_list : {c : Context} {es : Items} {s s' t : State} {o p : Result (List Tree) Failure} → EvaluatesAll c es s o s' → EvaluatesAll c es s p t → Same o s' p t
   one_list no_more no_more = (refl, refl)
   one_list (element_stops d) (element_stops d') = let h = one_result d d' in (cc, h.1)
   one_list (element_stops d) (element_then d' a' g') = let h = one_result d d' in cc
@@ -239,23 +237,3 @@ mutual
       let q : v ≡ w = cc in
       let r = sym f ∙ ap (λ z. bound (bind x.name z ∷ []) u) q ∙ ap (bound (bind x.name w ∷ [])) h.1 ∙ f' in
       one_default e (at_state (λ i. SetsDefaults c ds i p t) r e')
-
-  one_run : {c : Context} {b : Stmt} {s s' t : State} {o p : Result Flow Stop} → Runs c b s o s' → Runs c b s p t → Same o s' p t
-  one_run (statement_spent z) (statement_spent z') = (refl, refl)
-  one_run (statement_spent z) (statement_begins z' d') = absurd (omega arith)
-  one_run (statement_begins z d) (statement_spent z') = absurd (omega arith)
-  one_run (statement_begins z d) (statement_begins z' d') = one_done d d'
-
-  one_done : {c : Context} {b : Stmt} {s s' t : State} {o p : Result Flow Stop} → Does c b s o s' → Does c b s p t → Same o s' p t
-  one_done gives_zero gives_zero = (refl, refl)
-  one_done (gives d g) (gives d' g') = let h = one_result d d' in (sym g ∙ ap goes_out h.0 ∙ g', h.1)
-
-  pub one_block : {c : Context} {b : Block} {s s' t : State} {o p : Result Flow Stop} → RunsAll c b s o s' → RunsAll c b s p t → Same o s' p t
-  one_block ends ends = (refl, refl)
-  one_block (leaves d f) (leaves d' f') = one_run d d'
-  one_block (leaves d f) (proceeds d' a') = let h = one_run d d' in let q = sym f ∙ ap goes_on h.0 in cc
-  one_block (proceeds d a) (leaves d' f') = let h = one_run d d' in let q = sym f' ∙ ap goes_on (sym h.0) in cc
-  one_block (proceeds {c = c} {b = b} d a) (proceeds {s'' = t} {o = p} d' a') = let h = one_run d d' in one_block a (at_state (λ x. RunsAll c b x p t) h.1 a')
-
-pub one_end : {start : Frame} {end other : End} → TaskEnds start end → TaskEnds start other → end ≡ other
-one_end d d' = sym d.ends ∙ ap end_of (one_block d.runs d'.runs).0 ∙ d'.ends

@@ -1,4 +1,5 @@
 pub mod Meaning
+pub mod Statements
 pub mod Task
 pub mod Seen
 pub mod Ends

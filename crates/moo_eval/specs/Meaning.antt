@@ -1,4 +1,4 @@
--- What a program does: a big-step relation between a state, an outcome and the state after it.
+-- What an expression gives: a big-step relation between a state, an outcome and the state after it.
 use Rattle.std.specs.Prelude.{◌≡◌, ◌<◌, ℕ, pos, true, false, List, [], ◌∷◌, ◌++◌, Some, None, Result, Ok, Err}
 use Rattle.moo_value.specs.declared.error_code.ErrorCode.TheVariants.{VariableNotFound, TypeMismatch}
 use Rattle.moo_value.specs.declared.error_code.ErrorCode.{ErrorCode}
@@ -9,7 +9,7 @@ use Rattle.moo_program.specs.declared.operator.BinaryOperator.{BinaryOperator}
 use Rattle.moo_program.specs.declared.operator.LogicOperator.{LogicOperator}
 use Rattle.moo_program.specs.declared.tree.Literal.{Literal}
 use Rattle.moo_program.specs.Tree as program
-use Rattle.moo_program.specs.Tree.{Expr, literal, variable, length_mark, unary, binary, logic, conditional, index, range, property, verb_call, call, assign, catch, catch_or, Items, no_items, element, splice, optional, defaulted, Codes, Stmt, return_nothing, returns, Block, no_statement, then, literal_value}
+use Rattle.moo_program.specs.Tree.{Expr, literal, variable, length_mark, unary, binary, logic, conditional, index, range, property, verb_call, call, assign, catch, catch_or, Items, no_items, element, splice, optional, defaulted, Codes, literal_value}
 use Rattle.moo_operation.specs.Truth.{is_true, is_decided}
 use Rattle.moo_operation.specs.Operators.{unary_of, binary_of}
 use Rattle.moo_operation.specs.Places.{index_of, range_of, spliced_of, made_list}
@@ -19,7 +19,7 @@ use Rattle.moo_outcome.specs.Catching.{guards, caught}
 use Rattle.moo_outcome.specs.Calls.{read_property, put_refusal, call_verb, call_function}
 use Rattle.moo_outcome.specs.Scatter.{dealt, given, LeftOut, missing}
 use Rattle.moo_outcome.specs.Target.{Root, named, owned, scattered, Step, Path, root_of, spots, root_parts, root_from, held, rebuilt}
-use Rattle.moo_outcome.specs.Outcome.{Stop, out_of_ticks, Failure, fails, stops, Flow, next, returned, or_error, answers, passes, settled, goes_out, goes_on}
+use Rattle.moo_outcome.specs.Outcome.{Stop, out_of_ticks, Failure, fails, stops, or_error, answers, passes, settled}
 
 -- the parts of an expression that are evaluated first, from left to right
 abbrev pub operands : Expr → Items
@@ -262,30 +262,3 @@ mutual
     default_then : {c : Context} {d : LeftOut} {ds : List LeftOut} {s s' s'' s3 : State} {v : Tree} {o : Result (Unit {0}) Failure} →
         Evaluates c d.value s (Ok v) s' → bound (bind d.name v ∷ []) s' ≡ s'' → SetsDefaults c ds s'' o s3 →
         SetsDefaults c (d ∷ ds) s o s3
-
-  -- A statement takes a tick as it begins.
-  pub data Runs : Context → Stmt → State → Result Flow Stop → State → Type 0 where
-    statement_spent : {c : Context} {t : Stmt} {s : State} →
-        s.ticks ≡ 0 →
-        Runs c t s (Err (out_of_ticks (trace c s))) s
-    statement_begins : {c : Context} {t : Stmt} {s s' : State} {o : Result Flow Stop} →
-        0 < s.ticks → Does c t (ticked s) o s' →
-        Runs c t s o s'
-
-  pub data Does : Context → Stmt → State → Result Flow Stop → State → Type 0 where
-    gives_zero : {c : Context} {s : State} →
-        Does c return_nothing s (Ok (returned (integer (pos 0)))) s
-    gives : {c : Context} {e : Expr} {s s' : State} {o : Result Tree Stop} {r : Result Flow Stop} →
-        Evaluates c e s o s' → goes_out o ≡ r →
-        Does c (returns e) s r s'
-
-  -- Statements in order, up to one that leads elsewhere.
-  pub data RunsAll : Context → Block → State → Result Flow Stop → State → Type 0 where
-    ends : {c : Context} {s : State} →
-        RunsAll c no_statement s (Ok next) s
-    leaves : {c : Context} {t : Stmt} {b : Block} {s s' : State} {o : Result Flow Stop} →
-        Runs c t s o s' → goes_on o ≡ false →
-        RunsAll c (then t b) s o s'
-    proceeds : {c : Context} {t : Stmt} {b : Block} {s s' s'' : State} {o : Result Flow Stop} →
-        Runs c t s (Ok next) s' → RunsAll c b s' o s'' →
-        RunsAll c (then t b) s o s''

@@ -4,11 +4,12 @@ use Rattle.moo_value.specs.Tree.{Tree, integer}
 use Rattle.moo_program.specs.Tree.{Expr, Block}
 use Rattle.moo_outcome.specs.declared.frame.Frame.{Frame}
 use Rattle.moo_outcome.specs.Outcome as outcome
-use Rattle.moo_outcome.specs.Outcome.{Stop, raised, Flow, next, returned}
+use Rattle.moo_outcome.specs.Outcome.{Stop, raised, Flow, next, returned, broken, continued}
 use Rattle.moo_outcome.specs.State.{Context, State}
 use Rattle.moo_outcome.specs.Variables.{first_bindings, value_of_name}
 use Rattle.moo_outcome.specs.Traceback.{traceback}
-use Rattle.moo_eval.specs.Meaning.{Evaluates, RunsAll}
+use Rattle.moo_eval.specs.Meaning.{Evaluates}
+use Rattle.moo_eval.specs.Statements.{RunsAll}
 
 -- how a task ends: a value, or the lines of its traceback
 pub data End : Type 0 where
@@ -19,6 +20,8 @@ pub data End : Type 0 where
 abbrev pub end_of : Result Flow Stop → End
 end_of (Ok next) = value (integer (pos 0))
 end_of (Ok (returned v)) = value v
+end_of (Ok (broken name)) = value (integer (pos 0))
+end_of (Ok (continued name)) = value (integer (pos 0))
 end_of (Err (raised raise)) = uncaught (traceback raise.message raise.trace)
 end_of (Err (outcome.out_of_ticks trace)) = out_of_ticks (traceback (codes "Task ran out of ticks") trace)
 

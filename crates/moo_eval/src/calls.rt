@@ -92,9 +92,9 @@ impl Task {
         }
     }
 
-    // The values of a catch's codes.
+    /// The values of the codes of a catch or of a handler.
     #[cycle(evaluation)]
-    fn guards(
+    pub(crate) fn guards(
         &mut self,
         active: &mut Activation,
         stack: &CallStack,

@@ -255,7 +255,7 @@ fn without_the_d_bit_a_failed_assignment_is_an_error(rt: HostRuntime) -> Result<
 }
 
 // The fewest ticks in which the program doesn't run out of them.
-fn ticks(alloc: Global, program: &str) -> Result<u32, Fail> {
+pub(crate) fn ticks(alloc: Global, program: &str) -> Result<u32, Fail> {
     for count in 0..20 {
         let start = frame(alloc, program)?;
         let variables = Variables::first(alloc, &start)?;

@@ -8,10 +8,14 @@ mod expression_tests;
 mod interpreter;
 pub mod laws;
 mod line;
+mod loops;
 mod statement;
+#[cfg(test)]
+mod statement_tests;
 mod task;
 #[cfg(test)]
 mod tests;
+mod trying;
 mod typed;
 
 pub use line::{EvalLine, eval_line};

@@ -56,7 +56,7 @@ fn end_of_task(alloc: Global, outcome: Result<Flow, Stop>) -> Ended
 {
     match outcome {
         Ok(Flow::Return(value)) => Ended::Value(value),
-        Ok(Flow::Next) => Ended::Value(Value::Int(0)),
+        Ok(Flow::Next | Flow::Break(_) | Flow::Continue(_)) => Ended::Value(Value::Int(0)),
         Err(Stop::Raised(raise)) => match traceback_lines(
             alloc,
             raise.message.as_bytes(),

@@ -1,21 +1,24 @@
 -- What stricter rules derive, looser ones derive too.
-use Rattle.std.proofs.Common.{List, ◌≡◌, refl, Bool, true, false, not, ◌||◌}
+use Rattle.std.proofs.Common.{ℕ, List, ◌≡◌, refl, Bool, true, false, not, ◌||◌, Option, Some, None}
 use Rattle.moo_token.specs.declared.token.Token.{Token}
 use Rattle.moo_program.specs.Tree.{Expr, Block}
 use Rattle.moo_program.specs.Target.{is_target}
 use Rattle.moo_grammar.specs.declared.names.Names.{Names}
-use Rattle.moo_grammar.specs.Rules.{Rules, Admits, loose, strict, may_assign}
+use Rattle.moo_grammar.specs.Rules.{Rules, Admits, loose, strict, may_assign, has_loop, may_jump}
 use Rattle.moo_grammar.specs.Grammar
 use Rattle.moo_grammar.specs.Grammar.{Of, Kind, Derives, sort, IsProgram, IsProgramBy}
 
-by_targets : (b c t : Bool) → (b ≡ true → c ≡ true) → (not c || t) ≡ true → (not b || t) ≡ true
-by_targets false c t k e = refl
-by_targets true true t k e = e
-by_targets true false t k e = absurd (let f = k refl in cc)
+by_rule : (b c t : Bool) → (b ≡ true → c ≡ true) → (not c || t) ≡ true → (not b || t) ≡ true
+by_rule false c t k e = refl
+by_rule true true t k e = e
+by_rule true false t k e = absurd (let f = k refl in cc)
 
 -- what may be assigned to where more is asked
 may_assign_still : {g h : Rules} → Admits g h → (a : Expr) → may_assign h a ≡ true → may_assign g a ≡ true
-may_assign_still {g} {h} k a e = by_targets g.targets h.targets (is_target a) k.targets e
+may_assign_still {g} {h} k a e = by_rule g.targets h.targets (is_target a) k.targets e
+
+may_jump_still : {g h : Rules} → Admits g h → (ls : List (Option (List ℕ))) (x : Option (List ℕ)) → may_jump h ls x ≡ true → may_jump g ls x ≡ true
+may_jump_still {g} {h} k ls x e = by_rule g.loops h.loops (has_loop ls x) k.loops e
 
 pub admitted : {g h : Rules} {k : Kind} {ts r : List Token} {e : Of (sort k)} → Admits g h → Derives h k ts e r → Derives g k ts e r
 admitted h (Grammar.plain d) = Grammar.plain (admitted h d)
@@ -65,10 +68,30 @@ admitted h Grammar.one_optional = Grammar.one_optional
 admitted h (Grammar.an_optional d) = Grammar.an_optional (admitted h d)
 admitted h (Grammar.one_default d) = Grammar.one_default (admitted h d)
 admitted h (Grammar.a_default c d) = Grammar.a_default (admitted h c) (admitted h d)
+admitted h (Grammar.branch b c d) = Grammar.branch (admitted h b) (admitted h c) (admitted h d)
+admitted h (Grammar.for_elements c d) = Grammar.for_elements (admitted h c) (admitted h d)
+admitted h (Grammar.for_numbers b c d) = Grammar.for_numbers (admitted h b) (admitted h c) (admitted h d)
+admitted h (Grammar.while_true b c d) = Grammar.while_true (admitted h b) (admitted h c) (admitted h d)
+admitted h (Grammar.breaks_loop {ls = ls} is) = Grammar.breaks_loop (may_jump_still h ls None is)
+admitted h (Grammar.breaks_named {ls = ls} {x = x} is) = Grammar.breaks_named (may_jump_still h ls (Some x) is)
+admitted h (Grammar.continues_loop {ls = ls} is) = Grammar.continues_loop (may_jump_still h ls None is)
+admitted h (Grammar.continues_named {ls = ls} {x = x} is) = Grammar.continues_named (may_jump_still h ls (Some x) is)
 admitted h Grammar.returns_nothing = Grammar.returns_nothing
 admitted h (Grammar.returns_value d) = Grammar.returns_value (admitted h d)
+admitted h (Grammar.tries c d) = Grammar.tries (admitted h c) (admitted h d)
+admitted h (Grammar.cleans_up c d) = Grammar.cleans_up (admitted h c) (admitted h d)
+admitted h (Grammar.performed d) = Grammar.performed (admitted h d)
+admitted h Grammar.no_arms = Grammar.no_arms
+admitted h (Grammar.last_arm d) = Grammar.last_arm (admitted h d)
+admitted h (Grammar.an_arm b c d) = Grammar.an_arm (admitted h b) (admitted h c) (admitted h d)
+admitted h (Grammar.one_handler b c d) = Grammar.one_handler (admitted h b) (admitted h c) (admitted h d)
+admitted h (Grammar.a_handler a b c d) = Grammar.a_handler (admitted h a) (admitted h b) (admitted h c) (admitted h d)
+admitted h (Grammar.parenthesized d) = Grammar.parenthesized (admitted h d)
+admitted h Grammar.unlabelled = Grammar.unlabelled
+admitted h Grammar.labelled = Grammar.labelled
 admitted h Grammar.no_statements = Grammar.no_statements
 admitted h (Grammar.one_statement c d) = Grammar.one_statement (admitted h c) (admitted h d)
+admitted h (Grammar.an_end d) = Grammar.an_end (admitted h d)
 
 pub loose_admits : (h : Rules) → Admits loose h
 loose_admits h = record { targets = λ e. absurd cc; functions = λ s e. refl; loops = λ e. absurd cc }

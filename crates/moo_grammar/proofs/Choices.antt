@@ -1,20 +1,21 @@
 -- Which token can stand behind a phrase, and which can begin one.
-use Rattle.std.proofs.Common.{ℕ, ◌+◌, ◌<◌, ◌≤◌, List, [], ◌∷◌, ◌≡◌, refl, ap, Bool, true, false, Some, is_some, arith}
+use Rattle.std.proofs.Common.{ℕ, ◌+◌, ◌<◌, ◌≤◌, List, [], ◌∷◌, ◌≡◌, refl, ap, Bool, true, false, not, ◌||◌, Option, Some, None, is_some, arith}
 use denote.Enum.Bare.{sameb, same_true}
 use Rattle.moo_token.specs.contracts.sign.Sign.{the_type}
 use Rattle.moo_token.specs.declared.sign.Sign.{Sign}
 use Rattle.moo_token.specs.declared.sign.Sign.TheVariants as sign
+use Rattle.moo_token.specs.declared.keyword.Keyword.{Keyword}
 use Rattle.moo_token.specs.declared.keyword.Keyword.TheVariants as keyword
 use Rattle.moo_token.specs.declared.token.Token.{Token}
 use Rattle.moo_token.specs.declared.token.Token.TheVariants as token
 use Rattle.moo_grammar.specs.declared.level.Level.{Level}
 use Rattle.moo_grammar.specs.declared.level.Level.TheVariants.{Logic, Relation, Sum, Product}
 use Rattle.moo_grammar.specs.declared.level.Operator.{Operator}
-use Rattle.moo_grammar.specs.Tokens.{is_sign, sign_operator, is_keyword, operator_at, literal_at, name_at, is_closer, begins_statement}
-use Rattle.moo_grammar.specs.Rules.{Rules}
+use Rattle.moo_grammar.specs.Tokens.{is_sign, sign_operator, is_keyword, operator_at, literal_at, name_at, is_closer, begins_expression, begins_statement}
+use Rattle.moo_grammar.specs.Rules.{Rules, has_loop, may_jump}
 use Rattle.moo_grammar.specs.Grammar
 use Rattle.moo_grammar.specs.Grammar.{Sort, Of, Kind, Derives, sort}
-use Rattle.moo_program.specs.Tree.{Expr}
+use Rattle.moo_program.specs.Tree.{Expr, Arms}
 use Rattle.moo_grammar.specs.Machine.{next_passes}
 
 -- How loose a phrase is that the token can continue, where it stands behind it.
@@ -73,13 +74,16 @@ limit (Grammar.primary i) = 1
 limit (Grammar.arguments i o) = 10
 limit (Grammar.members i o) = 10
 limit (Grammar.codes i) = 10
-limit Grammar.statement = 0
-limit Grammar.statements = 0
+limit _ = 0
 
 abbrev pub Follows : Kind → List Token → Type 0
 Follows (Grammar.arguments i o) r = next_passes is_closer r ≡ true
-Follows Grammar.statement r = Unit {0}
-Follows Grammar.statements r = next_passes begins_statement r ≡ false
+Follows (Grammar.statement ls) r = Unit {0}
+Follows (Grammar.statements ls) r = next_passes begins_statement r ≡ false
+Follows (Grammar.arms ls) r = next_passes (is_keyword keyword.EndIf) r ≡ true
+Follows (Grammar.handlers ls) r = next_passes (is_keyword keyword.EndTry) r ≡ true
+Follows Grammar.in_parens r = Unit {0}
+Follows Grammar.label r = next_passes (λ x. is_some (name_at x)) r ≡ false
 Follows k r = limit k ≤ next_looseness r
 
 bool_cases : (b : Bool) → (b ≡ true → ⊥) → b ≡ false
@@ -159,36 +163,34 @@ begins_primary (token.Str s) = true
 begins_primary (token.Name s) = true
 begins_primary _ = false
 
--- what can begin an expression
-abbrev pub begins : Token → Bool
-begins (token.Sign sign.Bang) = true
-begins (token.Sign sign.Minus) = true
-begins x = begins_primary x
-
 abbrev pub begins_member : Token → Bool
 begins_member (token.Sign sign.At) = true
 begins_member (token.Sign sign.Question) = true
-begins_member x = begins x
+begins_member x = begins_expression x
 
 abbrev pub First : Kind → List Token → Type 0
 First (Grammar.more i l a) ts = Unit {0}
 First (Grammar.suffixes i a) ts = Unit {0}
 First (Grammar.arguments i o) ts = Unit {0}
 First (Grammar.codes i) ts = Unit {0}
-First Grammar.statements ts = Unit {0}
-First Grammar.statement ts = next_passes begins_statement ts ≡ true
+First (Grammar.statements ls) ts = Unit {0}
+First (Grammar.arms ls) ts = Unit {0}
+First Grammar.label ts = Unit {0}
+First Grammar.in_parens ts = next_passes (is_sign sign.LeftParen) ts ≡ true
+First (Grammar.statement ls) ts = (next_passes begins_statement ts ≡ true) × (next_passes (is_sign sign.Semicolon) ts ≡ false)
+First (Grammar.handlers ls) ts = next_passes (is_keyword keyword.Except) ts ≡ true
 First (Grammar.members i o) ts = next_passes begins_member ts ≡ true
 First (Grammar.primary i) ts = next_passes begins_primary ts ≡ true
 First (Grammar.postfix i) ts = next_passes begins_primary ts ≡ true
-First _ ts = next_passes begins ts ≡ true
+First _ ts = next_passes begins_expression ts ≡ true
 
-pub begins_more : (ts : List Token) → next_passes begins_primary ts ≡ true → next_passes begins ts ≡ true
+pub begins_more : (ts : List Token) → next_passes begins_primary ts ≡ true → next_passes begins_expression ts ≡ true
 begins_more [] h = h
 begins_more (token.Sign sign.Bang ∷ r) h = refl
 begins_more (token.Sign sign.Minus ∷ r) h = refl
 begins_more (_ ∷ r) h = h
 
-pub begins_member_more : (ts : List Token) → next_passes begins ts ≡ true → next_passes begins_member ts ≡ true
+pub begins_member_more : (ts : List Token) → next_passes begins_expression ts ≡ true → next_passes begins_member ts ≡ true
 begins_member_more [] h = h
 begins_member_more (token.Sign sign.At ∷ r) h = refl
 begins_member_more (token.Sign sign.Question ∷ r) h = refl
@@ -200,6 +202,18 @@ literal_begins (token.Object n) ts e = refl
 literal_begins (token.Error c) ts e = refl
 literal_begins (token.Str s) ts e = refl
 literal_begins _ ts e = absurd cc
+
+pub expression_is_no_end : (ts : List Token) → next_passes begins_expression ts ≡ true → next_passes (is_sign sign.Semicolon) ts ≡ false
+expression_is_no_end [] h = refl
+expression_is_no_end (token.Sign sign.Semicolon ∷ r) h = absurd cc
+expression_is_no_end (_ ∷ r) h = refl
+
+begins_statement_more : (ts : List Token) → next_passes begins_expression ts ≡ true → next_passes begins_statement ts ≡ true
+begins_statement_more [] h = h
+begins_statement_more (token.Keyword k ∷ r) h = absurd cc
+begins_statement_more (token.Sign sign.Semicolon ∷ r) h = refl
+begins_statement_more (token.Sign m ∷ r) h = h
+begins_statement_more (_ ∷ r) h = h
 
 pub first : {g : Rules} {k : Kind} {ts r : List Token} {e : Of (sort k)} → Derives g k ts e r → First k ts
 first (Grammar.plain d) = first d
@@ -249,10 +263,30 @@ first Grammar.one_optional = refl
 first (Grammar.an_optional d) = refl
 first (Grammar.one_default d) = refl
 first (Grammar.a_default c d) = refl
-first Grammar.returns_nothing = refl
-first (Grammar.returns_value d) = refl
+first (Grammar.branch c d e) = (refl, refl)
+first (Grammar.for_elements c d) = (refl, refl)
+first (Grammar.for_numbers b c d) = (refl, refl)
+first (Grammar.while_true b c d) = (refl, refl)
+first (Grammar.breaks_loop is) = (refl, refl)
+first (Grammar.breaks_named is) = (refl, refl)
+first (Grammar.continues_loop is) = (refl, refl)
+first (Grammar.continues_named is) = (refl, refl)
+first Grammar.returns_nothing = (refl, refl)
+first (Grammar.returns_value d) = (refl, refl)
+first (Grammar.tries c d) = (refl, refl)
+first (Grammar.cleans_up c d) = (refl, refl)
+first (Grammar.performed d) = (begins_statement_more _ (first d), expression_is_no_end _ (first d))
+first Grammar.no_arms = tt
+first (Grammar.last_arm d) = tt
+first (Grammar.an_arm b c d) = tt
+first (Grammar.one_handler l c d) = refl
+first (Grammar.a_handler l c d e) = refl
+first (Grammar.parenthesized d) = refl
+first Grammar.unlabelled = tt
+first Grammar.labelled = tt
 first Grammar.no_statements = tt
-first (Grammar.one_statement d c) = tt
+first (Grammar.one_statement c d) = tt
+first (Grammar.an_end d) = tt
 
 -- tests that the first token of a phrase fails
 pub primary_is_unsigned : (ts : List Token) → next_passes begins_primary ts ≡ true → (next_passes (is_sign sign.Bang) ts ≡ false) × (next_passes (is_sign sign.Minus) ts ≡ false)
@@ -261,20 +295,15 @@ primary_is_unsigned (token.Sign sign.Bang ∷ r) h = absurd cc
 primary_is_unsigned (token.Sign sign.Minus ∷ r) h = absurd cc
 primary_is_unsigned (_ ∷ r) h = (refl, refl)
 
-pub expression_is_no_splice : (ts : List Token) → next_passes begins ts ≡ true → next_passes (is_sign sign.At) ts ≡ false
+pub expression_is_no_splice : (ts : List Token) → next_passes begins_expression ts ≡ true → next_passes (is_sign sign.At) ts ≡ false
 expression_is_no_splice [] h = refl
 expression_is_no_splice (token.Sign sign.At ∷ r) h = absurd cc
 expression_is_no_splice (_ ∷ r) h = refl
 
-pub expression_is_no_optional : (ts : List Token) → next_passes begins ts ≡ true → next_passes (is_sign sign.Question) ts ≡ false
+pub expression_is_no_optional : (ts : List Token) → next_passes begins_expression ts ≡ true → next_passes (is_sign sign.Question) ts ≡ false
 expression_is_no_optional [] h = refl
 expression_is_no_optional (token.Sign sign.Question ∷ r) h = absurd cc
 expression_is_no_optional (_ ∷ r) h = refl
-
-pub expression_is_no_end : (ts : List Token) → next_passes begins ts ≡ true → next_passes (is_sign sign.Semicolon) ts ≡ false
-expression_is_no_end [] h = refl
-expression_is_no_end (token.Sign sign.Semicolon ∷ r) h = absurd cc
-expression_is_no_end (_ ∷ r) h = refl
 
 pub member_is_no_closer : (ts : List Token) → next_passes begins_member ts ≡ true → (next_passes is_closer ts ≡ false) × (next_passes (is_keyword keyword.Any) ts ≡ false)
 member_is_no_closer [] h = (refl, refl)
@@ -282,6 +311,49 @@ member_is_no_closer (token.Sign sign.RightParen ∷ r) h = absurd cc
 member_is_no_closer (token.Sign sign.RightBrace ∷ r) h = absurd cc
 member_is_no_closer (token.Keyword k ∷ r) h = absurd cc
 member_is_no_closer (_ ∷ r) h = (refl, refl)
+
+pub expression_is_no_keyword : (k : Keyword) (ts : List Token) → next_passes begins_expression ts ≡ true → next_passes (is_keyword k) ts ≡ false
+expression_is_no_keyword k [] h = refl
+expression_is_no_keyword k (token.Keyword l ∷ r) h = absurd cc
+expression_is_no_keyword k (_ ∷ r) h = refl
+
+pub at_paren : (ts : List Token) → next_passes (is_sign sign.LeftParen) ts ≡ true → (next_passes (is_sign sign.LeftBracket) ts ≡ false) × (next_passes (λ x. is_some (name_at x)) ts ≡ false)
+at_paren [] h = absurd cc
+at_paren (token.Sign sign.LeftParen ∷ r) h = (refl, refl)
+at_paren (_ ∷ r) h = absurd cc
+
+-- what the end of a block is not
+pub end_if : (ts : List Token) → next_passes (is_keyword keyword.EndIf) ts ≡ true → (next_passes begins_statement ts ≡ false) × (next_passes (is_keyword keyword.ElseIf) ts ≡ false) × (next_passes (is_keyword keyword.Else) ts ≡ false)
+end_if [] h = absurd cc
+end_if (token.Keyword keyword.EndIf ∷ r) h = (refl, refl, refl)
+end_if (_ ∷ r) h = absurd cc
+
+pub end_try : (ts : List Token) → next_passes (is_keyword keyword.EndTry) ts ≡ true → (next_passes begins_statement ts ≡ false) × (next_passes (is_keyword keyword.Except) ts ≡ false)
+end_try [] h = absurd cc
+end_try (token.Keyword keyword.EndTry ∷ r) h = (refl, refl)
+end_try (_ ∷ r) h = absurd cc
+
+pub at_except : (ts : List Token) → next_passes (is_keyword keyword.Except) ts ≡ true → (next_passes begins_statement ts ≡ false) × (next_passes (is_keyword keyword.Finally) ts ≡ false)
+at_except [] h = absurd cc
+at_except (token.Keyword keyword.Except ∷ r) h = (refl, refl)
+at_except (_ ∷ r) h = absurd cc
+
+pub arms_end : {g : Rules} {ls : List (Option (List ℕ))} {ts r : List Token} {c : Arms} → Derives g (Grammar.arms ls) ts c r → next_passes (is_keyword keyword.EndIf) r ≡ true → next_passes begins_statement ts ≡ false
+arms_end Grammar.no_arms h = (end_if _ h).0
+arms_end (Grammar.last_arm d) h = refl
+arms_end (Grammar.an_arm b c d) h = refl
+
+-- a jump to a named loop has a loop round it
+some_loop : (ls : List (Option (List ℕ))) (x : List ℕ) → has_loop ls (Some x) ≡ true → has_loop ls None ≡ true
+some_loop [] x h = absurd cc
+some_loop (l ∷ ls) x h = refl
+
+or_else : (b t u : Bool) → (t ≡ true → u ≡ true) → (b || t) ≡ true → (b || u) ≡ true
+or_else true t u k h = refl
+or_else false t u k h = k h
+
+pub may_jump_out : (g : Rules) (ls : List (Option (List ℕ))) (x : List ℕ) → may_jump g ls (Some x) ≡ true → may_jump g ls None ≡ true
+may_jump_out g ls x h = or_else (not g.loops) (has_loop ls (Some x)) (has_loop ls None) (some_loop ls x) h
 
 pub more_follows : {g : Rules} {i : Bool} {l : Level} {a e : Expr} {m r : List Token} → Derives g (Grammar.more i l a) m e r → operand_limit l + 1 ≤ next_looseness r → operand_limit l ≤ next_looseness m
 more_follows Grammar.no_more h = omega arith

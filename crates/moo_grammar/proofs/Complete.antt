@@ -1,6 +1,7 @@
 -- Each phrase of the grammar is read as it stands, where no token behind it continues it.
 use Rattle.std.proofs.Common.{List, ◌≡◌, Bool, true, false, refl, ap, is_some, arith}
 use Rattle.moo_token.specs.declared.sign.Sign.TheVariants.{LeftParen, LeftBracket, Comma, Dot, Colon, Assign, Question, Caret}
+use Rattle.moo_token.specs.declared.keyword.Keyword.TheVariants.{If, For, While, Break, Continue, Return, Try}
 use Rattle.moo_token.specs.declared.token.Token.{Token}
 use Rattle.moo_grammar.specs.Rules.{Rules}
 use Rattle.moo_grammar.specs.Grammar
@@ -9,7 +10,7 @@ use Rattle.moo_grammar.specs.Tokens.{is_sign}
 use Rattle.moo_program.specs.Tree.{Expr, Items}
 use Rattle.moo_grammar.specs.Machine.{Reading, next_passes, Reads, gives, takes, sees, misses, reads}
 use Rattle.moo_grammar.specs.Predictive.{grammar, allowed, if_optional, behind_brace}
-use Rattle.moo_grammar.proofs.Choices.{Follows, first, no_sign, no_operator, no_name, closer_is_loose, primary_is_unsigned, expression_is_no_splice, expression_is_no_optional, expression_is_no_end, member_is_no_closer, more_follows, suffix_follows}
+use Rattle.moo_grammar.proofs.Choices.{Follows, first, no_sign, no_operator, no_name, closer_is_loose, primary_is_unsigned, expression_is_no_splice, expression_is_no_optional, expression_is_no_end, member_is_no_closer, more_follows, suffix_follows, expression_is_no_keyword, at_paren, end_if, end_try, at_except, arms_end, may_jump_out}
 
 module _ {f : (k : Kind) → Reading (sort k)} {s : Sort} {ts r : List Token} {e : Of s} where
   -- where a rule is kept
@@ -76,7 +77,27 @@ complete {r} Grammar.one_optional h = misses refl (sees refl (takes (sees refl (
 complete (Grammar.an_optional d) h = misses refl (sees refl (takes (sees refl (takes (misses refl (sees refl (takes (reads (complete d h) gives))))))))
 complete {r} (Grammar.one_default d) h = misses refl (sees refl (takes (sees refl (takes (sees refl (takes (reads (complete d (omega arith)) (misses (no_sign Comma r (omega arith)) gives))))))))
 complete (Grammar.a_default c d) h = misses refl (sees refl (takes (sees refl (takes (sees refl (takes (reads (complete c (omega arith)) (sees refl (takes (reads (complete d h) gives))))))))))
-complete Grammar.returns_nothing h = sees refl (takes (sees refl (takes gives)))
-complete (Grammar.returns_value d) h = sees refl (takes (misses (expression_is_no_end _ (first d)) (reads (complete d (omega arith)) (sees refl (takes gives)))))
+complete (Grammar.branch b c d) h = sees refl (takes (reads (complete b tt) (reads (complete c (arms_end d refl)) (reads (complete d refl) (sees refl (takes gives))))))
+complete (Grammar.for_elements {ts = ts} c d) h = misses refl (sees refl (takes (sees refl (takes (sees refl (takes (misses (at_paren ts (first c)).0 (reads (complete c tt) (reads (complete d refl) (sees refl (takes gives)))))))))))
+complete (Grammar.for_numbers b c d) h = misses refl (sees refl (takes (sees refl (takes (sees refl (takes (sees refl (takes (reads (complete b (omega arith)) (sees refl (takes (reads (complete c (omega arith)) (sees refl (takes (reads (complete d refl) (sees refl (takes gives)))))))))))))))))
+complete (Grammar.while_true {m = m} b c d) h = misses refl (misses refl (sees refl (takes (reads (complete b (at_paren m (first c)).1) (reads (complete c tt) (reads (complete d refl) (sees refl (takes gives))))))))
+complete (Grammar.breaks_loop is) h = misses refl (misses refl (misses refl (sees refl (allowed_reads is (takes (misses refl (sees refl (takes gives))))))))
+complete {g} (Grammar.breaks_named {ls = ls} {x = x} is) h = misses refl (misses refl (misses refl (sees refl (allowed_reads (may_jump_out g ls x is) (takes (sees (rw is refl) (takes (rw is (sees refl (takes gives))))))))))
+complete (Grammar.continues_loop is) h = misses refl (misses refl (misses refl (misses refl (sees refl (allowed_reads is (takes (misses refl (sees refl (takes gives)))))))))
+complete {g} (Grammar.continues_named {ls = ls} {x = x} is) h = misses refl (misses refl (misses refl (misses refl (sees refl (allowed_reads (may_jump_out g ls x is) (takes (sees (rw is refl) (takes (rw is (sees refl (takes gives)))))))))))
+complete Grammar.returns_nothing h = misses refl (misses refl (misses refl (misses refl (misses refl (sees refl (takes (sees refl (takes gives))))))))
+complete (Grammar.returns_value d) h = misses refl (misses refl (misses refl (misses refl (misses refl (sees refl (takes (misses (expression_is_no_end _ (first d)) (reads (complete d (omega arith)) (sees refl (takes gives))))))))))
+complete (Grammar.tries {m = m} c d) h = misses refl (misses refl (misses refl (misses refl (misses refl (misses refl (sees refl (takes (reads (complete c (at_except m (first d)).0) (misses (at_except m (first d)).1 (reads (complete d refl) (sees refl (takes gives))))))))))))
+complete (Grammar.cleans_up c d) h = misses refl (misses refl (misses refl (misses refl (misses refl (misses refl (sees refl (takes (reads (complete c refl) (sees refl (takes (reads (complete d refl) (sees refl (takes gives)))))))))))))
+complete (Grammar.performed d) h = misses (expression_is_no_keyword If _ (first d)) (misses (expression_is_no_keyword For _ (first d)) (misses (expression_is_no_keyword While _ (first d)) (misses (expression_is_no_keyword Break _ (first d)) (misses (expression_is_no_keyword Continue _ (first d)) (misses (expression_is_no_keyword Return _ (first d)) (misses (expression_is_no_keyword Try _ (first d)) (reads (complete d (omega arith)) (sees refl (takes gives)))))))))
+complete {r} Grammar.no_arms h = let e = end_if r h in misses e.1 (misses e.2 gives)
+complete {r} (Grammar.last_arm d) h = misses refl (sees refl (takes (reads (complete d (end_if r h).0) gives)))
+complete (Grammar.an_arm b c d) h = sees refl (takes (reads (complete b tt) (reads (complete c (arms_end d h)) (reads (complete d h) gives))))
+complete {r} (Grammar.one_handler b c d) h = sees refl (takes (reads (complete b refl) (sees refl (takes (reads (complete c (omega arith)) (sees refl (takes (reads (complete d (end_try r h).0) (misses (end_try r h).1 gives)))))))))
+complete (Grammar.a_handler {o = o} a b c d) h = sees refl (takes (reads (complete a refl) (sees refl (takes (reads (complete b (omega arith)) (sees refl (takes (reads (complete c (at_except o (first d)).0) (sees (first d) (reads (complete d h) gives))))))))))
+complete (Grammar.parenthesized d) h = sees refl (takes (reads (complete d (omega arith)) (sees refl (takes gives))))
+complete Grammar.unlabelled h = misses h gives
+complete Grammar.labelled h = sees refl (takes gives)
 complete Grammar.no_statements h = misses h gives
-complete (Grammar.one_statement c d) h = sees (first c) (reads (complete c tt) (reads (complete d h) gives))
+complete (Grammar.one_statement c d) h = let f = first c in sees f.0 (misses f.1 (reads (complete c tt) (reads (complete d h) gives)))
+complete (Grammar.an_end d) h = sees refl (sees refl (takes (reads (complete d h) gives)))

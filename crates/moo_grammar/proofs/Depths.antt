@@ -1,5 +1,5 @@
 -- What each call of the parser adds to a reading whose every tree is too high.
-use Rattle.std.proofs.Common.{ℕ, zero, suc, ◌≤◌, ◌<◌, List, [], ◌∷◌, ◌≡◌, refl, sym, subst, Bool, true, false, unwrap_or, arith}
+use Rattle.std.proofs.Common.{ℕ, zero, suc, ◌≤◌, ◌<◌, List, [], ◌∷◌, ◌≡◌, refl, sym, subst, Bool, true, false, None, unwrap_or, arith}
 use Rattle.moo_token.specs.declared.token.Token.{Token}
 use Rattle.moo_program.specs.Limits.{height}
 use Rattle.moo_program.specs.Tree.{Expr, Items}
@@ -7,9 +7,9 @@ use Rattle.moo_grammar.specs.declared.level.Level.TheVariants.{Logic, Relation, 
 use Rattle.moo_program.specs.declared.operator.BinaryOperator.TheVariants.{Power}
 use Rattle.moo_grammar.specs.declared.level.Operator.TheVariants as operator
 use Rattle.moo_grammar.specs.Tokens.{operator_at, name_at}
-use Rattle.moo_grammar.specs.Rules.{Rules, may_assign}
+use Rattle.moo_grammar.specs.Rules.{Rules, may_assign, may_jump}
 use Rattle.moo_grammar.specs.Minuses.{minuses}
-use Rattle.moo_grammar.specs.Grammar.{Sort, Of, Kind, expression, conditional, chain, more, operand, power, unary, postfix, suffixes, primary, arguments, members, codes, statement, statements, sort, has_optional}
+use Rattle.moo_grammar.specs.Grammar.{Sort, Of, Kind, expression, conditional, chain, more, operand, power, unary, postfix, suffixes, primary, arguments, members, codes, statement, statements, arms, handlers, label, in_parens, sort, has_optional}
 use Rattle.moo_grammar.specs.Machine.{Reading, give, refuse, take, peek, phrase, Reads, gives, takes, sees, misses, reads, next_passes}
 use Rattle.moo_grammar.specs.Predictive.{grammar, mark, allowed, if_optional, behind_brace}
 use Rattle.moo_grammar.specs.Size.{size}
@@ -32,8 +32,12 @@ Post (primary i) e = Unit {0}
 Post (arguments i o) e = Unit {0}
 Post (members i o) e = Unit {0}
 Post (codes i) e = Unit {0}
-Post statement e = Unit {0}
-Post statements e = Unit {0}
+Post (statement ls) e = Unit {0}
+Post (statements ls) e = Unit {0}
+Post (arms ls) e = Unit {0}
+Post (handlers ls) e = Unit {0}
+Post label e = Unit {0}
+Post in_parens e = Unit {0}
 
 -- whatever the reading gives is in Q
 abbrev pub Meets : (s : Sort) → Reading s → (Of s → Type 0) → Type 0
@@ -101,8 +105,33 @@ all_meet g (members i o) = (
   (λ x a _. ((λ y xs _. tt), tt)),
   optional_meets o _ _ _ ((λ x. ((λ y a _. ((λ z xs _. tt), tt)), ((λ y xs _. tt), tt))), tt) (λ a _. ((λ y xs _. tt), tt)),
 )
-all_meet g statement = ((λ x. ((λ y. tt), λ a _. ((λ y. tt), tt))), tt)
-all_meet g statements = ((λ s _ ss _. tt), tt)
+all_meet g (statement ls) = (
+  (λ x a _ b _ c _. ((λ x. tt), tt)),
+  (
+    (λ x. ((λ x. ((λ x. ((λ x a _. ((λ x b _. ((λ x c _. ((λ x. tt), tt)), tt)), tt)), λ a _ b _. ((λ x. tt), tt))), tt)), tt)),
+    (
+      (λ x l _ a _ b _. ((λ x. tt), tt)),
+      (
+        allowed_meets (may_jump g ls None) _ _ (λ x. ((λ x. ((λ x. tt), tt)), ((λ x. tt), tt))),
+        (
+          allowed_meets (may_jump g ls None) _ _ (λ x. ((λ x. ((λ x. tt), tt)), ((λ x. tt), tt))),
+          (
+            (λ x. ((λ x. tt), λ a _. ((λ x. tt), tt))),
+            (
+              (λ x b _. ((λ x c _. ((λ x. tt), tt)), λ h _. ((λ x. tt), tt))),
+              (λ a _. ((λ x. tt), tt)),
+            ),
+          ),
+        ),
+      ),
+    ),
+  ),
+)
+all_meet g (statements ls) = (((λ x ss _. tt), λ s _ ss _. tt), tt)
+all_meet g (arms ls) = ((λ x a _ b _ c _. tt), ((λ x b _. tt), tt))
+all_meet g (handlers ls) = ((λ x l _. ((λ x c _. ((λ x b _. ((λ h _. tt), tt)), tt)), tt)), tt)
+all_meet g in_parens = ((λ x a _. ((λ x. tt), tt)), tt)
+all_meet g label = ((λ x. tt), tt)
 
 meets : (g : Rules) (s : Sort) (Q : Of s → Type 0) {p : Reading s} {ts r : List Token} {e : Of s} → Reads (grammar g) s p ts e r → Meets s p Q → Q e
 meets g s Q gives m = m

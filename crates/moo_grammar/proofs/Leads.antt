@@ -72,8 +72,11 @@ module _ {g : Rules} {s : Sort} where
   pub expect_lead : (m : Sign) {p : Reading s} {Q : Fact s} → Lead g s p (λ ts e r. Q (token.Sign m ∷ ts) e r) → Lead g s (expect m p) Q
   expect_lead m n = sign_lead m n refuses_lead
 
+  pub keyword_taken_lead : (k : Keyword) {p : Reading s} {Q : Fact s} → Lead g s p (λ ts e r. Q (token.Keyword k ∷ ts) e r) → Lead g s (take (λ _. p)) (λ ts e r. next_passes (is_keyword k) ts ≡ true → Q ts e r)
+  keyword_taken_lead k {p} {Q} n = record { lead = λ x. leads_to_more g s p _ _ (λ ts e r w y. subst (λ v. Q (v ∷ ts) e r) (sym (keyword_is k x y)) w) n.lead }
+
   pub keyword_lead : (k : Keyword) {p q : Reading s} {Q : Fact s} → Lead g s p (λ ts e r. Q (token.Keyword k ∷ ts) e r) → Lead g s q Q → Lead g s (if_keyword k p q) Q
-  keyword_lead k {p} {Q = Q} n o = peek_lead (record { lead = λ x. leads_to_more g s p _ _ (λ ts e r w y. subst (λ v. Q (v ∷ ts) e r) (sym (keyword_is k x y)) w) n.lead }) o
+  keyword_lead k n o = peek_lead (keyword_taken_lead k n) o
 
   pub allowed_lead : (b : Bool) {p : Reading s} {Q : Fact s} → (b ≡ true → Lead g s p Q) → Lead g s (allowed b p) Q
   allowed_lead true m = m refl

@@ -1,22 +1,22 @@
 -- The grammar. Derives g k ts t r: by the rules g the tokens ts begin with a phrase of kind k, whose tree is t, and r is what comes behind it.
-use Rattle.std.specs.Prelude.{ℕ, List, [], ◌∷◌, ◌≡◌, Bool, true, false, Some, pos}
+use Rattle.std.specs.Prelude.{ℕ, List, [], ◌∷◌, ◌≡◌, Bool, true, false, Option, Some, None, pos}
 use Rattle.std.specs.Int.{int_wrapping_neg, w32}
 use Rattle.moo_token.specs.declared.sign.Sign.TheVariants.{LeftParen, RightParen, LeftBrace, RightBrace, LeftBracket, RightBracket, Comma, Dot, DotDot, Colon, Semicolon, Question, Pipe, Assign, Arrow, Backquote, Quote, Bang, Dollar, At, Minus, Caret}
-use Rattle.moo_token.specs.declared.keyword.Keyword.TheVariants.{Return, Any}
+use Rattle.moo_token.specs.declared.keyword.Keyword.TheVariants.{If, Else, ElseIf, EndIf, For, In, EndFor, While, EndWhile, Return, Try, EndTry, Except, Finally, Any, Break, Continue}
 use Rattle.moo_token.specs.declared.token.Token.{Token}
 use Rattle.moo_token.specs.declared.token.Token.TheVariants.{Name, Keyword, Sign}
 use Rattle.moo_program.specs.declared.operator.UnaryOperator.TheVariants.{Not, Negate}
 use Rattle.moo_program.specs.declared.operator.BinaryOperator.TheVariants.{Power}
 use Rattle.moo_program.specs.declared.tree.Literal.{Literal}
 use Rattle.moo_program.specs.declared.tree.Literal.TheVariants.{Integer, Object, Str}
-use Rattle.moo_program.specs.Tree.{Expr, Items, Codes, Stmt, Block, literal, variable, length_mark, binary, logic, index, range, list, property, verb_call, call, assign, catch, catch_or, no_items, element, splice, optional, defaulted, any_error, listed_errors, return_nothing, returns, no_statement, then}
+use Rattle.moo_program.specs.Tree.{Expr, Items, Codes, Stmt, Block, literal, variable, length_mark, binary, logic, index, range, list, property, verb_call, call, assign, catch, catch_or, no_items, element, splice, optional, defaulted, any_error, listed_errors, return_nothing, returns, performs, branches, for_list, for_range, while_loop, breaks, continues, try_except, try_finally, Arms, no_else, otherwise, elseif, Handlers, no_handler, handler, no_statement, then}
 use Rattle.moo_program.specs.Tree as tree
 use Rattle.moo_grammar.specs.declared.level.Level.{Level}
 use Rattle.moo_grammar.specs.declared.level.Level.TheVariants.{Logic, Relation, Sum, Product}
 use Rattle.moo_grammar.specs.declared.level.Operator.{Operator}
 use Rattle.moo_grammar.specs.declared.level.Operator.TheVariants as operator
 use Rattle.moo_grammar.specs.declared.names.Names.{Names}
-use Rattle.moo_grammar.specs.Rules.{Rules, strict, may_assign}
+use Rattle.moo_grammar.specs.Rules.{Rules, strict, may_assign, may_jump}
 use Rattle.moo_grammar.specs.Tokens.{operator_at, literal_at}
 
 -- what kind of tree a phrase has
@@ -26,6 +26,10 @@ pub data Sort : Type 0 where
   errors : Sort
   stmt : Sort
   block : Sort
+  arm_list : Sort
+  handler_list : Sort
+  -- a name, or none
+  label_name : Sort
 
 abbrev pub Of : Sort → Type 0
 Of expr = Expr
@@ -33,6 +37,9 @@ Of items = Items
 Of errors = Codes
 Of stmt = Stmt
 Of block = Block
+Of arm_list = Arms
+Of handler_list = Handlers
+Of label_name = Option (List ℕ)
 
 -- The levels of the grammar. The flag says whether the phrase stands inside an index, where `$` may stand.
 pub data Kind : Type 0 where
@@ -52,8 +59,15 @@ pub data Kind : Type 0 where
   arguments : Bool → Bool → Kind
   members : Bool → Bool → Kind
   codes : Bool → Kind
-  statement : Kind
-  statements : Kind
+  -- The loops round a statement, the innermost first, by their names.
+  statement : List (Option (List ℕ)) → Kind
+  statements : List (Option (List ℕ)) → Kind
+  -- what stands behind the first statements of an `if`
+  arms : List (Option (List ℕ)) → Kind
+  handlers : List (Option (List ℕ)) → Kind
+  label : Kind
+  -- an expression in parentheses
+  in_parens : Kind
 
 abbrev pub sort : Kind → Sort
 sort (expression i) = expr
@@ -69,8 +83,12 @@ sort (primary i) = expr
 sort (arguments i o) = items
 sort (members i o) = items
 sort (codes i) = errors
-sort statement = stmt
-sort statements = block
+sort (statement ls) = stmt
+sort (statements ls) = block
+sort (arms ls) = arm_list
+sort (handlers ls) = handler_list
+sort label = label_name
+sort in_parens = expr
 
 -- a minus before an integer literal is part of the literal
 abbrev pub negated : Expr → Expr
@@ -155,16 +173,46 @@ pub data Derives (g : Rules) : (k : Kind) → List Token → Of (sort k) → Lis
   an_optional : {i : Bool} {s : List ℕ} {m r : List Token} {xs : Items} → Derives g (members i true) m xs r → Derives g (members i true) (Sign Question ∷ Name s ∷ Sign Comma ∷ m) (optional s xs) r
   one_default : {i : Bool} {s : List ℕ} {ts r : List Token} {a : Expr} → Derives g (expression i) ts a r → Derives g (members i true) (Sign Question ∷ Name s ∷ Sign Assign ∷ ts) (defaulted s a no_items) r
   a_default : {i : Bool} {s : List ℕ} {ts m r : List Token} {a : Expr} {xs : Items} → Derives g (expression i) ts a (Sign Comma ∷ m) → Derives g (members i true) m xs r → Derives g (members i true) (Sign Question ∷ Name s ∷ Sign Assign ∷ ts) (defaulted s a xs) r
-  -- statement: return ; | return expression ;
-  returns_nothing : {r : List Token} → Derives g statement (Keyword Return ∷ Sign Semicolon ∷ r) return_nothing r
-  returns_value : {ts r : List Token} {a : Expr} → Derives g (expression false) ts a (Sign Semicolon ∷ r) → Derives g statement (Keyword Return ∷ ts) (returns a) r
-  -- statements: {statement}
-  no_statements : {r : List Token} → Derives g statements r no_statement r
-  one_statement : {ts m r : List Token} {s : Stmt} {ss : Block} → Derives g statement ts s m → Derives g statements m ss r → Derives g statements ts (then s ss) r
+  -- statement: if in_parens statements arms endif
+  branch : {ls : List (Option (List ℕ))} {ts m n r : List Token} {a : Expr} {b : Block} {c : Arms} → Derives g in_parens ts a m → Derives g (statements ls) m b n → Derives g (arms ls) n c (Keyword EndIf ∷ r) → Derives g (statement ls) (Keyword If ∷ ts) (branches a b c) r
+  -- | for NAME in in_parens statements endfor | for NAME in [expression .. expression] statements endfor
+  for_elements : {ls : List (Option (List ℕ))} {x : List ℕ} {ts m r : List Token} {a : Expr} {b : Block} → Derives g in_parens ts a m → Derives g (statements (Some x ∷ ls)) m b (Keyword EndFor ∷ r) → Derives g (statement ls) (Keyword For ∷ Name x ∷ Keyword In ∷ ts) (for_list x a b) r
+  for_numbers : {ls : List (Option (List ℕ))} {x : List ℕ} {ts m n r : List Token} {a b : Expr} {c : Block} → Derives g (expression false) ts a (Sign DotDot ∷ m) → Derives g (expression false) m b (Sign RightBracket ∷ n) → Derives g (statements (Some x ∷ ls)) n c (Keyword EndFor ∷ r) → Derives g (statement ls) (Keyword For ∷ Name x ∷ Keyword In ∷ Sign LeftBracket ∷ ts) (for_range x a b c) r
+  -- | while label in_parens statements endwhile
+  while_true : {ls : List (Option (List ℕ))} {l : Option (List ℕ)} {ts m n r : List Token} {a : Expr} {b : Block} → Derives g label ts l m → Derives g in_parens m a n → Derives g (statements (l ∷ ls)) n b (Keyword EndWhile ∷ r) → Derives g (statement ls) (Keyword While ∷ ts) (while_loop l a b) r
+  -- | break ; | break NAME ; | continue ; | continue NAME ;
+  breaks_loop : {ls : List (Option (List ℕ))} {r : List Token} → may_jump g ls None ≡ true → Derives g (statement ls) (Keyword Break ∷ Sign Semicolon ∷ r) (breaks None) r
+  breaks_named : {ls : List (Option (List ℕ))} {x : List ℕ} {r : List Token} → may_jump g ls (Some x) ≡ true → Derives g (statement ls) (Keyword Break ∷ Name x ∷ Sign Semicolon ∷ r) (breaks (Some x)) r
+  continues_loop : {ls : List (Option (List ℕ))} {r : List Token} → may_jump g ls None ≡ true → Derives g (statement ls) (Keyword Continue ∷ Sign Semicolon ∷ r) (continues None) r
+  continues_named : {ls : List (Option (List ℕ))} {x : List ℕ} {r : List Token} → may_jump g ls (Some x) ≡ true → Derives g (statement ls) (Keyword Continue ∷ Name x ∷ Sign Semicolon ∷ r) (continues (Some x)) r
+  -- | return ; | return expression ;
+  returns_nothing : {ls : List (Option (List ℕ))} {r : List Token} → Derives g (statement ls) (Keyword Return ∷ Sign Semicolon ∷ r) return_nothing r
+  returns_value : {ls : List (Option (List ℕ))} {ts r : List Token} {a : Expr} → Derives g (expression false) ts a (Sign Semicolon ∷ r) → Derives g (statement ls) (Keyword Return ∷ ts) (returns a) r
+  -- | try statements handlers endtry | try statements finally statements endtry
+  tries : {ls : List (Option (List ℕ))} {ts m r : List Token} {b : Block} {h : Handlers} → Derives g (statements ls) ts b m → Derives g (handlers ls) m h (Keyword EndTry ∷ r) → Derives g (statement ls) (Keyword Try ∷ ts) (try_except b h) r
+  cleans_up : {ls : List (Option (List ℕ))} {ts m r : List Token} {b c : Block} → Derives g (statements ls) ts b (Keyword Finally ∷ m) → Derives g (statements ls) m c (Keyword EndTry ∷ r) → Derives g (statement ls) (Keyword Try ∷ ts) (try_finally b c) r
+  -- | expression ;
+  performed : {ls : List (Option (List ℕ))} {ts r : List Token} {a : Expr} → Derives g (expression false) ts a (Sign Semicolon ∷ r) → Derives g (statement ls) ts (performs a) r
+  -- arms: {elseif in_parens statements} [else statements]
+  no_arms : {ls : List (Option (List ℕ))} {r : List Token} → Derives g (arms ls) r no_else r
+  last_arm : {ls : List (Option (List ℕ))} {ts r : List Token} {b : Block} → Derives g (statements ls) ts b r → Derives g (arms ls) (Keyword Else ∷ ts) (otherwise b) r
+  an_arm : {ls : List (Option (List ℕ))} {ts m n r : List Token} {a : Expr} {b : Block} {c : Arms} → Derives g in_parens ts a m → Derives g (statements ls) m b n → Derives g (arms ls) n c r → Derives g (arms ls) (Keyword ElseIf ∷ ts) (elseif a b c) r
+  -- handlers: handler {handler}; handler: except label (codes) statements
+  one_handler : {ls : List (Option (List ℕ))} {l : Option (List ℕ)} {ts m n r : List Token} {c : Codes} {b : Block} → Derives g label ts l (Sign LeftParen ∷ m) → Derives g (codes false) m c (Sign RightParen ∷ n) → Derives g (statements ls) n b r → Derives g (handlers ls) (Keyword Except ∷ ts) (handler l c b no_handler) r
+  a_handler : {ls : List (Option (List ℕ))} {l : Option (List ℕ)} {ts m n o r : List Token} {c : Codes} {b : Block} {h : Handlers} → Derives g label ts l (Sign LeftParen ∷ m) → Derives g (codes false) m c (Sign RightParen ∷ n) → Derives g (statements ls) n b o → Derives g (handlers ls) o h r → Derives g (handlers ls) (Keyword Except ∷ ts) (handler l c b h) r
+  -- in_parens: (expression)
+  parenthesized : {ts r : List Token} {a : Expr} → Derives g (expression false) ts a (Sign RightParen ∷ r) → Derives g in_parens (Sign LeftParen ∷ ts) a r
+  -- label: [NAME]
+  unlabelled : {r : List Token} → Derives g label r None r
+  labelled : {x : List ℕ} {r : List Token} → Derives g label (Name x ∷ r) (Some x) r
+  -- statements: {statement | ;}
+  no_statements : {ls : List (Option (List ℕ))} {r : List Token} → Derives g (statements ls) r no_statement r
+  one_statement : {ls : List (Option (List ℕ))} {ts m r : List Token} {s : Stmt} {ss : Block} → Derives g (statement ls) ts s m → Derives g (statements ls) m ss r → Derives g (statements ls) ts (then s ss) r
+  an_end : {ls : List (Option (List ℕ))} {ts r : List Token} {ss : Block} → Derives g (statements ls) ts ss r → Derives g (statements ls) (Sign Semicolon ∷ ts) ss r
 
 -- the tokens, all of them, are the program by these rules
 abbrev pub IsProgramBy : Rules → List Token → Block → Type 0
-IsProgramBy g ts b = Derives g statements ts b []
+IsProgramBy g ts b = Derives g (statements []) ts b []
 
 -- the tokens, all of them, are the program
 abbrev pub IsProgram : Names → List Token → Block → Type 0

@@ -1,23 +1,24 @@
 -- The choices of a predictive parser for the grammar.
-use Rattle.std.specs.Prelude.{ℕ, List, [], Bool, true, false, pos, is_some, unwrap_or}
+use Rattle.std.specs.Prelude.{ℕ, List, [], ◌∷◌, Bool, true, false, Option, Some, None, pos, is_some, unwrap_or, if◌then◌else◌}
 use Rattle.moo_token.specs.declared.sign.Sign.{Sign}
 use Rattle.moo_token.specs.declared.sign.Sign.TheVariants.{LeftParen, RightParen, LeftBrace, RightBrace, LeftBracket, RightBracket, Comma, Dot, DotDot, Colon, Semicolon, Question, Pipe, Assign, Arrow, Backquote, Quote, Bang, Dollar, At, Minus, Caret}
 use Rattle.moo_token.specs.declared.keyword.Keyword.{Keyword}
-use Rattle.moo_token.specs.declared.keyword.Keyword.TheVariants.{Return, Any}
+use Rattle.moo_token.specs.declared.keyword.Keyword.TheVariants.{If, Else, ElseIf, EndIf, For, In, EndFor, While, EndWhile, Return, Try, EndTry, Except, Finally, Any, Break, Continue}
 use Rattle.moo_token.specs.declared.token.Token.{Token}
+use Rattle.moo_token.specs.declared.token.Token.TheVariants as token
 use Rattle.moo_program.specs.declared.operator.UnaryOperator.TheVariants.{Not}
 use Rattle.moo_program.specs.declared.operator.BinaryOperator.TheVariants.{Power}
 use Rattle.moo_program.specs.declared.tree.Literal.{Literal}
 use Rattle.moo_program.specs.declared.tree.Literal.TheVariants.{Integer}
-use Rattle.moo_program.specs.Tree.{Expr, Items, Codes, literal, variable, length_mark, binary, index, range, list, property, verb_call, call, assign, catch, catch_or, no_items, element, splice, optional, defaulted, any_error, listed_errors, return_nothing, returns, no_statement, then}
+use Rattle.moo_program.specs.Tree.{Expr, Items, Codes, Stmt, literal, variable, length_mark, binary, index, range, list, property, verb_call, call, assign, catch, catch_or, no_items, element, splice, optional, defaulted, any_error, listed_errors, return_nothing, returns, performs, branches, for_list, for_range, while_loop, breaks, continues, try_except, try_finally, no_else, otherwise, elseif, no_handler, handler, no_statement}
 use Rattle.moo_program.specs.Tree as tree
 use Rattle.moo_grammar.specs.declared.level.Level.{Level}
 use Rattle.moo_grammar.specs.declared.level.Level.TheVariants.{Logic, Relation, Sum, Product}
 use Rattle.moo_grammar.specs.declared.level.Operator.{Operator}
 use Rattle.moo_grammar.specs.declared.level.Operator.TheVariants as operator
 use Rattle.moo_grammar.specs.Tokens.{is_sign, is_keyword, operator_at, literal_at, name_at, is_closer, begins_statement}
-use Rattle.moo_grammar.specs.Grammar.{Sort, Kind, expression, conditional, chain, more, operand, power, unary, postfix, suffixes, primary, arguments, members, codes, statement, statements, sort, negated, joined, text, system_object, has_optional}
-use Rattle.moo_grammar.specs.Rules.{Rules, may_assign}
+use Rattle.moo_grammar.specs.Grammar.{Sort, Kind, expression, conditional, chain, more, operand, power, unary, postfix, suffixes, primary, arguments, members, codes, statement, statements, arms, handlers, label, in_parens, sort, negated, joined, text, system_object, has_optional}
+use Rattle.moo_grammar.specs.Rules.{Rules, may_assign, may_jump}
 use Rattle.moo_grammar.specs.Machine.{Reading, give, refuse, take, peek, phrase}
 
 -- takes the next token where it passes the test
@@ -114,6 +115,40 @@ behind_bracket i a = phrase (expression true) λ b. if_sign DotDot
     (phrase (expression true) λ c. expect RightBracket (phrase (suffixes i (range a b c)) λ e. give e))
     (expect RightBracket (phrase (suffixes i (index a b)) λ e. give e))
 
+-- the name of a loop that a jump may name here
+abbrev pub loop_at : Rules → List (Option (List ℕ)) → Token → Option (List ℕ)
+loop_at g ls (token.Name x) = if may_jump g ls (Some x) then Some x else None
+loop_at g ls _ = None
+
+-- the end of a jump, perhaps with a name before it
+abbrev pub behind_jump : Rules → List (Option (List ℕ)) → (Option (List ℕ) → Stmt) → Reading Sort.stmt
+behind_jump g ls f = test (λ x. is_some (loop_at g ls x)) (λ x. expect Semicolon (give (f (Some (unwrap_or (loop_at g ls x) []))))) (expect Semicolon (give (f None)))
+
+abbrev pub jump : Rules → List (Option (List ℕ)) → Keyword → (Option (List ℕ) → Stmt) → Reading Sort.stmt → Reading Sort.stmt
+jump g ls k f q = peek (is_keyword k) (allowed (may_jump g ls None) (take λ _. behind_jump g ls f)) q
+
+abbrev pub behind_if : List (Option (List ℕ)) → Reading Sort.stmt
+behind_if ls = phrase in_parens λ a. phrase (statements ls) λ b. phrase (arms ls) λ c. expect_keyword EndIf (give (branches a b c))
+
+abbrev pub behind_in : List (Option (List ℕ)) → List ℕ → Reading Sort.stmt
+behind_in ls x = if_sign LeftBracket
+    (phrase (expression false) λ a. expect DotDot (phrase (expression false) λ b. expect RightBracket (phrase (statements (Some x ∷ ls)) λ c. expect_keyword EndFor (give (for_range x a b c)))))
+    (phrase in_parens λ a. phrase (statements (Some x ∷ ls)) λ b. expect_keyword EndFor (give (for_list x a b)))
+
+abbrev pub behind_for : List (Option (List ℕ)) → Reading Sort.stmt
+behind_for ls = if_name (λ x. expect_keyword In (behind_in ls x)) refuse
+
+abbrev pub behind_while : List (Option (List ℕ)) → Reading Sort.stmt
+behind_while ls = phrase label λ l. phrase in_parens λ a. phrase (statements (l ∷ ls)) λ b. expect_keyword EndWhile (give (while_loop l a b))
+
+abbrev pub behind_return : Reading Sort.stmt
+behind_return = if_sign Semicolon (give return_nothing) (phrase (expression false) λ a. expect Semicolon (give (returns a)))
+
+abbrev pub behind_try : List (Option (List ℕ)) → Reading Sort.stmt
+behind_try ls = phrase (statements ls) λ b. if_keyword Finally
+    (phrase (statements ls) λ c. expect_keyword EndTry (give (try_finally b c)))
+    (phrase (handlers ls) λ h. expect_keyword EndTry (give (try_except b h)))
+
 unfoldable pub grammar : Rules → (k : Kind) → Reading (sort k)
 grammar g (expression i) = phrase (conditional i) λ a. peek (is_sign Assign) (allowed (may_assign g a) (take λ _. phrase (expression i) λ b. give (assign a b))) (give a)
 grammar g (conditional i) = phrase (chain i Logic) λ a. if_sign Question (phrase (expression i) λ b. expect Pipe (phrase (conditional i) λ c. give (tree.conditional a b c))) (give a)
@@ -134,5 +169,21 @@ grammar g (codes i) = if_keyword Any (give any_error) (phrase (members i false) 
 grammar g (arguments i o) = peek is_closer (give no_items) (phrase (members i o) λ xs. give xs)
 grammar g (members i o) = if_sign At (phrase (expression i) λ a. after_member i o (splice a))
     (if_optional o (behind_question i) (phrase (expression i) λ a. after_member i o (element a)))
-grammar g statement = expect_keyword Return (if_sign Semicolon (give return_nothing) (phrase (expression false) λ a. expect Semicolon (give (returns a))))
-grammar g statements = peek begins_statement (phrase statement λ s. phrase statements λ ss. give (then s ss)) (give no_statement)
+grammar g (statement ls) =
+    if_keyword If (behind_if ls)
+    (if_keyword For (behind_for ls)
+    (if_keyword While (behind_while ls)
+    (jump g ls Break breaks
+    (jump g ls Continue continues
+    (if_keyword Return behind_return
+    (if_keyword Try (behind_try ls)
+    (phrase (expression false) λ a. expect Semicolon (give (performs a)))))))))
+grammar g (statements ls) = peek begins_statement
+    (if_sign Semicolon (phrase (statements ls) λ ss. give ss) (phrase (statement ls) λ s. phrase (statements ls) λ ss. give (tree.then s ss)))
+    (give no_statement)
+grammar g (arms ls) = if_keyword ElseIf (phrase in_parens λ a. phrase (statements ls) λ b. phrase (arms ls) λ c. give (elseif a b c))
+    (if_keyword Else (phrase (statements ls) λ b. give (otherwise b)) (give no_else))
+grammar g (handlers ls) = expect_keyword Except (phrase label λ l. expect LeftParen (phrase (codes false) λ c. expect RightParen (phrase (statements ls) λ b.
+    peek (is_keyword Except) (phrase (handlers ls) λ h. give (handler l c b h)) (give (handler l c b no_handler)))))
+grammar g in_parens = expect LeftParen (phrase (expression false) λ a. expect RightParen (give a))
+grammar g label = if_name (λ x. give (Some x)) (give None)

@@ -1,5 +1,7 @@
 -- What a grammar asks for beside its forms.
-use Rattle.std.specs.Prelude.{ℕ, List, ◌≡◌, Bool, true, false, not, ◌||◌}
+use Rattle.std.specs.Prelude.{ℕ, List, [], ◌∷◌, ◌≡◌, Bool, true, false, not, ◌||◌, Option, Some, None}
+use Rattle.std.specs.List.{list_any}
+use Rattle.std.specs.Str.{str_eq_ignore_ascii_case}
 use Rattle.moo_function.specs.Names.{function_of}
 use Rattle.moo_function.specs.Hand.{is_known}
 use Rattle.moo_program.specs.Tree.{Expr}
@@ -27,6 +29,21 @@ may_call Known name = is_known (function_of name)
 -- whether the expression may stand before `=`
 abbrev pub may_assign : Rules → Expr → Bool
 may_assign g a = not g.targets || is_target a
+
+-- whether a loop has the name, in any case
+abbrev pub is_named : List ℕ → Option (List ℕ) → Bool
+is_named name None = false
+is_named name (Some other) = str_eq_ignore_ascii_case name other
+
+-- whether a loop stands among them, or one of the name
+abbrev pub has_loop : List (Option (List ℕ)) → Option (List ℕ) → Bool
+has_loop [] None = false
+has_loop (loop ∷ loops) None = true
+has_loop loops (Some name) = list_any (is_named name) loops
+
+-- whether a jump may stand within the loops
+abbrev pub may_jump : Rules → List (Option (List ℕ)) → Option (List ℕ) → Bool
+may_jump g loops name = not g.loops || has_loop loops name
 
 -- all that is asked of a program
 abbrev pub strict : Names → Rules

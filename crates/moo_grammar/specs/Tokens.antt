@@ -3,10 +3,10 @@ use Rattle.std.specs.Prelude.{ℕ, List, Bool, true, false, Option, Some, None, 
 use denote.Enum.Bare.{sameb}
 use Rattle.moo_token.specs.contracts.sign.Sign as sign
 use Rattle.moo_token.specs.declared.sign.Sign.{Sign}
-use Rattle.moo_token.specs.declared.sign.Sign.TheVariants.{RightParen, RightBrace, OrOr, AndAnd, Equal, NotEqual, Less, LessEqual, Greater, GreaterEqual, Plus, Minus, Star, Slash, Percent}
+use Rattle.moo_token.specs.declared.sign.Sign.TheVariants.{LeftParen, RightParen, LeftBrace, RightBrace, Backquote, Semicolon, Bang, Dollar, OrOr, AndAnd, Equal, NotEqual, Less, LessEqual, Greater, GreaterEqual, Plus, Minus, Star, Slash, Percent}
 use Rattle.moo_token.specs.contracts.keyword.Keyword as keyword
 use Rattle.moo_token.specs.declared.keyword.Keyword.{Keyword}
-use Rattle.moo_token.specs.declared.keyword.Keyword.TheVariants.{In, Return}
+use Rattle.moo_token.specs.declared.keyword.Keyword.TheVariants.{In, If, For, While, Break, Continue, Return, Try}
 use Rattle.moo_token.specs.declared.token.Token.{Token}
 use Rattle.moo_token.specs.declared.token.Token.TheVariants as token
 use Rattle.moo_token.specs.declared.token.Spot.{Spot}
@@ -78,6 +78,29 @@ abbrev pub is_bad : Token → Bool
 is_bad token.Bad = true
 is_bad _ = false
 
--- whether a statement begins with the token
+-- whether an expression begins with the token
+abbrev pub begins_expression : Token → Bool
+begins_expression (token.Sign Bang) = true
+begins_expression (token.Sign Minus) = true
+begins_expression (token.Sign Dollar) = true
+begins_expression (token.Sign LeftParen) = true
+begins_expression (token.Sign LeftBrace) = true
+begins_expression (token.Sign Backquote) = true
+begins_expression (token.Integer n) = true
+begins_expression (token.Object n) = true
+begins_expression (token.Error e) = true
+begins_expression (token.Str s) = true
+begins_expression (token.Name s) = true
+begins_expression _ = false
+
+-- whether a statement begins with the token, or is it
 abbrev pub begins_statement : Token → Bool
-begins_statement x = is_keyword Return x
+begins_statement (token.Sign Semicolon) = true
+begins_statement (token.Keyword If) = true
+begins_statement (token.Keyword For) = true
+begins_statement (token.Keyword While) = true
+begins_statement (token.Keyword Break) = true
+begins_statement (token.Keyword Continue) = true
+begins_statement (token.Keyword Return) = true
+begins_statement (token.Keyword Try) = true
+begins_statement x = begins_expression x

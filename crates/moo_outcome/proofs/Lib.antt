@@ -3,3 +3,4 @@ pub mod Containers
 pub mod Rest
 pub mod Scattered
 pub mod Stored
+pub mod Told

@@ -1,11 +1,12 @@
 -- Which errors a catch answers for.
-use Rattle.std.specs.Prelude.{List, Bool, true, Option, Some, None, if◌then◌else◌, Result, Ok, Err}
+use Rattle.std.specs.Prelude.{List, [], Bool, true, false, Option, Some, None, if◌then◌else◌, Result, Ok, Err}
 use Rattle.std.specs.List.{list_any}
 use Rattle.moo_value.specs.declared.error_code.ErrorCode.{ErrorCode}
 use Rattle.moo_value.specs.Tree.{Tree, error}
 use Rattle.moo_program.specs.Tree.{Items, no_items, Codes, any_error, listed_errors}
 use Rattle.moo_operation.specs.Truth.{same_tree}
-use Rattle.moo_outcome.specs.Outcome.{Stop, raised, out_of_ticks}
+use Rattle.moo_outcome.specs.declared.frame.TraceEntry.{TraceEntry}
+use Rattle.moo_outcome.specs.Outcome.{Stop, raised, out_of_ticks, Failure, fails, stops, plain_raise}
 
 -- what is evaluated for the errors that are caught
 abbrev pub guards : Codes → Items
@@ -22,3 +23,10 @@ abbrev pub caught : Codes → List Tree → Result Tree Stop → Option ErrorCod
 caught codes vs (Ok v) = None
 caught codes vs (Err (out_of_ticks trace)) = None
 caught codes vs (Err (raised raise)) = if is_caught codes vs raise.code then Some raise.code else None
+
+-- The errors that a handler of a `try` names. Without the d bit a list of them that fails names none.
+abbrev pub coded : Bool → List TraceEntry → Result (List Tree) Failure → Result (List Tree) Stop
+coded d trace (Ok vs) = Ok vs
+coded d trace (Err (stops stop)) = Err stop
+coded true trace (Err (fails code)) = Err (raised (plain_raise code trace))
+coded false trace (Err (fails code)) = Ok []

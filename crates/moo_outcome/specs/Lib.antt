@@ -2,11 +2,14 @@ pub mod Variables
 pub mod State
 pub mod Outcome
 pub mod Catching
+pub mod Leading
+pub mod Handling
 pub mod Calls
 pub mod Scatter
 pub mod Target
 pub mod Traceback
 pub mod Seen
 pub mod SeenTarget
+pub mod SeenHandling
 pub mod Fault
 pub mod LetGo

@@ -26,6 +26,10 @@ pub data Failure : Type 0 where
 pub data Flow : Type 0 where
   next : Flow
   returned : Tree → Flow
+  -- out of the loop of this name, or out of the innermost
+  broken : Option (List ℕ) → Flow
+  -- to the next turn of the loop of this name, or of the innermost
+  continued : Option (List ℕ) → Flow
 
 -- a value, or the error where there is none
 abbrev pub or_error : {A : Type 0} → Option A → ErrorCode → Result A ErrorCode
@@ -46,6 +50,11 @@ passes (Err stop) = Err (stops stop)
 abbrev pub plain_raise : ErrorCode → List TraceEntry → Raise
 plain_raise code trace = record { code = code; message = error_message code; value = integer (pos 0); trace = trace }
 
+-- a stop, or the error as it is raised
+abbrev pub raised_by : List TraceEntry → Failure → Stop
+raised_by trace (stops stop) = stop
+raised_by trace (fails code) = raised (plain_raise code trace)
+
 -- with the d bit an error is raised, and without it the error is the value
 abbrev pub settled : Bool → List TraceEntry → Result Tree Failure → Result Tree Stop
 settled d trace (Ok v) = Ok v
@@ -58,8 +67,15 @@ abbrev pub goes_out : Result Tree Stop → Result Flow Stop
 goes_out (Ok v) = Ok (returned v)
 goes_out (Err stop) = Err stop
 
+-- after an expression comes the next statement
+abbrev pub goes_next : Result Tree Stop → Result Flow Stop
+goes_next (Ok v) = Ok next
+goes_next (Err stop) = Err stop
+
 -- the next statement is to run
 abbrev pub goes_on : Result Flow Stop → Bool
 goes_on (Ok next) = true
 goes_on (Ok (returned v)) = false
+goes_on (Ok (broken name)) = false
+goes_on (Ok (continued name)) = false
 goes_on (Err stop) = false

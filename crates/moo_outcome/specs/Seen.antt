@@ -23,7 +23,7 @@ use Rattle.moo_outcome.specs.declared.outcome.Flow.TheVariants as flow_case
 use Rattle.moo_outcome.specs.Variables.{Binding, value_of_name}
 use Rattle.moo_outcome.specs.State.{Context, entries}
 use Rattle.moo_outcome.specs.declared.frame.TraceEntry.{TraceEntry}
-use Rattle.moo_outcome.specs.Outcome.{Raise, Stop, raised, out_of_ticks, Failure, fails, stops, Flow, next, returned}
+use Rattle.moo_outcome.specs.Outcome.{Raise, Stop, raised, out_of_ticks, Failure, fails, stops, Flow, next, returned, broken, continued}
 
 abbrev pub binding_of : Variable → Binding
 binding_of v = record { name = v.name; value = tree v.value }
@@ -61,6 +61,8 @@ failure_of (failure_case.Stops stop) = stops (stop_of stop)
 abbrev pub flow_of : code_flow.Flow → Flow
 flow_of flow_case.Next = next
 flow_of (flow_case.Return v) = returned (tree v)
+flow_of (flow_case.Break name) = broken name
+flow_of (flow_case.Continue name) = continued name
 
 abbrev pub seen_value : Result Value code_stop.Stop → Result Tree Stop
 seen_value (Ok v) = Ok (tree v)
@@ -86,6 +88,16 @@ seen_done (Err failure) = Err (failure_of failure)
 abbrev pub seen_flow : Result code_flow.Flow code_stop.Stop → Result Flow Stop
 seen_flow (Ok flow) = Ok (flow_of flow)
 seen_flow (Err stop) = Err (stop_of stop)
+
+-- how a loop ends after a turn, or none where it goes on
+abbrev pub seen_turn : Result (Option code_flow.Flow) code_stop.Stop → Option (Result Flow Stop)
+seen_turn (Ok None) = None
+seen_turn (Ok (Some flow)) = Some (Ok (flow_of flow))
+seen_turn (Err stop) = Some (Err (stop_of stop))
+
+abbrev pub seen_codes : Result (Vec Value Global) code_stop.Stop → Result (List Tree) Stop
+seen_codes (Ok vs) = Ok (trees vs.items)
+seen_codes (Err stop) = Err (stop_of stop)
 
 -- a catch, with or without what it goes on to
 abbrev pub catch_of : Expr → Codes → Option (Box code_expr.Expr Global) → Expr

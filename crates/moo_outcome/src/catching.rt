@@ -5,12 +5,31 @@ ghost use Rattle.moo_value.specs.Tree.{error};
 ghost use Rattle.moo_value.specs.View.{tree, trees};
 ghost use Rattle.moo_operation.specs.Truth.{same_tree};
 ghost use Rattle.moo_program.specs.View.{codes_of};
-ghost use Rattle.moo_outcome.specs.Catching.{is_caught, caught};
-ghost use Rattle.moo_outcome.specs.Seen.{seen_value};
+ghost use Rattle.moo_outcome.specs.Catching.{is_caught, caught, coded};
+ghost use Rattle.moo_outcome.specs.Seen.{seen_value, seen_answers, seen_codes, trace_of, IsKnown, IsKnownFailure};
 
-use crate::outcome::Stop;
+use crate::frame::{Activation, CallStack};
+use crate::outcome::{Failure, Stop, raised};
 use moo_program::Codes;
 use moo_value::{ErrorCode, Value};
+use std::alloc::Global;
+
+/// The values of the codes of a handler. Without the d bit codes that fail name no error.
+pub fn settle_codes(
+    alloc: Global,
+    stack: &CallStack,
+    active: &Activation,
+    outcome: Result<Vec<Value>, Failure>,
+) -> Result<Vec<Value>, Stop>
+    ensures outcome { IsKnown result → coded stack.now.running.d (trace_of stack.now active.now) (seen_answers outcome) ≡ seen_codes result }
+    ensures known { IsKnown result → IsKnownFailure outcome }
+{
+    match outcome {
+        Ok(values) => Ok(values),
+        Err(Failure::Fails(_)) if !stack.running.d => Ok(Vec::new(alloc)),
+        Err(failure) => Err(raised(alloc, stack, active, failure)),
+    }
+}
 
 /// The error that a catch of these codes, which were evaluated to `values`, answers for, if one was raised.
 pub fn caught(codes: &Codes, values: &[Value], outcome: &Result<Value, Stop>) -> Option<ErrorCode>
@@ -22,7 +41,7 @@ pub fn caught(codes: &Codes, values: &[Value], outcome: &Result<Value, Stop>) ->
     }
 }
 
-fn is_caught(codes: &Codes, values: &[Value], code: ErrorCode) -> bool
+pub(crate) fn is_caught(codes: &Codes, values: &[Value], code: ErrorCode) -> bool
     ensures { result ≡ is_caught (codes_of codes.now) (trees values.now) code }
 {
     match codes {

@@ -5,6 +5,8 @@
 mod access;
 mod catching;
 mod frame;
+mod handling;
+mod leading;
 mod object;
 mod outcome;
 mod scatter;
@@ -13,10 +15,12 @@ mod traceback;
 mod variables;
 
 pub use access::{literal_value, measure, push, read_variable, splice};
-pub use catching::caught;
+pub use catching::{caught, settle_codes};
 pub use frame::{Activation, CallStack, Frame, TraceEntry, TraceFrame};
+pub use handling::{Guarded, HandlerParts, chosen, handler_parts, push_guarded, set_caught};
+pub use leading::{Span, after_finally, after_turn, copied_name, no_turn, runs_finally};
 pub use object::{call_function, call_verb, put_refusal, read_property};
-pub use outcome::{Failure, Flow, Raise, Stop, settle};
+pub use outcome::{Failure, Flow, Raise, Stop, raised, settle};
 pub use scatter::{LeftOut, dealt, missing, set_shares};
 pub use target::{
     Path, Places, Root, Spot, Step, Target, as_property, push_step, rebuilt, root_alone,

@@ -1,7 +1,7 @@
 //! How evaluation may end.
 ghost use Rattle.std.specs.Prelude.{◌≡◌, IfOk};
-ghost use Rattle.moo_outcome.specs.Outcome.{settled, plain_raise};
-ghost use Rattle.moo_outcome.specs.Seen.{raise_of, trace_of, seen_value, seen_answer, IsKnown, IsKnownFailure};
+ghost use Rattle.moo_outcome.specs.Outcome.{settled, plain_raise, raised_by};
+ghost use Rattle.moo_outcome.specs.Seen.{raise_of, trace_of, stop_of, failure_of, seen_value, seen_answer, IsKnown, IsKnownFailure, HadMemory, HadMemoryIn};
 
 use crate::frame::{Activation, CallStack, TraceEntry};
 use moo_operation::OperationFault;
@@ -30,6 +30,10 @@ pub enum Stop {
 pub enum Flow {
     Next,
     Return(Value),
+    /// Out of the loop of this name, or out of the innermost.
+    Break(Option<MooStr>),
+    /// To the next turn of the loop of this name, or of the innermost.
+    Continue(Option<MooStr>),
 }
 
 /// Why a node gave no value: an error of its own, or a stop of a part of it.
@@ -131,4 +135,31 @@ pub fn settle(
             Err(Stop::Raised(plain_raise(alloc, code, trace)?))
         }
     }
+}
+
+/// The stop of a failure: its own error is raised, whatever the d bit.
+pub fn raised(alloc: Global, stack: &CallStack, active: &Activation, failure: Failure) -> Stop
+    ensures stop { HadMemory result → stop_of result ≡ raised_by (trace_of stack.now active.now) (failure_of failure) }
+    ensures known { HadMemory result → HadMemoryIn failure }
+{
+    match failure {
+        Failure::Stops(stop) => stop,
+        Failure::Fails(code) => match raise_here(alloc, stack, active, code) {
+            Ok(raise) => Stop::Raised(raise),
+            Err(AllocError) => Stop::Memory,
+        },
+    }
+}
+
+// The error as it is raised where the frame is.
+fn raise_here(
+    alloc: Global,
+    stack: &CallStack,
+    active: &Activation,
+    code: ErrorCode,
+) -> Result<Raise, AllocError>
+    ensures { IfOk result (λ raise. raise_of raise ≡ plain_raise code (trace_of stack.now active.now)) }
+{
+    let trace = stack.trace(alloc, active)?;
+    plain_raise(alloc, code, trace)
 }

@@ -128,7 +128,8 @@ impl Variables {
     }
 }
 
-fn is_same_name(a: &MooStr, b: &MooStr) -> bool
+/// Whether two names are the same but for the case of their letters.
+pub(crate) fn is_same_name(a: &MooStr, b: &MooStr) -> bool
     ensures { result ≡ bytes_eq (folded a.now) (folded b.now) }
 {
     a.as_bytes().eq_ignore_ascii_case(b.as_bytes())

@@ -1,6 +1,6 @@
 -- The length of the full listing is what is counted.
-use Rattle.std.proofs.Common.{ℕ, ◌+◌, ◌<◌, List, [], ◌∷◌, ◌++◌, ◌≡◌, refl, Bool, true, false, length, length-append, arith, Option, Some, None}
-use Rattle.std.specs.Prelude.{codes, if◌then◌else◌, count_by, IsTrue, ◌↔◌, is_some}
+use Rattle.std.proofs.Common.{ℕ, ◌+◌, List, [], ◌∷◌, ◌++◌, ◌≡◌, refl, Bool, true, false, length, length-append, arith, Option, Some, None}
+use Rattle.std.specs.Prelude.{codes, if◌then◌else◌, count_by}
 use Rattle.std.specs.List.{flat_map, sum_by}
 use Rattle.std.proofs.lemmas.List.Sums.{sum_by-cons}
 use Rattle.moo_value.specs.Text.{escaped, literal as text_of}
@@ -12,10 +12,10 @@ use Rattle.moo_program.specs.declared.operator.LogicOperator.{LogicOperator}
 use Rattle.moo_program.specs.declared.operator.LogicOperator.TheVariants.{And, Or}
 use Rattle.moo_program.specs.declared.tree.Expr.{None', Some'}
 use Rattle.moo_program.specs.declared.tree.Item.{Item, Element', Splice', Optional'}
-use Rattle.moo_program.specs.Tree.{Expr, literal, variable, length_mark, unary, binary, logic, conditional, index, range, list, property, verb_call, call, assign, catch, catch_or, Items, no_items, element, splice, optional, defaulted, Codes, any_error, listed_errors, Stmt, return_nothing, returns, literal_value}
+use Rattle.moo_program.specs.Tree.{Expr, literal, variable, length_mark, unary, binary, logic, conditional, index, range, list, property, verb_call, call, assign, catch, catch_or, Items, no_items, element, splice, optional, defaulted, Codes, any_error, listed_errors, literal_value}
 use Rattle.moo_program.specs.View.{with_item, items_of}
-use Rattle.moo_program.specs.Listing.{unary_sign, binary_sign, logic_sign, is_compound, is_compound_base, in_parentheses, constant_name, is_system_object, selected, further, listed, listed_items, listed_codes, listed_statement}
-use Rattle.moo_program.specs.Length.{length_in_parentheses, further_length, selector_length, shown_base_length, listed_length, items_length, codes_length, item_length, further_item_length, statement_length, is_escaped, literal_length, Leaves}
+use Rattle.moo_program.specs.Listing.{unary_sign, binary_sign, logic_sign, is_compound, is_compound_base, in_parentheses, constant_name, is_system_object, selected, further, listed, listed_items, listed_codes}
+use Rattle.moo_program.specs.Length.{length_in_parentheses, further_length, selector_length, shown_base_length, listed_length, items_length, codes_length, item_length, further_item_length, is_escaped, literal_length, Leaves}
 
 unary_sign_length : (o : UnaryOperator) → length (unary_sign o) ≡ 1
 unary_sign_length Not = refl
@@ -26,13 +26,13 @@ logic_sign_length And = refl
 logic_sign_length Or = refl
 
 -- the length of joined texts
-two : (a b : List ℕ) → length (a ++ b) ≡ length a + length b
+pub two : (a b : List ℕ) → length (a ++ b) ≡ length a + length b
 two a b = length-append a b
 
-three : (a b c : List ℕ) → length (a ++ b ++ c) ≡ length a + length b + length c
+pub three : (a b c : List ℕ) → length (a ++ b ++ c) ≡ length a + length b + length c
 three a b c = omega (arith, length-append (a ++ b) c, length-append a b)
 
-five : (a b c d e : List ℕ) → length (a ++ b ++ c ++ d ++ e) ≡ length a + length b + length c + length d + length e
+pub five : (a b c d e : List ℕ) → length (a ++ b ++ c ++ d ++ e) ≡ length a + length b + length c + length d + length e
 five a b c d e = omega (arith, length-append (a ++ b ++ c ++ d) e, length-append (a ++ b ++ c) d, three a b c)
 
 in_parentheses_length : (b : Bool) (text : List ℕ) (n : ℕ) → length text ≡ n → length (in_parentheses b text) ≡ length_in_parentheses b n
@@ -97,10 +97,6 @@ mutual
   length_listed_codes any_error = refl
   length_listed_codes (listed_errors xs) = length_listed_items xs
 
-pub length_listed_statement : (s : Stmt) → length (listed_statement s) ≡ statement_length s
-length_listed_statement return_nothing = refl
-length_listed_statement (returns a) = omega (arith, three (codes "return ") (listed a) (codes ";"), length_listed a)
-
 item_in_front : (x : Item) (xs : Items) → items_length (with_item x xs) ≡ item_length x + further_length xs (items_length xs)
 item_in_front (Element' p e) xs = refl
 item_in_front (Splice' p e) xs = refl
@@ -123,8 +119,3 @@ items_length_sum x (y ∷ ys) =
 pub leaves_behind : (room middle n total : ℕ) (result : Option ℕ) → room + n ≡ middle + total → Leaves middle n result → Leaves room total result
 leaves_behind room middle n total None e l = omega (arith, e, l)
 leaves_behind room middle n total (Some rest) e l = omega (arith, e, l)
-
--- a text fits where there is as much room
-pub fits_where_left : (n : ℕ) (result : Option ℕ) → Leaves 999999 n result → IsTrue (is_some result) ↔ (n < 1000000)
-fits_where_left n None l = (λ t. absurd cc, λ f. absurd (omega (arith, l, f)))
-fits_where_left n (Some rest) l = (λ t. omega (arith, l), λ f. refl)

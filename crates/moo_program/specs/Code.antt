@@ -1,5 +1,5 @@
 -- A program is stored as its marks in order, and is read back from the last mark to the first.
-use Rattle.std.specs.Prelude.{◌≡◌, ℕ, List, [], ◌∷◌, refl}
+use Rattle.std.specs.Prelude.{◌≡◌, ℕ, List, [], ◌∷◌, Option, refl}
 use Rattle.std.proofs.Common.{ap, ◌∙◌}
 use Rattle.std.specs.Coded.{Coded, code_by}
 use Rattle.moo_program.specs.declared.operator.UnaryOperator.{UnaryOperator}
@@ -7,7 +7,7 @@ use Rattle.moo_program.specs.declared.operator.BinaryOperator.{BinaryOperator}
 use Rattle.moo_program.specs.declared.operator.LogicOperator.{LogicOperator}
 use Rattle.moo_program.specs.declared.tree.Literal.{Literal}
 use Rattle.moo_program.specs.Tree
-use Rattle.moo_program.specs.Tree.{Expr, Items, Codes, Stmt, Block}
+use Rattle.moo_program.specs.Tree.{Expr, Items, Codes, Stmt, Arms, Handlers, Block}
 
 -- what stands at a node of the tree
 pub data Mark : Type 0 where
@@ -36,6 +36,20 @@ pub data Mark : Type 0 where
   listed_errors : Mark
   return_nothing : Mark
   returns : Mark
+  performs : Mark
+  branches : Mark
+  for_list : List ℕ → Mark
+  for_range : List ℕ → Mark
+  while_loop : Option (List ℕ) → Mark
+  breaks : Option (List ℕ) → Mark
+  continues : Option (List ℕ) → Mark
+  try_except : Mark
+  try_finally : Mark
+  no_else : Mark
+  otherwise : Mark
+  elseif : Mark
+  no_handler : Mark
+  handler : Option (List ℕ) → Mark
   no_statement : Mark
   then : Mark
 
@@ -45,6 +59,8 @@ pub data Part : Type 0 where
   items : Items → Part
   codes : Codes → Part
   statement : Stmt → Part
+  arms : Arms → Part
+  handlers : Handlers → Part
   block : Block → Part
 
 abbrev mutual
@@ -77,13 +93,32 @@ abbrev mutual
   codes_marks Tree.any_error ms = any_error ∷ ms
   codes_marks (Tree.listed_errors xs) ms = listed_errors ∷ items_marks xs ms
 
-abbrev statement_marks : Stmt → List Mark → List Mark
-statement_marks Tree.return_nothing ms = return_nothing ∷ ms
-statement_marks (Tree.returns a) ms = returns ∷ marks a ms
+abbrev mutual
+  statement_marks : Stmt → List Mark → List Mark
+  statement_marks Tree.return_nothing ms = return_nothing ∷ ms
+  statement_marks (Tree.returns a) ms = returns ∷ marks a ms
+  statement_marks (Tree.performs a) ms = performs ∷ marks a ms
+  statement_marks (Tree.branches a b c) ms = branches ∷ marks a (block_marks b (arms_marks c ms))
+  statement_marks (Tree.for_list x a b) ms = for_list x ∷ marks a (block_marks b ms)
+  statement_marks (Tree.for_range x a b c) ms = for_range x ∷ marks a (marks b (block_marks c ms))
+  statement_marks (Tree.while_loop n a b) ms = while_loop n ∷ marks a (block_marks b ms)
+  statement_marks (Tree.breaks n) ms = breaks n ∷ ms
+  statement_marks (Tree.continues n) ms = continues n ∷ ms
+  statement_marks (Tree.try_except b h) ms = try_except ∷ block_marks b (handlers_marks h ms)
+  statement_marks (Tree.try_finally b c) ms = try_finally ∷ block_marks b (block_marks c ms)
 
-abbrev block_marks : Block → List Mark → List Mark
-block_marks Tree.no_statement ms = no_statement ∷ ms
-block_marks (Tree.then s ss) ms = then ∷ statement_marks s (block_marks ss ms)
+  arms_marks : Arms → List Mark → List Mark
+  arms_marks Tree.no_else ms = no_else ∷ ms
+  arms_marks (Tree.otherwise b) ms = otherwise ∷ block_marks b ms
+  arms_marks (Tree.elseif a b c) ms = elseif ∷ marks a (block_marks b (arms_marks c ms))
+
+  handlers_marks : Handlers → List Mark → List Mark
+  handlers_marks Tree.no_handler ms = no_handler ∷ ms
+  handlers_marks (Tree.handler n c b h) ms = handler n ∷ codes_marks c (block_marks b (handlers_marks h ms))
+
+  block_marks : Block → List Mark → List Mark
+  block_marks Tree.no_statement ms = no_statement ∷ ms
+  block_marks (Tree.then s ss) ms = then ∷ statement_marks s (block_marks ss ms)
 
 abbrev from_expr : (Expr → Part) → List Part → List Part
 from_expr f (expr a ∷ ps) = f a ∷ ps
@@ -121,6 +156,34 @@ abbrev from_statement_and_block : (Stmt → Block → Part) → List Part → Li
 from_statement_and_block f (statement s ∷ block b ∷ ps) = f s b ∷ ps
 from_statement_and_block f _ = []
 
+abbrev from_block : (Block → Part) → List Part → List Part
+from_block f (block b ∷ ps) = f b ∷ ps
+from_block f _ = []
+
+abbrev from_two_blocks : (Block → Block → Part) → List Part → List Part
+from_two_blocks f (block b ∷ block c ∷ ps) = f b c ∷ ps
+from_two_blocks f _ = []
+
+abbrev from_expr_and_block : (Expr → Block → Part) → List Part → List Part
+from_expr_and_block f (expr a ∷ block b ∷ ps) = f a b ∷ ps
+from_expr_and_block f _ = []
+
+abbrev from_two_and_block : (Expr → Expr → Block → Part) → List Part → List Part
+from_two_and_block f (expr a ∷ expr b ∷ block c ∷ ps) = f a b c ∷ ps
+from_two_and_block f _ = []
+
+abbrev from_arm : (Expr → Block → Arms → Part) → List Part → List Part
+from_arm f (expr a ∷ block b ∷ arms c ∷ ps) = f a b c ∷ ps
+from_arm f _ = []
+
+abbrev from_block_and_handlers : (Block → Handlers → Part) → List Part → List Part
+from_block_and_handlers f (block b ∷ handlers h ∷ ps) = f b h ∷ ps
+from_block_and_handlers f _ = []
+
+abbrev from_handler : (Codes → Block → Handlers → Part) → List Part → List Part
+from_handler f (codes c ∷ block b ∷ handlers h ∷ ps) = f c b h ∷ ps
+from_handler f _ = []
+
 abbrev unmarked : List Mark → List Part
 unmarked [] = []
 unmarked (literal l ∷ ms) = expr (Tree.literal l) ∷ unmarked ms
@@ -148,6 +211,20 @@ unmarked (any_error ∷ ms) = codes Tree.any_error ∷ unmarked ms
 unmarked (listed_errors ∷ ms) = from_items (λ xs. codes (Tree.listed_errors xs)) (unmarked ms)
 unmarked (return_nothing ∷ ms) = statement Tree.return_nothing ∷ unmarked ms
 unmarked (returns ∷ ms) = from_expr (λ a. statement (Tree.returns a)) (unmarked ms)
+unmarked (performs ∷ ms) = from_expr (λ a. statement (Tree.performs a)) (unmarked ms)
+unmarked (branches ∷ ms) = from_arm (λ a b c. statement (Tree.branches a b c)) (unmarked ms)
+unmarked (for_list x ∷ ms) = from_expr_and_block (λ a b. statement (Tree.for_list x a b)) (unmarked ms)
+unmarked (for_range x ∷ ms) = from_two_and_block (λ a b c. statement (Tree.for_range x a b c)) (unmarked ms)
+unmarked (while_loop n ∷ ms) = from_expr_and_block (λ a b. statement (Tree.while_loop n a b)) (unmarked ms)
+unmarked (breaks n ∷ ms) = statement (Tree.breaks n) ∷ unmarked ms
+unmarked (continues n ∷ ms) = statement (Tree.continues n) ∷ unmarked ms
+unmarked (try_except ∷ ms) = from_block_and_handlers (λ b h. statement (Tree.try_except b h)) (unmarked ms)
+unmarked (try_finally ∷ ms) = from_two_blocks (λ b c. statement (Tree.try_finally b c)) (unmarked ms)
+unmarked (no_else ∷ ms) = arms Tree.no_else ∷ unmarked ms
+unmarked (otherwise ∷ ms) = from_block (λ b. arms (Tree.otherwise b)) (unmarked ms)
+unmarked (elseif ∷ ms) = from_arm (λ a b c. arms (Tree.elseif a b c)) (unmarked ms)
+unmarked (no_handler ∷ ms) = handlers Tree.no_handler ∷ unmarked ms
+unmarked (handler n ∷ ms) = from_handler (λ c b h. handlers (Tree.handler n c b h)) (unmarked ms)
 unmarked (no_statement ∷ ms) = block Tree.no_statement ∷ unmarked ms
 unmarked (then ∷ ms) = from_statement_and_block (λ s b. block (Tree.then s b)) (unmarked ms)
 
@@ -197,14 +274,41 @@ mutual
   unmarked-codes_marks Tree.any_error ms = refl
   unmarked-codes_marks (Tree.listed_errors xs) ms = ap (from_items (λ xs. codes (Tree.listed_errors xs))) (unmarked-items_marks xs ms)
 
-unmarked-statement_marks : (s : Stmt) (ms : List Mark) → unmarked (statement_marks s ms) ≡ statement s ∷ unmarked ms
-unmarked-statement_marks Tree.return_nothing ms = refl
-unmarked-statement_marks (Tree.returns a) ms = ap (from_expr (λ a. statement (Tree.returns a))) (unmarked-marks a ms)
+mutual
+  unmarked-statement_marks : (s : Stmt) (ms : List Mark) → unmarked (statement_marks s ms) ≡ statement s ∷ unmarked ms
+  unmarked-statement_marks Tree.return_nothing ms = refl
+  unmarked-statement_marks (Tree.returns a) ms = ap (from_expr (λ a. statement (Tree.returns a))) (unmarked-marks a ms)
+  unmarked-statement_marks (Tree.performs a) ms = ap (from_expr (λ a. statement (Tree.performs a))) (unmarked-marks a ms)
+  unmarked-statement_marks (Tree.branches a b c) ms =
+      ap (from_arm (λ a b c. statement (Tree.branches a b c))) (unmarked-marks a (block_marks b (arms_marks c ms)) ∙ behind (unmarked-block_marks b (arms_marks c ms) ∙ behind (unmarked-arms_marks c ms)))
+  unmarked-statement_marks (Tree.for_list x a b) ms =
+      ap (from_expr_and_block (λ a b. statement (Tree.for_list x a b))) (unmarked-marks a (block_marks b ms) ∙ behind (unmarked-block_marks b ms))
+  unmarked-statement_marks (Tree.for_range x a b c) ms =
+      ap (from_two_and_block (λ a b c. statement (Tree.for_range x a b c))) (unmarked-marks a (marks b (block_marks c ms)) ∙ behind (unmarked-marks b (block_marks c ms) ∙ behind (unmarked-block_marks c ms)))
+  unmarked-statement_marks (Tree.while_loop n a b) ms =
+      ap (from_expr_and_block (λ a b. statement (Tree.while_loop n a b))) (unmarked-marks a (block_marks b ms) ∙ behind (unmarked-block_marks b ms))
+  unmarked-statement_marks (Tree.breaks n) ms = refl
+  unmarked-statement_marks (Tree.continues n) ms = refl
+  unmarked-statement_marks (Tree.try_except b h) ms =
+      ap (from_block_and_handlers (λ b h. statement (Tree.try_except b h))) (unmarked-block_marks b (handlers_marks h ms) ∙ behind (unmarked-handlers_marks h ms))
+  unmarked-statement_marks (Tree.try_finally b c) ms =
+      ap (from_two_blocks (λ b c. statement (Tree.try_finally b c))) (unmarked-block_marks b (block_marks c ms) ∙ behind (unmarked-block_marks c ms))
 
-unmarked-block_marks : (b : Block) (ms : List Mark) → unmarked (block_marks b ms) ≡ block b ∷ unmarked ms
-unmarked-block_marks Tree.no_statement ms = refl
-unmarked-block_marks (Tree.then s b) ms =
-    ap (from_statement_and_block (λ s b. block (Tree.then s b))) (unmarked-statement_marks s (block_marks b ms) ∙ behind (unmarked-block_marks b ms))
+  unmarked-arms_marks : (c : Arms) (ms : List Mark) → unmarked (arms_marks c ms) ≡ arms c ∷ unmarked ms
+  unmarked-arms_marks Tree.no_else ms = refl
+  unmarked-arms_marks (Tree.otherwise b) ms = ap (from_block (λ b. arms (Tree.otherwise b))) (unmarked-block_marks b ms)
+  unmarked-arms_marks (Tree.elseif a b c) ms =
+      ap (from_arm (λ a b c. arms (Tree.elseif a b c))) (unmarked-marks a (block_marks b (arms_marks c ms)) ∙ behind (unmarked-block_marks b (arms_marks c ms) ∙ behind (unmarked-arms_marks c ms)))
+
+  unmarked-handlers_marks : (h : Handlers) (ms : List Mark) → unmarked (handlers_marks h ms) ≡ handlers h ∷ unmarked ms
+  unmarked-handlers_marks Tree.no_handler ms = refl
+  unmarked-handlers_marks (Tree.handler n c b h) ms =
+      ap (from_handler (λ c b h. handlers (Tree.handler n c b h))) (unmarked-codes_marks c (block_marks b (handlers_marks h ms)) ∙ behind (unmarked-block_marks b (handlers_marks h ms) ∙ behind (unmarked-handlers_marks h ms)))
+
+  unmarked-block_marks : (b : Block) (ms : List Mark) → unmarked (block_marks b ms) ≡ block b ∷ unmarked ms
+  unmarked-block_marks Tree.no_statement ms = refl
+  unmarked-block_marks (Tree.then s b) ms =
+      ap (from_statement_and_block (λ s b. block (Tree.then s b))) (unmarked-statement_marks s (block_marks b ms) ∙ behind (unmarked-block_marks b ms))
 
 abbrev first_block : List Part → Block
 first_block (block b ∷ ps) = b

@@ -1,14 +1,16 @@
 -- How long the full listing is, counted without writing it.
-use Rattle.std.specs.Prelude.{ℕ, ◌+◌, ◌<◌, ◌≡◌, ◌==◌, ◌||◌, List, length, count_by, Bool, true, false, Option, Some, None, MatchOption}
+use Rattle.std.specs.Prelude.{ℕ, ◌+◌, ◌<◌, ◌≡◌, ◌==◌, ◌||◌, List, length, count_by, nat_lt, ◌&&◌, Bool, true, false, Option, Some, None, MatchOption}
 use Rattle.std.specs.Fmt.{signed_decimal}
 use Rattle.moo_value.specs.Errors.{error_name}
+use Rattle.moo_value.specs.Size.{weight_limit}
 use Rattle.moo_program.specs.declared.tree.Literal.{Literal}
 use Rattle.moo_program.specs.declared.tree.Literal.TheVariants.{Integer, Object, Error, Str}
 use Rattle.moo_program.specs.declared.tree.Expr.{None', Some'}
 use Rattle.moo_program.specs.declared.tree.Item.{Item, Element', Splice', Optional'}
-use Rattle.moo_program.specs.Tree.{Expr, literal, variable, length_mark, unary, binary, logic, conditional, index, range, list, property, verb_call, call, assign, catch, catch_or, Items, no_items, element, splice, optional, defaulted, Codes, any_error, listed_errors, Stmt, return_nothing, returns}
-use Rattle.moo_program.specs.View.{tree}
-use Rattle.moo_program.specs.Listing.{binary_sign, is_compound, is_compound_base, constant_name, is_system_object}
+use Rattle.moo_program.specs.Tree.{Expr, literal, variable, length_mark, unary, binary, logic, conditional, index, range, list, property, verb_call, call, assign, catch, catch_or, Items, no_items, element, splice, optional, defaulted, Codes, any_error, listed_errors, Stmt, return_nothing, returns, performs, branches, for_list, for_range, while_loop, breaks, continues, try_except, try_finally, Arms, no_else, otherwise, elseif, Handlers, no_handler, handler, Block, no_statement, then}
+use Rattle.moo_program.specs.declared.tree.Handler.{Handler, Except', ExceptAs'}
+use Rattle.moo_program.specs.View.{tree, codes_of, statements}
+use Rattle.moo_program.specs.Listing.{binary_sign, is_compound, is_compound_base, constant_name, is_system_object, head, elseif_head, except_head}
 
 -- with two parentheses, or bare
 abbrev pub length_in_parentheses : Bool → ℕ → ℕ
@@ -84,10 +86,59 @@ item_length (Optional' s (Some' p e)) = 4 + length s + listed_length (tree e)
 abbrev pub further_item_length : Item → ℕ
 further_item_length x = 2 + item_length x
 
-abbrev pub statement_length : Stmt → ℕ
-statement_length return_nothing = 7
-statement_length (returns a) = 8 + listed_length a
+-- a blank and a name, where there is one
+abbrev pub label_length : Option (List ℕ) → ℕ
+label_length None = 0
+label_length (Some s) = 1 + length s
+
+-- the first line of a statement
+abbrev pub head_length : Stmt → ℕ
+head_length return_nothing = 7
+head_length (returns a) = 8 + listed_length a
+head_length (performs a) = 1 + listed_length a
+head_length (branches a b c) = 5 + listed_length a
+head_length (for_list s a b) = 10 + length s + listed_length a
+head_length (for_range s a b c) = 12 + length s + listed_length a + listed_length b
+head_length (while_loop n a b) = 8 + label_length n + listed_length a
+head_length (breaks n) = 6 + label_length n
+head_length (continues n) = 9 + label_length n
+head_length (try_except b h) = 3
+head_length (try_finally b c) = 3
 
 -- what n bytes leave of a room, if they fit it
 abbrev pub Leaves : ℕ → ℕ → Option ℕ → Type 0
 Leaves room n result = MatchOption result (room < n) (λ rest. rest + n ≡ room)
+
+-- whether the line is short enough for a string
+abbrev pub fits : List ℕ → Bool
+fits line = nat_lt (length line) weight_limit
+
+abbrev mutual
+  -- whether each line of the statements is
+  pub block_fits : Block → Bool
+  block_fits no_statement = true
+  block_fits (then s ss) = (fits (head s) && below_fits s) && block_fits ss
+
+  -- the lines of a statement behind the first
+  pub below_fits : Stmt → Bool
+  below_fits (branches a b c) = block_fits b && arms_fit c
+  below_fits (for_list s a b) = block_fits b
+  below_fits (for_range s a b c) = block_fits c
+  below_fits (while_loop n a b) = block_fits b
+  below_fits (try_except b h) = block_fits b && handlers_fit h
+  below_fits (try_finally b c) = block_fits b && block_fits c
+  below_fits s = true
+
+  pub arms_fit : Arms → Bool
+  arms_fit no_else = true
+  arms_fit (otherwise b) = block_fits b
+  arms_fit (elseif a b c) = (fits (elseif_head a) && block_fits b) && arms_fit c
+
+  pub handlers_fit : Handlers → Bool
+  handlers_fit no_handler = true
+  handlers_fit (handler n c b h) = (fits (except_head n c) && block_fits b) && handlers_fit h
+
+-- a handler by itself
+abbrev pub handler_fits : Handler → Bool
+handler_fits (Except' c shape ss) = fits (except_head None (codes_of c)) && block_fits (statements ss)
+handler_fits (ExceptAs' s c shape ss) = fits (except_head (Some s) (codes_of c)) && block_fits (statements ss)

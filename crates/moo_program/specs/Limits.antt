@@ -1,7 +1,7 @@
 -- The limits of a program.
 use Rattle.std.specs.Prelude.{ℕ, List, ◌+◌, ◌≤◌, ◌<◌, max, length, [], ◌∷◌}
 use Rattle.moo_value.specs.Size.{weight_limit}
-use Rattle.moo_program.specs.Tree.{Expr, literal, variable, length_mark, unary, binary, logic, conditional, index, range, list, property, verb_call, call, assign, catch, catch_or, Items, no_items, element, splice, optional, defaulted, Codes, any_error, listed_errors, Stmt, return_nothing, returns, Block, no_statement, then}
+use Rattle.moo_program.specs.Tree.{Expr, literal, variable, length_mark, unary, binary, logic, conditional, index, range, list, property, verb_call, call, assign, catch, catch_or, Items, no_items, element, splice, optional, defaulted, Codes, any_error, listed_errors, Stmt, return_nothing, returns, performs, branches, for_list, for_range, while_loop, breaks, continues, try_except, try_finally, Arms, no_else, otherwise, elseif, Handlers, no_handler, handler, Block, no_statement, then}
 use Rattle.moo_program.specs.Listing.{listing}
 
 abbrev mutual
@@ -37,14 +37,36 @@ abbrev mutual
   codes_height any_error = 0
   codes_height (listed_errors xs) = items_height xs
 
-abbrev pub statement_height : Stmt → ℕ
-statement_height return_nothing = 1
-statement_height (returns a) = 1 + height a
+abbrev mutual
+  -- the most nodes on a path from the statement down to a leaf, both counted
+  pub statement_height : Stmt → ℕ
+  statement_height return_nothing = 1
+  statement_height (returns a) = 1 + height a
+  statement_height (performs a) = 1 + height a
+  statement_height (branches a b c) = 1 + max (height a) (max (block_height b) (arms_height c))
+  statement_height (for_list x a b) = 1 + max (height a) (block_height b)
+  statement_height (for_range x a b c) = 1 + max (height a) (max (height b) (block_height c))
+  statement_height (while_loop n a b) = 1 + max (height a) (block_height b)
+  statement_height (breaks n) = 1
+  statement_height (continues n) = 1
+  statement_height (try_except b h) = 1 + max (block_height b) (handlers_height h)
+  statement_height (try_finally b c) = 1 + max (block_height b) (block_height c)
 
--- the most nodes on a path, from a statement of the program down to a leaf
-abbrev pub block_height : Block → ℕ
-block_height no_statement = 0
-block_height (then s ss) = max (statement_height s) (block_height ss)
+  -- the greatest height of what stands in the arms
+  pub arms_height : Arms → ℕ
+  arms_height no_else = 0
+  arms_height (otherwise b) = block_height b
+  arms_height (elseif a b c) = max (height a) (max (block_height b) (arms_height c))
+
+  -- the greatest height of what stands in the handlers
+  pub handlers_height : Handlers → ℕ
+  handlers_height no_handler = 0
+  handlers_height (handler n c b h) = max (codes_height c) (max (block_height b) (handlers_height h))
+
+  -- the most nodes on a path, from a statement of the program down to a leaf
+  pub block_height : Block → ℕ
+  block_height no_statement = 0
+  block_height (then s ss) = max (statement_height s) (block_height ss)
 
 abbrev pub most_nodes : ℕ
 most_nodes = 100

@@ -9,7 +9,7 @@ use Rattle.moo_program.specs.declared.operator.BinaryOperator.TheVariants.{Add, 
 use Rattle.moo_program.specs.declared.operator.LogicOperator.{LogicOperator}
 use Rattle.moo_program.specs.declared.operator.LogicOperator.TheVariants.{And, Or}
 use Rattle.moo_program.specs.declared.tree.Literal.TheVariants.{Integer, Object, Str}
-use Rattle.moo_program.specs.Tree.{Expr, literal, variable, length_mark, unary, binary, logic, conditional, index, range, list, property, verb_call, call, assign, catch, catch_or, Items, no_items, element, splice, optional, defaulted, Codes, any_error, listed_errors, Stmt, return_nothing, returns, Block, no_statement, then, literal_value}
+use Rattle.moo_program.specs.Tree.{Expr, literal, variable, length_mark, unary, binary, logic, conditional, index, range, list, property, verb_call, call, assign, catch, catch_or, Items, no_items, element, splice, optional, defaulted, Codes, any_error, listed_errors, Stmt, return_nothing, returns, performs, branches, for_list, for_range, while_loop, breaks, continues, try_except, try_finally, Arms, no_else, otherwise, elseif, Handlers, no_handler, handler, Block, no_statement, then, literal_value}
 
 abbrev pub unary_sign : UnaryOperator → List ℕ
 unary_sign Not = codes "!"
@@ -112,11 +112,57 @@ abbrev mutual
   listed_codes any_error = codes "ANY"
   listed_codes (listed_errors xs) = listed_items xs
 
-abbrev pub listed_statement : Stmt → List ℕ
-listed_statement return_nothing = codes "return;"
-listed_statement (returns a) = codes "return " ++ listed a ++ codes ";"
+-- a blank and a name, where there is one
+abbrev pub labelled : Option (List ℕ) → List ℕ
+labelled None = []
+labelled (Some s) = codes " " ++ s
 
--- the lines of a program
-abbrev pub listing : Block → List (List ℕ)
-listing no_statement = []
-listing (then s ss) = listed_statement s ∷ listing ss
+-- the first line of a statement
+abbrev pub head : Stmt → List ℕ
+head return_nothing = codes "return;"
+head (returns a) = codes "return " ++ listed a ++ codes ";"
+head (performs a) = listed a ++ codes ";"
+head (branches a b c) = codes "if (" ++ listed a ++ codes ")"
+head (for_list s a b) = codes "for " ++ s ++ codes " in (" ++ listed a ++ codes ")"
+head (for_range s a b c) = codes "for " ++ s ++ codes " in [" ++ listed a ++ codes ".." ++ listed b ++ codes "]"
+head (while_loop n a b) = codes "while" ++ labelled n ++ codes " (" ++ listed a ++ codes ")"
+head (breaks n) = codes "break" ++ labelled n ++ codes ";"
+head (continues n) = codes "continue" ++ labelled n ++ codes ";"
+head (try_except b h) = codes "try"
+head (try_finally b c) = codes "try"
+
+abbrev pub elseif_head : Expr → List ℕ
+elseif_head a = codes "elseif (" ++ listed a ++ codes ")"
+
+abbrev pub except_head : Option (List ℕ) → Codes → List ℕ
+except_head n c = codes "except" ++ labelled n ++ codes " (" ++ listed_codes c ++ codes ")"
+
+abbrev mutual
+  -- the lines of a statement behind the first
+  pub below : Stmt → List (List ℕ)
+  below (branches a b c) = listing b ++ listed_arms c
+  below (for_list s a b) = listing b ++ codes "endfor" ∷ []
+  below (for_range s a b c) = listing c ++ codes "endfor" ∷ []
+  below (while_loop n a b) = listing b ++ codes "endwhile" ∷ []
+  below (try_except b h) = listing b ++ listed_handlers h
+  below (try_finally b c) = listing b ++ codes "finally" ∷ listing c ++ codes "endtry" ∷ []
+  below s = []
+
+  -- what stands behind the first statements of an `if`
+  pub listed_arms : Arms → List (List ℕ)
+  listed_arms no_else = codes "endif" ∷ []
+  listed_arms (otherwise b) = codes "else" ∷ listing b ++ codes "endif" ∷ []
+  listed_arms (elseif a b c) = elseif_head a ∷ listing b ++ listed_arms c
+
+  -- what stands behind the statements of a `try`
+  pub listed_handlers : Handlers → List (List ℕ)
+  listed_handlers no_handler = codes "endtry" ∷ []
+  listed_handlers (handler n c b h) = except_head n c ∷ listing b ++ listed_handlers h
+
+  -- the lines of a program, one statement's head or end on each
+  pub listing : Block → List (List ℕ)
+  listing no_statement = []
+  listing (then s ss) = head s ∷ below s ++ listing ss
+
+abbrev pub listed_statement : Stmt → List (List ℕ)
+listed_statement s = head s ∷ below s

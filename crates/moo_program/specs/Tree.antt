@@ -1,5 +1,5 @@
 -- Programs as trees, without where their parts lie in memory.
-use Rattle.std.specs.Prelude.{ℕ, List}
+use Rattle.std.specs.Prelude.{ℕ, List, Option}
 use Rattle.moo_value.specs.Tree
 use Rattle.moo_program.specs.declared.operator.UnaryOperator.{UnaryOperator}
 use Rattle.moo_program.specs.declared.operator.BinaryOperator.{BinaryOperator}
@@ -54,14 +54,39 @@ mutual
     any_error : Codes
     listed_errors : Items → Codes
 
-pub data Stmt : Type 0 where
-  return_nothing : Stmt
-  returns : Expr → Stmt
+mutual
+  pub data Stmt : Type 0 where
+    return_nothing : Stmt
+    returns : Expr → Stmt
+    -- a;
+    performs : Expr → Stmt
+    -- the first condition, its statements, and what stands behind them
+    branches : Expr → Block → Arms → Stmt
+    -- for x in (a)
+    for_list : List ℕ → Expr → Block → Stmt
+    -- for x in [a..b]
+    for_range : List ℕ → Expr → Expr → Block → Stmt
+    while_loop : Option (List ℕ) → Expr → Block → Stmt
+    breaks : Option (List ℕ) → Stmt
+    continues : Option (List ℕ) → Stmt
+    try_except : Block → Handlers → Stmt
+    try_finally : Block → Block → Stmt
 
--- statements, one after another
-pub data Block : Type 0 where
-  no_statement : Block
-  then : Stmt → Block → Block
+  -- what stands behind the first statements of an `if`
+  pub data Arms : Type 0 where
+    no_else : Arms
+    otherwise : Block → Arms
+    elseif : Expr → Block → Arms → Arms
+
+  -- the handlers of a `try`: the variable that is set, the errors, and the statements
+  pub data Handlers : Type 0 where
+    no_handler : Handlers
+    handler : Option (List ℕ) → Codes → Block → Handlers → Handlers
+
+  -- statements, one after another
+  pub data Block : Type 0 where
+    no_statement : Block
+    then : Stmt → Block → Block
 
 -- the value that a literal is
 abbrev pub literal_value : Literal → Tree.Tree

@@ -6,8 +6,9 @@ use Rattle.moo_program.specs.Tree.{Items, Block}
 use Rattle.moo_program.specs.declared.tree.Expr.{Expr, Literal, Variable, Length, Unary', Binary', Logic', Conditional', Index', Range', List', Property', VerbCall', Call', Assign', Catch', Row_of-Item, end_of-Item, more_of-Item, None', Some'}
 use Rattle.moo_program.specs.declared.tree.Item.{Item, Element', Splice', Optional'}
 use Rattle.moo_program.specs.declared.tree.Codes.{Codes, Any, Listed'}
-use Rattle.moo_program.specs.declared.tree.Stmt.{Stmt}
-use Rattle.moo_program.specs.declared.tree.Stmt.TheVariants.{Return}
+use Rattle.moo_program.specs.declared.tree.Stmt.{Stmt, Return, Expression, If', ForList', ForRange', While', Break, Continue, TryExcept', TryFinally', Row_of-Stmt, end_of-Stmt, more_of-Stmt, Row_of-Arm, end_of-Arm, more_of-Arm, Row_of-Handler, end_of-Handler, more_of-Handler}
+use Rattle.moo_program.specs.declared.tree.Arm.{Arm, ElseIf', Else'}
+use Rattle.moo_program.specs.declared.tree.Handler.{Handler, Except', ExceptAs'}
 
 abbrev mutual
   pub tree : Expr → Tree.Expr
@@ -53,10 +54,51 @@ items_of items = in_front items Tree.no_items
 abbrev pub root : Box Expr Global → Tree.Expr
 root b = tree b.value
 
-abbrev pub statement : Stmt → Tree.Stmt
-statement (Return None) = Tree.return_nothing
-statement (Return (Some e)) = Tree.returns (root e)
+abbrev mutual
+  pub statement : Stmt → Tree.Stmt
+  statement (Return None) = Tree.return_nothing
+  statement (Return (Some e)) = Tree.returns (root e)
+  statement (Expression e) = Tree.performs (root e)
+  statement (If' e shape ss shapes arms) = Tree.branches (root e) (statements ss) (arms_row arms)
+  statement (ForList' s e shape ss) = Tree.for_list s (root e) (statements ss)
+  statement (ForRange' s a b shape ss) = Tree.for_range s (root a) (root b) (statements ss)
+  statement (While' n e shape ss) = Tree.while_loop n (root e) (statements ss)
+  statement (Break n) = Tree.breaks n
+  statement (Continue n) = Tree.continues n
+  statement (TryExcept' shape ss shapes handlers) = Tree.try_except (statements ss) (handlers_row handlers)
+  statement (TryFinally' shape ss shapes cleanup) = Tree.try_finally (statements ss) (statements cleanup)
 
+  pub statements : {m : _} → Row_of-Stmt m → Block
+  statements end_of-Stmt = Tree.no_statement
+  statements (more_of-Stmt s ss) = Tree.then (statement s) (statements ss)
+
+  pub arms_row : {m : _} → Row_of-Arm m → Tree.Arms
+  arms_row end_of-Arm = Tree.no_else
+  arms_row (more_of-Arm a arms) = with_arm a (arms_row arms)
+
+  -- what stands behind `else` is no part of the program
+  pub with_arm : Arm → Tree.Arms → Tree.Arms
+  with_arm (ElseIf' e shape ss) arms = Tree.elseif (root e) (statements ss) arms
+  with_arm (Else' shape ss) arms = Tree.otherwise (statements ss)
+
+  pub handlers_row : {m : _} → Row_of-Handler m → Tree.Handlers
+  handlers_row end_of-Handler = Tree.no_handler
+  handlers_row (more_of-Handler h hs) = with_handler h (handlers_row hs)
+
+  pub with_handler : Handler → Tree.Handlers → Tree.Handlers
+  with_handler (Except' c shape ss) hs = Tree.handler None (codes_of c) (statements ss) hs
+  with_handler (ExceptAs' s c shape ss) hs = Tree.handler (Some s) (codes_of c) (statements ss) hs
+
+-- statements, one after another
 abbrev pub block : List Stmt → Block
 block [] = Tree.no_statement
 block (s ∷ ss) = Tree.then (statement s) (block ss)
+
+-- the further arms of an `if`
+abbrev pub arms_of : List Arm → Tree.Arms
+arms_of [] = Tree.no_else
+arms_of (a ∷ arms) = with_arm a (arms_of arms)
+
+abbrev pub handlers_of : List Handler → Tree.Handlers
+handlers_of [] = Tree.no_handler
+handlers_of (h ∷ hs) = with_handler h (handlers_of hs)

@@ -1,49 +1,19 @@
-//! How long the full listing is, counted without writing it.
+//! How long an expression in the full listing is, counted without writing it.
 //!
-//! Each function but the first tells what is left of the room that a line has, or `None` where the text doesn't fit it.
-ghost use Rattle.std.specs.Prelude.{◌≡◌, ◌+◌, ◌<◌, ◌↔◌, Bool, IsTrue, count_by, length};
+//! Each function tells what is left of the room that a line has, or `None` where the text doesn't fit it.
+ghost use Rattle.std.specs.Prelude.{◌≡◌, ◌+◌, ◌<◌, Bool, count_by, length};
 ghost use Rattle.std.specs.Fmt.{signed_decimal};
-ghost use Rattle.moo_program.specs.View.{tree, statement as tree_of, block, items_of, codes_of};
-ghost use Rattle.moo_program.specs.Listing.{binary_sign, is_compound, is_compound_base, constant_name, is_system_object, listed_statement, listing};
-ghost use Rattle.moo_program.specs.Length.{Leaves, literal_length, is_escaped, listed_length, items_length, item_length, codes_length, selector_length, shown_base_length, statement_length, length_in_parentheses};
-ghost use Rattle.moo_program.specs.Limits.{FitsLine, AllFit};
+ghost use Rattle.moo_program.specs.View.{tree, items_of, codes_of};
+ghost use Rattle.moo_program.specs.Listing.{binary_sign, is_compound, is_compound_base, constant_name, is_system_object};
+ghost use Rattle.moo_program.specs.Length.{Leaves, literal_length, is_escaped, listed_length, items_length, item_length, codes_length, selector_length, shown_base_length, length_in_parentheses};
 
 use crate::operator::BinaryOperator;
 use crate::shape::{constant_name, is_compound, is_compound_base, is_system_object};
-use crate::tree::{Codes, Expr, Item, Literal, Stmt};
+use crate::tree::{Codes, Expr, Item, Literal};
 use itoa::Buffer;
-use moo_value::WEIGHT_LIMIT;
-
-/// Whether the line of the statement in the full listing is short enough for a string.
-fn fits_line(statement: &Stmt) -> bool
-    ensures { IsTrue result ↔ FitsLine (listed_statement (tree_of statement.now)) }
-{
-    statement_rest(statement, WEIGHT_LIMIT as usize - 1).is_some()
-}
-
-/// Whether each line of the full listing is short enough for a string.
-pub fn fit_lines(statements: &[Stmt]) -> bool
-    ensures { IsTrue result ↔ AllFit (listing (block statements.now)) }
-{
-    for statement in statements {
-        if !fits_line(statement) {
-            return false;
-        }
-    }
-    true
-}
-
-fn statement_rest(statement: &Stmt, room: usize) -> Option<usize>
-    ensures { Leaves room (statement_length (tree_of statement.now)) result }
-{
-    match statement {
-        Stmt::Return(None) => room.checked_sub(7),
-        Stmt::Return(Some(value)) => expression(value, room.checked_sub(8)?),
-    }
-}
 
 #[cycle(length)]
-fn expression(value: &Expr, room: usize) -> Option<usize>
+pub(crate) fn expression(value: &Expr, room: usize) -> Option<usize>
     ensures { Leaves room (listed_length (tree value.now)) result }
 {
     match value {
@@ -114,7 +84,7 @@ fn shown_base_rest(base: &Expr, name: &Expr, room: usize) -> Option<usize>
 }
 
 #[cycle(length)]
-fn codes_rest(codes: &Codes, room: usize) -> Option<usize>
+pub(crate) fn codes_rest(codes: &Codes, room: usize) -> Option<usize>
     ensures { Leaves room (codes_length (codes_of codes.now)) result }
 {
     match codes {

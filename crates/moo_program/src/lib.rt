@@ -3,14 +3,15 @@
 
 mod length;
 mod limits;
+mod lines;
 pub mod operator;
 mod program;
 pub mod shape;
 mod target;
 mod tree;
 
-pub use length::fit_lines;
 pub use limits::{MOST_BRACKETS, MOST_NODES};
+pub use lines::fit_lines;
 pub use program::Program;
 pub use target::is_target;
-pub use tree::{Codes, Expr, Item, Literal, Stmt};
+pub use tree::{Arm, Codes, Expr, Handler, Item, Literal, Stmt};

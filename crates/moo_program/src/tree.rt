@@ -64,8 +64,47 @@ pub enum Codes {
 }
 
 /// A statement.
+#[cycle(statements)]
 #[derive(Drop)]
 pub enum Stmt {
     /// `return;` or `return a;`
     Return(Option<Box<Expr>>),
+    /// `a;`
+    Expression(Box<Expr>),
+    /// `if (a) .. endif`: the condition, the statements, and the further arms.
+    If(Box<Expr>, Vec<Stmt>, Vec<Arm>),
+    /// `for x in (a) .. endfor`
+    ForList(MooStr, Box<Expr>, Vec<Stmt>),
+    /// `for x in [a..b] .. endfor`
+    ForRange(MooStr, Box<Expr>, Box<Expr>, Vec<Stmt>),
+    /// `while (a) .. endwhile` or `while x (a) .. endwhile`
+    While(Option<MooStr>, Box<Expr>, Vec<Stmt>),
+    /// `break;` or `break x;`
+    Break(Option<MooStr>),
+    /// `continue;` or `continue x;`
+    Continue(Option<MooStr>),
+    /// `try .. except x (codes) .. endtry`
+    TryExcept(Vec<Stmt>, Vec<Handler>),
+    /// `try .. finally .. endtry`
+    TryFinally(Vec<Stmt>, Vec<Stmt>),
+}
+
+/// A further arm of an `if`.
+#[cycle(statements)]
+#[derive(Drop)]
+pub enum Arm {
+    /// `elseif (a) ..`
+    ElseIf(Box<Expr>, Vec<Stmt>),
+    /// `else ..`, the last arm: what stands behind it in a row is no part of the program.
+    Else(Vec<Stmt>),
+}
+
+/// A handler of a `try`.
+#[cycle(statements)]
+#[derive(Drop)]
+pub enum Handler {
+    /// `except (codes) ..`
+    Except(Codes, Vec<Stmt>),
+    /// `except x (codes) ..`, which sets the variable.
+    ExceptAs(MooStr, Codes, Vec<Stmt>),
 }

@@ -4,6 +4,8 @@
 mod recogniser;
 pub mod rules;
 #[cfg(test)]
+mod statement_rules;
+#[cfg(test)]
 mod tests;
 
 pub use recogniser::Recogniser;

@@ -4,7 +4,11 @@
 //! keyword `any`, `3` `return`, `4` `..`, `5` `=>`, and a sign stands for itself. No token is `#`.
 
 /// Programs P, expressions E, and their levels down to what suffixes stand behind, X, and what they begin with, B.
-pub static COMMON: [&str; 47] = [
+pub static COMMON: [&str; 51] = [
+    "P:E;",
+    "P:E;P",
+    "P:;",
+    "P:;P",
     "P:3;",
     "P:3E;",
     "P:3;P",

@@ -2,6 +2,7 @@
 // recogniser takes, and tells each fault at the first token at which no program goes on.
 use crate::recogniser::Recogniser;
 use crate::rules::{CALLS, COMMON, LOOSE, SCATTERS, TARGETS};
+use crate::statement_rules::{ANYWHERE, EXPRESSIONS, IN_LOOPS};
 use moo_syntax::{Names, SyntaxFaultKind, parse};
 use moo_value::MooStr;
 use std::alloc::Global;
@@ -36,6 +37,21 @@ fn text_of(token: u8) -> &'static str {
         b',' => ",",
         b'@' => "@",
         b'$' => "$",
+        b'6' => "if",
+        b'7' => "elseif",
+        b'8' => "else",
+        b'9' => "endif",
+        b'%' => "in",
+        b'~' => "endfor",
+        b'_' => "while",
+        b'/' => "endwhile",
+        b'"' => "break",
+        b'\\' => "continue",
+        b'>' => "try",
+        1 => "except",
+        2 => "finally",
+        3 => "endtry",
+        4 => "for",
         b'`' => "`",
         b'\'' => "'",
         _ => ";",
@@ -49,6 +65,7 @@ enum Verdict {
     Unexpected(usize),
     BadTarget(usize),
     UnknownFunction(usize),
+    BadLoopName(usize),
     Other,
 }
 
@@ -65,6 +82,7 @@ fn told(alloc: Global, tokens: &[u8], names: Names) -> Result<Verdict, Fail> {
             Ok(match fault.kind {
                 SyntaxFaultKind::Unexpected => Verdict::Unexpected(line),
                 SyntaxFaultKind::BadTarget => Verdict::BadTarget(line),
+                SyntaxFaultKind::BadLoopName => Verdict::BadLoopName(line),
                 SyntaxFaultKind::UnknownFunction(_) => Verdict::UnknownFunction(line),
                 SyntaxFaultKind::BadToken | SyntaxFaultKind::TooDeep | SyntaxFaultKind::Memory =>
                     Verdict::Other,
@@ -86,6 +104,7 @@ fn expected(tokens: &[u8], strict: &Recogniser, loose: &Recogniser) -> Verdict {
     match tokens.get(place) {
         Some(b'=') => Verdict::BadTarget(line),
         Some(b'(') => Verdict::UnknownFunction(place),
+        Some(b'"' | b'\\' | b'1') => Verdict::BadLoopName(line),
         _ => Verdict::Other,
     }
 }
@@ -154,6 +173,36 @@ fn difference(
     Ok(tokens)
 }
 
+/// The same of statements over a few expressions.
+fn difference_of_statements(
+    alloc: Global,
+    begin: &[u8],
+    alphabet: &[u8],
+    more: u32,
+) -> Result<Vec<u8>, Fail> {
+    let mut strict = Recogniser::new(alloc, &[&EXPRESSIONS, &IN_LOOPS])?;
+    let mut loose = Recogniser::new(alloc, &[&EXPRESSIONS, &ANYWHERE])?;
+    let mut tokens = Vec::new(alloc);
+    for token in begin {
+        tokens.push(*token)?;
+        strict.read(alloc, *token)?;
+        loose.read(alloc, *token)?;
+    }
+    let left = more.saturating_sub(1);
+    if explore(
+        alloc,
+        alphabet,
+        Names::Any,
+        &mut tokens,
+        &mut strict,
+        &mut loose,
+        left,
+    )? {
+        tokens.clear();
+    }
+    Ok(tokens)
+}
+
 #[test]
 fn assignments(rt: HostRuntime) -> Result<(), Fail> {
     let found = difference(rt.alloc(), b"3", b"1;()[].=@{}", Names::Any, 5)?;
@@ -206,6 +255,48 @@ fn catches(rt: HostRuntime) -> Result<(), Fail> {
 #[test]
 fn operators(rt: HostRuntime) -> Result<(), Fail> {
     let found = difference(rt.alloc(), b"3", b"0;+-*^<&!?|", Names::Any, 5)?;
+    assert_eq!(rt; found.as_slice(), b"".as_slice());
+    Ok(())
+}
+
+#[test]
+fn branches(rt: HostRuntime) -> Result<(), Fail> {
+    let found = difference_of_statements(rt.alloc(), b"6(0)", b"6789;3~", 6)?;
+    assert_eq!(rt; found.as_slice(), b"".as_slice());
+    Ok(())
+}
+
+#[test]
+fn loops_without_a_name(rt: HostRuntime) -> Result<(), Fail> {
+    let found = difference_of_statements(rt.alloc(), b"_(0)", b"_/\"\\1;(", 6)?;
+    assert_eq!(rt; found.as_slice(), b"".as_slice());
+    Ok(())
+}
+
+#[test]
+fn loops_of_a_name(rt: HostRuntime) -> Result<(), Fail> {
+    let found = difference_of_statements(rt.alloc(), b"_1(0)", b"_/\"1;(0)", 6)?;
+    assert_eq!(rt; found.as_slice(), b"".as_slice());
+    Ok(())
+}
+
+#[test]
+fn loops_over_lists(rt: HostRuntime) -> Result<(), Fail> {
+    let found = difference_of_statements(rt.alloc(), b"\x041%", b"(0)[4]~;\"1", 7)?;
+    assert_eq!(rt; found.as_slice(), b"".as_slice());
+    Ok(())
+}
+
+#[test]
+fn tries(rt: HostRuntime) -> Result<(), Fail> {
+    let found = difference_of_statements(rt.alloc(), b">", b"\x01\x02\x031(2);>\"", 6)?;
+    assert_eq!(rt; found.as_slice(), b"".as_slice());
+    Ok(())
+}
+
+#[test]
+fn jumps_outside_loops(rt: HostRuntime) -> Result<(), Fail> {
+    let found = difference_of_statements(rt.alloc(), b"", b"\"\\1;6()9", 6)?;
     assert_eq!(rt; found.as_slice(), b"".as_slice());
     Ok(())
 }

@@ -1,6 +1,7 @@
 pub mod Steps
 pub mod Options
 pub mod Blocks
+pub mod Jumps
 pub mod TextLengths
 pub mod Passing
 pub mod Whole

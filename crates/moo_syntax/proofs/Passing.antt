@@ -1,15 +1,15 @@
 -- The choices of the grammar take no bad token.
-use Rattle.std.proofs.Common.{ℕ, zero, suc, ◌≤◌, ◌-◌, List, [], ◌∷◌, ◌≡◌, refl, subst, Bool, true, false, not, ◌||◌, length, take as first, unwrap_or, arith}
+use Rattle.std.proofs.Common.{ℕ, zero, suc, ◌≤◌, ◌-◌, List, [], ◌∷◌, ◌≡◌, refl, subst, Bool, true, false, None, not, ◌||◌, length, take as first, unwrap_or, arith}
 use Rattle.moo_token.specs.declared.sign.Sign.TheVariants.{RightParen}
 use Rattle.moo_token.specs.declared.token.Token.{Token}
 use Rattle.moo_token.specs.declared.token.Token.TheVariants as token
-use Rattle.moo_program.specs.Tree.{Expr, assign, call}
+use Rattle.moo_program.specs.Tree.{Expr, assign, call, breaks, continues}
 use Rattle.moo_grammar.specs.declared.level.Level.TheVariants.{Logic, Relation, Sum, Product}
 use Rattle.moo_grammar.specs.Tokens.{is_bad, name_at}
-use Rattle.moo_grammar.specs.Rules.{Rules, may_assign}
-use Rattle.moo_grammar.specs.Grammar.{Sort, Of, Kind, expression, conditional, chain, more, operand, power, unary, postfix, suffixes, primary, arguments, members, codes, statement, statements, sort, has_optional}
+use Rattle.moo_grammar.specs.Rules.{Rules, may_assign, may_jump}
+use Rattle.moo_grammar.specs.Grammar.{Sort, Of, Kind, expression, conditional, chain, more, operand, power, unary, postfix, suffixes, primary, arguments, members, codes, statement, statements, arms, handlers, label, in_parens, sort, has_optional}
 use Rattle.moo_grammar.specs.Machine.{Reading, give, refuse, take, peek, phrase, Reads, gives, takes, sees, misses, reads, Fails, refuses, takes_fails, sees_fails, misses_fails, phrase_fails, then_fails, next_passes}
-use Rattle.moo_grammar.specs.Predictive.{grammar, expect, allowed, if_optional, behind_brace, mark}
+use Rattle.moo_grammar.specs.Predictive.{grammar, expect, allowed, if_optional, behind_brace, behind_jump, mark}
 use Rattle.moo_syntax.specs.Programs.{AreSound}
 use Rattle.moo_syntax.specs.Stops.{Passes, none, one}
 
@@ -82,8 +82,33 @@ all_take g (members i o) = (
   (refl, λ x a. ((refl, λ y xs. tt), tt)),
   optional_takes o _ _ ((refl, λ x. ((refl, λ y a. ((refl, λ z xs. tt), tt)), ((refl, λ y xs. tt), tt))), tt) (λ a. ((refl, λ y xs. tt), tt)),
 )
-all_take g statement = ((refl, λ x. ((refl, λ y. tt), λ a. ((refl, λ y. tt), tt))), tt)
-all_take g statements = ((λ s ss. tt), tt)
+all_take g (statement ls) = (
+  (refl, λ x a b c. ((refl, λ x. tt), tt)),
+  (
+    (
+      refl,
+      λ x. ((refl, λ x. ((refl, λ x. ((refl, λ x a. ((refl, λ x b. ((refl, λ x c. ((refl, λ x. tt), tt)), tt)), tt)), λ a b. ((refl, λ x. tt), tt))), tt)), tt),
+    ),
+    (
+      (refl, λ x l a b. ((refl, λ x. tt), tt)),
+      (
+        allowed_takes (may_jump g ls None) true (take λ _. behind_jump g ls breaks) (refl, λ x. ((refl, λ x. ((refl, λ x. tt), tt)), ((refl, λ x. tt), tt))),
+        (
+          allowed_takes (may_jump g ls None) true (take λ _. behind_jump g ls continues) (refl, λ x. ((refl, λ x. ((refl, λ x. tt), tt)), ((refl, λ x. tt), tt))),
+          (
+            (refl, λ x. ((refl, λ x. tt), λ a. ((refl, λ x. tt), tt))),
+            ((refl, λ x b. ((refl, λ x c. ((refl, λ x. tt), tt)), λ h. ((refl, λ x. tt), tt))), λ a. ((refl, λ x. tt), tt)),
+          ),
+        ),
+      ),
+    ),
+  ),
+)
+all_take g (statements ls) = (((refl, λ x ss. tt), λ s ss. tt), tt)
+all_take g (arms ls) = ((refl, λ x a b c. tt), ((refl, λ x b. tt), tt))
+all_take g (handlers ls) = ((refl, λ x l. ((refl, λ x c. ((refl, λ x b. ((λ h. tt), tt)), tt)), tt)), tt)
+all_take g in_parens = ((refl, λ x a. ((refl, λ x. tt), tt)), tt)
+all_take g label = ((refl, λ x. tt), tt)
 
 -- where the flag is set, the next token isn't bad
 abbrev Known : Bool → List Token → Type 0
@@ -124,11 +149,11 @@ fails_pass g (misses_fails s d) known t h = fails_pass g d known t.1 h
 fails_pass g (phrase_fails {k = k} {ts = us} d) known t h = fails_pass g d false (all_take g k) (unknown us)
 fails_pass g (then_fails {k = k} {ts = us} {m = m} {a = a} c d) known t h = passes_on (reads_pass g c false (all_take g k) (unknown us)) (fails_pass g d false (t a) (unknown m))
 
-pub program_passes : (g : Rules) {ts r : List Token} {b : Of Sort.block} → Reads (grammar g) Sort.block (grammar g statements) ts b r → Passes ts r
-program_passes g {ts} d = reads_pass g d false (all_take g statements) (unknown ts)
+pub program_passes : (g : Rules) {ts r : List Token} {b : Of Sort.block} → Reads (grammar g) Sort.block (grammar g (statements [])) ts b r → Passes ts r
+program_passes g {ts} d = reads_pass g d false (all_take g (statements [])) (unknown ts)
 
-pub failure_passes : (g : Rules) {ts r : List Token} → Fails (grammar g) Sort.block (grammar g statements) ts r → Passes ts r
-failure_passes g {ts} d = fails_pass g d false (all_take g statements) (unknown ts)
+pub failure_passes : (g : Rules) {ts r : List Token} → Fails (grammar g) Sort.block (grammar g (statements [])) ts r → Passes ts r
+failure_passes g {ts} d = fails_pass g d false (all_take g (statements [])) (unknown ts)
 
 passes_shorten : {ts r : List Token} → Passes ts r → length r ≤ length ts
 passes_shorten none = omega arith

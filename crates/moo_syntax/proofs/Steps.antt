@@ -23,7 +23,7 @@ use Rattle.moo_grammar.proofs.Kept.{allowed_fails}
 use Rattle.moo_grammar.proofs.Heights.{item_in_front}
 use Rattle.moo_grammar.proofs.Depths.{Meets, deep_from, misses_deep, takes_deep, phrase_deep, read_deep}
 use Rattle.moo_syntax.specs.declared.fault.Fault.{Fault}
-use Rattle.moo_syntax.specs.declared.fault.Fault.TheVariants.{Unexpected, BadTarget, UnknownFunction, TooDeep, Memory}
+use Rattle.moo_syntax.specs.declared.fault.Fault.TheVariants.{Unexpected, BadTarget, UnknownFunction, BadLoopName, TooDeep, Memory}
 use Rattle.moo_syntax.specs.declared.cursor.Cursor.{Cursor}
 use Rattle.moo_syntax.specs.declared.node.Node.{Node}
 use Rattle.moo_syntax.specs.Cursor.{left, Takes, Stays, StaysUnless}
@@ -67,6 +67,7 @@ pub told_admits : (f : Fault) (names : Names) (g : Rules) â†’ ToldBy f names g â
 told_admits Unexpected names g b = b
 told_admits BadTarget names g b = b.0
 told_admits UnknownFunction names g b = b.0
+told_admits BadLoopName names g b = b.0
 told_admits TooDeep names g b = absurd b
 told_admits Memory names g b = absurd b
 

@@ -12,13 +12,13 @@ use Rattle.moo_program.specs.Listing.{listing}
 use Rattle.moo_grammar.specs.declared.names.Names.{Names}
 use Rattle.moo_grammar.specs.Rules.{Rules, Admits, loose, strict}
 use Rattle.moo_syntax.specs.declared.fault.Fault.{Fault}
-use Rattle.moo_syntax.specs.declared.fault.Fault.TheVariants.{Unexpected, BadTarget, UnknownFunction, TooDeep, Memory}
+use Rattle.moo_syntax.specs.declared.fault.Fault.TheVariants.{Unexpected, BadTarget, UnknownFunction, BadLoopName, TooDeep, Memory}
 use Rattle.moo_syntax.specs.declared.cursor.Cursor.{Cursor}
 use Rattle.moo_syntax.specs.Cursor.{left}
 use Rattle.moo_syntax.specs.Outcome.{ToldBy, HasFailed}
 use Rattle.moo_syntax.specs.Stops.{Passes, StopsBy, ExceedLimits}
 use Rattle.moo_grammar.specs.Tokens.{words, is_sign, is_bad}
-use Rattle.moo_syntax.specs.Programs.{SameUpTo, NoProgram, with_targets, with_functions, IsCalled, IsBadToken, IsTooDeep, line_of}
+use Rattle.moo_syntax.specs.Programs.{SameUpTo, NoProgram, with_targets, with_functions, with_loops, IsJump, IsCalled, IsBadToken, IsTooDeep, line_of}
 use Rattle.moo_syntax.specs.Brackets.{open_behind, most_open_behind, most_open}
 use Rattle.moo_grammar.specs.Depth.{Deep}
 use Rattle.moo_token.specs.declared.sign.Sign.TheVariants as sign
@@ -34,14 +34,14 @@ use Rattle.moo_syntax.proofs.TextLengths.{tokens_within}
 use Rattle.moo_syntax.proofs.Passing.{failure_passes}
 
 -- where the reading gives up, no tokens that agree up to the place are a program
-no_program : {g : Rules} {ts at us : List Token} {b : Block} → Fails (grammar g) block (grammar g statements) ts at → Agree at ts us → IsProgramBy g us b → ⊥
+no_program : {g : Rules} {ts at us : List Token} {b : Block} → Fails (grammar g) block (grammar g (statements [])) ts at → Agree at ts us → IsProgramBy g us b → ⊥
 no_program {g} f a d = fails_again (grammar g) f a (complete d refl)
 
 no_end : {x : Token} {at ts : List Token} → Agree at (x ∷ ts) [] → ⊥
 no_end a = elim a [ ]
 
 -- the same where the program ends, and tokens are left
-no_program_before : {g : Rules} {x : Token} {ts r us : List Token} {b c : Block} → Reads (grammar g) block (grammar g statements) ts b (x ∷ r) → Agree (x ∷ r) ts us → IsProgramBy g us c → ⊥
+no_program_before : {g : Rules} {x : Token} {ts r us : List Token} {b c : Block} → Reads (grammar g) block (grammar g (statements [])) ts b (x ∷ r) → Agree (x ∷ r) ts us → IsProgramBy g us c → ⊥
 no_program_before {g} {x} {r = r} d a c =
     let t = reads_again (grammar g) d whole a in
     let o = reads_once (grammar g) t.1 (complete c refl) in
@@ -74,7 +74,7 @@ words_length (x ∷ ss) = ap suc (words_length ss)
 agree_at : (n : ℕ) (ss : List Spot) (us : List Token) → n ≤ length ss → SameUpTo n (words ss) us → Agree (words (drop n ss)) (words ss) us
 agree_at n ss us h e = rw words_drop (agree_of_take n (words ss) us (omega (arith, words_length ss)) e)
 
-refused_at : (g : Rules) (n : ℕ) (ss : List Spot) → n ≤ length ss → Fails (grammar g) block (grammar g statements) (words ss) (words (drop n ss)) → NoProgram g (words ss) n
+refused_at : (g : Rules) (n : ℕ) (ss : List Spot) → n ≤ length ss → Fails (grammar g) block (grammar g (statements [])) (words ss) (words (drop n ss)) → NoProgram g (words ss) n
 refused_at g n ss h f = (omega (arith, words_length ss), λ us e same d. no_program f (agree_at n ss us h same) d)
 
 next_word : (n : ℕ) (ss : List Spot) → n < length ss → (x : Token) × (r : List Token) × (words (drop n ss) ≡ x ∷ r)
@@ -82,10 +82,10 @@ next_word n [] h = absurd (omega arith)
 next_word zero (x ∷ ss) h = (_, _, refl)
 next_word (suc n) (x ∷ ss) h = next_word n ss (omega arith)
 
-pub refused_before : (g : Rules) (n : ℕ) (ss : List Spot) (b : Block) → n < length ss → Reads (grammar g) block (grammar g statements) (words ss) b (words (drop n ss)) → NoProgram g (words ss) n
+pub refused_before : (g : Rules) (n : ℕ) (ss : List Spot) (b : Block) → n < length ss → Reads (grammar g) block (grammar g (statements [])) (words ss) b (words (drop n ss)) → NoProgram g (words ss) n
 refused_before g n ss b h d =
     let w = next_word n ss h in
-    let again = subst (λ v. Reads (grammar g) block (grammar g statements) (words ss) b v) w.2 d in (
+    let again = subst (λ v. Reads (grammar g) block (grammar g (statements [])) (words ss) b v) w.2 d in (
       omega (arith, words_length ss),
       λ us e same c. no_program_before again (subst (λ v. Agree v (words ss) us) w.2 (agree_at n ss us (omega arith) same)) c,
     )
@@ -112,6 +112,9 @@ bad_at lines spots at r h = bad_next lines (take at spots) (drop at spots) (subs
 targets_admit : (names : Names) → Admits with_targets (strict names)
 targets_admit names = record { targets = λ e. refl; functions = λ s e. refl; loops = λ e. absurd cc }
 
+loops_admit : (names : Names) → Admits with_loops (strict names)
+loops_admit names = record { targets = λ e. absurd cc; functions = λ s e. refl; loops = λ e. refl }
+
 functions_admit : (names : Names) → Admits (with_functions names) (strict names)
 functions_admit names = record { targets = λ e. absurd cc; functions = λ s e. e; loops = λ e. absurd cc }
 
@@ -119,13 +122,13 @@ module _ (names : Names) (spots : List Spot) (old new : Cursor) (from : left old
   to : left new ≡ words (drop new.at spots)
   to = ap (λ v. words (drop new.at v)) same
 
-  told_at : (f : Fault) (g : Rules) → HasFailed names statements most_nodes old new f → ToldBy f names g → NoProgram g (words spots) new.at
+  told_at : (f : Fault) (g : Rules) → HasFailed names (statements []) most_nodes old new f → ToldBy f names g → NoProgram g (words spots) new.at
   told_at f g w b =
       let within : new.at ≤ length spots = subst (λ v. new.at ≤ length v) same new.in_range in
-      refused_at g new.at spots within (subst (λ v. Fails (grammar g) block (grammar g statements) (words spots) v) to (subst (λ v. Fails (grammar g) block (grammar g statements) v (left new)) from (w.fails g b)))
+      refused_at g new.at spots within (subst (λ v. Fails (grammar g) block (grammar g (statements [])) (words spots) v) to (subst (λ v. Fails (grammar g) block (grammar g (statements [])) v (left new)) from (w.fails g b)))
 
   -- what the place where the statements' reading stopped says
-  pub stop_of : (f : Fault) → old.at ≡ 0 → HasFailed names statements most_nodes old new f → StopsBy names spots new.at f
+  pub stop_of : (f : Fault) → old.at ≡ 0 → HasFailed names (statements []) most_nodes old new f → StopsBy names spots new.at f
   stop_of Unexpected z w = record {
     none = told_at Unexpected loose w (loose_admits (strict names));
     passes = subst (λ v. Passes (words spots) v) to (subst (λ v. Passes v (left new)) from (failure_passes loose (w.fails loose (loose_admits (strict names)))));
@@ -140,9 +143,13 @@ module _ (names : Names) (spots : List Spot) (old new : Cursor) (from : left old
     call = subst (λ v. IsCalled v new.at w.stands.0) same w.stands.2;
     none = told_at UnknownFunction (with_functions names) w (functions_admit names, λ s e. e);
   }
+  stop_of BadLoopName z w = record {
+    jumps = subst (λ v. IsJump v new.at) same w.stands;
+    none = told_at BadLoopName with_loops w (loops_admit names, refl);
+  }
   stop_of TooDeep z w =
       let within : new.at ≤ length spots = subst (λ v. new.at ≤ length v) same new.in_range in
-      let high = subst (λ v. Deep (strict names) block most_nodes (grammar (strict names) statements) v) from (w.deep refl) in
+      let high = subst (λ v. Deep (strict names) block most_nodes (grammar (strict names) (statements [])) v) from (w.deep refl) in
       record {
         outside = λ b e l. let h = high.too_high b [] (complete e refl) in omega (arith, h, l.program.nodes);
         long = inl (omega (arith, w.long refl, z, within, words_length spots));

@@ -1,7 +1,8 @@
 -- The program of a text, and what a fault says of the text.
-use Rattle.std.specs.Prelude.{ℕ, suc, ◌+◌, List, [], ◌∷◌, ◌++◌, ◌≡◌, ◌≤◌, ◌<◌, ◌⊎◌, true, false, length, take, drop}
+use Rattle.std.specs.Prelude.{ℕ, suc, ◌+◌, List, [], ◌∷◌, ◌++◌, ◌≡◌, ◌≤◌, ◌<◌, ◌⊎◌, ◌||◌, Bool, true, false, length, take, drop}
 use Rattle.std.specs.List.{sum_by}
 use Rattle.moo_token.specs.declared.sign.Sign.TheVariants.{LeftParen, Assign}
+use Rattle.moo_token.specs.declared.keyword.Keyword.TheVariants.{Break, Continue}
 use Rattle.moo_token.specs.declared.token.Token.{Token}
 use Rattle.moo_token.specs.declared.token.Token.TheVariants.{Name, Sign, Bad}
 use Rattle.moo_token.specs.declared.token.Spot.{Spot}
@@ -11,8 +12,8 @@ use Rattle.moo_program.specs.Limits.{IsWithinLimits, AllFit, most_nodes, most_br
 use Rattle.moo_program.specs.Listing.{listing}
 use Rattle.moo_grammar.specs.declared.names.Names.{Names}
 use Rattle.moo_syntax.specs.declared.syntax_fault.SyntaxFaultKind.{SyntaxFaultKind}
-use Rattle.moo_syntax.specs.declared.syntax_fault.SyntaxFaultKind.TheVariants.{BadToken, Unexpected, BadTarget, UnknownFunction, TooDeep, Memory}
-use Rattle.moo_grammar.specs.Tokens.{words, is_sign, is_bad}
+use Rattle.moo_syntax.specs.declared.syntax_fault.SyntaxFaultKind.TheVariants.{BadToken, Unexpected, BadTarget, UnknownFunction, BadLoopName, TooDeep, Memory}
+use Rattle.moo_grammar.specs.Tokens.{words, is_sign, is_keyword, is_bad}
 use Rattle.moo_grammar.specs.Rules.{Rules, loose, may_call}
 use Rattle.moo_grammar.specs.Machine.{next_passes}
 use Rattle.moo_syntax.specs.Brackets.{most_open}
@@ -45,6 +46,10 @@ with_targets = record { targets = true; functions = λ _. true; loops = false }
 -- what asks for names that may be called, and for nothing else
 abbrev pub with_functions : Names → Rules
 with_functions names = record { targets = false; functions = may_call names; loops = false }
+
+-- what asks for loops round jumps, and for nothing else
+abbrev pub with_loops : Rules
+with_loops = record { targets = false; functions = λ _. true; loops = true }
 
 -- the line of the first of these tokens, or the text's last line at its end
 abbrev pub line_of : List (List ℕ) → List Spot → ℕ
@@ -98,6 +103,24 @@ pub record IsUnknownFunction (names : Names) (lines : List (List ℕ)) (n : ℕ)
   pub line : n ≡ line_of lines (drop call.before spots)
   pub none : NoProgram (with_functions names) (words spots) at
 
+-- whether the token is `break` or `continue`
+abbrev pub is_jump : Token → Bool
+is_jump x = is_keyword Break x || is_keyword Continue x
+
+-- a `break` or a `continue` stands at the place, or the name that stands behind one
+pub data IsJump (spots : List Spot) : ℕ → Type 0 where
+  at_keyword : {at : ℕ} → next_passes is_jump (words (drop at spots)) ≡ true → IsJump spots at
+  at_name : (before : ℕ) {x : Token} {name : List ℕ} {rest : List Token} → is_jump x ≡ true → words (drop before spots) ≡ x ∷ Name name ∷ rest → IsJump spots (before + 1)
+
+-- A jump, or its name, stands on line n. No program of which loops round its jumps alone are asked begins with the tokens up to it.
+pub record IsBadLoopName (lines : List (List ℕ)) (n : ℕ) : Type 0 where
+  pub spots : List Spot
+  pub reading : IsReading lines spots
+  pub at : ℕ
+  pub line : n ≡ line_of lines (drop at spots)
+  pub jumps : IsJump spots at
+  pub none : NoProgram with_loops (words spots) at
+
 -- no program within the limits has these tokens
 abbrev pub IsOutside : Names → List Token → Type 0
 IsOutside names ts = (b : Block) → IsProgram names ts b → IsWithin ts b → ⊥
@@ -125,5 +148,6 @@ Blames names lines n BadToken = IsBadToken lines n
 Blames names lines n Unexpected = IsUnexpected lines n
 Blames names lines n BadTarget = IsBadTarget lines n
 Blames names lines n (UnknownFunction name) = IsUnknownFunction names lines n name
+Blames names lines n BadLoopName = IsBadLoopName lines n
 Blames names lines n TooDeep = IsTooDeep names lines
 Blames names lines n Memory = Unit {0}

@@ -11,8 +11,8 @@ use Rattle.moo_grammar.specs.Tokens.{words, is_sign, is_bad}
 use Rattle.moo_grammar.specs.Grammar.{IsProgram}
 use Rattle.moo_grammar.specs.Machine.{next_passes}
 use Rattle.moo_syntax.specs.declared.fault.Fault.{Fault}
-use Rattle.moo_syntax.specs.declared.fault.Fault.TheVariants.{Unexpected, BadTarget, UnknownFunction, TooDeep, Memory}
-use Rattle.moo_syntax.specs.Programs.{IsWithin, IsCalled, NoProgram, with_targets, with_functions, IsOutside, HasLongLine}
+use Rattle.moo_syntax.specs.declared.fault.Fault.TheVariants.{Unexpected, BadTarget, UnknownFunction, BadLoopName, TooDeep, Memory}
+use Rattle.moo_syntax.specs.Programs.{IsWithin, IsCalled, NoProgram, with_targets, with_functions, with_loops, IsJump, IsOutside, HasLongLine}
 
 -- no program within the limits has these tokens: they are many, or there is a long line
 pub record ExceedLimits (names : Names) (ts : List Token) : Type 0 where
@@ -41,10 +41,16 @@ pub record CallsUnknown (names : Names) (spots : List Spot) (at : ℕ) : Type 0 
   pub call : IsCalled spots at name
   pub none : NoProgram (with_functions names) (words spots) at
 
+-- the jump at the place, or the name there, has no loop round it
+pub record HasBadJump (spots : List Spot) (at : ℕ) : Type 0 where
+  pub jumps : IsJump spots at
+  pub none : NoProgram with_loops (words spots) at
+
 abbrev pub StopsBy : Names → List Spot → ℕ → Fault → Type 0
 StopsBy names spots at Unexpected = IsStuckAt spots at
 StopsBy names spots at BadTarget = HasBadTarget spots at
 StopsBy names spots at UnknownFunction = CallsUnknown names spots at
+StopsBy names spots at BadLoopName = HasBadJump spots at
 StopsBy names spots at TooDeep = ExceedLimits names (words spots)
 StopsBy names spots at Memory = Unit {0}
 

@@ -1,5 +1,6 @@
 //! A place among tokens.
-ghost use Rattle.std.specs.Prelude.{◌≡◌, ℕ, ◌+◌, ◌≤◌, ◌<◌, ◌∷◌, Bool, true, false, length};
+ghost use Rattle.moo_grammar.specs.Tokens.{begins_statement};
+ghost use Rattle.std.specs.Prelude.{◌≡◌, ℕ, ◌+◌, ◌≤◌, ◌<◌, ◌∷◌, Bool, true, false, drop, length};
 
 use crate::fault::Fault;
 use moo_grammar::{Level, Operator, operator_at};
@@ -17,7 +18,7 @@ pub struct Cursor<'a> {
 
 impl Cursor<'_> {
     ghost use Rattle.std.specs.Prelude.{IsTrue, IfOk, MatchBool, MatchOption, MatchResult, OnErr, is_some};
-    ghost use Rattle.moo_grammar.specs.Tokens.{is_sign, is_keyword, literal_at, name_at, operator_at, is_closer, is_bad, begins_statement};
+    ghost use Rattle.moo_grammar.specs.Tokens.{words, is_sign, is_keyword, literal_at, name_at, operator_at, is_closer, is_bad, begins_statement};
     ghost use Rattle.moo_grammar.specs.Machine.{next_passes};
     ghost use Rattle.moo_syntax.specs.Cursor.{left, Takes, TakesLiteral, TakesOperator, TakesMinuses, Stays, StaysUnless};
     ghost use Rattle.moo_syntax.specs.declared.fault.Fault.TheVariants.{Memory, Unexpected};
@@ -82,13 +83,38 @@ impl Cursor<'_> {
         ensures { result ≡ next_passes begins_statement (left self.now) }
     {
         match self.spots.get(self.at) {
+            Some(spot) => begins_statement(&spot.token),
+            None => false,
+        }
+    }
+
+    /// Whether the keyword comes next.
+    pub fn is_at_keyword(&self, keyword: Keyword) -> bool
+        ensures { result ≡ next_passes (is_keyword keyword) (left self.now) }
+    {
+        match self.spots.get(self.at) {
             Some(
                 Spot {
                     token: Token::Keyword(found),
                     ..
                 },
-            ) => *found == Keyword::Return,
+            ) => *found == keyword,
             _ => false,
+        }
+    }
+
+    /// The name that comes next, if one does. It isn't taken.
+    pub fn name_next(&self) -> Option<&MooStr>
+        ensures { MatchOption result (next_passes (λ x. is_some (name_at x)) (left self.now) ≡ false) (λ name. left self.now ≡ Token.Name name.now ∷ words (drop (self.now.at + 1) self.now.spots.now)) }
+    {
+        match self.spots.get(self.at) {
+            Some(
+                Spot {
+                    token: Token::Name(name),
+                    ..
+                },
+            ) => Some(name),
+            _ => None,
         }
     }
 
@@ -220,5 +246,35 @@ impl Cursor<'_> {
         let name = name.try_clone()?;
         self.at += 1;
         Ok(Some(name))
+    }
+}
+
+fn begins_statement(token: &Token) -> bool
+    ensures { result ≡ begins_statement token.now }
+{
+    match token {
+        Token::Keyword(keyword) => matches!(
+            keyword,
+            Keyword::If
+                | Keyword::For
+                | Keyword::While
+                | Keyword::Break
+                | Keyword::Continue
+                | Keyword::Return
+                | Keyword::Try
+        ),
+        Token::Sign(sign) => matches!(
+            sign,
+            Sign::Semicolon
+                | Sign::Bang
+                | Sign::Minus
+                | Sign::Dollar
+                | Sign::LeftParen
+                | Sign::LeftBrace
+                | Sign::Backquote
+        ),
+        Token::Bad => false,
+        Token::Integer(_) | Token::Object(_) | Token::Error(_) | Token::Str(_) | Token::Name(_) =>
+            true,
     }
 }

@@ -10,6 +10,8 @@ pub enum Fault {
     BadTarget,
     /// The name before the parenthesis that comes next may not be called.
     UnknownFunction,
+    /// The jump or the name that comes next has no loop round it.
+    BadLoopName,
     /// More nodes stand on a path than may.
     TooDeep,
     /// There was no memory for the tree.

@@ -5,6 +5,7 @@ mod brackets;
 mod cursor;
 mod expression;
 mod fault;
+mod jump;
 mod make;
 mod members;
 mod node;

@@ -151,7 +151,7 @@ fn guarded(alloc: Global, tokens: &mut Cursor, place: Place, room: u32) -> Resul
 }
 
 #[cycle(parser)]
-fn codes(alloc: Global, tokens: &mut Cursor, place: Place, room: u32) -> Result<Caught, Fault>
+pub fn codes(alloc: Global, tokens: &mut Cursor, place: Place, room: u32) -> Result<Caught, Fault>
     ensures moves { Moves tokens.old tokens.new }
     ensures read { IfOk result (λ v. IsPartRead place.names (codes place.inside) tokens.old tokens.new (codes_of v.codes)) }
     ensures failed { IfErr result (λ f. HasFailed place.names (codes place.inside) room tokens.old tokens.new f) }

@@ -11,7 +11,7 @@ use crate::fault::Fault;
 use crate::statement::statements;
 use crate::syntax_fault::{SyntaxFault, SyntaxFaultKind};
 use moo_grammar::Names;
-use moo_program::{Program, fit_lines};
+use moo_program::{MOST_NODES, Program, fit_lines};
 use moo_token::{Sign, Spot, tokens};
 use moo_value::MooStr;
 use std::alloc::Global;
@@ -52,7 +52,7 @@ fn read(alloc: Global, spots: &[Spot], names: Names) -> Result<Program, Stop>
         });
     }
     let mut tokens = Cursor { spots, at: 0 };
-    let found = match statements(alloc, &mut tokens, names) {
+    let found = match statements(alloc, &mut tokens, &mut Vec::new(alloc), names, MOST_NODES) {
         Ok(found) => found,
         Err(fault) => return Err(Stop {
             at: tokens.at,
@@ -92,6 +92,10 @@ fn blame(lines: &[MooStr], spots: &[Spot], stop: Stop, names: Names) -> SyntaxFa
         Fault::BadTarget => SyntaxFault {
             line,
             kind: SyntaxFaultKind::BadTarget,
+        },
+        Fault::BadLoopName => SyntaxFault {
+            line,
+            kind: SyntaxFaultKind::BadLoopName,
         },
         Fault::UnknownFunction => unknown(lines, spots, stop.at, names),
         Fault::TooDeep => SyntaxFault {

@@ -1,6 +1,6 @@
 //! Programs as text, for the tests.
 use crate::{Names, parse};
-use moo_program::{Codes, Expr, Item, Literal, Stmt};
+use moo_program::{Arm, Codes, Expr, Handler, Item, Literal, Stmt};
 use moo_value::MooStr;
 use std::alloc::Global;
 use std::test::Fail;
@@ -130,6 +130,124 @@ fn write_tree(shown: &mut Vec<u8>, alloc: Global, tree: &Expr) -> Result<(), Fai
     Ok(())
 }
 
+/// Writes the statements, a word behind them.
+#[cycle(statement_writer)]
+fn write_block(
+    shown: &mut Vec<u8>,
+    alloc: Global,
+    block: &[Stmt],
+    word: &[u8],
+) -> Result<(), Fail> {
+    for statement in block {
+        shown.push(b' ')?;
+        write_statement(shown, alloc, statement)?;
+    }
+    shown.extend_from_slice(word)?;
+    Ok(())
+}
+
+fn write_label(shown: &mut Vec<u8>, label: &Option<MooStr>, word: &[u8]) -> Result<(), Fail> {
+    shown.extend_from_slice(word)?;
+    if let Some(name) = label {
+        write_name(shown, name)?;
+    }
+    Ok(())
+}
+
+fn write_codes(shown: &mut Vec<u8>, alloc: Global, codes: &Codes) -> Result<(), Fail> {
+    match codes {
+        Codes::Any => shown.extend_from_slice(b" Any")?,
+        Codes::Listed(items) => write_items(shown, alloc, items)?,
+    }
+    Ok(())
+}
+
+#[cycle(statement_writer)]
+fn write_arm(shown: &mut Vec<u8>, alloc: Global, arm: &Arm) -> Result<(), Fail> {
+    match arm {
+        Arm::ElseIf(condition, body) => {
+            shown.extend_from_slice(b" elseif")?;
+            write_tree(shown, alloc, condition)?;
+            write_block(shown, alloc, body, b"")
+        }
+        Arm::Else(body) => {
+            shown.extend_from_slice(b" else")?;
+            write_block(shown, alloc, body, b"")
+        }
+    }
+}
+
+#[cycle(statement_writer)]
+fn write_handler(shown: &mut Vec<u8>, alloc: Global, handler: &Handler) -> Result<(), Fail> {
+    shown.extend_from_slice(b" except")?;
+    let (codes, body) = match handler {
+        Handler::Except(codes, body) => (codes, body),
+        Handler::ExceptAs(name, codes, body) => {
+            write_name(shown, name)?;
+            (codes, body)
+        }
+    };
+    write_codes(shown, alloc, codes)?;
+    write_block(shown, alloc, body, b"")
+}
+
+#[cycle(statement_writer)]
+fn write_statement(shown: &mut Vec<u8>, alloc: Global, statement: &Stmt) -> Result<(), Fail> {
+    match statement {
+        Stmt::Return(value) => {
+            shown.extend_from_slice(b"return")?;
+            if let Some(tree) = value {
+                write_tree(shown, alloc, tree)?;
+            }
+        }
+        Stmt::Expression(tree) => write_tree(shown, alloc, tree)?,
+        Stmt::If(condition, body, arms) => {
+            shown.extend_from_slice(b"if")?;
+            write_tree(shown, alloc, condition)?;
+            write_block(shown, alloc, body, b"")?;
+            for arm in arms {
+                write_arm(shown, alloc, arm)?;
+            }
+            shown.extend_from_slice(b" endif")?;
+        }
+        Stmt::ForList(name, list, body) => {
+            shown.extend_from_slice(b"for")?;
+            write_name(shown, name)?;
+            write_tree(shown, alloc, list)?;
+            write_block(shown, alloc, body, b" endfor")?;
+        }
+        Stmt::ForRange(name, low, high, body) => {
+            shown.extend_from_slice(b"for")?;
+            write_name(shown, name)?;
+            write_tree(shown, alloc, low)?;
+            write_tree(shown, alloc, high)?;
+            write_block(shown, alloc, body, b" endrange")?;
+        }
+        Stmt::While(label, condition, body) => {
+            write_label(shown, label, b"while")?;
+            write_tree(shown, alloc, condition)?;
+            write_block(shown, alloc, body, b" endwhile")?;
+        }
+        Stmt::Break(label) => write_label(shown, label, b"break")?,
+        Stmt::Continue(label) => write_label(shown, label, b"continue")?,
+        Stmt::TryExcept(body, handlers) => {
+            shown.extend_from_slice(b"try")?;
+            write_block(shown, alloc, body, b"")?;
+            for handler in handlers {
+                write_handler(shown, alloc, handler)?;
+            }
+            shown.extend_from_slice(b" endtry")?;
+        }
+        Stmt::TryFinally(body, cleanup) => {
+            shown.extend_from_slice(b"try")?;
+            write_block(shown, alloc, body, b" finally")?;
+            write_block(shown, alloc, cleanup, b" endtry")?;
+        }
+    }
+    shown.push(b';')?;
+    Ok(())
+}
+
 /// The trees of the program's statements, or what a player is told.
 pub fn shown(alloc: Global, text: &str, names: Names) -> Result<Vec<u8>, Fail> {
     let mut lines = Vec::new(alloc);
@@ -140,11 +258,7 @@ pub fn shown(alloc: Global, text: &str, names: Names) -> Result<Vec<u8>, Fail> {
     match parse(alloc, &lines, names) {
         Ok(program) => {
             for statement in program.statements() {
-                shown.extend_from_slice(b"return")?;
-                if let Stmt::Return(Some(value)) = statement {
-                    write_tree(&mut shown, alloc, value)?;
-                }
-                shown.push(b';')?;
+                write_statement(&mut shown, alloc, statement)?;
             }
         }
         Err(fault) => shown.extend_from_slice(fault.text(alloc)?.as_slice())?,

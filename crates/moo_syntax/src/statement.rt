@@ -1,43 +1,345 @@
-//! A parser of statements.
-ghost use Rattle.std.specs.Prelude.{◌≡◌, ◌<◌, ◌≤◌, IfOk, IfErr};
-ghost use Rattle.moo_program.specs.Limits.{block_height, most_nodes};
-ghost use Rattle.moo_program.specs.View.{block, statement as tree_of};
+//! A parser of statements by recursive descent. The loops round a statement are handed down by their names, the innermost
+//! last; each function leaves them as they were.
+ghost use Rattle.std.specs.Prelude.{◌≡◌, ◌<◌, ◌+◌, ◌∷◌, reverse, IfOk, IfErr, OnOk};
+ghost use Rattle.moo_program.specs.View.{root, block, arms_of, handlers_of, statement as tree_of};
 ghost use Rattle.moo_grammar.specs.Grammar as grammar;
+ghost use Rattle.moo_grammar.specs.Grammar.{stmt};
 ghost use Rattle.moo_grammar.specs.Predictive as choices;
-ghost use Rattle.moo_syntax.specs.Cursor.{left};
-ghost use Rattle.moo_syntax.specs.Outcome.{Moves, ReadsBy, IsRead, HasFailed};
+ghost use Rattle.moo_syntax.specs.Outcome.{Moves, IsRead, IsReadBy, HasFailed, HasFailedBy, IsHandler, behind_range, performing};
 
 use crate::cursor::Cursor;
 use crate::expression::expression;
 use crate::fault::Fault;
+use crate::jump::{jump, name_copy};
+use crate::make::below;
+use crate::node::Node;
 use crate::place::Place;
+use crate::primary::codes;
 use moo_grammar::Names;
-use moo_program::{MOST_NODES, Stmt};
+use moo_program::{Arm, Handler, Stmt};
 use moo_token::{Keyword, Sign};
+use moo_value::MooStr;
 use std::alloc::Global;
 
-/// Reads statements up to where none begins.
-pub fn statements(alloc: Global, tokens: &mut Cursor, names: Names) -> Result<Vec<Stmt>, Fault>
+/// Reads statements up to where none begins, with at most so many nodes on a path.
+#[cycle(statements)]
+pub fn statements(
+    alloc: Global,
+    tokens: &mut Cursor,
+    loops: &mut Vec<Option<MooStr>>,
+    names: Names,
+    room: u32,
+) -> Result<Vec<Stmt>, Fault>
     ensures moves { Moves tokens.old tokens.new }
-    ensures read { IfOk result (λ v. ReadsBy names grammar.block (λ g. choices.grammar g grammar.statements) (left tokens.old) (block v.items) (left tokens.new)) }
-    ensures within { IfOk result (λ v. block_height (block v.items) ≤ most_nodes) }
-    ensures failed { IfErr result (λ f. HasFailed names grammar.statements most_nodes tokens.old tokens.new f) }
+    ensures loops { OnOk result (loops.new.items ≡ loops.old.items) }
+    ensures read { IfOk result (λ v. IsRead names (grammar.statements (reverse loops.old.items)) room tokens.old tokens.new (block v.items)) }
+    ensures failed { IfErr result (λ f. HasFailed names (grammar.statements (reverse loops.old.items)) room tokens.old tokens.new f) }
 {
     let mut found = Vec::new(alloc);
     while tokens.is_at_statement() {
-        let next = statement(alloc, tokens, names)?;
+        if tokens.take(Sign::Semicolon) {
+            continue;
+        }
+        let next = statement(alloc, tokens, loops, names, room)?;
         found.push(next)?;
     }
     Ok(found)
 }
 
-fn statement(alloc: Global, tokens: &mut Cursor, names: Names) -> Result<Stmt, Fault>
+#[cycle(statements)]
+fn statement(
+    alloc: Global,
+    tokens: &mut Cursor,
+    loops: &mut Vec<Option<MooStr>>,
+    names: Names,
+    room: u32,
+) -> Result<Stmt, Fault>
     ensures moves { Moves tokens.old tokens.new }
-    ensures forward { IfOk result (λ _. tokens.old.at < tokens.new.at) }
-    ensures read { IfOk result (λ s. IsRead names grammar.statement most_nodes tokens.old tokens.new (tree_of s)) }
-    ensures failed { IfErr result (λ f. HasFailed names grammar.statement most_nodes tokens.old tokens.new f) }
+    ensures loops { OnOk result (loops.new.items ≡ loops.old.items) }
+    ensures read { IfOk result (λ v. IsRead names (grammar.statement (reverse loops.old.items)) room tokens.old tokens.new (tree_of v)) }
+    ensures failed { IfErr result (λ f. HasFailed names (grammar.statement (reverse loops.old.items)) room tokens.old tokens.new f) }
 {
-    tokens.expect_keyword(Keyword::Return)?;
+    if tokens.take_keyword(Keyword::If) {
+        return branches(alloc, tokens, loops, names, room);
+    }
+    if tokens.take_keyword(Keyword::For) {
+        return for_loop(alloc, tokens, loops, names, room);
+    }
+    if tokens.take_keyword(Keyword::While) {
+        return while_loop(alloc, tokens, loops, names, room);
+    }
+    if tokens.is_at_keyword(Keyword::Break) {
+        return Ok(Stmt::Break(jump(tokens, Keyword::Break, loops, room)?));
+    }
+    if tokens.is_at_keyword(Keyword::Continue) {
+        return Ok(Stmt::Continue(jump(tokens, Keyword::Continue, loops, room)?));
+    }
+    if tokens.take_keyword(Keyword::Return) {
+        return returned(alloc, tokens, names, room);
+    }
+    if tokens.take_keyword(Keyword::Try) {
+        return attempt(alloc, tokens, loops, names, room);
+    }
+    performed(alloc, tokens, names, room)
+}
+
+/// An `if`, behind the keyword.
+#[cycle(statements)]
+fn branches(
+    alloc: Global,
+    tokens: &mut Cursor,
+    loops: &mut Vec<Option<MooStr>>,
+    names: Names,
+    room: u32,
+) -> Result<Stmt, Fault>
+    ensures moves { Moves tokens.old tokens.new }
+    ensures loops { OnOk result (loops.new.items ≡ loops.old.items) }
+    ensures read { IfOk result (λ s. IsReadBy names stmt (λ g. choices.behind_if (reverse loops.old.items)) room 1 tokens.old tokens.new (tree_of s)) }
+    ensures failed { IfErr result (λ f. HasFailedBy names stmt (λ g. choices.behind_if (reverse loops.old.items)) room 1 tokens.old tokens.new f) }
+{
+    let room_below = below(room)?;
+    let condition = in_parens(alloc, tokens, names, room_below)?;
+    let body = statements(alloc, tokens, loops, names, room_below)?;
+    let further = arms(alloc, tokens, loops, names, room_below)?;
+    tokens.expect_keyword(Keyword::EndIf)?;
+    Ok(Stmt::If(condition.tree, body, further))
+}
+
+/// What stands behind the first statements of an `if`.
+#[cycle(statements)]
+fn arms(
+    alloc: Global,
+    tokens: &mut Cursor,
+    loops: &mut Vec<Option<MooStr>>,
+    names: Names,
+    room: u32,
+) -> Result<Vec<Arm>, Fault>
+    ensures moves { Moves tokens.old tokens.new }
+    ensures loops { OnOk result (loops.new.items ≡ loops.old.items) }
+    ensures read { IfOk result (λ v. IsRead names (grammar.arms (reverse loops.old.items)) room tokens.old tokens.new (arms_of v.items)) }
+    ensures failed { IfErr result (λ f. HasFailed names (grammar.arms (reverse loops.old.items)) room tokens.old tokens.new f) }
+{
+    let mut found = Vec::new(alloc);
+    while tokens.take_keyword(Keyword::ElseIf) {
+        let condition = in_parens(alloc, tokens, names, room)?;
+        let body = statements(alloc, tokens, loops, names, room)?;
+        found.push(Arm::ElseIf(condition.tree, body))?;
+    }
+    if !tokens.take_keyword(Keyword::Else) {
+        return Ok(found);
+    }
+    let last = statements(alloc, tokens, loops, names, room)?;
+    found.push(Arm::Else(last))?;
+    Ok(found)
+}
+
+/// A `for`, behind the keyword.
+#[cycle(statements)]
+fn for_loop(
+    alloc: Global,
+    tokens: &mut Cursor,
+    loops: &mut Vec<Option<MooStr>>,
+    names: Names,
+    room: u32,
+) -> Result<Stmt, Fault>
+    ensures moves { Moves tokens.old tokens.new }
+    ensures loops { OnOk result (loops.new.items ≡ loops.old.items) }
+    ensures read { IfOk result (λ s. IsReadBy names stmt (λ g. choices.behind_for (reverse loops.old.items)) room 1 tokens.old tokens.new (tree_of s)) }
+    ensures failed { IfErr result (λ f. HasFailedBy names stmt (λ g. choices.behind_for (reverse loops.old.items)) room 1 tokens.old tokens.new f) }
+{
+    let room_below = below(room)?;
+    let Some(name) = tokens.take_name()? else {
+        return Err(Fault::Unexpected);
+    };
+    tokens.expect_keyword(Keyword::In)?;
+    if tokens.take(Sign::LeftBracket) {
+        return for_range(alloc, tokens, loops, name, names, room_below);
+    }
+    let list = in_parens(alloc, tokens, names, room_below)?;
+    let own = Some(name.try_clone()?);
+    let body = within(alloc, tokens, loops, own, names, room_below)?;
+    tokens.expect_keyword(Keyword::EndFor)?;
+    Ok(Stmt::ForList(name, list.tree, body))
+}
+
+/// A `for` over a range, behind the bracket.
+#[cycle(statements)]
+fn for_range(
+    alloc: Global,
+    tokens: &mut Cursor,
+    loops: &mut Vec<Option<MooStr>>,
+    name: MooStr,
+    names: Names,
+    room: u32,
+) -> Result<Stmt, Fault>
+    ensures moves { Moves tokens.old tokens.new }
+    ensures loops { OnOk result (loops.new.items ≡ loops.old.items) }
+    ensures read { IfOk result (λ s. IsReadBy names stmt (λ g. behind_range (reverse loops.old.items) name) (room + 1) 1 tokens.old tokens.new (tree_of s)) }
+    ensures failed { IfErr result (λ f. HasFailedBy names stmt (λ g. behind_range (reverse loops.old.items) name) (room + 1) 1 tokens.old tokens.new f) }
+{
+    let place = Place {
+        inside: false,
+        names,
+    };
+    let low = expression(alloc, tokens, place, room)?;
+    tokens.expect(Sign::DotDot)?;
+    let high = expression(alloc, tokens, place, room)?;
+    tokens.expect(Sign::RightBracket)?;
+    let own = Some(name.try_clone()?);
+    let body = within(alloc, tokens, loops, own, names, room)?;
+    tokens.expect_keyword(Keyword::EndFor)?;
+    Ok(Stmt::ForRange(name, low.tree, high.tree, body))
+}
+
+/// A `while`, behind the keyword.
+#[cycle(statements)]
+fn while_loop(
+    alloc: Global,
+    tokens: &mut Cursor,
+    loops: &mut Vec<Option<MooStr>>,
+    names: Names,
+    room: u32,
+) -> Result<Stmt, Fault>
+    ensures moves { Moves tokens.old tokens.new }
+    ensures loops { OnOk result (loops.new.items ≡ loops.old.items) }
+    ensures read { IfOk result (λ s. IsReadBy names stmt (λ g. choices.behind_while (reverse loops.old.items)) room 1 tokens.old tokens.new (tree_of s)) }
+    ensures failed { IfErr result (λ f. HasFailedBy names stmt (λ g. choices.behind_while (reverse loops.old.items)) room 1 tokens.old tokens.new f) }
+{
+    let room_below = below(room)?;
+    let name = tokens.take_name()?;
+    let condition = in_parens(alloc, tokens, names, room_below)?;
+    let own = name_copy(&name)?;
+    let body = within(alloc, tokens, loops, own, names, room_below)?;
+    tokens.expect_keyword(Keyword::EndWhile)?;
+    Ok(Stmt::While(name, condition.tree, body))
+}
+
+/// The statements of a loop.
+#[cycle(statements)]
+fn within(
+    alloc: Global,
+    tokens: &mut Cursor,
+    loops: &mut Vec<Option<MooStr>>,
+    own: Option<MooStr>,
+    names: Names,
+    room: u32,
+) -> Result<Vec<Stmt>, Fault>
+    ensures moves { Moves tokens.old tokens.new }
+    ensures loops { OnOk result (loops.new.items ≡ loops.old.items) }
+    ensures read { IfOk result (λ v. IsRead names (grammar.statements (own ∷ reverse loops.old.items)) room tokens.old tokens.new (block v.items)) }
+    ensures failed { IfErr result (λ f. HasFailed names (grammar.statements (own ∷ reverse loops.old.items)) room tokens.old tokens.new f) }
+{
+    loops.push(own)?;
+    let body = statements(alloc, tokens, loops, names, room)?;
+    let _own = loops.pop();
+    Ok(body)
+}
+
+/// A `try`, behind the keyword.
+#[cycle(statements)]
+fn attempt(
+    alloc: Global,
+    tokens: &mut Cursor,
+    loops: &mut Vec<Option<MooStr>>,
+    names: Names,
+    room: u32,
+) -> Result<Stmt, Fault>
+    ensures moves { Moves tokens.old tokens.new }
+    ensures loops { OnOk result (loops.new.items ≡ loops.old.items) }
+    ensures read { IfOk result (λ s. IsReadBy names stmt (λ g. choices.behind_try (reverse loops.old.items)) room 1 tokens.old tokens.new (tree_of s)) }
+    ensures failed { IfErr result (λ f. HasFailedBy names stmt (λ g. choices.behind_try (reverse loops.old.items)) room 1 tokens.old tokens.new f) }
+{
+    let room_below = below(room)?;
+    let body = statements(alloc, tokens, loops, names, room_below)?;
+    if tokens.take_keyword(Keyword::Finally) {
+        let cleanup = statements(alloc, tokens, loops, names, room_below)?;
+        tokens.expect_keyword(Keyword::EndTry)?;
+        return Ok(Stmt::TryFinally(body, cleanup));
+    }
+    let handlers = handlers(alloc, tokens, loops, names, room_below)?;
+    tokens.expect_keyword(Keyword::EndTry)?;
+    Ok(Stmt::TryExcept(body, handlers))
+}
+
+#[cycle(statements)]
+fn handlers(
+    alloc: Global,
+    tokens: &mut Cursor,
+    loops: &mut Vec<Option<MooStr>>,
+    names: Names,
+    room: u32,
+) -> Result<Vec<Handler>, Fault>
+    ensures moves { Moves tokens.old tokens.new }
+    ensures loops { OnOk result (loops.new.items ≡ loops.old.items) }
+    ensures read { IfOk result (λ v. IsRead names (grammar.handlers (reverse loops.old.items)) room tokens.old tokens.new (handlers_of v.items)) }
+    ensures failed { IfErr result (λ f. HasFailed names (grammar.handlers (reverse loops.old.items)) room tokens.old tokens.new f) }
+{
+    let mut found = Vec::new(alloc);
+    loop {
+        let next = handler(alloc, tokens, loops, names, room)?;
+        found.push(next)?;
+        if !tokens.is_at_keyword(Keyword::Except) {
+            return Ok(found);
+        }
+    }
+}
+
+#[cycle(statements)]
+fn handler(
+    alloc: Global,
+    tokens: &mut Cursor,
+    loops: &mut Vec<Option<MooStr>>,
+    names: Names,
+    room: u32,
+) -> Result<Handler, Fault>
+    ensures moves { Moves tokens.old tokens.new }
+    ensures loops { OnOk result (loops.new.items ≡ loops.old.items) }
+    ensures forward { IfOk result (λ _. tokens.old.at < tokens.new.at) }
+    ensures read { IfOk result (λ h. IsHandler names (reverse loops.old.items) room tokens.old tokens.new h) }
+    ensures failed { IfErr result (λ f. HasFailed names (grammar.handlers (reverse loops.old.items)) room tokens.old tokens.new f) }
+{
+    tokens.expect_keyword(Keyword::Except)?;
+    let name = tokens.take_name()?;
+    tokens.expect(Sign::LeftParen)?;
+    let place = Place {
+        inside: false,
+        names,
+    };
+    let caught = codes(alloc, tokens, place, room)?;
+    if caught.height > room {
+        return Err(Fault::TooDeep);
+    }
+    tokens.expect(Sign::RightParen)?;
+    let body = statements(alloc, tokens, loops, names, room)?;
+    match name {
+        Some(name) => Ok(Handler::ExceptAs(name, caught.codes, body)),
+        None => Ok(Handler::Except(caught.codes, body)),
+    }
+}
+
+/// An expression in parentheses.
+fn in_parens(alloc: Global, tokens: &mut Cursor, names: Names, room: u32) -> Result<Node, Fault>
+    ensures moves { Moves tokens.old tokens.new }
+    ensures read { IfOk result (λ n. IsRead names grammar.in_parens room tokens.old tokens.new (root n.tree)) }
+    ensures failed { IfErr result (λ f. HasFailed names grammar.in_parens room tokens.old tokens.new f) }
+{
+    tokens.expect(Sign::LeftParen)?;
+    let place = Place {
+        inside: false,
+        names,
+    };
+    let inner = expression(alloc, tokens, place, room)?;
+    tokens.expect(Sign::RightParen)?;
+    Ok(inner)
+}
+
+/// A `return`, behind the keyword.
+fn returned(alloc: Global, tokens: &mut Cursor, names: Names, room: u32) -> Result<Stmt, Fault>
+    ensures moves { Moves tokens.old tokens.new }
+    ensures read { IfOk result (λ s. IsReadBy names stmt (λ g. choices.behind_return) room 1 tokens.old tokens.new (tree_of s)) }
+    ensures failed { IfErr result (λ f. HasFailedBy names stmt (λ g. choices.behind_return) room 1 tokens.old tokens.new f) }
+{
+    let room_below = below(room)?;
     if tokens.take(Sign::Semicolon) {
         return Ok(Stmt::Return(None));
     }
@@ -45,7 +347,26 @@ fn statement(alloc: Global, tokens: &mut Cursor, names: Names) -> Result<Stmt, F
         inside: false,
         names,
     };
-    let value = expression(alloc, tokens, place, MOST_NODES - 1)?;
+    let value = expression(alloc, tokens, place, room_below)?;
     tokens.expect(Sign::Semicolon)?;
     Ok(Stmt::Return(Some(value.tree)))
+}
+
+/// An expression as a statement. Its own node is counted once the semicolon is there, so that more tokens are read than
+/// there is room.
+fn performed(alloc: Global, tokens: &mut Cursor, names: Names, room: u32) -> Result<Stmt, Fault>
+    ensures moves { Moves tokens.old tokens.new }
+    ensures read { IfOk result (λ s. IsReadBy names stmt (λ g. performing) room 0 tokens.old tokens.new (tree_of s)) }
+    ensures failed { IfErr result (λ f. HasFailedBy names stmt (λ g. performing) room 0 tokens.old tokens.new f) }
+{
+    let place = Place {
+        inside: false,
+        names,
+    };
+    let value = expression(alloc, tokens, place, room)?;
+    tokens.expect(Sign::Semicolon)?;
+    if value.height >= room {
+        return Err(Fault::TooDeep);
+    }
+    Ok(Stmt::Expression(value.tree))
 }

@@ -15,6 +15,8 @@ pub enum SyntaxFaultKind {
     Unexpected,
     /// What stands before the `=` can't be assigned to.
     BadTarget,
+    /// A `break` or a `continue` has no loop round it, or none of the name.
+    BadLoopName,
     /// No built-in function has this name.
     UnknownFunction(MooStr),
     /// More nodes on a path, more open brackets or a longer line in the full listing than a program may have.
@@ -50,6 +52,7 @@ fn write_kind(kind: &SyntaxFaultKind, text: &mut Vec<u8>) -> Result<(), AllocErr
         SyntaxFaultKind::BadToken => text.extend_from_slice(b"Bad token"),
         SyntaxFaultKind::Unexpected => text.extend_from_slice(b"Parse error"),
         SyntaxFaultKind::BadTarget => text.extend_from_slice(b"Illegal assignment target"),
+        SyntaxFaultKind::BadLoopName => text.extend_from_slice(b"Invalid loop name"),
         SyntaxFaultKind::UnknownFunction(name) => write_unknown(name, text),
         SyntaxFaultKind::TooDeep => text.extend_from_slice(b"Too deeply nested"),
         SyntaxFaultKind::Memory => text.extend_from_slice(b"Out of memory"),

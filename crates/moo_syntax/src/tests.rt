@@ -178,7 +178,7 @@ fn tells_faults_with_their_lines(rt: HostRuntime) -> Result<(), Fail> {
         ("return 1 +;", "Line 1:  Parse error"),
         ("return 1;\n\nreturn\n", "Line 3:  Parse error"),
         ("return 1;\nreturn +\n1;", "Line 2:  Parse error"),
-        ("return 1;\n2;", "Line 2:  Parse error"),
+        ("return 1;\n2 3;", "Line 2:  Parse error"),
         ("return $;", "Line 1:  Parse error"),
         ("return x[{$\n$}];", "Line 2:  Parse error"),
         ("return {1,};", "Line 1:  Parse error"),
@@ -193,6 +193,96 @@ fn tells_faults_with_their_lines(rt: HostRuntime) -> Result<(), Fail> {
     ] {
         assert_eq!(rt;
             shown(rt.alloc(), text, Names::Known)?.as_slice(),
+            expected.as_bytes(),
+            "{text}"
+        );
+    }
+    Ok(())
+}
+
+#[test]
+fn reads_each_statement(rt: HostRuntime) -> Result<(), Fail> {
+    for (text, expected) in [
+        (";;", ""),
+        ("1;;x = 2;", " 1; x 2 Assign;"),
+        ("if (1) endif", "if 1 endif;"),
+        (
+            "if (a) b; elseif (c) elseif (d) e; else f; g; endif",
+            "if a  b; elseif c elseif d  e; else  f;  g; endif;",
+        ),
+        ("if (a) else endif", "if a else endif;"),
+        ("for x in (y) ; x; endfor", "for x y  x; endfor;"),
+        ("for x in [1..n] endfor", "for x 1 n endrange;"),
+        ("for x in (y) break X; endfor", "for x y break X; endfor;"),
+        (
+            "for x in [1..2] while (0) continue x; break; endwhile endfor",
+            "for x 1 2 while 0 continue x; break; endwhile; endrange;",
+        ),
+        (
+            "while out (1) while (2) break out; endwhile endwhile",
+            "while out 1 while 2 break out; endwhile; endwhile;",
+        ),
+        (
+            "try a; except (ANY) b; endtry",
+            "try  a; except Any  b; endtry;",
+        ),
+        (
+            "try except e (E_DIV, @x) except (E_TYPE) return e; endtry",
+            "try except e Division x Splice 2 Items except TypeMismatch 1 Items return e; endtry;",
+        ),
+        (
+            "try return 1; finally a; endtry",
+            "try return 1; finally  a; endtry;",
+        ),
+        ("try finally endtry", "try finally endtry;"),
+    ] {
+        assert_eq!(rt;
+            shown(rt.alloc(), text, Names::Any)?.as_slice(),
+            expected.as_bytes(),
+            "{text}"
+        );
+    }
+    Ok(())
+}
+
+#[test]
+fn tells_faults_of_statements(rt: HostRuntime) -> Result<(), Fail> {
+    for (text, expected) in [
+        ("break;", "Line 1:  Invalid loop name"),
+        ("1;\ncontinue;", "Line 2:  Invalid loop name"),
+        (
+            "while (1)\nbreak\nx; endwhile",
+            "Line 3:  Invalid loop name",
+        ),
+        (
+            "while x (1) endwhile\nwhile (2) break x; endwhile",
+            "Line 2:  Invalid loop name",
+        ),
+        (
+            "for x in (y) endfor\nbreak x;",
+            "Line 2:  Invalid loop name",
+        ),
+        ("while (1) break 2; endwhile", "Line 1:  Parse error"),
+        ("break\n2;", "Line 1:  Invalid loop name"),
+        ("if (1)", "Line 1:  Parse error"),
+        ("if 1 endif", "Line 1:  Parse error"),
+        ("if (1)\nelse\nelseif (2) endif", "Line 3:  Parse error"),
+        ("if (1) endfor", "Line 1:  Parse error"),
+        ("endif", "Line 1:  Parse error"),
+        ("for x in y endfor", "Line 1:  Parse error"),
+        ("for 1 in (y) endfor", "Line 1:  Parse error"),
+        ("for x in [1] endfor", "Line 1:  Parse error"),
+        ("while (1)\nendif", "Line 2:  Parse error"),
+        ("try endtry", "Line 1:  Parse error"),
+        ("try\nexcept () endtry", "Line 2:  Parse error"),
+        ("try except\nendtry", "Line 2:  Parse error"),
+        ("try finally except (ANY) endtry", "Line 1:  Parse error"),
+        ("try except (ANY)\nfinally endtry", "Line 2:  Parse error"),
+        ("if (1) 1 = 2; endif", "Line 1:  Illegal assignment target"),
+        ("x", "Line 1:  Parse error"),
+    ] {
+        assert_eq!(rt;
+            shown(rt.alloc(), text, Names::Any)?.as_slice(),
             expected.as_bytes(),
             "{text}"
         );

@@ -16,7 +16,7 @@ use Rattle.moo_program.specs.declared.operator.LogicOperator.TheVariants as logi
 use Rattle.moo_program.specs.declared.tree.Literal.{Literal}
 use Rattle.moo_program.specs.declared.tree.Literal.TheVariants as literal
 use Rattle.moo_program.specs.Tree
-use Rattle.moo_program.specs.Tree.{Expr, Items, Codes, Stmt, Block}
+use Rattle.moo_program.specs.Tree.{Expr, Items, Codes, Stmt, Arms, Handlers, Block}
 use Rattle.moo_program.specs.Listing.{is_compound, is_compound_base, constant_name, is_system_object}
 use Rattle.moo_program.specs.Target.{is_target}
 use Rattle.moo_grammar.specs.declared.level.Level.{Level}
@@ -29,7 +29,7 @@ use Rattle.moo_grammar.specs.Grammar
 use Rattle.moo_grammar.specs.Grammar.{Kind, Of, sort, Derives, has_optional, text, system_object}
 use Rattle.moo_unparse.proofs.Names.{constant_is, system_is}
 use Rattle.moo_unparse.proofs.Scatters.{ends_in_scatter, some_scatter, scatter_in_codes, If}
-use Rattle.moo_unparse.proofs.Listed.{binary_token, logic_mark, parens, further, spell, spell_items, spell_codes, spell_statement, spell_block, selected, IsSound, AreSound, AreSoundCodes, IsSoundStatement, IsSoundBlock, IsSoundToken}
+use Rattle.moo_unparse.proofs.Listed.{binary_token, logic_mark, parens, further, spell, spell_items, spell_codes, spell_statement, spell_block, selected, IsSound, AreSound, AreSoundCodes, IsSoundStatement, IsSoundBlock, IsSoundToken, spell_label, spell_arms, spell_handlers, IsSoundLabel, AreSoundArms, AreSoundHandlers}
 
 -- what is shown of a tree: its listing is an expression, an operand and a base
 pub record Good (g : Rules) (i : Bool) (e : Expr) : Type 0 where
@@ -60,12 +60,28 @@ pub record GoodCodes (g : Rules) (i : Bool) (c : Codes) : Type 0 where
   pub codes : scatter_in_codes c ≡ false → (r : List Token) → Derives g (Grammar.codes i) (spell_codes c r) c r
   pub sound : AreSoundCodes c
 
-pub record GoodStatement (g : Rules) (s : Stmt) : Type 0 where
-  pub statement : (r : List Token) → Derives g Grammar.statement (spell_statement s r) s r
+pub record GoodParens (g : Rules) (e : Expr) : Type 0 where
+  pub in_parens : (r : List Token) → Derives g Grammar.in_parens (token.Sign sign.LeftParen ∷ spell e (token.Sign sign.RightParen ∷ r)) e r
+  pub sound : IsSound e
+
+pub record GoodLabel (g : Rules) (l : Option (List ℕ)) : Type 0 where
+  pub label : (r : List Token) → Derives g Grammar.label (spell_label l r) l r
+  pub sound : IsSoundLabel l
+
+pub record GoodStatement (g : Rules) (ls : List (Option (List ℕ))) (s : Stmt) : Type 0 where
+  pub statement : (r : List Token) → Derives g (Grammar.statement ls) (spell_statement s r) s r
   pub sound : IsSoundStatement s
 
-pub record GoodBlock (g : Rules) (b : Block) : Type 0 where
-  pub statements : (r : List Token) → Derives g Grammar.statements (spell_block b r) b r
+pub record GoodArms (g : Rules) (ls : List (Option (List ℕ))) (c : Arms) : Type 0 where
+  pub arms : (r : List Token) → Derives g (Grammar.arms ls) (spell_arms c r) c r
+  pub sound : AreSoundArms c
+
+pub record GoodHandlers (g : Rules) (ls : List (Option (List ℕ))) (h : Handlers) : Type 0 where
+  pub handlers : (r : List Token) → Derives g (Grammar.handlers ls) (spell_handlers h r) h r
+  pub sound : AreSoundHandlers h
+
+pub record GoodBlock (g : Rules) (ls : List (Option (List ℕ))) (b : Block) : Type 0 where
+  pub statements : (r : List Token) → Derives g (Grammar.statements ls) (spell_block b r) b r
   pub sound : IsSoundBlock b
 
 abbrev pub GoodOf : (g : Rules) (k : Kind) → List Token → Of (sort k) → Type 0
@@ -82,8 +98,12 @@ GoodOf g (Grammar.primary i) ts e = Whole g i e
 GoodOf g (Grammar.arguments i o) ts xs = GoodArguments g i o xs
 GoodOf g (Grammar.members i o) ts xs = GoodMembers g i o xs
 GoodOf g (Grammar.codes i) ts c = GoodCodes g i c
-GoodOf g Grammar.statement ts s = GoodStatement g s
-GoodOf g Grammar.statements ts b = GoodBlock g b
+GoodOf g (Grammar.statement ls) ts s = GoodStatement g ls s
+GoodOf g (Grammar.statements ls) ts b = GoodBlock g ls b
+GoodOf g (Grammar.arms ls) ts c = GoodArms g ls c
+GoodOf g (Grammar.handlers ls) ts h = GoodHandlers g ls h
+GoodOf g Grammar.label ts l = GoodLabel g l
+GoodOf g Grammar.in_parens ts e = GoodParens g e
 
 -- each level is one of the looser ones
 module _ {g : Rules} {i : Bool} {ts r : List Token} {e : Expr} where

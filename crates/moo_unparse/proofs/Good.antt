@@ -1,5 +1,5 @@
 -- The tokens of the listing of a program of the grammar have that program.
-use Rattle.std.proofs.Common.{pos, List, ◌≡◌, refl, true, rules}
+use Rattle.std.proofs.Common.{pos, List, ◌≡◌, refl, true, rules, []}
 use Rattle.std.specs.Prelude.{FitsSigned}
 use Rattle.std.specs.List.{AllByRecursion}
 use Rattle.std.specs.Int.{w32}
@@ -131,16 +131,80 @@ good t (Grammar.a_default {xs = xs} c d) h =
     let x = good t c h.1.1.1 in
     let y = good t d x.1.1 in
     (record { members = λ n r. rw (comma d (spell_items xs r)) (Grammar.a_default ((x.0.good (neither _ _ n).0).whole _) (y.0.members (neither _ _ n).1 r)); sound = (h.1.0, x.0.sound, y.0.sound) }, y.1)
+good t (Grammar.branch b c d) h =
+    let x = good t b h.1 in
+    let y = good t c x.1 in
+    let z = good t d y.1 in
+    (record { statement = λ r. Grammar.branch (x.0.in_parens _) (y.0.statements _) (z.0.arms _); sound = (x.0.sound, y.0.sound, z.0.sound) }, z.1.1)
+good t (Grammar.for_elements c d) h =
+    let x = good t c h.1.1.1 in
+    let y = good t d x.1 in
+    (record { statement = λ r. Grammar.for_elements (x.0.in_parens _) (y.0.statements _); sound = (h.1.0, x.0.sound, y.0.sound) }, y.1.1)
+good t (Grammar.for_numbers b c d) h =
+    let x = good t b h.1.1.1.1 in
+    let y = good t c x.1.1 in
+    let z = good t d y.1.1 in
+    let m = none (stands b) refl in
+    let n = none (stands c) refl in
+    (record { statement = λ r. Grammar.for_numbers ((x.0.good m).whole _) ((y.0.good n).whole _) (z.0.statements _); sound = (h.1.0, x.0.sound, y.0.sound, z.0.sound) }, z.1.1)
+good t (Grammar.while_true b c d) h =
+    let x = good t b h.1 in
+    let y = good t c x.1 in
+    let z = good t d y.1 in
+    (record { statement = λ r. Grammar.while_true (x.0.label _) (y.0.in_parens _) (z.0.statements _); sound = (x.0.sound, y.0.sound, z.0.sound) }, z.1.1)
+good t (Grammar.breaks_loop is) h = (record { statement = λ r. Grammar.breaks_loop is; sound = tt }, h.1.1)
+good t (Grammar.breaks_named is) h = (record { statement = λ r. Grammar.breaks_named is; sound = h.1.0 }, h.1.1.1)
+good t (Grammar.continues_loop is) h = (record { statement = λ r. Grammar.continues_loop is; sound = tt }, h.1.1)
+good t (Grammar.continues_named is) h = (record { statement = λ r. Grammar.continues_named is; sound = h.1.0 }, h.1.1.1)
 good t Grammar.returns_nothing h = (record { statement = λ r. Grammar.returns_nothing; sound = tt }, h.1.1)
 good t (Grammar.returns_value d) h =
     let x = good t d h.1 in
     let n = none (stands d) refl in
     (record { statement = λ r. Grammar.returns_value ((x.0.good n).whole _); sound = x.0.sound }, x.1.1)
+good t (Grammar.tries c d) h =
+    let x = good t c h.1 in
+    let y = good t d x.1 in
+    (record { statement = λ r. Grammar.tries (x.0.statements _) (y.0.handlers _); sound = (x.0.sound, y.0.sound) }, y.1.1)
+good t (Grammar.cleans_up c d) h =
+    let x = good t c h.1 in
+    let y = good t d x.1.1 in
+    (record { statement = λ r. Grammar.cleans_up (x.0.statements _) (y.0.statements _); sound = (x.0.sound, y.0.sound) }, y.1.1)
+good t (Grammar.performed d) h =
+    let x = good t d h in
+    let n = none (stands d) refl in
+    (record { statement = λ r. Grammar.performed ((x.0.good n).whole _); sound = x.0.sound }, x.1.1)
+good t Grammar.no_arms h = (record { arms = λ r. Grammar.no_arms; sound = tt }, h)
+good t (Grammar.last_arm d) h = let x = good t d h.1 in (record { arms = λ r. Grammar.last_arm (x.0.statements r); sound = x.0.sound }, x.1)
+good t (Grammar.an_arm b c d) h =
+    let x = good t b h.1 in
+    let y = good t c x.1 in
+    let z = good t d y.1 in
+    (record { arms = λ r. Grammar.an_arm (x.0.in_parens _) (y.0.statements _) (z.0.arms r); sound = (x.0.sound, y.0.sound, z.0.sound) }, z.1)
+good t (Grammar.one_handler b c d) h =
+    let x = good t b h.1 in
+    let y = good t c x.1.1 in
+    let z = good t d y.1.1 in
+    let n = none (stands c) refl in
+    (record { handlers = λ r. Grammar.one_handler (x.0.label _) (y.0.codes n _) (z.0.statements r); sound = (x.0.sound, y.0.sound, z.0.sound, tt) }, z.1)
+good t (Grammar.a_handler a b c d) h =
+    let w = good t a h.1 in
+    let x = good t b w.1.1 in
+    let y = good t c x.1.1 in
+    let z = good t d y.1 in
+    let n = none (stands b) refl in
+    (record { handlers = λ r. Grammar.a_handler (w.0.label _) (x.0.codes n _) (y.0.statements _) (z.0.handlers r); sound = (w.0.sound, x.0.sound, y.0.sound, z.0.sound) }, z.1)
+good t (Grammar.parenthesized d) h =
+    let x = good t d h.1 in
+    let n = none (stands d) refl in
+    (record { in_parens = λ r. Grammar.parenthesized ((x.0.good n).whole _); sound = x.0.sound }, x.1.1)
+good t Grammar.unlabelled h = (record { label = λ r. Grammar.unlabelled; sound = tt }, h)
+good t Grammar.labelled h = (record { label = λ r. Grammar.labelled; sound = h.0 }, h.1)
 good t Grammar.no_statements h = (record { statements = λ r. Grammar.no_statements; sound = tt }, h)
 good t (Grammar.one_statement c d) h =
     let x = good t c h in
     let y = good t d x.1 in
     (record { statements = λ r. Grammar.one_statement (x.0.statement _) (y.0.statements r); sound = (x.0.sound, y.0.sound) }, y.1)
+good t (Grammar.an_end d) h = good t d h.1
 
-pub good_program : {g : Rules} {ts : List Token} {b : Block} → g.targets ≡ true → Grammar.IsProgramBy g ts b → AreSoundTokens ts → GoodBlock g b
+pub good_program : {g : Rules} {ts : List Token} {b : Block} → g.targets ≡ true → Grammar.IsProgramBy g ts b → AreSoundTokens ts → GoodBlock g [] b
 good_program t d h = (good t d h).0

@@ -7,7 +7,7 @@ use Rattle.moo_grammar.specs.Rules.{strict}
 use Rattle.moo_grammar.specs.Texts.{IsProgramOf}
 use Rattle.moo_grammar.proofs.Unique.{one_program_of_text}
 use Rattle.moo_unparse.proofs.Good.{good_program}
-use Rattle.moo_unparse.proofs.Read.{read_block}
+use Rattle.moo_unparse.proofs.ReadLines.{read_block}
 use Rattle.moo_unparse.proofs.Sound.{tokens_sound}
 
 pub listing_is_program : (names : Names) (lines : List (List ℕ)) (b : Block) → IsProgramOf names lines b → IsProgramOf names (listing b) b

@@ -1,11 +1,12 @@
-pub mod Fits
 pub mod Forms
 pub mod Good
 pub mod Items
 pub mod Law
+pub mod LineSteps
 pub mod Listed
 pub mod Names
 pub mod Read
+pub mod ReadLines
 pub mod Scatters
 pub mod Sizes
 pub mod Sound

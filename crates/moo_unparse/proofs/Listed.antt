@@ -15,7 +15,7 @@ use Rattle.moo_program.specs.declared.operator.LogicOperator.{LogicOperator}
 use Rattle.moo_program.specs.declared.operator.LogicOperator.TheVariants.{And, Or}
 use Rattle.moo_program.specs.declared.tree.Literal.{Literal}
 use Rattle.moo_program.specs.declared.tree.Literal.TheVariants.{Integer, Object, Error, Str}
-use Rattle.moo_program.specs.Tree.{Expr, literal, variable, length_mark, unary, binary, logic, conditional, index, range, list, property, verb_call, call, assign, catch, catch_or, Items, no_items, element, splice, optional, defaulted, Codes, any_error, listed_errors, Stmt, return_nothing, returns, Block, no_statement, then}
+use Rattle.moo_program.specs.Tree.{Expr, literal, variable, length_mark, unary, binary, logic, conditional, index, range, list, property, verb_call, call, assign, catch, catch_or, Items, no_items, element, splice, optional, defaulted, Codes, any_error, listed_errors, Stmt, return_nothing, returns, performs, branches, for_list, for_range, while_loop, breaks, continues, try_except, try_finally, Arms, no_else, otherwise, elseif, Handlers, no_handler, handler, Block, no_statement, then}
 use Rattle.moo_program.specs.Listing.{is_compound, is_compound_base, constant_name, is_system_object}
 
 abbrev pub unary_mark : UnaryOperator → Sign
@@ -101,13 +101,36 @@ abbrev mutual
   spell_codes any_error r = token.Keyword keyword.Any ∷ r
   spell_codes (listed_errors xs) r = spell_items xs r
 
-abbrev pub spell_statement : Stmt → List Token → List Token
-spell_statement return_nothing r = token.Keyword keyword.Return ∷ token.Sign sign.Semicolon ∷ r
-spell_statement (returns a) r = token.Keyword keyword.Return ∷ spell a (token.Sign sign.Semicolon ∷ r)
+abbrev pub spell_label : Option (List ℕ) → List Token → List Token
+spell_label None r = r
+spell_label (Some s) r = token.Name s ∷ r
 
-abbrev pub spell_block : Block → List Token → List Token
-spell_block no_statement r = r
-spell_block (then s ss) r = spell_statement s (spell_block ss r)
+abbrev mutual
+  pub spell_statement : Stmt → List Token → List Token
+  spell_statement return_nothing r = token.Keyword keyword.Return ∷ token.Sign sign.Semicolon ∷ r
+  spell_statement (returns a) r = token.Keyword keyword.Return ∷ spell a (token.Sign sign.Semicolon ∷ r)
+  spell_statement (performs a) r = spell a (token.Sign sign.Semicolon ∷ r)
+  spell_statement (branches a b c) r = token.Keyword keyword.If ∷ token.Sign sign.LeftParen ∷ spell a (token.Sign sign.RightParen ∷ spell_block b (spell_arms c (token.Keyword keyword.EndIf ∷ r)))
+  spell_statement (for_list s a b) r = token.Keyword keyword.For ∷ token.Name s ∷ token.Keyword keyword.In ∷ token.Sign sign.LeftParen ∷ spell a (token.Sign sign.RightParen ∷ spell_block b (token.Keyword keyword.EndFor ∷ r))
+  spell_statement (for_range s a b c) r = token.Keyword keyword.For ∷ token.Name s ∷ token.Keyword keyword.In ∷ token.Sign sign.LeftBracket ∷ spell a (token.Sign sign.DotDot ∷ spell b (token.Sign sign.RightBracket ∷ spell_block c (token.Keyword keyword.EndFor ∷ r)))
+  spell_statement (while_loop n a b) r = token.Keyword keyword.While ∷ spell_label n (token.Sign sign.LeftParen ∷ spell a (token.Sign sign.RightParen ∷ spell_block b (token.Keyword keyword.EndWhile ∷ r)))
+  spell_statement (breaks n) r = token.Keyword keyword.Break ∷ spell_label n (token.Sign sign.Semicolon ∷ r)
+  spell_statement (continues n) r = token.Keyword keyword.Continue ∷ spell_label n (token.Sign sign.Semicolon ∷ r)
+  spell_statement (try_except b h) r = token.Keyword keyword.Try ∷ spell_block b (spell_handlers h (token.Keyword keyword.EndTry ∷ r))
+  spell_statement (try_finally b c) r = token.Keyword keyword.Try ∷ spell_block b (token.Keyword keyword.Finally ∷ spell_block c (token.Keyword keyword.EndTry ∷ r))
+
+  pub spell_arms : Arms → List Token → List Token
+  spell_arms no_else r = r
+  spell_arms (otherwise b) r = token.Keyword keyword.Else ∷ spell_block b r
+  spell_arms (elseif a b c) r = token.Keyword keyword.ElseIf ∷ token.Sign sign.LeftParen ∷ spell a (token.Sign sign.RightParen ∷ spell_block b (spell_arms c r))
+
+  pub spell_handlers : Handlers → List Token → List Token
+  spell_handlers no_handler r = r
+  spell_handlers (handler n c b h) r = token.Keyword keyword.Except ∷ spell_label n (token.Sign sign.LeftParen ∷ spell_codes c (token.Sign sign.RightParen ∷ spell_block b (spell_handlers h r)))
+
+  pub spell_block : Block → List Token → List Token
+  spell_block no_statement r = r
+  spell_block (then s ss) r = spell_statement s (spell_block ss r)
 
 -- what a literal may be: an integer of 32 bits
 abbrev pub IsSoundLiteral : Literal → Type 0
@@ -154,10 +177,33 @@ IsSoundToken (token.Object n) = FitsSigned w32 n
 IsSoundToken (token.Name s) = is_name s ≡ true
 IsSoundToken _ = Unit {0}
 
-abbrev pub IsSoundStatement : Stmt → Type 0
-IsSoundStatement return_nothing = Unit {0}
-IsSoundStatement (returns a) = IsSound a
+abbrev pub IsSoundLabel : Option (List ℕ) → Type 0
+IsSoundLabel None = Unit {0}
+IsSoundLabel (Some s) = is_name s ≡ true
 
-abbrev pub IsSoundBlock : Block → Type 0
-IsSoundBlock no_statement = Unit {0}
-IsSoundBlock (then s ss) = IsSoundStatement s × IsSoundBlock ss
+abbrev mutual
+  pub IsSoundStatement : Stmt → Type 0
+  IsSoundStatement return_nothing = Unit {0}
+  IsSoundStatement (returns a) = IsSound a
+  IsSoundStatement (performs a) = IsSound a
+  IsSoundStatement (branches a b c) = IsSound a × IsSoundBlock b × AreSoundArms c
+  IsSoundStatement (for_list s a b) = (is_name s ≡ true) × IsSound a × IsSoundBlock b
+  IsSoundStatement (for_range s a b c) = (is_name s ≡ true) × IsSound a × IsSound b × IsSoundBlock c
+  IsSoundStatement (while_loop n a b) = IsSoundLabel n × IsSound a × IsSoundBlock b
+  IsSoundStatement (breaks n) = IsSoundLabel n
+  IsSoundStatement (continues n) = IsSoundLabel n
+  IsSoundStatement (try_except b h) = IsSoundBlock b × AreSoundHandlers h
+  IsSoundStatement (try_finally b c) = IsSoundBlock b × IsSoundBlock c
+
+  pub AreSoundArms : Arms → Type 0
+  AreSoundArms no_else = Unit {0}
+  AreSoundArms (otherwise b) = IsSoundBlock b
+  AreSoundArms (elseif a b c) = IsSound a × IsSoundBlock b × AreSoundArms c
+
+  pub AreSoundHandlers : Handlers → Type 0
+  AreSoundHandlers no_handler = Unit {0}
+  AreSoundHandlers (handler n c b h) = IsSoundLabel n × AreSoundCodes c × IsSoundBlock b × AreSoundHandlers h
+
+  pub IsSoundBlock : Block → Type 0
+  IsSoundBlock no_statement = Unit {0}
+  IsSoundBlock (then s ss) = IsSoundStatement s × IsSoundBlock ss

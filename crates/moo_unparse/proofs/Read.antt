@@ -36,7 +36,7 @@ use Rattle.moo_program.specs.Listing
 use Rattle.moo_program.specs.Listing.{is_compound, is_compound_base, in_parentheses, constant_name, is_system_object, listed, listed_items, listed_codes, listed_statement, listing, binary_sign, logic_sign}
 use Rattle.moo_grammar.specs.Tokens.{words}
 use Rattle.moo_unparse.proofs.Names.{constant_is}
-use Rattle.moo_unparse.proofs.Listed.{binary_token, logic_mark, literal_tokens, parens, further, spell, spell_items, spell_codes, spell_statement, spell_block, selected, IsSoundLiteral, IsSound, AreSound, AreSoundCodes, IsSoundStatement, IsSoundBlock}
+use Rattle.moo_unparse.proofs.Listed.{binary_token, logic_mark, literal_tokens, parens, further, spell, spell_items, spell_codes, selected, IsSoundLiteral, IsSoundLabel, spell_label, IsSound, AreSound, AreSoundCodes}
 
 -- at line n these bytes and the lines below have these tokens
 pub record Reads (n : ℕ) (below : List (List ℕ)) (bs : List ℕ) (ts : List Token) : Type 0 where
@@ -55,10 +55,10 @@ unfolding begins_fraction
 no_fraction c [] e f g = rw (e, f, g) refl
 no_fraction c (b ∷ x) e f g = rw (e, f, g) refl
 
-ends_at : (i : Bool) (c : ℕ) (x : List ℕ) → continues_name c ≡ false → is_digit c ≡ false → nat_eq c 69 ≡ false → nat_eq c 101 ≡ false → nat_eq c 46 ≡ false → Ends i (c ∷ x)
+pub ends_at : (i : Bool) (c : ℕ) (x : List ℕ) → continues_name c ≡ false → is_digit c ≡ false → nat_eq c 69 ≡ false → nat_eq c 101 ≡ false → nat_eq c 46 ≡ false → Ends i (c ∷ x)
 ends_at i c x n d e f g = record { name = n; digit = d; fraction = λ h. no_fraction c x e f g }
 
-ends_dots : (i : Bool) (x : List ℕ) → Ends i (46 ∷ 46 ∷ x)
+pub ends_dots : (i : Bool) (x : List ℕ) → Ends i (46 ∷ 46 ∷ x)
 unfolding begins_fraction
 ends_dots i x = record { name = refl; digit = refl; fraction = λ h. refl }
 
@@ -228,20 +228,20 @@ ends_further (Tree.defaulted s a xs) rest e = ends_at true 44 _ refl refl refl r
 
 module _ {n : ℕ} {below : List (List ℕ)} where
   -- one token, which nothing behind it joins
-  step : (x : Token) (rest : List ℕ) (ts : List Token) → HasSpelling x → joins x rest ≡ false → Reads n below rest ts → Reads n below (spelling x ++ rest) (x ∷ ts)
+  pub step : (x : Token) (rest : List ℕ) (ts : List Token) → HasSpelling x → joins x rest ≡ false → Reads n below rest ts → Reads n below (spelling x ++ rest) (x ∷ ts)
   step x rest ts h j r = record {
     spots = record { token = x; line = n } ∷ r.spots;
     lexes = lexes_spelling complete n x rest below r.spots h j r.lexes;
     same = ap (λ (us : List Token). x ∷ us) r.same;
   }
 
-  blank : (rest : List ℕ) (ts : List Token) → Reads n below rest ts → Reads n below (32 ∷ rest) ts
+  pub blank : (rest : List ℕ) (ts : List Token) → Reads n below rest ts → Reads n below (32 ∷ rest) ts
   blank rest ts r = record { spots = r.spots; lexes = lexes_blank complete n rest below r.spots r.lexes; same = r.same }
 
   mark : (s : Sign) (rest : List ℕ) (ts : List Token) → begins_with (joins_sign s) rest ≡ false → Reads n below rest ts → Reads n below (sign_text s ++ rest) (token.Sign s ∷ ts)
   mark s rest ts j r = step (token.Sign s) rest ts tt j r
 
-  plain : (s : Sign) → ((b : ℕ) → joins_sign s b ≡ false) → (rest : List ℕ) (ts : List Token) → Reads n below rest ts → Reads n below (sign_text s ++ rest) (token.Sign s ∷ ts)
+  pub plain : (s : Sign) → ((b : ℕ) → joins_sign s b ≡ false) → (rest : List ℕ) (ts : List Token) → Reads n below rest ts → Reads n below (sign_text s ++ rest) (token.Sign s ∷ ts)
   plain s h rest ts r = mark s rest ts (never s h rest) r
 
   digits : (k : ℕ) (rest : List ℕ) (ts : List Token) → k < 2 ^ 31 → Ends true rest → Reads n below rest ts → Reads n below (decimal (suc k) ++ rest) (token.Integer (int_wrapping_neg w32 (negsuc k)) ∷ ts)
@@ -316,7 +316,7 @@ module _ {n : ℕ} {below : List (List ℕ)} where
       simp append_assoc (k _ _ (ends_selector m h (40 ∷ (name ++ (41 ∷ rest)))) (mark m _ _ (parenthesis_apart m h (name ++ (41 ∷ rest))) (plain sign.LeftParen (λ b. refl) _ _ (l _ _ (ends_at true 41 rest refl refl refl refl refl) (plain sign.RightParen (λ b. refl) rest ts r)))))
 
   mutual
-    read : (e : Expr) → IsSound e → (rest : List ℕ) (ts : List Token) → Ends (is_compound_base e) rest → Reads n below rest ts → Reads n below (listed e ++ rest) (spell e ts)
+    pub read : (e : Expr) → IsSound e → (rest : List ℕ) (ts : List Token) → Ends (is_compound_base e) rest → Reads n below rest ts → Reads n below (listed e ++ rest) (spell e ts)
     read (Tree.literal l) s rest ts e r = read_literal l s rest ts e r
     read (Tree.variable w) s rest ts e r = step (token.Name w) rest ts s e.name r
     read Tree.length_mark s rest ts e r = plain sign.Dollar (λ b. refl) rest ts r
@@ -358,16 +358,10 @@ module _ {n : ℕ} {below : List (List ℕ)} where
     read_items (Tree.defaulted w a xs) s rest ts e r =
         simp append_assoc (plain sign.Question (λ b. refl) _ _ (step (token.Name w) _ _ s.0 refl (spaced sign.Assign _ _ refl (read a s.1 _ _ (loosely (is_compound_base a) _ (ends_further xs rest e)) (read_further xs rest ts (read_items xs s.2 rest ts e r))))))
 
-    read_codes : (c : Codes) → AreSoundCodes c → (rest : List ℕ) (ts : List Token) → Ends true rest → Reads n below rest ts → Reads n below (listed_codes c ++ rest) (spell_codes c ts)
+    pub read_codes : (c : Codes) → AreSoundCodes c → (rest : List ℕ) (ts : List Token) → Ends true rest → Reads n below rest ts → Reads n below (listed_codes c ++ rest) (spell_codes c ts)
     read_codes Tree.any_error s rest ts e r = step (token.Keyword keyword.Any) rest ts tt e.name r
     read_codes (Tree.listed_errors xs) s rest ts e r = read_items xs s rest ts e r
 
-  read_statement : (s : Stmt) → IsSoundStatement s → (ts : List Token) → Reads n below [] ts → Reads n below (listed_statement s) (spell_statement s ts)
-  read_statement Tree.return_nothing s ts r = step (token.Keyword keyword.Return) _ _ tt refl (plain sign.Semicolon (λ b. refl) [] ts r)
-  read_statement (Tree.returns a) s ts r = step (token.Keyword keyword.Return) _ _ tt refl (blank _ _ (read a s (59 ∷ []) _ (ends_at (is_compound_base a) 59 [] refl refl refl refl refl) (plain sign.Semicolon (λ b. refl) [] ts r)))
-
-pub read_block : (b : Block) → IsSoundBlock b → (n : ℕ) → Reads n (listing b) [] (spell_block b [])
-read_block Tree.no_statement s n = record { spots = []; lexes = text_end; same = refl }
-read_block (Tree.then st ss) s n =
-    let r = read_statement st s.0 _ (read_block ss s.1 (suc n)) in
-    record { spots = r.spots; lexes = line_end r.lexes; same = r.same }
+  pub read_label : (l : Option (List ℕ)) → IsSoundLabel l → (rest : List ℕ) (ts : List Token) → begins_with continues_name rest ≡ false → Reads n below rest ts → Reads n below (Listing.labelled l ++ rest) (spell_label l ts)
+  read_label None s rest ts e r = r
+  read_label (Some w) s rest ts e r = blank _ _ (step (token.Name w) rest ts s e r)

@@ -248,7 +248,7 @@ fn write_caught(value: &Expr, errors: &Codes, line: &mut Line) -> Result<(), All
 }
 
 #[cycle(listing)]
-fn write_codes(errors: &Codes, line: &mut Line) -> Result<(), AllocError>
+pub(crate) fn write_codes(errors: &Codes, line: &mut Line) -> Result<(), AllocError>
     ensures { OnOk result (line.new ≡ line.old ++ listed_codes (codes_of errors.now)) }
 {
     match errors {

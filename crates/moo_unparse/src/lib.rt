@@ -1,7 +1,9 @@
 //! Listings of programs.
 #![tactic(auto)]
 
+mod block;
 mod expression;
+mod head;
 pub mod laws;
 mod line;
 mod listing;

@@ -1,13 +1,11 @@
 //! Statements and programs.
-ghost use Rattle.std.specs.Prelude.{◌≡◌, ◌++◌, IfOk, OnOk};
-ghost use Rattle.moo_program.specs.Limits.{FitsLine, AllFit};
-ghost use Rattle.moo_program.specs.View.{block, statement as tree_of};
-ghost use Rattle.moo_program.specs.Listing.{listing, listed_statement};
+ghost use Rattle.std.specs.Prelude.{◌≡◌, IfOk};
+ghost use Rattle.moo_program.specs.Limits.{AllFit};
+ghost use Rattle.moo_program.specs.Listing.{listing};
 
-use crate::expression::write_expression;
+use crate::block::write_block;
 use crate::line::Line;
-use moo_program::{Program, Stmt};
-use moo_token::{Keyword, Sign};
+use moo_program::Program;
 use moo_value::MooStr;
 use std::alloc::{AllocError, Global};
 use thiserror::Error;
@@ -28,40 +26,19 @@ impl From<AllocError> for Memory {
 pub fn list_full(alloc: Global, program: &Program) -> Result<Vec<MooStr>, Memory>
     ensures { IfOk result (λ lines. lines.items ≡ listing program.now) }
 {
-    let lines = lines_of(alloc, program.statements())?;
-    Ok(lines)
-}
-
-fn lines_of(alloc: Global, statements: &[Stmt]) -> Result<Vec<MooStr>, AllocError>
-    requires { AllFit (listing (block statements.now)) }
-    ensures { IfOk result (λ lines. lines.items ≡ listing (block statements.now)) }
-{
     let mut lines = Vec::new(alloc);
-    for statement in statements {
-        lines.push(line_of(alloc, statement)?)?;
-    }
-    Ok(lines)
+    write_block(alloc, program.statements(), &mut lines)?;
+    let strings = strings(alloc, lines)?;
+    Ok(strings)
 }
 
-fn line_of(alloc: Global, statement: &Stmt) -> Result<MooStr, AllocError>
-    requires { FitsLine (listed_statement (tree_of statement.now)) }
-    ensures { IfOk result (λ line. line ≡ listed_statement (tree_of statement.now)) }
+fn strings(alloc: Global, lines: Vec<Line>) -> Result<Vec<MooStr>, AllocError>
+    requires { AllFit lines.items }
+    ensures { IfOk result (λ strings. strings.items ≡ lines.items) }
 {
-    let mut line = Line::new(alloc);
-    write_statement(statement, &mut line)?;
-    line.into_string(alloc)
-}
-
-fn write_statement(statement: &Stmt, line: &mut Line) -> Result<(), AllocError>
-    ensures { OnOk result (line.new ≡ line.old ++ listed_statement (tree_of statement.now)) }
-{
-    match statement {
-        Stmt::Return(None) => line.keyword(Keyword::Return)?,
-        Stmt::Return(Some(expr)) => {
-            line.keyword(Keyword::Return)?;
-            line.blank()?;
-            write_expression(expr, line)?;
-        }
+    let mut strings = Vec::new(alloc);
+    for line in lines {
+        strings.push(line.into_string(alloc)?)?;
     }
-    line.sign(Sign::Semicolon)
+    Ok(strings)
 }

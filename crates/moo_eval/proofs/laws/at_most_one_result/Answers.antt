@@ -1,4 +1,5 @@
-use Rattle.moo_eval.proofs.Unique.{one_result, one_block, one_end}
+use Rattle.moo_eval.proofs.Unique.{one_result}
+use Rattle.moo_eval.proofs.UniqueStatements.{one_block, one_end}
 use Rattle.moo_eval.proofs.laws.at_most_one_result.Goals as goal
 
 pub returns-clause-expressions : goal.returns-clause-expressions

@@ -3,7 +3,7 @@ use Rattle.moo_grammar.specs.declared.names.Names.TheVariants.{Known}
 use Rattle.moo_grammar.proofs.Unique.{one_program_of_text}
 use Rattle.moo_eval.specs.Task.{TaskEnds}
 use Rattle.moo_eval.specs.Typed.{typed_frame}
-use Rattle.moo_eval.proofs.Unique.{one_end}
+use Rattle.moo_eval.proofs.UniqueStatements.{one_end}
 use Rattle.moo_eval.proofs.laws.one_end_of_text.Goals as goal
 
 pub returns : goal.returns

@@ -13,6 +13,18 @@ returns-in-BadTarget c =
       none = stopped.none;
     }
 
+pub returns-in-BadLoopName : goal.returns-in-BadLoopName
+returns-in-BadLoopName c =
+    let stopped = rw c.in-BadLoopName.is at c.requires.stopped in
+    record {
+      spots = c.args.spots.now;
+      reading = c.requires.reading;
+      at = c.args.stop.at;
+      line = c.line_at-line.ensures;
+      jumps = stopped.jumps;
+      none = stopped.none;
+    }
+
 pub returns-in-TooDeep : goal.returns-in-TooDeep
 returns-in-TooDeep c = too_deep c.args.names c.args.lines.now c.args.spots.now c.requires.reading (rw c.in-TooDeep.is at c.requires.stopped)
 

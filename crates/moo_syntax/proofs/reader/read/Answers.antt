@@ -1,4 +1,4 @@
-use Rattle.std.proofs.Common.{rules, refl, subst, drop}
+use Rattle.std.proofs.Common.{rules, refl, subst, drop, []}
 use Rattle.moo_program.specs.View.{block as tree_of}
 use Rattle.moo_grammar.specs.Tokens.{words}
 use Rattle.moo_grammar.specs.Rules.{loose, strict}
@@ -14,14 +14,14 @@ use Rattle.moo_syntax.proofs.reader.read.Goals as goal
 
 pub returns-in-Err-clause-stopped : goal.returns-in-Err-clause-stopped
 returns-in-Err-clause-stopped c =
-    stop_of c.args.names c.args.spots.now _ c.statements.new.tokens refl c.in-Err.ensures.moves.spots c.in-Err.fault refl c.in-Err.ensures.failed
+    stop_of c.args.names c.args.spots.now _ c.statements.new.tokens refl c.in-Err.ensures.moves.spots c.in-Err.fault refl (rw c.new.ensures.items at c.in-Err.ensures.failed)
 
 pub returns-then-tokens-spots-clause-stopped : goal.returns-then-tokens-spots-clause-stopped
 returns-then-tokens-spots-clause-stopped c =
     let spots = c.args.spots.now in
     let n = c.statements.new.tokens.at in
     let tree = tree_of c.in-Ok.found.items in
-    let read = subst (λ v. Reads (grammar loose) block (grammar loose statements) (words spots) tree (words (drop n v))) c.in-Ok.ensures.moves.spots (c.in-Ok.ensures.read loose (loose_admits (strict c.args.names))) in
+    let read = subst (λ v. Reads (grammar loose) block (grammar loose (statements [])) (words spots) tree (words (drop n v))) c.in-Ok.ensures.moves.spots ((rw c.new.ensures.items at c.in-Ok.ensures.read).reads loose (loose_admits (strict c.args.names))) in
     record { none = refused_before loose n spots tree c.if-tokens-spots.true read; passes = program_passes loose read }
 
 pub returns-then-not-fit_lines-clause-stopped : goal.returns-then-not-fit_lines-clause-stopped
@@ -30,8 +30,8 @@ returns-then-not-fit_lines-clause-stopped c =
     let spots = c.args.spots.now in
     let n = c.statements.new.tokens.at in
     let tree = tree_of c.in-Ok.found.items in
-    let read = subst (λ v. Reads (grammar (strict names)) block (grammar (strict names) statements) (words spots) tree (words (drop n v))) c.in-Ok.ensures.moves.spots (c.in-Ok.ensures.read (strict names) (admits_itself names)) in
-    let whole : IsProgram names (words spots) tree = derived (subst (λ v. Reads (grammar (strict names)) block (grammar (strict names) statements) (words spots) tree v) (nothing_left n spots c.if-tokens-spots.false) read) in
+    let read = subst (λ v. Reads (grammar (strict names)) block (grammar (strict names) (statements [])) (words spots) tree (words (drop n v))) c.in-Ok.ensures.moves.spots ((rw c.new.ensures.items at c.in-Ok.ensures.read).reads (strict names) (admits_itself names)) in
+    let whole : IsProgram names (words spots) tree = derived (subst (λ v. Reads (grammar (strict names)) block (grammar (strict names) (statements [])) (words spots) tree v) (nothing_left n spots c.if-tokens-spots.false) read) in
     exceed_by_lines names (words spots) tree whole (λ f. let no = (rw c.deref.ensures.value at c.if-not-fit_lines.ensures).1 f in absurd cc)
 
 pub returns-in-Some-clause-stopped : goal.returns-in-Some-clause-stopped
@@ -43,6 +43,6 @@ returns-in-Ok-try_new-clause-program c =
     let spots = c.args.spots.now in
     let n = c.statements.new.tokens.at in
     let tree = tree_of c.in-Ok.found.items in
-    let read = subst (λ v. Reads (grammar (strict names)) block (grammar (strict names) statements) (words spots) tree (words (drop n v))) c.in-Ok.ensures.moves.spots (c.in-Ok.ensures.read (strict names) (admits_itself names)) in
-    let whole : IsProgram names (words spots) tree = derived (subst (λ v. Reads (grammar (strict names)) block (grammar (strict names) statements) (words spots) tree v) (nothing_left n spots c.if-tokens-spots.false) read) in
+    let read = subst (λ v. Reads (grammar (strict names)) block (grammar (strict names) (statements [])) (words spots) tree (words (drop n v))) c.in-Ok.ensures.moves.spots ((rw c.new.ensures.items at c.in-Ok.ensures.read).reads (strict names) (admits_itself names)) in
+    let whole : IsProgram names (words spots) tree = derived (subst (λ v. Reads (grammar (strict names)) block (grammar (strict names) (statements [])) (words spots) tree v) (nothing_left n spots c.if-tokens-spots.false) read) in
     rw c.in-Ok-try_new.ensures (record { program = whole; limits = search rules })

@@ -1,6 +1,6 @@
 use Rattle.std.proofs.Common.{refl}
 use Rattle.std.proofs.lemmas.Result.{err_from_is_err_and}
-use Rattle.moo_eval.specs.Meaning.{gives_zero, gives}
+use Rattle.moo_eval.specs.Statements.{gives_zero, gives}
 use Rattle.moo_eval.proofs.interpreter.Task.give.Goals as goal
 
 pub returns-in-None-clause-meaning : goal.returns-in-None-clause-meaning

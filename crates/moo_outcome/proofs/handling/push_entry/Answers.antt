@@ -1,0 +1,11 @@
+use Rattle.std.proofs.Common.{◌∷◌, [], Ok, sym, ap, ◌∙◌}
+use Rattle.std.proofs.lemmas.List.{map-append}
+use Rattle.moo_value.specs.View.{tree, trees}
+use Rattle.moo_outcome.specs.Outcome.{answers}
+use Rattle.moo_outcome.specs.Handling.{alone, frame_list}
+use Rattle.moo_outcome.proofs.Told.{alone_ok}
+use Rattle.moo_outcome.proofs.handling.push_entry.Goals as goal
+
+pub returns-clause-ok : goal.returns-clause-ok
+returns-clause-ok c =
+    (tree c.in_ok-value.value ∷ [], rw c.in-Verb.is (alone_ok (frame_list c.in-Verb.frame) (tree c.in_ok-value.value) (c.in_ok-value.ensures tt)), ap trees c.in_ok-push.ensures ∙ map-append tree _ _)

@@ -1,0 +1,171 @@
+//! Handlers of a `try`: which one takes an error, and what it is told.
+ghost use Rattle.std.specs.Prelude.{◌≡◌, ◌++◌, ◌∷◌, [], List, Ok, Err, map, option_copied, option_map, IfErr, OnOk};
+ghost use Rattle.moo_value.specs.Tree.{Tree};
+ghost use Rattle.moo_value.specs.View.{trees};
+ghost use Rattle.moo_program.specs.Tree.{Handlers, handler};
+ghost use Rattle.moo_program.specs.View.{with_handler, codes_of, block};
+ghost use Rattle.moo_outcome.specs.Outcome as meaning;
+ghost use Rattle.moo_outcome.specs.Outcome.{answers, raised_by};
+ghost use Rattle.moo_outcome.specs.Variables.{Binding, with_all};
+ghost use Rattle.moo_outcome.specs.Handling.{guarded, chosen, frame_list, entry_lists, frame_lists, told, told_as};
+ghost use Rattle.moo_outcome.specs.Catching.{is_caught};
+ghost use Rattle.moo_outcome.specs.Seen.{variables_of, raise_of, stop_of, failure_of, trace_of, seen_answer, seen_answers, HadMemory, HadMemoryIn, IsKnownFailure};
+ghost use Rattle.moo_outcome.specs.SeenHandling.{guarded_of};
+
+use crate::access::push;
+use crate::catching::is_caught;
+use crate::frame::{Activation, CallStack, TraceEntry, TraceFrame};
+use crate::outcome::{Failure, Raise, Stop, raised};
+use moo_operation as operation;
+use moo_program::{Codes, Handler, Stmt};
+use moo_value::{ErrorCode, MooStr, Value};
+use std::alloc::{AllocError, Global};
+
+/// The variable that a handler sets, if it sets one, its codes and its statements.
+#[derive(Drop)]
+pub struct HandlerParts<'a> {
+    pub name: Option<&'a MooStr>,
+    pub codes: &'a Codes,
+    pub body: &'a [Stmt],
+}
+
+/// A handler with the values of its codes.
+#[derive(Drop)]
+pub struct Guarded<'a> {
+    pub name: Option<&'a MooStr>,
+    pub codes: &'a Codes,
+    pub body: &'a [Stmt],
+    pub values: Vec<Value>,
+}
+
+/// The parts of a handler.
+pub fn handler_parts(value: &Handler) -> HandlerParts<'_>
+    ensures { (hs : Handlers) → with_handler value.now hs ≡ handler (option_copied result.name) (codes_of result.codes.now) (block result.body.now) hs }
+{
+    match value {
+        Handler::Except(codes, body) => HandlerParts {
+            name: None,
+            codes,
+            body,
+        },
+        Handler::ExceptAs(name, codes, body) => HandlerParts {
+            name: Some(name),
+            codes,
+            body,
+        },
+    }
+}
+
+/// Puts a handler at the end, with the values of its codes.
+pub fn push_guarded<'a>(
+    all: &mut Vec<Guarded<'a>>,
+    parts: HandlerParts<'a>,
+    values: Vec<Value>,
+) -> Result<(), AllocError>
+    ensures { OnOk result (map guarded_of all.new.items ≡ map guarded_of all.old.items ++ guarded (option_copied parts.entry.name) (codes_of parts.entry.codes.now) (block parts.entry.body.now) (trees values.items) ∷ []) }
+{
+    all.push(Guarded {
+        name: parts.name,
+        codes: parts.codes,
+        body: parts.body,
+        values,
+    })?;
+    Ok(())
+}
+
+impl Guarded<'_> {
+    fn takes(&self, code: ErrorCode) -> bool
+        ensures { result ≡ is_caught (codes_of self.now.codes.now) (trees self.now.values.items) code }
+    {
+        is_caught(self.codes, &self.values, code)
+    }
+}
+
+/// The first handler that names the error.
+pub fn chosen<'g, 'a>(all: &'g [Guarded<'a>], code: ErrorCode) -> Option<&'g Guarded<'a>>
+    ensures { option_map (λ g. guarded_of g.now) result ≡ chosen (map guarded_of all.now) code }
+{
+    for guarded in all {
+        if guarded.takes(code) {
+            return Some(guarded);
+        }
+    }
+    None
+}
+
+// `{this, verb, programmer, definer, player}`
+fn frame_list(alloc: Global, frame: &TraceFrame) -> Result<Value, Failure>
+    ensures { IsKnownFailure result → answers (frame_list frame.now) ≡ seen_answer result }
+{
+    let mut values = Vec::new(alloc);
+    push(&mut values, Value::Obj(frame.this))?;
+    push(&mut values, Value::Str(frame.verb.try_clone()?))?;
+    push(&mut values, Value::Obj(frame.programmer))?;
+    push(&mut values, Value::Obj(frame.definer))?;
+    push(&mut values, Value::Obj(frame.player))?;
+    Ok(operation::list(alloc, values)?)
+}
+
+// Puts what is told of an entry at the end: a built-in function has no frame that is told of.
+fn push_entry(alloc: Global, values: &mut Vec<Value>, entry: &TraceEntry) -> Result<(), Failure>
+    ensures ok { OnOk result ((more : List Tree) × (entry_lists entry.now ≡ Ok more) × (trees values.new.items ≡ trees values.old.items ++ more)) }
+    ensures err { IfErr result (λ failure. HadMemoryIn failure → answers (entry_lists entry.now) ≡ Err (failure_of failure)) }
+{
+    let TraceEntry::Verb(frame) = entry else {
+        return Ok(());
+    };
+    let value = frame_list(alloc, frame)?;
+    push(values, value)?;
+    Ok(())
+}
+
+// The frames of a trace, the one that raised first.
+fn frame_lists(alloc: Global, trace: &[TraceEntry]) -> Result<Vec<Value>, Failure>
+    ensures { IsKnownFailure result → answers (frame_lists trace.now) ≡ seen_answers result }
+{
+    let mut values = Vec::new(alloc);
+    for entry in trace {
+        push_entry(alloc, &mut values, entry)?;
+    }
+    Ok(values)
+}
+
+// `{code, message, value, frames}`
+fn told(alloc: Global, raise: Raise) -> Result<Value, Failure>
+    ensures { IsKnownFailure result → answers (told (raise_of raise)) ≡ seen_answer result }
+{
+    let frames = frame_lists(alloc, &raise.trace)?;
+    let frames = operation::list(alloc, frames)?;
+    let mut values = Vec::new(alloc);
+    push(&mut values, Value::Err(raise.code))?;
+    push(&mut values, Value::Str(raise.message))?;
+    push(&mut values, raise.value)?;
+    push(&mut values, frames)?;
+    Ok(operation::list(alloc, values)?)
+}
+
+/// Sets the variable of a handler, if it has one, to `{code, message, value, frames}`. Past the limits E_QUOTA is raised,
+/// whatever the d bit.
+pub fn set_caught(
+    alloc: Global,
+    stack: &CallStack,
+    active: &mut Activation,
+    name: Option<&MooStr>,
+    raise: Raise,
+) -> Result<(), Stop>
+    ensures ok { OnOk result ((bs : List Binding) × (told_as (option_copied name.entry) (raise_of raise) ≡ Ok bs) × (variables_of active.new.variables ≡ with_all (variables_of active.old.variables) bs)) }
+    ensures programmer { active.new.programmer ≡ active.old.programmer }
+    ensures err { IfErr result (λ stop. HadMemory stop → (failure : meaning.Failure) × (answers (told_as (option_copied name.entry) (raise_of raise)) ≡ Err failure) × (stop_of stop ≡ raised_by (trace_of stack.now active.old) failure)) }
+    ensures kept { IfErr result (λ stop. HadMemory stop → active.new ≡ active.old) }
+{
+    let Some(name) = name else {
+        return Ok(());
+    };
+    match told(alloc, raise) {
+        Ok(value) => {
+            active.variables.set(name, value)?;
+            Ok(())
+        }
+        Err(failure) => Err(raised(alloc, stack, active, failure)),
+    }
+}

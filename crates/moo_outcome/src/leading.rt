@@ -1,0 +1,132 @@
+//! Where loops and cleanups lead.
+ghost use Rattle.std.specs.Prelude.{◌≡◌, Ok, Err, option_copied, IfOk, IfErr, IsTrue};
+ghost use Rattle.moo_value.specs.View.{tree};
+ghost use Rattle.moo_outcome.specs.Leading.{is_meant, after_turn, no_turn, runs_finally, after_finally, span_of, numbered};
+ghost use Rattle.moo_outcome.specs.Seen.{flow_of, seen_flow, seen_turn, trace_of, IsKnown};
+
+use crate::frame::{Activation, CallStack};
+use crate::outcome::{Failure, Flow, Stop, raised};
+use crate::variables::is_same_name;
+use moo_value::{ErrorCode, MooStr, Value};
+use std::alloc::{AllocError, Global};
+
+/// The integers or objects that a `for` goes through, from `low` up to `high`.
+#[derive(Drop)]
+pub struct Span {
+    pub low: i32,
+    pub high: i32,
+    pub are_objects: bool,
+}
+
+impl Span {
+    /// From one integer or object up to another; E_TYPE for other values.
+    pub fn new(low: &Value, high: &Value) -> Result<Span, ErrorCode>
+        ensures ok { IfOk result (λ span. span_of (tree low.now) (tree high.now) ≡ Ok span) }
+        ensures err { IfErr result (λ code. span_of (tree low.now) (tree high.now) ≡ Err code) }
+    {
+        let (low, high, are_objects) = match (low, high) {
+            (Value::Int(low), Value::Int(high)) => (*low, *high, false),
+            (Value::Obj(low), Value::Obj(high)) => (*low, *high, true),
+            _ => return Err(ErrorCode::TypeMismatch),
+        };
+        Ok(Span {
+            low,
+            high,
+            are_objects,
+        })
+    }
+
+    /// The integer or object of this number.
+    pub fn value(&self, number: i32) -> Value
+        ensures { tree result ≡ numbered self.now.are_objects number }
+    {
+        if self.are_objects {
+            Value::Obj(number)
+        } else {
+            Value::Int(number)
+        }
+    }
+}
+
+/// The name of a loop that a statement asks for.
+pub fn copied_name(name: &Option<MooStr>) -> Result<Option<MooStr>, AllocError>
+    ensures { IfOk result (λ copy. copy ≡ name.now) }
+{
+    match name {
+        None => Ok(None),
+        Some(name) => Ok(Some(name.try_clone()?)),
+    }
+}
+
+// Whether the loop of this name is meant: without a name any is.
+fn is_meant(own: Option<&MooStr>, meant: &Option<MooStr>) -> bool
+    ensures { result ≡ is_meant (option_copied own.entry) meant.now }
+{
+    match (own, meant) {
+        (_, None) => true,
+        (None, Some(_)) => false,
+        (Some(own), Some(meant)) => is_same_name(own, meant),
+    }
+}
+
+/// How a loop of this name ends after a turn that led there, or `None` where it goes on.
+pub fn after_turn(own: Option<&MooStr>, flow: Flow) -> Option<Flow>
+    ensures { seen_turn (Ok result) ≡ after_turn (option_copied own.entry) (Ok (flow_of flow)) }
+{
+    match flow {
+        Flow::Next => None,
+        Flow::Return(value) => Some(Flow::Return(value)),
+        Flow::Break(name) => {
+            if is_meant(own, &name) {
+                return Some(Flow::Next);
+            }
+            Some(Flow::Break(name))
+        }
+        Flow::Continue(name) => {
+            if is_meant(own, &name) {
+                return None;
+            }
+            Some(Flow::Continue(name))
+        }
+    }
+}
+
+/// Where a `for` has nothing to go through: the error is raised, or without the d bit there is no turn.
+pub fn no_turn(
+    alloc: Global,
+    stack: &CallStack,
+    active: &Activation,
+    code: ErrorCode,
+) -> Result<Flow, Stop>
+    ensures { IsKnown result → no_turn stack.now.running.d (trace_of stack.now active.now) code ≡ seen_flow result }
+{
+    if !stack.running.d {
+        return Ok(Flow::Next);
+    }
+    Err(raised(alloc, stack, active, Failure::Fails(code)))
+}
+
+/// Whether a cleanup runs after this outcome: not after the end of the ticks, or want of memory.
+pub fn runs_finally(outcome: &Result<Flow, Stop>) -> bool
+    ensures outcome { IsKnown outcome.now → result ≡ runs_finally (seen_flow outcome.now) }
+    ensures known { IsTrue result → IsKnown outcome.now }
+{
+    match outcome {
+        Ok(_) | Err(Stop::Raised(_)) => true,
+        Err(Stop::OutOfTicks(_) | Stop::Memory) => false,
+    }
+}
+
+/// The outcome of a `try` with a cleanup: the cleanup's, unless that came to its end.
+pub fn after_finally(body: Result<Flow, Stop>, cleanup: Result<Flow, Stop>) -> Result<Flow, Stop>
+    ensures outcome { seen_flow result ≡ after_finally (seen_flow body) (seen_flow cleanup) }
+    ensures known { IsKnown result → IsKnown cleanup }
+{
+    match cleanup {
+        Ok(Flow::Next) => body,
+        Ok(Flow::Return(value)) => Ok(Flow::Return(value)),
+        Ok(Flow::Break(name)) => Ok(Flow::Break(name)),
+        Ok(Flow::Continue(name)) => Ok(Flow::Continue(name)),
+        Err(stop) => Err(stop),
+    }
+}

@@ -1,0 +1,16 @@
+//! How the permissions of properties and verbs, and the specifiers of verbs, are written and read.
+#![tactic(auto)]
+
+pub mod laws;
+mod permissions;
+mod specifiers;
+#[cfg(test)]
+mod tests;
+
+pub use permissions::{
+    prop_perms_from_text, prop_perms_text, verb_perms_from_text, verb_perms_text,
+};
+pub use specifiers::{
+    object_specifier_from_text, object_specifier_text, preposition_from_text,
+    preposition_specifier_from_text, preposition_specifier_text, preposition_text,
+};

@@ -1,0 +1,4 @@
+pub mod Chains
+pub mod Firsts
+pub mod Noded
+pub mod Trees

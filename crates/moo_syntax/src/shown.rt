@@ -266,17 +266,21 @@ pub fn shown(alloc: Global, text: &str, names: Names) -> Result<Vec<u8>, Fail> {
     Ok(shown)
 }
 
-/// `return ` and the text in the middle of so many copies of others.
-pub fn nested(alloc: Global, before: &str, after: &str, count: usize) -> Result<String, Fail> {
+/// The text in the middle of so many copies of others.
+pub fn nested(
+    alloc: Global,
+    before: &str,
+    middle: &str,
+    after: &str,
+    count: usize,
+) -> Result<String, Fail> {
     let mut text = String::new(alloc);
-    text.push_str("return ")?;
     for _ in 0..count {
         text.push_str(before)?;
     }
-    text.push_str("1")?;
+    text.push_str(middle)?;
     for _ in 0..count {
         text.push_str(after)?;
     }
-    text.push_str(";")?;
     Ok(text)
 }

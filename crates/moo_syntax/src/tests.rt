@@ -1,6 +1,7 @@
 // Texts and their programs, printed as trees, or the lines of their faults.
 use crate::Names;
 use crate::shown::{nested, shown};
+use std::alloc::Global;
 use std::test::Fail;
 
 #[test]
@@ -235,6 +236,10 @@ fn reads_each_statement(rt: HostRuntime) -> Result<(), Fail> {
             "try return 1; finally  a; endtry;",
         ),
         ("try finally endtry", "try finally endtry;"),
+        (
+            "while x (1) try break x; except (ANY) continue; endtry if (2) else break X; endif endwhile",
+            "while x 1 try break x; except Any continue; endtry; if 2 else break X; endif; endwhile;",
+        ),
     ] {
         assert_eq!(rt;
             shown(rt.alloc(), text, Names::Any)?.as_slice(),
@@ -280,6 +285,19 @@ fn tells_faults_of_statements(rt: HostRuntime) -> Result<(), Fail> {
         ("try except (ANY)\nfinally endtry", "Line 2:  Parse error"),
         ("if (1) 1 = 2; endif", "Line 1:  Illegal assignment target"),
         ("x", "Line 1:  Parse error"),
+        ("while (1)\nx;\n\n", "Line 3:  Parse error"),
+        ("x = ;", "Line 1:  Parse error"),
+        ("try = 1;", "Line 1:  Parse error"),
+        ("fork (1) endfork", "Line 1:  Parse error"),
+        ("1;\nif (2)\n3 +;\nendif", "Line 3:  Parse error"),
+        (
+            "while x (1) endwhile\nif (2)\ncontinue\nx;\nendif",
+            "Line 3:  Invalid loop name",
+        ),
+        (
+            "for x in (y)\ntry\nexcept e (ANY)\nbreak e;\nendtry endfor",
+            "Line 4:  Invalid loop name",
+        ),
     ] {
         assert_eq!(rt;
             shown(rt.alloc(), text, Names::Any)?.as_slice(),
@@ -288,6 +306,13 @@ fn tells_faults_of_statements(rt: HostRuntime) -> Result<(), Fail> {
         );
     }
     Ok(())
+}
+
+// What is shown of `return` and an expression nested so.
+fn shown_nested(alloc: Global, before: &str, after: &str, count: usize) -> Result<Vec<u8>, Fail> {
+    let value = nested(alloc, before, "1", after, count)?;
+    let text = format!(in alloc; "return {value};")?;
+    shown(alloc, text.as_str(), Names::Any)
 }
 
 #[test]
@@ -314,20 +339,38 @@ fn refuses_deep_nesting(rt: HostRuntime) -> Result<(), Fail> {
         ("`x ! ", "'", 98),
         ("`x ! ANY => ", "'", 98),
     ] {
-        let fits = shown(
-            alloc,
-            nested(alloc, before, after, count)?.as_str(),
-            Names::Any,
-        )?;
+        let fits = shown_nested(alloc, before, after, count)?;
         assert!(rt; fits.as_slice() != deep, "{count}");
-        let outside = shown(
-            alloc,
-            nested(alloc, before, after, count + 1)?.as_str(),
-            Names::Any,
-        )?;
+        let outside = shown_nested(alloc, before, after, count + 1)?;
         assert!(rt; outside.as_slice() == deep, "past {count}");
     }
-    let minuses = shown(alloc, nested(alloc, "-", "", 100000)?.as_str(), Names::Any)?;
+    let minuses = shown_nested(alloc, "-", "", 100000)?;
     assert_eq!(rt; minuses.as_slice(), b"return 1;".as_slice());
+    Ok(())
+}
+
+#[test]
+fn refuses_deep_statements(rt: HostRuntime) -> Result<(), Fail> {
+    let alloc = rt.alloc();
+    let deep = b"Line 1:  Too deeply nested".as_slice();
+    for (before, after, count) in [
+        ("if (1) ", " endif", 99),
+        ("if (1) elseif (2) ", " endif", 99),
+        ("if (1) else ", " endif", 99),
+        ("for x in (1) ", " endfor", 99),
+        ("for x in [1..2] ", " endfor", 99),
+        ("while (1) ", " endwhile", 99),
+        ("try ", " finally endtry", 100),
+        ("try finally ", " endtry", 100),
+        ("try ", " except (ANY) endtry", 100),
+        ("try except (1) ", " endtry", 99),
+    ] {
+        let fits = nested(alloc, before, "", after, count)?;
+        let fits = shown(alloc, fits.as_str(), Names::Any)?;
+        assert!(rt; !fits.as_slice().starts_with(b"Line"), "{before}");
+        let outside = nested(alloc, before, "", after, count + 1)?;
+        let outside = shown(alloc, outside.as_str(), Names::Any)?;
+        assert!(rt; outside.as_slice() == deep, "past {before}");
+    }
     Ok(())
 }

@@ -10,7 +10,7 @@ use Rattle.moo_grammar.specs.Tokens.{operator_at, name_at}
 use Rattle.moo_grammar.specs.Rules.{Rules, may_assign, may_jump}
 use Rattle.moo_grammar.specs.Minuses.{minuses}
 use Rattle.moo_grammar.specs.Grammar.{Sort, Of, Kind, expression, conditional, chain, more, operand, power, unary, postfix, suffixes, primary, arguments, members, codes, statement, statements, arms, handlers, label, in_parens, sort, has_optional}
-use Rattle.moo_grammar.specs.Machine.{Reading, give, refuse, take, peek, phrase, Reads, gives, takes, sees, misses, reads, next_passes}
+use Rattle.moo_grammar.specs.Machine.{Reading, give, refuse, forbid, take, peek, phrase, Reads, gives, takes, sees, misses, reads, next_passes}
 use Rattle.moo_grammar.specs.Predictive.{grammar, mark, allowed, if_optional, behind_brace}
 use Rattle.moo_grammar.specs.Size.{size}
 use Rattle.moo_grammar.specs.Depth.{Deep}
@@ -43,6 +43,7 @@ Post in_parens e = Unit {0}
 abbrev pub Meets : (s : Sort) → Reading s → (Of s → Type 0) → Type 0
 Meets s (give e) Q = Q e
 Meets s refuse Q = Unit {0}
+Meets s forbid Q = Unit {0}
 Meets s (take p) Q = (x : Token) → Meets s (p x) Q
 Meets s (peek f p q) Q = Meets s p Q × Meets s q Q
 Meets s (phrase k p) Q = (a : Of (sort k)) → Post k a → Meets s (p a) Q
@@ -112,9 +113,9 @@ all_meet g (statement ls) = (
     (
       (λ x l _ a _ b _. ((λ x. tt), tt)),
       (
-        allowed_meets (may_jump g ls None) _ _ (λ x. ((λ x. ((λ x. tt), tt)), ((λ x. tt), tt))),
+        allowed_meets (may_jump g ls None) _ _ (λ x. ((λ x. ((λ x. tt), tt)), (tt, ((λ x. tt), tt)))),
         (
-          allowed_meets (may_jump g ls None) _ _ (λ x. ((λ x. ((λ x. tt), tt)), ((λ x. tt), tt))),
+          allowed_meets (may_jump g ls None) _ _ (λ x. ((λ x. ((λ x. tt), tt)), (tt, ((λ x. tt), tt)))),
           (
             (λ x. ((λ x. tt), λ a _. ((λ x. tt), tt))),
             (

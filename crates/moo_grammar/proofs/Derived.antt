@@ -14,7 +14,7 @@ use Rattle.moo_grammar.specs.Grammar
 use Rattle.moo_grammar.specs.Grammar.{Sort, Of, Kind, Derives, sort, has_optional}
 use Rattle.moo_grammar.specs.Machine.{Reading, give, Reads, gives, takes, sees, misses, reads, next_passes}
 use Rattle.moo_grammar.specs.Predictive.{grammar, mark, behind_brace, expect, expect_keyword, loop_at, jump}
-use Rattle.moo_grammar.proofs.Leads.{Fact, Leads, Lead, sign_is, gives_lead, refuses_lead, phrase_lead, peek_lead, taken_lead, sign_lead, expect_lead, keyword_taken_lead, keyword_lead, allowed_lead, name_lead, option_lead}
+use Rattle.moo_grammar.proofs.Leads.{Fact, Leads, Lead, sign_is, gives_lead, refuses_lead, forbids_lead, phrase_lead, peek_lead, taken_lead, sign_lead, expect_lead, keyword_taken_lead, keyword_lead, allowed_lead, name_lead, option_lead}
 
 marked : {g : Rules} (i : Bool) {Q : Fact Sort.expr} → (i ≡ true → (r : List Token) → Q r length_mark r) → Lead g Sort.expr (mark i) Q
 marked true m = gives_lead (m refl)
@@ -50,7 +50,7 @@ jump_lead g ls k f {Q = Q} m n o = peek_lead (allowed_lead (may_jump g ls None) 
     (option_lead {f = loop_at g ls} [] {p = λ x. expect sign.Semicolon (give (f (Some x)))} (λ t x at.
     let l = loop_is g ls t x at in
     expect_lead sign.Semicolon (gives_lead (λ r. subst (λ v. Q (token.Keyword k ∷ v ∷ Sign sign.Semicolon ∷ r) (f (Some x)) r) (sym l.1) (n x l.0 r))))
-    (expect_lead sign.Semicolon (gives_lead (λ r. m is r)))))) o
+    (peek_lead forbids_lead (expect_lead sign.Semicolon (gives_lead (λ r. m is r))))))) o
 
 end_lead : {g : Rules} {s : Sort} (k : Keyword) {p : Reading s} {Q : Fact s} → Lead g s p (λ ts e r. Q (token.Keyword k ∷ ts) e r) → Lead g s (expect_keyword k p) Q
 end_lead k m = keyword_lead k m refuses_lead

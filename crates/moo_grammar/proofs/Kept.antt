@@ -6,7 +6,7 @@ use Rattle.moo_program.specs.Target.{is_target}
 use Rattle.moo_grammar.specs.declared.names.Names.{Names}
 use Rattle.moo_grammar.specs.Rules.{Rules, Admits, strict, may_call, may_assign}
 use Rattle.moo_grammar.specs.Grammar.{Sort, Kind, sort}
-use Rattle.moo_grammar.specs.Machine.{Reading, Fails, refuses}
+use Rattle.moo_grammar.specs.Machine.{Reading, Why, by_rule, Fails, forbids}
 use Rattle.moo_grammar.specs.Predictive.{allowed}
 
 or_true : (b t : Bool) → t ≡ true → (b || t) ≡ true
@@ -28,8 +28,8 @@ pub name_may_be_called : (g : Rules) (names : Names) (s : List ℕ) → Admits g
 name_may_be_called g names s a h = a.functions s h
 
 module _ {f : (k : Kind) → Reading (sort k)} {s : Sort} where
-  pub allowed_fails : {b : Bool} {p : Reading s} {ts r : List Token} → b ≡ true → Fails f s p ts r → Fails f s (allowed b p) ts r
+  pub allowed_fails : {w : Why} {b : Bool} {p : Reading s} {ts r : List Token} → b ≡ true → Fails f w s p ts r → Fails f w s (allowed b p) ts r
   allowed_fails is d = rw is d
 
-  pub refused_fails : {b : Bool} (p : Reading s) {ts : List Token} → b ≡ false → Fails f s (allowed b p) ts ts
-  refused_fails p is = rw is refuses
+  pub refused_fails : {b : Bool} (p : Reading s) {ts : List Token} → b ≡ false → Fails f by_rule s (allowed b p) ts ts
+  refused_fails p is = rw is forbids

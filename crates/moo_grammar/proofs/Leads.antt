@@ -10,7 +10,7 @@ use Rattle.moo_token.specs.declared.token.Token.TheVariants as token
 use Rattle.moo_grammar.specs.Rules.{Rules}
 use Rattle.moo_grammar.specs.Tokens.{is_sign, is_keyword, name_at}
 use Rattle.moo_grammar.specs.Grammar.{Sort, Of, Kind, Derives, sort}
-use Rattle.moo_grammar.specs.Machine.{Reading, give, refuse, take, peek, phrase, next_passes}
+use Rattle.moo_grammar.specs.Machine.{Reading, give, refuse, forbid, take, peek, phrase, next_passes}
 use Rattle.moo_grammar.specs.Predictive.{allowed, if_sign, expect, if_keyword, if_name}
 
 -- a fact of tokens, a tree of them, and the tokens that are left
@@ -21,6 +21,7 @@ Fact s = List Token → Of s → List Token → Type 0
 abbrev pub Leads : Rules → (s : Sort) → Reading s → Fact s → Type 0
 Leads g s (give e) Q = (r : List Token) → Q r e r
 Leads g s refuse Q = Unit {0}
+Leads g s forbid Q = Unit {0}
 Leads g s (take p) Q = (x : Token) → Leads g s (p x) (λ ts e r. Q (x ∷ ts) e r)
 Leads g s (peek f p q) Q = Leads g s p (λ ts e r. next_passes f ts ≡ true → Q ts e r) × Leads g s q (λ ts e r. next_passes f ts ≡ false → Q ts e r)
 Leads g s (phrase k p) Q = (a : Of (sort k)) → Leads g s (p a) (λ m e r. (ts : List Token) → Derives g k ts a m → Q ts e r)
@@ -28,6 +29,7 @@ Leads g s (phrase k p) Q = (a : Of (sort k)) → Leads g s (p a) (λ m e r. (ts 
 pub leads_to_more : (g : Rules) (s : Sort) (p : Reading s) (Q R : Fact s) → ((ts : List Token) (e : Of s) (r : List Token) → Q ts e r → R ts e r) → Leads g s p Q → Leads g s p R
 leads_to_more g s (give e) Q R h m = λ r. h r e r (m r)
 leads_to_more g s refuse Q R h m = tt
+leads_to_more g s forbid Q R h m = tt
 leads_to_more g s (take p) Q R h m = λ x. leads_to_more g s (p x) _ _ (λ ts e r. h (x ∷ ts) e r) (m x)
 leads_to_more g s (peek f p q) Q R h m = (leads_to_more g s p _ _ (λ ts e r n y. h ts e r (n y)) m.0, leads_to_more g s q _ _ (λ ts e r n y. h ts e r (n y)) m.1)
 leads_to_more g s (phrase k p) Q R h m = λ a. leads_to_more g s (p a) _ _ (λ ts e r n us d. h us e r (n us d)) (m a)
@@ -35,6 +37,7 @@ leads_to_more g s (phrase k p) Q R h m = λ a. leads_to_more g s (p a) _ _ (λ t
 pub leads_to_all : (g : Rules) (s : Sort) (p : Reading s) (Q : Fact s) → ((ts : List Token) (e : Of s) (r : List Token) → Q ts e r) → Leads g s p Q
 leads_to_all g s (give e) Q h = λ r. h r e r
 leads_to_all g s refuse Q h = tt
+leads_to_all g s forbid Q h = tt
 leads_to_all g s (take p) Q h = λ x. leads_to_all g s (p x) _ (λ ts e r. h (x ∷ ts) e r)
 leads_to_all g s (peek f p q) Q h = (leads_to_all g s p _ (λ ts e r y. h ts e r), leads_to_all g s q _ (λ ts e r y. h ts e r))
 leads_to_all g s (phrase k p) Q h = λ a. leads_to_all g s (p a) _ (λ ts e r us d. h us e r)
@@ -46,7 +49,7 @@ pub sign_is : (m : Sign) (x : Token) → is_sign m x ≡ true → x ≡ token.Si
 sign_is m (token.Sign n) h = let e = same_true sign_type.the_type tt n m h in subst (λ v. token.Sign n ≡ token.Sign v) e refl
 sign_is m _ h = absurd cc
 
-keyword_is : (k : Keyword) (x : Token) → is_keyword k x ≡ true → x ≡ token.Keyword k
+pub keyword_is : (k : Keyword) (x : Token) → is_keyword k x ≡ true → x ≡ token.Keyword k
 keyword_is k (token.Keyword n) h = let e = same_true keyword_type.the_type tt n k h in subst (λ v. token.Keyword n ≡ token.Keyword v) e refl
 keyword_is k _ h = absurd cc
 
@@ -56,6 +59,9 @@ module _ {g : Rules} {s : Sort} where
 
   pub refuses_lead : {Q : Fact s} → Lead g s refuse Q
   refuses_lead = record { lead = tt }
+
+  pub forbids_lead : {Q : Fact s} → Lead g s forbid Q
+  forbids_lead = record { lead = tt }
 
   pub phrase_lead : {k : Kind} {p : Of (sort k) → Reading s} {Q : Fact s} → ((a : Of (sort k)) → Lead g s (p a) (λ m e r. (ts : List Token) → Derives g k ts a m → Q ts e r)) → Lead g s (phrase k p) Q
   phrase_lead m = record { lead = λ a. (m a).lead }
@@ -80,7 +86,7 @@ module _ {g : Rules} {s : Sort} where
 
   pub allowed_lead : (b : Bool) {p : Reading s} {Q : Fact s} → (b ≡ true → Lead g s p Q) → Lead g s (allowed b p) Q
   allowed_lead true m = m refl
-  allowed_lead false m = refuses_lead
+  allowed_lead false m = forbids_lead
 
   name_taken : (p : List ℕ → Reading s) (Q : Fact s) → ((n : List ℕ) → Lead g s (p n) (λ ts e r. Q (token.Name n ∷ ts) e r)) → (x : Token) → Leads g s (p (unwrap_or (name_at x) [])) (λ ts e r. next_passes (λ x. is_some (name_at x)) (x ∷ ts) ≡ true → Q (x ∷ ts) e r)
   name_taken p Q m (token.Name n) = leads_to_more g s (p n) _ _ (λ ts e r w y. w) (m n).lead

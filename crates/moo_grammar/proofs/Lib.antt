@@ -9,3 +9,5 @@ pub mod Kept
 pub mod Unique
 pub mod Heights
 pub mod Depths
+pub mod Endings
+pub mod Begun

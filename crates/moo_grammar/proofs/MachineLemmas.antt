@@ -2,7 +2,7 @@
 use Rattle.std.proofs.Common.{◌≤◌, List, [], ◌∷◌, ◌≡◌, refl, sym, ◌∙◌, subst, Bool, length, arith}
 use Rattle.moo_token.specs.declared.token.Token.{Token}
 use Rattle.moo_grammar.specs.Grammar.{Sort, Of, Kind, sort}
-use Rattle.moo_grammar.specs.Machine.{Reading, next_passes, Reads, gives, takes, sees, misses, reads, Fails, refuses, takes_fails, sees_fails, misses_fails, phrase_fails, then_fails}
+use Rattle.moo_grammar.specs.Machine.{Reading, next_passes, Reads, gives, takes, sees, misses, reads, Why, Fails, refuses, forbids, takes_fails, sees_fails, misses_fails, phrase_fails, then_fails}
 use Rattle.moo_grammar.specs.Agree.{Agree, at_end, here, next}
 
 -- r is an end of ts
@@ -41,8 +41,9 @@ module _ (grammar : (k : Kind) → Reading (sort k)) where
   reads_end (misses h d) = reads_end d
   reads_end (reads c d) = end_of_end (reads_end d) (reads_end c)
 
-  pub fails_end : {s : Sort} {p : Reading s} {ts r : List Token} → Fails grammar s p ts r → IsEnd r ts
+  pub fails_end : {w : Why} {s : Sort} {p : Reading s} {ts r : List Token} → Fails grammar w s p ts r → IsEnd r ts
   fails_end refuses = whole
+  fails_end forbids = whole
   fails_end (takes_fails d) = behind (fails_end d)
   fails_end (sees_fails h d) = fails_end d
   fails_end (misses_fails h d) = fails_end d
@@ -74,8 +75,9 @@ module _ (grammar : (k : Kind) → Reading (sort k)) where
       (v.0, reads t.1 v.1, v.2)
 
   -- a reading that gives up does so on all tokens that agree up to the place
-  pub fails_again : {s : Sort} {p : Reading s} {at ts us r : List Token} {e : Of s} → Fails grammar s p ts at → Agree at ts us → Reads grammar s p us e r → ⊥
+  pub fails_again : {w : Why} {s : Sort} {p : Reading s} {at ts us r : List Token} {e : Of s} → Fails grammar w s p ts at → Agree at ts us → Reads grammar s p us e r → ⊥
   fails_again refuses a d = elim d [ ]
+  fails_again forbids a d = elim d [ ]
   fails_again (takes_fails c) (next a) (takes d) = fails_again c a d
   fails_again (takes_fails c) here (takes d) = absurd (omega (arith, end_length (fails_end c)))
   fails_again (sees_fails h c) a (sees i d) = fails_again c a d
@@ -87,3 +89,14 @@ module _ (grammar : (k : Kind) → Reading (sort k)) where
       let t = reads_again b (fails_end c) a in
       let o = reads_once t.1 y in
       fails_again c t.2 (subst (λ v. Reads grammar s (p x) v e r) (sym o.1) (subst (λ v. Reads grammar s (p v) n e r) (sym o.0) z))
+
+  -- the same tree before any rest that agrees with the one that was left
+  pub reads_before : {s : Sort} {p : Reading s} {at ts r u : List Token} {e : Of s} → Reads grammar s p ts e r → Agree at r u → (us : List Token) × Reads grammar s p us e u × Agree at ts us
+  reads_before gives a = (_, gives, a)
+  reads_before (takes {x = x} d) a = let t = reads_before d a in (x ∷ t.0, takes t.1, next t.2)
+  reads_before (sees h d) a = let t = reads_before d a in (t.0, sees (sym (agree_next _ t.2) ∙ h) t.1, t.2)
+  reads_before (misses h d) a = let t = reads_before d a in (t.0, misses (sym (agree_next _ t.2) ∙ h) t.1, t.2)
+  reads_before (reads c d) a =
+      let t = reads_before d a in
+      let v = reads_before c t.2 in
+      (v.0, reads v.1 t.1, v.2)

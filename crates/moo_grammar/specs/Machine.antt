@@ -8,11 +8,18 @@ pub data Reading : Sort → Type 0 where
   give : {s : Sort} → Of s → Reading s
   -- no token can stand here
   refuse : {s : Sort} → Reading s
+  -- the token that comes next could stand here, but for a rule
+  forbid : {s : Sort} → Reading s
   -- takes the next token
   take : {s : Sort} → (Token → Reading s) → Reading s
   -- goes on by whether the next token passes the test
   peek : {s : Sort} → (Token → Bool) → Reading s → Reading s → Reading s
   phrase : {s : Sort} → (k : Kind) → (Of (sort k) → Reading s) → Reading s
+
+-- why a reading gives up: no token can stand there, or a rule is not kept
+pub data Why : Type 0 where
+  by_form : Why
+  by_rule : Why
 
 abbrev pub next_passes : (Token → Bool) → List Token → Bool
 next_passes f [] = false
@@ -28,10 +35,11 @@ module _ (grammar : (k : Kind) → Reading (sort k)) where
     reads : {s : Sort} {k : Kind} {p : Of (sort k) → Reading s} {ts m r : List Token} {a : Of (sort k)} {e : Of s} → Reads (sort k) (grammar k) ts a m → Reads s (p a) m e r → Reads s (phrase k p) ts e r
 
   -- the reading gives up where r is left
-  pub data Fails : (s : Sort) → Reading s → List Token → List Token → Type 0 where
-    refuses : {s : Sort} {r : List Token} → Fails s (refuse {s = s}) r r
-    takes_fails : {s : Sort} {p : Token → Reading s} {x : Token} {ts r : List Token} → Fails s (p x) ts r → Fails s (take p) (x ∷ ts) r
-    sees_fails : {s : Sort} {f : Token → Bool} {p q : Reading s} {ts r : List Token} → next_passes f ts ≡ true → Fails s p ts r → Fails s (peek f p q) ts r
-    misses_fails : {s : Sort} {f : Token → Bool} {p q : Reading s} {ts r : List Token} → next_passes f ts ≡ false → Fails s q ts r → Fails s (peek f p q) ts r
-    phrase_fails : {s : Sort} {k : Kind} {p : Of (sort k) → Reading s} {ts r : List Token} → Fails (sort k) (grammar k) ts r → Fails s (phrase k p) ts r
-    then_fails : {s : Sort} {k : Kind} {p : Of (sort k) → Reading s} {ts m r : List Token} {a : Of (sort k)} → Reads (sort k) (grammar k) ts a m → Fails s (p a) m r → Fails s (phrase k p) ts r
+  pub data Fails : Why → (s : Sort) → Reading s → List Token → List Token → Type 0 where
+    refuses : {s : Sort} {r : List Token} → Fails by_form s (refuse {s = s}) r r
+    forbids : {s : Sort} {r : List Token} → Fails by_rule s (forbid {s = s}) r r
+    takes_fails : {w : Why} {s : Sort} {p : Token → Reading s} {x : Token} {ts r : List Token} → Fails w s (p x) ts r → Fails w s (take p) (x ∷ ts) r
+    sees_fails : {w : Why} {s : Sort} {f : Token → Bool} {p q : Reading s} {ts r : List Token} → next_passes f ts ≡ true → Fails w s p ts r → Fails w s (peek f p q) ts r
+    misses_fails : {w : Why} {s : Sort} {f : Token → Bool} {p q : Reading s} {ts r : List Token} → next_passes f ts ≡ false → Fails w s q ts r → Fails w s (peek f p q) ts r
+    phrase_fails : {w : Why} {s : Sort} {k : Kind} {p : Of (sort k) → Reading s} {ts r : List Token} → Fails w (sort k) (grammar k) ts r → Fails w s (phrase k p) ts r
+    then_fails : {w : Why} {s : Sort} {k : Kind} {p : Of (sort k) → Reading s} {ts m r : List Token} {a : Of (sort k)} → Reads (sort k) (grammar k) ts a m → Fails w s (p a) m r → Fails w s (phrase k p) ts r

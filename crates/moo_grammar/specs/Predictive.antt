@@ -19,7 +19,7 @@ use Rattle.moo_grammar.specs.declared.level.Operator.TheVariants as operator
 use Rattle.moo_grammar.specs.Tokens.{is_sign, is_keyword, operator_at, literal_at, name_at, is_closer, begins_statement}
 use Rattle.moo_grammar.specs.Grammar.{Sort, Kind, expression, conditional, chain, more, operand, power, unary, postfix, suffixes, primary, arguments, members, codes, statement, statements, arms, handlers, label, in_parens, sort, negated, joined, text, system_object, has_optional}
 use Rattle.moo_grammar.specs.Rules.{Rules, may_assign, may_jump}
-use Rattle.moo_grammar.specs.Machine.{Reading, give, refuse, take, peek, phrase}
+use Rattle.moo_grammar.specs.Machine.{Reading, give, refuse, forbid, take, peek, phrase}
 
 -- takes the next token where it passes the test
 abbrev pub test : {s : Sort} → (Token → Bool) → (Token → Reading s) → Reading s → Reading s
@@ -53,7 +53,7 @@ if_operator l p q = test (λ x. is_some (operator_at l x)) (λ x. p (unwrap_or (
 -- goes on where a rule is kept
 abbrev pub allowed : {s : Sort} → Bool → Reading s → Reading s
 allowed true p = p
-allowed false p = refuse
+allowed false p = forbid
 
 -- behind the comma of a member, or at the end of the members
 abbrev pub after_member : Bool → Bool → (Items → Items) → Reading Sort.items
@@ -120,9 +120,9 @@ abbrev pub loop_at : Rules → List (Option (List ℕ)) → Token → Option (Li
 loop_at g ls (token.Name x) = if may_jump g ls (Some x) then Some x else None
 loop_at g ls _ = None
 
--- the end of a jump, perhaps with a name before it
+-- the end of a jump, perhaps with a name before it: no other than that of a loop
 abbrev pub behind_jump : Rules → List (Option (List ℕ)) → (Option (List ℕ) → Stmt) → Reading Sort.stmt
-behind_jump g ls f = test (λ x. is_some (loop_at g ls x)) (λ x. expect Semicolon (give (f (Some (unwrap_or (loop_at g ls x) []))))) (expect Semicolon (give (f None)))
+behind_jump g ls f = test (λ x. is_some (loop_at g ls x)) (λ x. expect Semicolon (give (f (Some (unwrap_or (loop_at g ls x) []))))) (peek (λ x. is_some (name_at x)) forbid (expect Semicolon (give (f None))))
 
 abbrev pub jump : Rules → List (Option (List ℕ)) → Keyword → (Option (List ℕ) → Stmt) → Reading Sort.stmt → Reading Sort.stmt
 jump g ls k f q = peek (is_keyword k) (allowed (may_jump g ls None) (take λ _. behind_jump g ls f)) q

@@ -8,7 +8,7 @@ use Rattle.moo_grammar.specs.declared.level.Level.TheVariants.{Logic, Relation, 
 use Rattle.moo_grammar.specs.Tokens.{is_bad, name_at}
 use Rattle.moo_grammar.specs.Rules.{Rules, may_assign, may_jump}
 use Rattle.moo_grammar.specs.Grammar.{Sort, Of, Kind, expression, conditional, chain, more, operand, power, unary, postfix, suffixes, primary, arguments, members, codes, statement, statements, arms, handlers, label, in_parens, sort, has_optional}
-use Rattle.moo_grammar.specs.Machine.{Reading, give, refuse, take, peek, phrase, Reads, gives, takes, sees, misses, reads, Fails, refuses, takes_fails, sees_fails, misses_fails, phrase_fails, then_fails, next_passes}
+use Rattle.moo_grammar.specs.Machine.{Reading, give, refuse, forbid, take, peek, phrase, Reads, gives, takes, sees, misses, reads, Why, Fails, refuses, forbids, takes_fails, sees_fails, misses_fails, phrase_fails, then_fails, next_passes}
 use Rattle.moo_grammar.specs.Predictive.{grammar, expect, allowed, if_optional, behind_brace, behind_jump, mark}
 use Rattle.moo_syntax.specs.Programs.{AreSound}
 use Rattle.moo_syntax.specs.Stops.{Passes, none, one}
@@ -17,6 +17,7 @@ use Rattle.moo_syntax.specs.Stops.{Passes, none, one}
 abbrev TakesSound : (s : Sort) → Bool → Reading s → Type 0
 TakesSound s known (give e) = Unit {0}
 TakesSound s known refuse = Unit {0}
+TakesSound s known forbid = Unit {0}
 TakesSound s known (take p) = (known ≡ true) × ((x : Token) → TakesSound s false (p x))
 TakesSound s known (peek f p q) = TakesSound s (known || not (f token.Bad)) p × TakesSound s known q
 TakesSound s known (phrase k p) = (a : Of (sort k)) → TakesSound s false (p a)
@@ -92,9 +93,9 @@ all_take g (statement ls) = (
     (
       (refl, λ x l a b. ((refl, λ x. tt), tt)),
       (
-        allowed_takes (may_jump g ls None) true (take λ _. behind_jump g ls breaks) (refl, λ x. ((refl, λ x. ((refl, λ x. tt), tt)), ((refl, λ x. tt), tt))),
+        allowed_takes (may_jump g ls None) true (take λ _. behind_jump g ls breaks) (refl, λ x. ((refl, λ x. ((refl, λ x. tt), tt)), (tt, ((refl, λ x. tt), tt)))),
         (
-          allowed_takes (may_jump g ls None) true (take λ _. behind_jump g ls continues) (refl, λ x. ((refl, λ x. ((refl, λ x. tt), tt)), ((refl, λ x. tt), tt))),
+          allowed_takes (may_jump g ls None) true (take λ _. behind_jump g ls continues) (refl, λ x. ((refl, λ x. ((refl, λ x. tt), tt)), (tt, ((refl, λ x. tt), tt)))),
           (
             (refl, λ x. ((refl, λ x. tt), λ a. ((refl, λ x. tt), tt))),
             ((refl, λ x b. ((refl, λ x c. ((refl, λ x. tt), tt)), λ h. ((refl, λ x. tt), tt))), λ a. ((refl, λ x. tt), tt)),
@@ -141,8 +142,9 @@ reads_pass g (sees {f = f} {ts = us} s d) known t h = reads_pass g d (known || n
 reads_pass g (misses s d) known t h = reads_pass g d known t.1 h
 reads_pass g (reads {k = k} {ts = us} {m = m} {a = a} c d) known t h = passes_on (reads_pass g c false (all_take g k) (unknown us)) (reads_pass g d false (t a) (unknown m))
 
-pub fails_pass : (g : Rules) {s : Sort} {p : Reading s} {ts r : List Token} → Fails (grammar g) s p ts r → (known : Bool) → TakesSound s known p → Known known ts → Passes ts r
+pub fails_pass : (g : Rules) {w : Why} {s : Sort} {p : Reading s} {ts r : List Token} → Fails (grammar g) w s p ts r → (known : Bool) → TakesSound s known p → Known known ts → Passes ts r
 fails_pass g refuses known t h = none
+fails_pass g forbids known t h = none
 fails_pass g (takes_fails {x = x} {ts = us} d) known t h = one (h t.0) (fails_pass g d false (t.1 x) (unknown us))
 fails_pass g (sees_fails {f = f} {ts = us} s d) known t h = fails_pass g d (known || not (f token.Bad)) t.0 (seen_sound known f us h s)
 fails_pass g (misses_fails s d) known t h = fails_pass g d known t.1 h
@@ -152,7 +154,7 @@ fails_pass g (then_fails {k = k} {ts = us} {m = m} {a = a} c d) known t h = pass
 pub program_passes : (g : Rules) {ts r : List Token} {b : Of Sort.block} → Reads (grammar g) Sort.block (grammar g (statements [])) ts b r → Passes ts r
 program_passes g {ts} d = reads_pass g d false (all_take g (statements [])) (unknown ts)
 
-pub failure_passes : (g : Rules) {ts r : List Token} → Fails (grammar g) Sort.block (grammar g (statements [])) ts r → Passes ts r
+pub failure_passes : (g : Rules) {w : Why} {ts r : List Token} → Fails (grammar g) w Sort.block (grammar g (statements [])) ts r → Passes ts r
 failure_passes g {ts} d = fails_pass g d false (all_take g (statements [])) (unknown ts)
 
 passes_shorten : {ts r : List Token} → Passes ts r → length r ≤ length ts

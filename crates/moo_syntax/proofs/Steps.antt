@@ -15,7 +15,7 @@ use Rattle.moo_grammar.specs.Minuses.{minuses, negations}
 use Rattle.moo_grammar.specs.Depth.{Deep}
 use Rattle.moo_grammar.specs.Tokens.{is_sign}
 use Rattle.moo_grammar.specs.Grammar.{Sort, Of, Kind, unary, members, sort}
-use Rattle.moo_grammar.specs.Machine.{Reading, refuse, peek, take, phrase, Reads, gives, takes, sees, misses, reads, Fails, refuses, takes_fails, sees_fails, misses_fails, phrase_fails, next_passes}
+use Rattle.moo_grammar.specs.Machine.{Reading, refuse, peek, take, phrase, Reads, gives, takes, sees, misses, reads, Why, by_form, Fails, refuses, takes_fails, sees_fails, misses_fails, phrase_fails, next_passes}
 use Rattle.moo_grammar.specs.Predictive.{grammar, allowed, after_member, if_optional, behind_brace}
 use Rattle.moo_grammar.specs.Size.{size}
 use Rattle.moo_grammar.proofs.Complete.{allowed_reads}
@@ -36,21 +36,21 @@ module _ {y : (k : Kind) → Reading (sort k)} {s : Sort} where
   pub reads_from : {p : Reading s} {ts us r : List Token} {e : Of s} → ts ≡ us → Reads y s p us e r → Reads y s p ts e r
   reads_from {p} {r = r} {e = e} is d = subst (λ v. Reads y s p v e r) (sym is) d
 
-  pub fails_from : {p : Reading s} {ts us r : List Token} → ts ≡ us → Fails y s p us r → Fails y s p ts r
-  fails_from {p} {r = r} is d = subst (λ v. Fails y s p v r) (sym is) d
+  pub fails_from : {w : Why} {p : Reading s} {ts us r : List Token} → ts ≡ us → Fails y w s p us r → Fails y w s p ts r
+  fails_from {w} {p} {r = r} is d = subst (λ v. Fails y w s p v r) (sym is) d
 
 module _ {y : (k : Kind) → Reading (sort k)} {s : Sort} {old new : Cursor} where
   pub took : {x : Token} {f : Token → Bool} {p : Token → Reading s} {q : Reading s} {e : Of s} {r : List Token} → Takes x old new → f x ≡ true → Reads y s (p x) (left new) e r → Reads y s (peek f (take p) q) (left old) e r
   took {f} {p} {q} {e} {r} t h d = subst (λ v. Reads y s (peek f (take p) q) v e r) (sym t.token) (sees h (takes d))
 
-  pub took_fails : {x : Token} {f : Token → Bool} {p : Token → Reading s} {q : Reading s} {r : List Token} → Takes x old new → f x ≡ true → Fails y s (p x) (left new) r → Fails y s (peek f (take p) q) (left old) r
-  took_fails {f} {p} {q} {r} t h d = subst (λ v. Fails y s (peek f (take p) q) v r) (sym t.token) (sees_fails h (takes_fails d))
+  pub took_fails : {w : Why} {x : Token} {f : Token → Bool} {p : Token → Reading s} {q : Reading s} {r : List Token} → Takes x old new → f x ≡ true → Fails y w s (p x) (left new) r → Fails y w s (peek f (take p) q) (left old) r
+  took_fails {w} {f} {p} {q} {r} t h d = subst (λ v. Fails y w s (peek f (take p) q) v r) (sym t.token) (sees_fails h (takes_fails d))
 
   pub stayed : {f : Token → Bool} {p q : Reading s} {e : Of s} {r : List Token} → Stays f old new → Reads y s q (left new) e r → Reads y s (peek f p q) (left old) e r
   stayed {q} {e} {r} t d = misses t.other (subst (λ v. Reads y s q v e r) t.rest d)
 
-  pub stayed_fails : {f : Token → Bool} {p q : Reading s} {r : List Token} → Stays f old new → Fails y s q (left new) r → Fails y s (peek f p q) (left old) r
-  stayed_fails {q} {r} t d = misses_fails t.other (subst (λ v. Fails y s q v r) t.rest d)
+  pub stayed_fails : {w : Why} {f : Token → Bool} {p q : Reading s} {r : List Token} → Stays f old new → Fails y w s q (left new) r → Fails y w s (peek f p q) (left old) r
+  stayed_fails {w} {q} {r} t d = misses_fails t.other (subst (λ v. Fails y w s q v r) t.rest d)
 
 module _ {g : Rules} {s : Sort} {n : ℕ} {old new : Cursor} where
   pub took_deep : {x : Token} {f : Token → Bool} {p : Token → Reading s} {q : Reading s} → Takes x old new → f x ≡ true → Deep g s n (p x) (left new) → Deep g s n (peek f (take p) q) (left old)
@@ -77,7 +77,7 @@ passed P is same h = subst (λ v. IfErr v P) (sym is) (subst P (sym same) h)
 
 module _ {names : Names} {s : Sort} {p : Rules → Reading s} {room before : ℕ} {old new : Cursor} where
   -- no grammar goes on with the next token
-  pub refused : {f : Fault} → f ≡ Unexpected → ((g : Rules) → Admits g (strict names) → Fails (grammar g) s (p g) (left old) (left new)) → HasFailedBy names s p room before old new f
+  pub refused : {f : Fault} → f ≡ Unexpected → ((g : Rules) → Admits g (strict names) → Fails (grammar g) by_form s (p g) (left old) (left new)) → HasFailedBy names s p room before old new f
   refused is d = subst (λ v. HasFailedBy names s p room before old new v) (sym is) (record {
     fails = d;
     stands = tt;
@@ -160,7 +160,7 @@ unfolding grammar
 minuses_read g i zero d = d
 minuses_read g i (suc n) d = misses refl (sees refl (takes (reads (minuses_read g i n d) gives)))
 
-pub minuses_fail : (g : Rules) (i : Bool) (n : ℕ) {ts r : List Token} → Fails (grammar g) Sort.expr (grammar g (unary i)) ts r → Fails (grammar g) Sort.expr (grammar g (unary i)) (minuses n ts) r
+pub minuses_fail : {w : Why} (g : Rules) (i : Bool) (n : ℕ) {ts r : List Token} → Fails (grammar g) w Sort.expr (grammar g (unary i)) ts r → Fails (grammar g) w Sort.expr (grammar g (unary i)) (minuses n ts) r
 unfolding grammar
 minuses_fail g i zero d = d
 minuses_fail g i (suc n) d = misses_fails refl (sees_fails refl (takes_fails (phrase_fails (minuses_fail g i n d))))
@@ -184,7 +184,7 @@ module _ {y : (k : Kind) → Reading (sort k)} {old new : Cursor} where
   asked true p q t d = took t.1 refl d
   asked false p q t d = let e = t.0 in absurd cc
 
-  pub asked_fails : (o : Bool) (p q : Reading Sort.items) {r : List Token} → (o ≡ true) × Takes (Sign Question) old new → Fails y Sort.items p (left new) r → Fails y Sort.items (if_optional o p q) (left old) r
+  pub asked_fails : {w : Why} (o : Bool) (p q : Reading Sort.items) {r : List Token} → (o ≡ true) × Takes (Sign Question) old new → Fails y w Sort.items p (left new) r → Fails y w Sort.items (if_optional o p q) (left old) r
   asked_fails true p q t d = took_fails t.1 refl d
   asked_fails false p q t d = let e = t.0 in absurd cc
 
@@ -193,9 +193,9 @@ module _ {y : (k : Kind) → Reading (sort k)} {old new : Cursor} where
   unasked true p q {e} {r} t d = misses (t.other refl) (subst (λ v. Reads y Sort.items q v e r) t.rest d)
   unasked false p q {e} {r} t d = subst (λ v. Reads y Sort.items q v e r) t.rest d
 
-  pub unasked_fails : (o : Bool) (p q : Reading Sort.items) {r : List Token} → StaysUnless o (is_sign Question) old new → Fails y Sort.items q (left new) r → Fails y Sort.items (if_optional o p q) (left old) r
-  unasked_fails true p q {r} t d = misses_fails (t.other refl) (subst (λ v. Fails y Sort.items q v r) t.rest d)
-  unasked_fails false p q {r} t d = subst (λ v. Fails y Sort.items q v r) t.rest d
+  pub unasked_fails : {w : Why} (o : Bool) (p q : Reading Sort.items) {r : List Token} → StaysUnless o (is_sign Question) old new → Fails y w Sort.items q (left new) r → Fails y w Sort.items (if_optional o p q) (left old) r
+  unasked_fails {w} true p q {r} t d = misses_fails (t.other refl) (subst (λ v. Fails y w Sort.items q v r) t.rest d)
+  unasked_fails {w} false p q {r} t d = subst (λ v. Fails y w Sort.items q v r) t.rest d
 
 module _ {g : Rules} {n : ℕ} {old new : Cursor} where
   pub asked_deep : (o : Bool) (p q : Reading Sort.items) → (o ≡ true) × Takes (Sign Question) old new → Deep g Sort.items n p (left new) → Deep g Sort.items n (if_optional o p q) (left old)
@@ -211,8 +211,8 @@ module _ {y : (k : Kind) → Reading (sort k)} {s : Sort} {old new : Cursor} whe
   pub admitted : (p : Token → Reading s) {x : Token} {f : Token → Bool} {b : Bool} {q : Reading s} {e : Of s} {r : List Token} → Takes x old new → f x ≡ true → b ≡ true → Reads y s (p x) (left new) e r → Reads y s (peek f (allowed b (take p)) q) (left old) e r
   admitted p {f} {b} {q} {e} {r} t h i d = subst (λ v. Reads y s (peek f (allowed b (take p)) q) v e r) (sym t.token) (sees h (allowed_reads i (takes d)))
 
-  pub admitted_fails : (p : Token → Reading s) {x : Token} {f : Token → Bool} {b : Bool} {q : Reading s} {r : List Token} → Takes x old new → f x ≡ true → b ≡ true → Fails y s (p x) (left new) r → Fails y s (peek f (allowed b (take p)) q) (left old) r
-  admitted_fails p {f} {b} {q} {r} t h i d = subst (λ v. Fails y s (peek f (allowed b (take p)) q) v r) (sym t.token) (sees_fails h (allowed_fails i (takes_fails d)))
+  pub admitted_fails : {w : Why} (p : Token → Reading s) {x : Token} {f : Token → Bool} {b : Bool} {q : Reading s} {r : List Token} → Takes x old new → f x ≡ true → b ≡ true → Fails y w s (p x) (left new) r → Fails y w s (peek f (allowed b (take p)) q) (left old) r
+  admitted_fails {w} p {f} {b} {q} {r} t h i d = subst (λ v. Fails y w s (peek f (allowed b (take p)) q) v r) (sym t.token) (sees_fails h (allowed_fails i (takes_fails d)))
 
 allowed_same : {s : Sort} {f : Token → Bool} {b : Bool} (p q : Reading s) → b ≡ true → peek f (allowed b p) q ≡ peek f p q
 allowed_same p q is = rw is refl
@@ -232,7 +232,7 @@ pub brace_ends : {y : (k : Kind) → Reading (sort k)} (b : Bool) {e : Expr} {ts
 brace_ends true h = sees (h refl) gives
 brace_ends false h = gives
 
-pub brace_fails : {y : (k : Kind) → Reading (sort k)} (b : Bool) (e : Expr) {ts : List Token} → b ≡ true → next_passes (is_sign Assign) ts ≡ false → Fails y Sort.expr (behind_brace b e) ts ts
+pub brace_fails : {y : (k : Kind) → Reading (sort k)} (b : Bool) (e : Expr) {ts : List Token} → b ≡ true → next_passes (is_sign Assign) ts ≡ false → Fails y by_form Sort.expr (behind_brace b e) ts ts
 brace_fails true e is h = misses_fails h refuses
 brace_fails false e is h = absurd cc
 
@@ -251,8 +251,8 @@ expect_deep keeps ts = record { too_high = λ e r d. expected keeps d }
 pub piece_reads : {y : (k : Kind) → Reading (sort k)} {i o : Bool} {f : Items → Items} {ts r : List Token} {e : Items} → o ≡ true → Reads y Sort.items (after_member i o f) ts e r → Reads y Sort.items (after_member i true f) ts e r
 piece_reads {y} {i} {f = f} {ts} {r} {e} is d = subst (λ v. Reads y Sort.items (after_member i v f) ts e r) is d
 
-pub piece_fails : {y : (k : Kind) → Reading (sort k)} {i o : Bool} {f : Items → Items} {ts r : List Token} → o ≡ true → Fails y Sort.items (after_member i o f) ts r → Fails y Sort.items (after_member i true f) ts r
-piece_fails {y} {i} {f = f} {ts} {r} is d = subst (λ v. Fails y Sort.items (after_member i v f) ts r) is d
+pub piece_fails : {w : Why} {y : (k : Kind) → Reading (sort k)} {i o : Bool} {f : Items → Items} {ts r : List Token} → o ≡ true → Fails y w Sort.items (after_member i o f) ts r → Fails y w Sort.items (after_member i true f) ts r
+piece_fails {w} {y} {i} {f = f} {ts} {r} is d = subst (λ v. Fails y w Sort.items (after_member i v f) ts r) is d
 
 pub piece_deep : {g : Rules} {n : ℕ} {i o : Bool} {f : Items → Items} {ts : List Token} → o ≡ true → Deep g Sort.items n (after_member i o f) ts → Deep g Sort.items n (after_member i true f) ts
 piece_deep {g} {n} {i} {f = f} {ts} is d = subst (λ v. Deep g Sort.items n (after_member i v f) ts) is d
@@ -266,7 +266,7 @@ pub not_called : {a b : Bool} → (a ≡ true → b ≡ true) → b ≡ false �
 not_called {a} h is = bool_cases a (λ e. let t = h e in absurd cc)
 
 module _ {names : Names} {i : Bool} {room : ℕ} {old new : Cursor} where
-  pub unnamed_refused : {f : Fault} → f ≡ Unexpected → ((k : Expr → Reading Sort.expr) (g : Rules) → Admits g (strict names) → Fails (grammar g) Sort.expr (member_name i k) (left old) (left new)) → IsUnnamed names i room old new f
+  pub unnamed_refused : {f : Fault} → f ≡ Unexpected → ((k : Expr → Reading Sort.expr) (g : Rules) → Admits g (strict names) → Fails (grammar g) by_form Sort.expr (member_name i k) (left old) (left new)) → IsUnnamed names i room old new f
   unnamed_refused is d = subst (λ v. IsUnnamed names i room old new v) (sym is) (record {
     fails = d;
     stands = tt;

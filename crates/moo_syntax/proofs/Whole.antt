@@ -1,5 +1,5 @@
 -- What the outcome of the parser says of whole texts.
-use Rattle.std.proofs.Common.{ℕ, zero, suc, ◌≤◌, ◌<◌, ap, true, List, [], ◌∷◌, ◌++◌, ◌≡◌, refl, sym, subst, length, take, drop, inr, arith, ◌+◌, ◌-◌, ◌∙◌, length-drop, inl, ⊎_elim}
+use Rattle.std.proofs.Common.{ℕ, zero, suc, ◌≤◌, ◌<◌, ap, Bool, true, List, [], ◌∷◌, ◌++◌, ◌≡◌, refl, sym, subst, length, take, drop, inr, arith, ◌+◌, ◌-◌, ◌∙◌, length-drop, inl, ⊎_elim}
 use Rattle.std.proofs.lemmas.List.{take-append-drop, drop_all}
 use Rattle.moo_token.specs.declared.token.Token.{Token}
 use Rattle.moo_token.specs.declared.token.Token.TheVariants as token
@@ -15,26 +15,27 @@ use Rattle.moo_syntax.specs.declared.fault.Fault.{Fault}
 use Rattle.moo_syntax.specs.declared.fault.Fault.TheVariants.{Unexpected, BadTarget, UnknownFunction, BadLoopName, TooDeep, Memory}
 use Rattle.moo_syntax.specs.declared.cursor.Cursor.{Cursor}
 use Rattle.moo_syntax.specs.Cursor.{left}
-use Rattle.moo_syntax.specs.Outcome.{ToldBy, HasFailed}
+use Rattle.moo_syntax.specs.Outcome.{ToldBy, why, HasFailed}
 use Rattle.moo_syntax.specs.Stops.{Passes, StopsBy, ExceedLimits}
 use Rattle.moo_grammar.specs.Tokens.{words, is_sign, is_bad}
-use Rattle.moo_syntax.specs.Programs.{SameUpTo, NoProgram, with_targets, with_functions, with_loops, IsJump, IsCalled, IsBadToken, IsTooDeep, line_of}
+use Rattle.moo_syntax.specs.Programs.{SameUpTo, NoProgram, BeginsProgram, with_targets, with_functions, with_loops, is_jump, IsJump, at_keyword, at_name, IsCalled, IsBadToken, IsTooDeep, line_of}
 use Rattle.moo_syntax.specs.Brackets.{open_behind, most_open_behind, most_open}
 use Rattle.moo_grammar.specs.Depth.{Deep}
 use Rattle.moo_token.specs.declared.sign.Sign.TheVariants as sign
 use Rattle.moo_grammar.specs.Grammar.{IsProgram, IsProgramBy, statements, block}
-use Rattle.moo_grammar.specs.Machine.{Reads, Fails, next_passes}
+use Rattle.moo_grammar.specs.Machine.{Reads, Why, by_rule, Fails, next_passes}
 use Rattle.moo_grammar.specs.Predictive.{grammar}
 use Rattle.moo_grammar.specs.Agree.{Agree, at_end, here, next}
 use Rattle.moo_grammar.proofs.MachineLemmas.{whole, reads_once, reads_again, fails_again}
 use Rattle.moo_grammar.proofs.Complete.{complete}
 use Rattle.moo_grammar.proofs.Unique.{one_program}
+use Rattle.moo_grammar.proofs.Begun.{program_begun}
 use Rattle.moo_grammar.proofs.Admitted.{loose_admits}
 use Rattle.moo_syntax.proofs.TextLengths.{tokens_within}
 use Rattle.moo_syntax.proofs.Passing.{failure_passes}
 
 -- where the reading gives up, no tokens that agree up to the place are a program
-no_program : {g : Rules} {ts at us : List Token} {b : Block} → Fails (grammar g) block (grammar g (statements [])) ts at → Agree at ts us → IsProgramBy g us b → ⊥
+no_program : {g : Rules} {w : Why} {ts at us : List Token} {b : Block} → Fails (grammar g) w block (grammar g (statements [])) ts at → Agree at ts us → IsProgramBy g us b → ⊥
 no_program {g} f a d = fails_again (grammar g) f a (complete d refl)
 
 no_end : {x : Token} {at ts : List Token} → Agree at (x ∷ ts) [] → ⊥
@@ -74,7 +75,7 @@ words_length (x ∷ ss) = ap suc (words_length ss)
 agree_at : (n : ℕ) (ss : List Spot) (us : List Token) → n ≤ length ss → SameUpTo n (words ss) us → Agree (words (drop n ss)) (words ss) us
 agree_at n ss us h e = rw words_drop (agree_of_take n (words ss) us (omega (arith, words_length ss)) e)
 
-refused_at : (g : Rules) (n : ℕ) (ss : List Spot) → n ≤ length ss → Fails (grammar g) block (grammar g (statements [])) (words ss) (words (drop n ss)) → NoProgram g (words ss) n
+refused_at : (g : Rules) {w : Why} (n : ℕ) (ss : List Spot) → n ≤ length ss → Fails (grammar g) w block (grammar g (statements [])) (words ss) (words (drop n ss)) → NoProgram g (words ss) n
 refused_at g n ss h f = (omega (arith, words_length ss), λ us e same d. no_program f (agree_at n ss us h same) d)
 
 next_word : (n : ℕ) (ss : List Spot) → n < length ss → (x : Token) × (r : List Token) × (words (drop n ss) ≡ x ∷ r)
@@ -109,6 +110,46 @@ bad_next lines front (s ∷ ss) r h =
 pub bad_at : (lines : List (List ℕ)) (spots : List Spot) (at : ℕ) → IsReading lines spots → next_passes is_bad (words (drop at spots)) ≡ true → IsBadToken lines (line_of lines (drop at spots))
 bad_at lines spots at r h = bad_next lines (take at spots) (drop at spots) (subst (IsReading lines) (sym (take-append-drop at spots)) r) h
 
+taken_alike : {at ts us : List Token} → Agree at ts us → (n : ℕ) → drop n ts ≡ at → take (suc n) us ≡ take (suc n) ts
+taken_alike at_end n e = refl
+taken_alike here zero e = refl
+taken_alike (here {ts = ts}) (suc n) e = absurd (omega (arith, ap length e, length-drop n ts))
+taken_alike (next a) zero e = refl
+taken_alike (next {x = x} a) (suc n) e = ap (λ v. x ∷ v) (taken_alike a n e)
+
+-- a token stands next
+abbrev HasNext : List Token → Type 0
+HasNext ts = (x : Token) × (r : List Token) × (ts ≡ x ∷ r)
+
+-- where a rule alone stopped the reading, a loose program begins so
+begins_at : (g : Rules) (n : ℕ) (ss : List Spot) → HasNext (words (drop n ss)) → Fails (grammar g) by_rule block (grammar g (statements [])) (words ss) (words (drop n ss)) → BeginsProgram loose (words ss) n
+begins_at g n ss more f =
+    let b = program_begun g (subst (λ v. Fails (grammar g) by_rule block (grammar g (statements [])) (words ss) v) more.2 f) in
+    record { tokens = b.0; tree = b.1; same = taken_alike b.2 n (sym (words_drop n ss) ∙ more.2); program = b.3 }
+
+next_of : (f : Token → Bool) (ts : List Token) → next_passes f ts ≡ true → HasNext ts
+next_of f [] h = absurd cc
+next_of f (x ∷ r) h = (x, r, refl)
+
+drop_next : (n : ℕ) (ts : List Token) {x : Token} {r : List Token} → drop n ts ≡ x ∷ r → drop (suc n) ts ≡ r
+drop_next zero [] e = absurd cc
+drop_next zero (y ∷ ts) e = cc
+drop_next (suc n) [] e = absurd cc
+drop_next (suc n) (y ∷ ts) e = drop_next n ts e
+
+-- what stands behind the first of two tokens
+next_behind : (n : ℕ) (ss : List Spot) {x y : Token} {r : List Token} → words (drop n ss) ≡ x ∷ y ∷ r → HasNext (words (drop (n + 1) ss))
+next_behind n ss {y = y} {r = r} e =
+    let one : n + 1 ≡ suc n = omega arith in
+    (y, r, subst (λ k. words (drop k ss) ≡ y ∷ r) (sym one) (words_drop (suc n) ss ∙ drop_next n (words ss) (sym (words_drop n ss) ∙ e)))
+
+called_next : (spots : List Spot) (at : ℕ) {s : List ℕ} → IsCalled spots at s → HasNext (words (drop at spots))
+called_next spots at c = subst (λ n. HasNext (words (drop n spots))) (sym c.place) (next_behind c.before spots c.called)
+
+jump_next : (spots : List Spot) (at : ℕ) → IsJump spots at → HasNext (words (drop at spots))
+jump_next spots at (at_keyword h) = next_of is_jump (words (drop at spots)) h
+jump_next spots at (at_name before h e) = next_behind before spots e
+
 targets_admit : (names : Names) → Admits with_targets (strict names)
 targets_admit names = record { targets = λ e. refl; functions = λ s e. refl; loops = λ e. absurd cc }
 
@@ -122,10 +163,13 @@ module _ (names : Names) (spots : List Spot) (old new : Cursor) (from : left old
   to : left new ≡ words (drop new.at spots)
   to = ap (λ v. words (drop new.at v)) same
 
+  failed_at : (f : Fault) (g : Rules) → HasFailed names (statements []) most_nodes old new f → ToldBy f names g → Fails (grammar g) (why f) block (grammar g (statements [])) (words spots) (words (drop new.at spots))
+  failed_at f g w b = subst (λ v. Fails (grammar g) (why f) block (grammar g (statements [])) (words spots) v) to (subst (λ v. Fails (grammar g) (why f) block (grammar g (statements [])) v (left new)) from (w.fails g b))
+
   told_at : (f : Fault) (g : Rules) → HasFailed names (statements []) most_nodes old new f → ToldBy f names g → NoProgram g (words spots) new.at
   told_at f g w b =
       let within : new.at ≤ length spots = subst (λ v. new.at ≤ length v) same new.in_range in
-      refused_at g new.at spots within (subst (λ v. Fails (grammar g) block (grammar g (statements [])) (words spots) v) to (subst (λ v. Fails (grammar g) block (grammar g (statements [])) v (left new)) from (w.fails g b)))
+      refused_at g new.at spots within (failed_at f g w b)
 
   -- what the place where the statements' reading stopped says
   pub stop_of : (f : Fault) → old.at ≡ 0 → HasFailed names (statements []) most_nodes old new f → StopsBy names spots new.at f
@@ -136,16 +180,19 @@ module _ (names : Names) (spots : List Spot) (old new : Cursor) (from : left old
   stop_of BadTarget z w = record {
     assigns = subst (λ v. next_passes (is_sign sign.Assign) v ≡ true) to w.stands;
     none = told_at BadTarget with_targets w (targets_admit names, refl);
+    begins = begins_at with_targets new.at spots (next_of (is_sign sign.Assign) _ (subst (λ v. next_passes (is_sign sign.Assign) v ≡ true) to w.stands)) (failed_at BadTarget with_targets w (targets_admit names, refl));
   }
   stop_of UnknownFunction z w = record {
     name = w.stands.0;
     unknown = w.stands.1;
     call = subst (λ v. IsCalled v new.at w.stands.0) same w.stands.2;
     none = told_at UnknownFunction (with_functions names) w (functions_admit names, λ s e. e);
+    begins = begins_at (with_functions names) new.at spots (called_next spots new.at (subst (λ v. IsCalled v new.at w.stands.0) same w.stands.2)) (failed_at UnknownFunction (with_functions names) w (functions_admit names, λ s e. e));
   }
   stop_of BadLoopName z w = record {
     jumps = subst (λ v. IsJump v new.at) same w.stands;
     none = told_at BadLoopName with_loops w (loops_admit names, refl);
+    begins = begins_at with_loops new.at spots (jump_next spots new.at (subst (λ v. IsJump v new.at) same w.stands)) (failed_at BadLoopName with_loops w (loops_admit names, refl));
   }
   stop_of TooDeep z w =
       let within : new.at ≤ length spots = subst (λ v. new.at ≤ length v) same new.in_range in

@@ -16,7 +16,7 @@ use Rattle.moo_program.specs.View.{with_item, statement, with_arm, with_handler}
 use Rattle.moo_grammar.specs.declared.names.Names.{Names}
 use Rattle.moo_grammar.specs.Rules.{Rules, Admits, strict, may_call, has_loop}
 use Rattle.moo_grammar.specs.Grammar.{Sort, Of, Kind, sort, expression, members, statements, handlers, text}
-use Rattle.moo_grammar.specs.Machine.{Reading, give, peek, phrase, Reads, Fails, next_passes}
+use Rattle.moo_grammar.specs.Machine.{Reading, give, peek, phrase, Reads, Why, by_form, by_rule, Fails, next_passes}
 use Rattle.moo_grammar.specs.Predictive.{grammar, if_name, expect, expect_keyword, after_member, behind_question, jump}
 use Rattle.moo_grammar.specs.Items.{item_height}
 use Rattle.moo_grammar.specs.Size.{size}
@@ -57,6 +57,15 @@ ToldBy BadLoopName names g = Admits g (strict names) × (g.loops ≡ true)
 ToldBy TooDeep names g = ⊥
 ToldBy Memory names g = ⊥
 
+-- why a reading gives up that is told by the fault
+abbrev pub why : Fault → Why
+why Unexpected = by_form
+why BadTarget = by_rule
+why UnknownFunction = by_rule
+why BadLoopName = by_rule
+why TooDeep = by_form
+why Memory = by_form
+
 -- what stands where the fault is told
 abbrev pub Stands : Fault → Names → Cursor → Type 0
 Stands Unexpected names c = Unit {0}
@@ -68,7 +77,7 @@ Stands Memory names c = Unit {0}
 
 -- The reading gives up where the cursor is left. It then does so on all tokens that agree with these up to there.
 pub record HasFailedBy (names : Names) (s : Sort) (p : Rules → Reading s) (room before : ℕ) (old new : Cursor) (f : Fault) : Type 0 where
-  pub fails : (g : Rules) → ToldBy f names g → Fails (grammar g) s (p g) (left old) (left new)
+  pub fails : (g : Rules) → ToldBy f names g → Fails (grammar g) (why f) s (p g) (left old) (left new)
   pub stands : Stands f names new
   pub deep : f ≡ TooDeep → Deep (strict names) s room (p (strict names)) (left old)
   pub long : f ≡ TooDeep → old.at + room < new.at + before
@@ -89,13 +98,13 @@ IsBehind x new = (old : Cursor) × Takes x old new
 -- a phrase of kind k at ts is one of kind j at us, with f made of its tree
 pub record GoesOn (names : Names) (k j : Kind) (f : Of (sort j) → Of (sort k)) (ts us : List Token) : Type 0 where
   pub reads : (g : Rules) → Admits g (strict names) → (e : Of (sort j)) (r : List Token) → Reads (grammar g) (sort j) (grammar g j) us e r → Reads (grammar g) (sort k) (grammar g k) ts (f e) r
-  pub fails : (g : Rules) → Admits g (strict names) → (r : List Token) → Fails (grammar g) (sort j) (grammar g j) us r → Fails (grammar g) (sort k) (grammar g k) ts r
+  pub fails : (g : Rules) → Admits g (strict names) → (r : List Token) {w : Why} → Fails (grammar g) w (sort j) (grammar g j) us r → Fails (grammar g) w (sort k) (grammar g k) ts r
   pub deep : (n : ℕ) → Deep (strict names) (sort j) n (grammar (strict names) j) us → Deep (strict names) (sort k) n (grammar (strict names) k) ts
 
 -- the reading p at ts comes to the reading q at us
 pub record LeadsTo (names : Names) (s : Sort) (p q : Rules → Reading s) (ts us : List Token) : Type 0 where
   pub reads : (g : Rules) → Admits g (strict names) → (e : Of s) (r : List Token) → Reads (grammar g) s (q g) us e r → Reads (grammar g) s (p g) ts e r
-  pub fails : (g : Rules) → Admits g (strict names) → (r : List Token) → Fails (grammar g) s (q g) us r → Fails (grammar g) s (p g) ts r
+  pub fails : (g : Rules) → Admits g (strict names) → (r : List Token) {w : Why} → Fails (grammar g) w s (q g) us r → Fails (grammar g) w s (p g) ts r
   pub deep : (n : ℕ) → Deep (strict names) s n (q (strict names)) us → Deep (strict names) s n (p (strict names)) ts
 
 -- the name of a property or a verb, and what goes on behind it
@@ -109,7 +118,7 @@ pub record IsNamed (names : Names) (i : Bool) (old new : Cursor) (b : Expr) : Ty
 
 -- such a name was not read, whatever goes on behind it
 pub record IsUnnamed (names : Names) (i : Bool) (room : ℕ) (old new : Cursor) (f : Fault) : Type 0 where
-  pub fails : (k : Expr → Reading Sort.expr) (g : Rules) → ToldBy f names g → Fails (grammar g) Sort.expr (member_name i k) (left old) (left new)
+  pub fails : (k : Expr → Reading Sort.expr) (g : Rules) → ToldBy f names g → Fails (grammar g) (why f) Sort.expr (member_name i k) (left old) (left new)
   pub stands : Stands f names new
   pub deep : (n : ℕ) (k : Expr → Reading Sort.expr) → ((b : Expr) → room < height b → (us : List Token) → Deep (strict names) Sort.expr n (k b) us) → f ≡ TooDeep → Deep (strict names) Sort.expr n (member_name i k) (left old)
   pub long : f ≡ TooDeep → old.at + room < new.at
@@ -172,7 +181,7 @@ pub record Jumps (names : Names) (k : Keyword) (ls : List (Option (List ℕ))) (
 
 -- such a jump was not read
 pub record HasNotJumped (names : Names) (k : Keyword) (ls : List (Option (List ℕ))) (room : ℕ) (old new : Cursor) (f : Fault) : Type 0 where
-  pub fails : (h : Option (List ℕ) → Tree.Stmt) (q : Reading Sort.stmt) (g : Rules) → ToldBy f names g → Fails (grammar g) Sort.stmt (jump g ls k h q) (left old) (left new)
+  pub fails : (h : Option (List ℕ) → Tree.Stmt) (q : Reading Sort.stmt) (g : Rules) → ToldBy f names g → Fails (grammar g) (why f) Sort.stmt (jump g ls k h q) (left old) (left new)
   pub stands : Stands f names new
   pub deep : f ≡ TooDeep → room ≡ 0
   pub long : f ≡ TooDeep → old.at + room < new.at

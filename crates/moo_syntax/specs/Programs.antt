@@ -39,6 +39,13 @@ SameUpTo n ts us = take (suc n) us ≡ take (suc n) ts
 abbrev pub NoProgram : Rules → List Token → ℕ → Type 0
 NoProgram g ts n = (n ≤ length ts) × ((us : List Token) (b : Block) → SameUpTo n ts us → IsProgramBy g us b → ⊥)
 
+-- some tokens that begin as these do, up to and with the one at n, are a program by the rules
+pub record BeginsProgram (g : Rules) (ts : List Token) (n : ℕ) : Type 0 where
+  pub tokens : List Token
+  pub tree : Block
+  pub same : SameUpTo n ts tokens
+  pub program : IsProgramBy g tokens tree
+
 -- what asks for targets before `=`, and for nothing else
 abbrev pub with_targets : Rules
 with_targets = record { targets = true; functions = λ _. true; loops = false }
@@ -76,7 +83,8 @@ pub record IsUnexpected (lines : List (List ℕ)) (n : ℕ) : Type 0 where
   pub none : NoProgram loose (words spots) at
   pub sound : AreSound (take (suc at) (words spots))
 
--- An `=` stands on line n. No program of which targets alone are asked begins with the tokens up to it.
+-- An `=` stands on line n. No program of which targets alone are asked begins with the tokens up to it, but one of which
+-- nothing is asked does.
 pub record IsBadTarget (lines : List (List ℕ)) (n : ℕ) : Type 0 where
   pub spots : List Spot
   pub reading : IsReading lines spots
@@ -84,6 +92,7 @@ pub record IsBadTarget (lines : List (List ℕ)) (n : ℕ) : Type 0 where
   pub line : n ≡ line_of lines (drop at spots)
   pub assigns : next_passes (is_sign Assign) (words (drop at spots)) ≡ true
   pub none : NoProgram with_targets (words spots) at
+  pub begins : BeginsProgram loose (words spots) at
 
 -- the name stands before the place, and a parenthesis at it
 pub record IsCalled (spots : List Spot) (at : ℕ) (name : List ℕ) : Type 0 where
@@ -93,7 +102,7 @@ pub record IsCalled (spots : List Spot) (at : ℕ) (name : List ℕ) : Type 0 wh
   pub called : words (drop before spots) ≡ Name name ∷ Sign LeftParen ∷ rest
 
 -- The name stands on line n with a parenthesis behind it, and may not be called. No program of which such names alone are asked
--- begins with the tokens up to the parenthesis.
+-- begins with the tokens up to the parenthesis, but one of which nothing is asked does.
 pub record IsUnknownFunction (names : Names) (lines : List (List ℕ)) (n : ℕ) (name : List ℕ) : Type 0 where
   pub spots : List Spot
   pub reading : IsReading lines spots
@@ -102,6 +111,7 @@ pub record IsUnknownFunction (names : Names) (lines : List (List ℕ)) (n : ℕ)
   pub unknown : may_call names name ≡ false
   pub line : n ≡ line_of lines (drop call.before spots)
   pub none : NoProgram (with_functions names) (words spots) at
+  pub begins : BeginsProgram loose (words spots) at
 
 -- whether the token is `break` or `continue`
 abbrev pub is_jump : Token → Bool
@@ -112,7 +122,8 @@ pub data IsJump (spots : List Spot) : ℕ → Type 0 where
   at_keyword : {at : ℕ} → next_passes is_jump (words (drop at spots)) ≡ true → IsJump spots at
   at_name : (before : ℕ) {x : Token} {name : List ℕ} {rest : List Token} → is_jump x ≡ true → words (drop before spots) ≡ x ∷ Name name ∷ rest → IsJump spots (before + 1)
 
--- A jump, or its name, stands on line n. No program of which loops round its jumps alone are asked begins with the tokens up to it.
+-- A jump, or its name, stands on line n. No program of which loops round its jumps alone are asked begins with the tokens up to it,
+-- but one of which nothing is asked does.
 pub record IsBadLoopName (lines : List (List ℕ)) (n : ℕ) : Type 0 where
   pub spots : List Spot
   pub reading : IsReading lines spots
@@ -120,6 +131,7 @@ pub record IsBadLoopName (lines : List (List ℕ)) (n : ℕ) : Type 0 where
   pub line : n ≡ line_of lines (drop at spots)
   pub jumps : IsJump spots at
   pub none : NoProgram with_loops (words spots) at
+  pub begins : BeginsProgram loose (words spots) at
 
 -- no program within the limits has these tokens
 abbrev pub IsOutside : Names → List Token → Type 0

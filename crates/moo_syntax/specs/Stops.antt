@@ -12,7 +12,7 @@ use Rattle.moo_grammar.specs.Grammar.{IsProgram}
 use Rattle.moo_grammar.specs.Machine.{next_passes}
 use Rattle.moo_syntax.specs.declared.fault.Fault.{Fault}
 use Rattle.moo_syntax.specs.declared.fault.Fault.TheVariants.{Unexpected, BadTarget, UnknownFunction, BadLoopName, TooDeep, Memory}
-use Rattle.moo_syntax.specs.Programs.{IsWithin, IsCalled, NoProgram, with_targets, with_functions, with_loops, IsJump, IsOutside, HasLongLine}
+use Rattle.moo_syntax.specs.Programs.{IsWithin, IsCalled, NoProgram, BeginsProgram, with_targets, with_functions, with_loops, IsJump, IsOutside, HasLongLine}
 
 -- no program within the limits has these tokens: they are many, or there is a long line
 pub record ExceedLimits (names : Names) (ts : List Token) : Type 0 where
@@ -33,6 +33,7 @@ pub record IsStuckAt (spots : List Spot) (at : ℕ) : Type 0 where
 pub record HasBadTarget (spots : List Spot) (at : ℕ) : Type 0 where
   pub assigns : next_passes (is_sign Assign) (words (drop at spots)) ≡ true
   pub none : NoProgram with_targets (words spots) at
+  pub begins : BeginsProgram loose (words spots) at
 
 -- the name before the parenthesis at the place may not be called
 pub record CallsUnknown (names : Names) (spots : List Spot) (at : ℕ) : Type 0 where
@@ -40,11 +41,13 @@ pub record CallsUnknown (names : Names) (spots : List Spot) (at : ℕ) : Type 0 
   pub unknown : may_call names name ≡ false
   pub call : IsCalled spots at name
   pub none : NoProgram (with_functions names) (words spots) at
+  pub begins : BeginsProgram loose (words spots) at
 
 -- the jump at the place, or the name there, has no loop round it
 pub record HasBadJump (spots : List Spot) (at : ℕ) : Type 0 where
   pub jumps : IsJump spots at
   pub none : NoProgram with_loops (words spots) at
+  pub begins : BeginsProgram loose (words spots) at
 
 abbrev pub StopsBy : Names → List Spot → ℕ → Fault → Type 0
 StopsBy names spots at Unexpected = IsStuckAt spots at

@@ -11,6 +11,7 @@ returns-in-BadTarget c =
       line = c.line_at-line.ensures;
       assigns = stopped.assigns;
       none = stopped.none;
+      begins = stopped.begins;
     }
 
 pub returns-in-BadLoopName : goal.returns-in-BadLoopName
@@ -23,6 +24,7 @@ returns-in-BadLoopName c =
       line = c.line_at-line.ensures;
       jumps = stopped.jumps;
       none = stopped.none;
+      begins = stopped.begins;
     }
 
 pub returns-in-TooDeep : goal.returns-in-TooDeep

@@ -18,6 +18,7 @@ returns-in-Ok-Some c =
       unknown = subst (λ s. may_call c.args.names s ≡ false) (same_call spots c.args.at calls.name c.in-Ok-Some.name calls.call call) calls.unknown;
       line = c.line_at.ensures ∙ ap (λ k. line_of c.args.lines.now (drop k spots)) place;
       none = calls.none;
+      begins = calls.begins;
     }
 
 pub unreachable-requires : goal.unreachable-requires

@@ -1,12 +1,15 @@
 pub mod Forms
+pub mod Full
 pub mod Good
 pub mod Items
 pub mod Law
 pub mod LineSteps
 pub mod Listed
 pub mod Names
+pub mod Phrases
 pub mod Read
 pub mod ReadLines
+pub mod Refusals
 pub mod Scatters
 pub mod Sizes
 pub mod Sound

@@ -1,4 +1,4 @@
--- The tokens of the full listing, written in front of others.
+-- The tokens of a listing, written in front of others.
 use Rattle.std.specs.Prelude.{ℕ, ℤ, pos, negsuc, List, ◌∷◌, ◌≡◌, Bool, true, false, Option, Some, None, FitsSigned}
 use Rattle.std.specs.Int.{int_wrapping_neg, w32}
 use Rattle.moo_token.specs.declared.sign.Sign.{Sign}
@@ -17,6 +17,9 @@ use Rattle.moo_program.specs.declared.tree.Literal.{Literal}
 use Rattle.moo_program.specs.declared.tree.Literal.TheVariants.{Integer, Object, Error, Str}
 use Rattle.moo_program.specs.Tree.{Expr, literal, variable, length_mark, unary, binary, logic, conditional, index, range, list, property, verb_call, call, assign, catch, catch_or, Items, no_items, element, splice, optional, defaulted, Codes, any_error, listed_errors, Stmt, return_nothing, returns, performs, branches, for_list, for_range, while_loop, breaks, continues, try_except, try_finally, Arms, no_else, otherwise, elseif, Handlers, no_handler, handler, Block, no_statement, then}
 use Rattle.moo_program.specs.Listing.{is_compound, is_compound_base, constant_name, is_system_object}
+use Rattle.moo_unparse.specs.declared.form.Parentheses.{Parentheses}
+use Rattle.moo_unparse.specs.declared.form.Part.TheVariants as part
+use Rattle.moo_unparse.specs.Parts.{operator_part, left_of, right_of, needs}
 
 abbrev pub unary_mark : UnaryOperator → Sign
 unary_mark Not = sign.Bang
@@ -72,65 +75,65 @@ further (optional s xs) ts = token.Sign sign.Comma ∷ ts
 further (defaulted s a xs) ts = token.Sign sign.Comma ∷ ts
 
 abbrev mutual
-  pub spell : Expr → List Token → List Token
-  spell (literal l) r = literal_tokens l r
-  spell (variable s) r = token.Name s ∷ r
-  spell length_mark r = token.Sign sign.Dollar ∷ r
-  spell (unary o a) r = token.Sign (unary_mark o) ∷ parens (is_compound a) (spell a) r
-  spell (binary o a b) r = parens (is_compound a) (spell a) (binary_token o ∷ parens (is_compound b) (spell b) r)
-  spell (logic o a b) r = parens (is_compound a) (spell a) (token.Sign (logic_mark o) ∷ parens (is_compound b) (spell b) r)
-  spell (conditional a b c) r = parens (is_compound a) (spell a) (token.Sign sign.Question ∷ parens (is_compound b) (spell b) (token.Sign sign.Pipe ∷ parens (is_compound c) (spell c) r))
-  spell (index a b) r = parens (is_compound_base a) (spell a) (token.Sign sign.LeftBracket ∷ spell b (token.Sign sign.RightBracket ∷ r))
-  spell (range a b c) r = parens (is_compound_base a) (spell a) (token.Sign sign.LeftBracket ∷ spell b (token.Sign sign.DotDot ∷ spell c (token.Sign sign.RightBracket ∷ r)))
-  spell (list xs) r = token.Sign sign.LeftBrace ∷ spell_items xs (token.Sign sign.RightBrace ∷ r)
-  spell (property a b) r = selected sign.Dot (constant_name b) (is_system_object a) (λ ts. parens (is_compound_base a) (spell a) ts) (spell b) r
-  spell (verb_call a b xs) r = selected sign.Colon (constant_name b) (is_system_object a) (λ ts. parens (is_compound_base a) (spell a) ts) (spell b) (token.Sign sign.LeftParen ∷ spell_items xs (token.Sign sign.RightParen ∷ r))
-  spell (call s xs) r = token.Name s ∷ token.Sign sign.LeftParen ∷ spell_items xs (token.Sign sign.RightParen ∷ r)
-  spell (assign a b) r = parens (is_compound a) (spell a) (token.Sign sign.Assign ∷ spell b r)
-  spell (catch a c) r = token.Sign sign.Backquote ∷ spell a (token.Sign sign.Bang ∷ spell_codes c (token.Sign sign.Quote ∷ r))
-  spell (catch_or a c b) r = token.Sign sign.Backquote ∷ spell a (token.Sign sign.Bang ∷ spell_codes c (token.Sign sign.Arrow ∷ spell b (token.Sign sign.Quote ∷ r)))
+  pub spell : Parentheses → Expr → List Token → List Token
+  spell p (literal l) r = literal_tokens l r
+  spell p (variable s) r = token.Name s ∷ r
+  spell p length_mark r = token.Sign sign.Dollar ∷ r
+  spell p (unary o a) r = token.Sign (unary_mark o) ∷ parens (needs p part.Sign a) (spell p a) r
+  spell p (binary o a b) r = parens (needs p (left_of (operator_part o)) a) (spell p a) (binary_token o ∷ parens (needs p (right_of (operator_part o)) b) (spell p b) r)
+  spell p (logic o a b) r = parens (needs p (left_of part.Logic) a) (spell p a) (token.Sign (logic_mark o) ∷ parens (needs p (right_of part.Logic) b) (spell p b) r)
+  spell p (conditional a b c) r = parens (needs p part.Logic a) (spell p a) (token.Sign sign.Question ∷ parens (needs p part.Assignment b) (spell p b) (token.Sign sign.Pipe ∷ parens (needs p part.Conditional c) (spell p c) r))
+  spell p (index a b) r = parens (is_compound_base a) (spell p a) (token.Sign sign.LeftBracket ∷ spell p b (token.Sign sign.RightBracket ∷ r))
+  spell p (range a b c) r = parens (is_compound_base a) (spell p a) (token.Sign sign.LeftBracket ∷ spell p b (token.Sign sign.DotDot ∷ spell p c (token.Sign sign.RightBracket ∷ r)))
+  spell p (list xs) r = token.Sign sign.LeftBrace ∷ spell_items p xs (token.Sign sign.RightBrace ∷ r)
+  spell p (property a b) r = selected sign.Dot (constant_name b) (is_system_object a) (λ ts. parens (is_compound_base a) (spell p a) ts) (spell p b) r
+  spell p (verb_call a b xs) r = selected sign.Colon (constant_name b) (is_system_object a) (λ ts. parens (is_compound_base a) (spell p a) ts) (spell p b) (token.Sign sign.LeftParen ∷ spell_items p xs (token.Sign sign.RightParen ∷ r))
+  spell p (call s xs) r = token.Name s ∷ token.Sign sign.LeftParen ∷ spell_items p xs (token.Sign sign.RightParen ∷ r)
+  spell p (assign a b) r = parens (is_compound a) (spell p a) (token.Sign sign.Assign ∷ spell p b r)
+  spell p (catch a c) r = token.Sign sign.Backquote ∷ spell p a (token.Sign sign.Bang ∷ spell_codes p c (token.Sign sign.Quote ∷ r))
+  spell p (catch_or a c b) r = token.Sign sign.Backquote ∷ spell p a (token.Sign sign.Bang ∷ spell_codes p c (token.Sign sign.Arrow ∷ spell p b (token.Sign sign.Quote ∷ r)))
 
-  pub spell_items : Items → List Token → List Token
-  spell_items no_items r = r
-  spell_items (element a xs) r = spell a (further xs (spell_items xs r))
-  spell_items (splice a xs) r = token.Sign sign.At ∷ spell a (further xs (spell_items xs r))
-  spell_items (optional s xs) r = token.Sign sign.Question ∷ token.Name s ∷ further xs (spell_items xs r)
-  spell_items (defaulted s a xs) r = token.Sign sign.Question ∷ token.Name s ∷ token.Sign sign.Assign ∷ spell a (further xs (spell_items xs r))
+  pub spell_items : Parentheses → Items → List Token → List Token
+  spell_items p no_items r = r
+  spell_items p (element a xs) r = spell p a (further xs (spell_items p xs r))
+  spell_items p (splice a xs) r = token.Sign sign.At ∷ spell p a (further xs (spell_items p xs r))
+  spell_items p (optional s xs) r = token.Sign sign.Question ∷ token.Name s ∷ further xs (spell_items p xs r)
+  spell_items p (defaulted s a xs) r = token.Sign sign.Question ∷ token.Name s ∷ token.Sign sign.Assign ∷ spell p a (further xs (spell_items p xs r))
 
-  pub spell_codes : Codes → List Token → List Token
-  spell_codes any_error r = token.Keyword keyword.Any ∷ r
-  spell_codes (listed_errors xs) r = spell_items xs r
+  pub spell_codes : Parentheses → Codes → List Token → List Token
+  spell_codes p any_error r = token.Keyword keyword.Any ∷ r
+  spell_codes p (listed_errors xs) r = spell_items p xs r
 
 abbrev pub spell_label : Option (List ℕ) → List Token → List Token
 spell_label None r = r
 spell_label (Some s) r = token.Name s ∷ r
 
 abbrev mutual
-  pub spell_statement : Stmt → List Token → List Token
-  spell_statement return_nothing r = token.Keyword keyword.Return ∷ token.Sign sign.Semicolon ∷ r
-  spell_statement (returns a) r = token.Keyword keyword.Return ∷ spell a (token.Sign sign.Semicolon ∷ r)
-  spell_statement (performs a) r = spell a (token.Sign sign.Semicolon ∷ r)
-  spell_statement (branches a b c) r = token.Keyword keyword.If ∷ token.Sign sign.LeftParen ∷ spell a (token.Sign sign.RightParen ∷ spell_block b (spell_arms c (token.Keyword keyword.EndIf ∷ r)))
-  spell_statement (for_list s a b) r = token.Keyword keyword.For ∷ token.Name s ∷ token.Keyword keyword.In ∷ token.Sign sign.LeftParen ∷ spell a (token.Sign sign.RightParen ∷ spell_block b (token.Keyword keyword.EndFor ∷ r))
-  spell_statement (for_range s a b c) r = token.Keyword keyword.For ∷ token.Name s ∷ token.Keyword keyword.In ∷ token.Sign sign.LeftBracket ∷ spell a (token.Sign sign.DotDot ∷ spell b (token.Sign sign.RightBracket ∷ spell_block c (token.Keyword keyword.EndFor ∷ r)))
-  spell_statement (while_loop n a b) r = token.Keyword keyword.While ∷ spell_label n (token.Sign sign.LeftParen ∷ spell a (token.Sign sign.RightParen ∷ spell_block b (token.Keyword keyword.EndWhile ∷ r)))
-  spell_statement (breaks n) r = token.Keyword keyword.Break ∷ spell_label n (token.Sign sign.Semicolon ∷ r)
-  spell_statement (continues n) r = token.Keyword keyword.Continue ∷ spell_label n (token.Sign sign.Semicolon ∷ r)
-  spell_statement (try_except b h) r = token.Keyword keyword.Try ∷ spell_block b (spell_handlers h (token.Keyword keyword.EndTry ∷ r))
-  spell_statement (try_finally b c) r = token.Keyword keyword.Try ∷ spell_block b (token.Keyword keyword.Finally ∷ spell_block c (token.Keyword keyword.EndTry ∷ r))
+  pub spell_statement : Parentheses → Stmt → List Token → List Token
+  spell_statement p return_nothing r = token.Keyword keyword.Return ∷ token.Sign sign.Semicolon ∷ r
+  spell_statement p (returns a) r = token.Keyword keyword.Return ∷ spell p a (token.Sign sign.Semicolon ∷ r)
+  spell_statement p (performs a) r = spell p a (token.Sign sign.Semicolon ∷ r)
+  spell_statement p (branches a b c) r = token.Keyword keyword.If ∷ token.Sign sign.LeftParen ∷ spell p a (token.Sign sign.RightParen ∷ spell_block p b (spell_arms p c (token.Keyword keyword.EndIf ∷ r)))
+  spell_statement p (for_list s a b) r = token.Keyword keyword.For ∷ token.Name s ∷ token.Keyword keyword.In ∷ token.Sign sign.LeftParen ∷ spell p a (token.Sign sign.RightParen ∷ spell_block p b (token.Keyword keyword.EndFor ∷ r))
+  spell_statement p (for_range s a b c) r = token.Keyword keyword.For ∷ token.Name s ∷ token.Keyword keyword.In ∷ token.Sign sign.LeftBracket ∷ spell p a (token.Sign sign.DotDot ∷ spell p b (token.Sign sign.RightBracket ∷ spell_block p c (token.Keyword keyword.EndFor ∷ r)))
+  spell_statement p (while_loop n a b) r = token.Keyword keyword.While ∷ spell_label n (token.Sign sign.LeftParen ∷ spell p a (token.Sign sign.RightParen ∷ spell_block p b (token.Keyword keyword.EndWhile ∷ r)))
+  spell_statement p (breaks n) r = token.Keyword keyword.Break ∷ spell_label n (token.Sign sign.Semicolon ∷ r)
+  spell_statement p (continues n) r = token.Keyword keyword.Continue ∷ spell_label n (token.Sign sign.Semicolon ∷ r)
+  spell_statement p (try_except b h) r = token.Keyword keyword.Try ∷ spell_block p b (spell_handlers p h (token.Keyword keyword.EndTry ∷ r))
+  spell_statement p (try_finally b c) r = token.Keyword keyword.Try ∷ spell_block p b (token.Keyword keyword.Finally ∷ spell_block p c (token.Keyword keyword.EndTry ∷ r))
 
-  pub spell_arms : Arms → List Token → List Token
-  spell_arms no_else r = r
-  spell_arms (otherwise b) r = token.Keyword keyword.Else ∷ spell_block b r
-  spell_arms (elseif a b c) r = token.Keyword keyword.ElseIf ∷ token.Sign sign.LeftParen ∷ spell a (token.Sign sign.RightParen ∷ spell_block b (spell_arms c r))
+  pub spell_arms : Parentheses → Arms → List Token → List Token
+  spell_arms p no_else r = r
+  spell_arms p (otherwise b) r = token.Keyword keyword.Else ∷ spell_block p b r
+  spell_arms p (elseif a b c) r = token.Keyword keyword.ElseIf ∷ token.Sign sign.LeftParen ∷ spell p a (token.Sign sign.RightParen ∷ spell_block p b (spell_arms p c r))
 
-  pub spell_handlers : Handlers → List Token → List Token
-  spell_handlers no_handler r = r
-  spell_handlers (handler n c b h) r = token.Keyword keyword.Except ∷ spell_label n (token.Sign sign.LeftParen ∷ spell_codes c (token.Sign sign.RightParen ∷ spell_block b (spell_handlers h r)))
+  pub spell_handlers : Parentheses → Handlers → List Token → List Token
+  spell_handlers p no_handler r = r
+  spell_handlers p (handler n c b h) r = token.Keyword keyword.Except ∷ spell_label n (token.Sign sign.LeftParen ∷ spell_codes p c (token.Sign sign.RightParen ∷ spell_block p b (spell_handlers p h r)))
 
-  pub spell_block : Block → List Token → List Token
-  spell_block no_statement r = r
-  spell_block (then s ss) r = spell_statement s (spell_block ss r)
+  pub spell_block : Parentheses → Block → List Token → List Token
+  spell_block p no_statement r = r
+  spell_block p (then s ss) r = spell_statement p s (spell_block p ss r)
 
 -- what a literal may be: an integer of 32 bits
 abbrev pub IsSoundLiteral : Literal → Type 0

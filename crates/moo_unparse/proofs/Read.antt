@@ -1,5 +1,5 @@
 -- The listing of a program is read as its tokens.
-use Rattle.std.proofs.Common.{ℕ, suc, ℤ, pos, negsuc, List, [], ◌∷◌, ◌++◌, ◌≡◌, ◌^◌, ◌<◌, ◌≤◌, ◌%◌, refl, ap, ◌∙◌, sym, subst, Bool, true, false, Option, Some, None, ◌⊎◌, inl, inr, nat_eq, length, take, drop, append_assoc, codes, rules, arith}
+use Rattle.std.proofs.Common.{ℕ, suc, ℤ, pos, negsuc, List, [], ◌∷◌, ◌++◌, ◌≡◌, ◌^◌, ◌<◌, ◌≤◌, ◌%◌, refl, ap, ◌∙◌, sym, subst, Bool, true, false, Option, Some, None, ◌⊎◌, inl, inr, nat_eq, nat_lt, length, take, drop, append_assoc, codes, rules, arith}
 use Rattle.std.specs.Prelude.{FitsSigned}
 use Rattle.std.specs.List.{list_all, prefix_len}
 use Rattle.std.specs.Int.{int_wrapping_neg, w32}
@@ -33,7 +33,12 @@ use Rattle.moo_program.specs.declared.tree.Literal.TheVariants as literal
 use Rattle.moo_program.specs.Tree
 use Rattle.moo_program.specs.Tree.{Expr, Items, Codes, Stmt, Block, literal_value}
 use Rattle.moo_program.specs.Listing
-use Rattle.moo_program.specs.Listing.{is_compound, is_compound_base, in_parentheses, constant_name, is_system_object, listed, listed_items, listed_codes, listed_statement, listing, binary_sign, logic_sign}
+use Rattle.moo_program.specs.Listing.{is_compound, is_compound_base, in_parentheses, constant_name, is_system_object, binary_sign, logic_sign}
+use Rattle.moo_unparse.specs.declared.form.Parentheses.{Parentheses}
+use Rattle.moo_unparse.specs.declared.form.Parentheses.TheVariants.{All, Needed}
+use Rattle.moo_unparse.specs.declared.form.Part.TheVariants as part
+use Rattle.moo_unparse.specs.Parts.{rank, operator_part, left_of, right_of, needs}
+use Rattle.moo_unparse.specs.Listings.{listed, listed_items, listed_codes}
 use Rattle.moo_grammar.specs.Tokens.{words}
 use Rattle.moo_unparse.proofs.Names.{constant_is}
 use Rattle.moo_unparse.proofs.Listed.{binary_token, logic_mark, literal_tokens, parens, further, spell, spell_items, spell_codes, selected, IsSoundLiteral, IsSoundLabel, spell_label, IsSound, AreSound, AreSoundCodes}
@@ -125,54 +130,92 @@ selected_no_equal text (Some s) true base name rest h = refl
 selected_no_equal text (Some s) false base name rest h = simp append_assoc (h (text ++ (s ++ rest)))
 selected_no_equal text None system base name rest h = simp append_assoc (h (text ++ (40 ∷ (name ++ (41 ∷ rest)))))
 
-base_no_equal : (e : Expr) → IsSound e → (rest : List ℕ) → NoEqual (in_parentheses (is_compound_base e) (listed e) ++ rest)
+base_no_equal : (p : Parentheses) (e : Expr) → IsSound e → (rest : List ℕ) → NoEqual (in_parentheses (is_compound_base e) (listed p e) ++ rest)
 unfolding NoEqual
-base_no_equal (Tree.literal (literal.Integer n)) s rest = refl
-base_no_equal (Tree.literal (literal.Object n)) s rest = refl
-base_no_equal (Tree.literal (literal.Error c)) s rest = word_no_equal (error_name c) rest (error_is_word c)
-base_no_equal (Tree.literal (literal.Str t)) s rest = refl
-base_no_equal (Tree.variable w) s rest = word_no_equal w rest (name_is_word w s)
-base_no_equal Tree.length_mark s rest = refl
-base_no_equal (Tree.unary o a) s rest = refl
-base_no_equal (Tree.binary o a b) s rest = refl
-base_no_equal (Tree.logic o a b) s rest = refl
-base_no_equal (Tree.conditional a b c) s rest = refl
-base_no_equal (Tree.index a b) s rest = simp append_assoc (base_no_equal a s.0 (91 ∷ (listed b ++ (93 ∷ rest))))
-base_no_equal (Tree.range a b c) s rest = simp append_assoc (base_no_equal a s.0 (91 ∷ (listed b ++ (46 ∷ 46 ∷ (listed c ++ (93 ∷ rest))))))
-base_no_equal (Tree.list xs) s rest = refl
-base_no_equal (Tree.property a b) s rest = selected_no_equal (codes ".") (constant_name b) (is_system_object a) (in_parentheses (is_compound_base a) (listed a)) (listed b) rest (base_no_equal a s.0)
-base_no_equal (Tree.verb_call a b xs) s rest = simp append_assoc (selected_no_equal (codes ":") (constant_name b) (is_system_object a) (in_parentheses (is_compound_base a) (listed a)) (listed b) (40 ∷ (listed_items xs ++ (41 ∷ rest))) (base_no_equal a s.0))
-base_no_equal (Tree.call w xs) s rest = simp append_assoc (word_no_equal w (40 ∷ (listed_items xs ++ (41 ∷ rest))) (name_is_word w s.0))
-base_no_equal (Tree.assign a b) s rest = refl
-base_no_equal (Tree.catch a c) s rest = refl
-base_no_equal (Tree.catch_or a c b) s rest = refl
+base_no_equal p (Tree.literal (literal.Integer n)) s rest = refl
+base_no_equal p (Tree.literal (literal.Object n)) s rest = refl
+base_no_equal p (Tree.literal (literal.Error c)) s rest = word_no_equal (error_name c) rest (error_is_word c)
+base_no_equal p (Tree.literal (literal.Str t)) s rest = refl
+base_no_equal p (Tree.variable w) s rest = word_no_equal w rest (name_is_word w s)
+base_no_equal p Tree.length_mark s rest = refl
+base_no_equal p (Tree.unary o a) s rest = refl
+base_no_equal p (Tree.binary o a b) s rest = refl
+base_no_equal p (Tree.logic o a b) s rest = refl
+base_no_equal p (Tree.conditional a b c) s rest = refl
+base_no_equal p (Tree.index a b) s rest = simp append_assoc (base_no_equal p a s.0 (91 ∷ (listed p b ++ (93 ∷ rest))))
+base_no_equal p (Tree.range a b c) s rest = simp append_assoc (base_no_equal p a s.0 (91 ∷ (listed p b ++ (46 ∷ 46 ∷ (listed p c ++ (93 ∷ rest))))))
+base_no_equal p (Tree.list xs) s rest = refl
+base_no_equal p (Tree.property a b) s rest = selected_no_equal (codes ".") (constant_name b) (is_system_object a) (in_parentheses (is_compound_base a) (listed p a)) (listed p b) rest (base_no_equal p a s.0)
+base_no_equal p (Tree.verb_call a b xs) s rest = simp append_assoc (selected_no_equal (codes ":") (constant_name b) (is_system_object a) (in_parentheses (is_compound_base a) (listed p a)) (listed p b) (40 ∷ (listed_items p xs ++ (41 ∷ rest))) (base_no_equal p a s.0))
+base_no_equal p (Tree.call w xs) s rest = simp append_assoc (word_no_equal w (40 ∷ (listed_items p xs ++ (41 ∷ rest))) (name_is_word w s.0))
+base_no_equal p (Tree.assign a b) s rest = refl
+base_no_equal p (Tree.catch a c) s rest = refl
+base_no_equal p (Tree.catch_or a c b) s rest = refl
 
-operand_no_equal : (e : Expr) → IsSound e → (rest : List ℕ) → NoEqual (in_parentheses (is_compound e) (listed e) ++ rest)
+-- an operator between two operands stands in parentheses behind a sign
+binary_no_equal : (o : BinaryOperator) (text rest : List ℕ) → NoEqual (in_parentheses (nat_lt (rank (operator_part o)) 7) text ++ rest)
 unfolding NoEqual
-operand_no_equal (Tree.literal (literal.Integer (pos n))) s rest = let d = decimal_is n (omega (arith, s.sfits)) in digits_no_equal (decimal n) rest d.digits d.some
-operand_no_equal (Tree.literal (literal.Integer (negsuc n))) s rest = refl
-operand_no_equal (Tree.literal (literal.Object n)) s rest = refl
-operand_no_equal (Tree.literal (literal.Error c)) s rest = word_no_equal (error_name c) rest (error_is_word c)
-operand_no_equal (Tree.literal (literal.Str t)) s rest = refl
-operand_no_equal (Tree.variable w) s rest = word_no_equal w rest (name_is_word w s)
-operand_no_equal Tree.length_mark s rest = refl
-operand_no_equal (Tree.unary o a) s rest = refl
-operand_no_equal (Tree.binary o a b) s rest = refl
-operand_no_equal (Tree.logic o a b) s rest = refl
-operand_no_equal (Tree.conditional a b c) s rest = refl
-operand_no_equal (Tree.index a b) s rest = base_no_equal (Tree.index a b) s rest
-operand_no_equal (Tree.range a b c) s rest = base_no_equal (Tree.range a b c) s rest
-operand_no_equal (Tree.list xs) s rest = refl
-operand_no_equal (Tree.property a b) s rest = base_no_equal (Tree.property a b) s rest
-operand_no_equal (Tree.verb_call a b xs) s rest = base_no_equal (Tree.verb_call a b xs) s rest
-operand_no_equal (Tree.call w xs) s rest = base_no_equal (Tree.call w xs) s rest
-operand_no_equal (Tree.assign a b) s rest = refl
-operand_no_equal (Tree.catch a c) s rest = refl
-operand_no_equal (Tree.catch_or a c b) s rest = refl
+binary_no_equal binary.Add text rest = refl
+binary_no_equal binary.Subtract text rest = refl
+binary_no_equal binary.Multiply text rest = refl
+binary_no_equal binary.Divide text rest = refl
+binary_no_equal binary.Remainder text rest = refl
+binary_no_equal binary.Power text rest = refl
+binary_no_equal binary.Equal text rest = refl
+binary_no_equal binary.NotEqual text rest = refl
+binary_no_equal binary.Less text rest = refl
+binary_no_equal binary.LessOrEqual text rest = refl
+binary_no_equal binary.Greater text rest = refl
+binary_no_equal binary.GreaterOrEqual text rest = refl
+binary_no_equal binary.In text rest = refl
 
-no_equal : (e : Expr) → IsSound e → (rest : List ℕ) → begins_with (joins_sign sign.Bang) (in_parentheses (is_compound e) (listed e) ++ rest) ≡ false
+operand_no_equal : (p : Parentheses) (e : Expr) → IsSound e → (rest : List ℕ) → NoEqual (in_parentheses (needs p part.Sign e) (listed p e) ++ rest)
 unfolding NoEqual
-no_equal e s rest = operand_no_equal e s rest
+operand_no_equal All (Tree.literal (literal.Integer (pos n))) s rest = let d = decimal_is n (omega (arith, s.sfits)) in digits_no_equal (decimal n) rest d.digits d.some
+operand_no_equal All (Tree.literal (literal.Integer (negsuc n))) s rest = refl
+operand_no_equal All (Tree.literal (literal.Object n)) s rest = refl
+operand_no_equal All (Tree.literal (literal.Error c)) s rest = word_no_equal (error_name c) rest (error_is_word c)
+operand_no_equal All (Tree.literal (literal.Str t)) s rest = refl
+operand_no_equal All (Tree.variable w) s rest = word_no_equal w rest (name_is_word w s)
+operand_no_equal All Tree.length_mark s rest = refl
+operand_no_equal All (Tree.unary o a) s rest = refl
+operand_no_equal All (Tree.binary o a b) s rest = refl
+operand_no_equal All (Tree.logic o a b) s rest = refl
+operand_no_equal All (Tree.conditional a b c) s rest = refl
+operand_no_equal All (Tree.index a b) s rest = base_no_equal All (Tree.index a b) s rest
+operand_no_equal All (Tree.range a b c) s rest = base_no_equal All (Tree.range a b c) s rest
+operand_no_equal All (Tree.list xs) s rest = refl
+operand_no_equal All (Tree.property a b) s rest = base_no_equal All (Tree.property a b) s rest
+operand_no_equal All (Tree.verb_call a b xs) s rest = base_no_equal All (Tree.verb_call a b xs) s rest
+operand_no_equal All (Tree.call w xs) s rest = base_no_equal All (Tree.call w xs) s rest
+operand_no_equal All (Tree.assign a b) s rest = refl
+operand_no_equal All (Tree.catch a c) s rest = refl
+operand_no_equal All (Tree.catch_or a c b) s rest = refl
+operand_no_equal Needed (Tree.literal (literal.Integer (pos n))) s rest = let d = decimal_is n (omega (arith, s.sfits)) in digits_no_equal (decimal n) rest d.digits d.some
+operand_no_equal Needed (Tree.literal (literal.Integer (negsuc n))) s rest = refl
+operand_no_equal Needed (Tree.literal (literal.Object n)) s rest = refl
+operand_no_equal Needed (Tree.literal (literal.Error c)) s rest = word_no_equal (error_name c) rest (error_is_word c)
+operand_no_equal Needed (Tree.literal (literal.Str t)) s rest = refl
+operand_no_equal Needed (Tree.variable w) s rest = word_no_equal w rest (name_is_word w s)
+operand_no_equal Needed Tree.length_mark s rest = refl
+operand_no_equal Needed (Tree.unary unary.Not a) s rest = refl
+operand_no_equal Needed (Tree.unary unary.Negate a) s rest = refl
+operand_no_equal Needed (Tree.binary o a b) s rest = binary_no_equal o (listed Needed (Tree.binary o a b)) rest
+operand_no_equal Needed (Tree.logic o a b) s rest = refl
+operand_no_equal Needed (Tree.conditional a b c) s rest = refl
+operand_no_equal Needed (Tree.index a b) s rest = base_no_equal Needed (Tree.index a b) s rest
+operand_no_equal Needed (Tree.range a b c) s rest = base_no_equal Needed (Tree.range a b c) s rest
+operand_no_equal Needed (Tree.list xs) s rest = refl
+operand_no_equal Needed (Tree.property a b) s rest = base_no_equal Needed (Tree.property a b) s rest
+operand_no_equal Needed (Tree.verb_call a b xs) s rest = base_no_equal Needed (Tree.verb_call a b xs) s rest
+operand_no_equal Needed (Tree.call w xs) s rest = base_no_equal Needed (Tree.call w xs) s rest
+operand_no_equal Needed (Tree.assign a b) s rest = refl
+operand_no_equal Needed (Tree.catch a c) s rest = refl
+operand_no_equal Needed (Tree.catch_or a c b) s rest = refl
+
+no_equal : (p : Parentheses) (e : Expr) → IsSound e → (rest : List ℕ) → begins_with (joins_sign sign.Bang) (in_parentheses (needs p part.Sign e) (listed p e) ++ rest) ≡ false
+unfolding NoEqual
+no_equal p e s rest = operand_no_equal p e s rest
 
 digit_begins_none : (b : ℕ) → is_digit b ≡ true → begins_name b ≡ false
 digit_begins_none b h = grind (arith, nat_tests)
@@ -219,12 +262,12 @@ magnitude_by k ds v h (inr g) =
 magnitude : (k : ℕ) (ds : List ℕ) → number ds ≡ suc k → k < 2 ^ 31 → wrapped ds ≡ int_wrapping_neg w32 (negsuc k)
 magnitude k ds v h = magnitude_by k ds v h (cases_lt (suc k) (2 ^ 31))
 
-ends_further : (xs : Items) (rest : List ℕ) → Ends true rest → Ends true (Listing.further xs (listed_items xs) ++ rest)
-ends_further Tree.no_items rest e = e
-ends_further (Tree.element a xs) rest e = ends_at true 44 _ refl refl refl refl refl
-ends_further (Tree.splice a xs) rest e = ends_at true 44 _ refl refl refl refl refl
-ends_further (Tree.optional s xs) rest e = ends_at true 44 _ refl refl refl refl refl
-ends_further (Tree.defaulted s a xs) rest e = ends_at true 44 _ refl refl refl refl refl
+ends_further : (p : Parentheses) (xs : Items) (rest : List ℕ) → Ends true rest → Ends true (Listing.further xs (listed_items p xs) ++ rest)
+ends_further p Tree.no_items rest e = e
+ends_further p (Tree.element a xs) rest e = ends_at true 44 _ refl refl refl refl refl
+ends_further p (Tree.splice a xs) rest e = ends_at true 44 _ refl refl refl refl refl
+ends_further p (Tree.optional s xs) rest e = ends_at true 44 _ refl refl refl refl refl
+ends_further p (Tree.defaulted s a xs) rest e = ends_at true 44 _ refl refl refl refl refl
 
 module _ {n : ℕ} {below : List (List ℕ)} where
   -- one token, which nothing behind it joins
@@ -296,12 +339,12 @@ module _ {n : ℕ} {below : List (List ℕ)} where
   base true text f k rest ts e r = bracketed true text f k rest ts r
   base false text f k rest ts e r = k rest ts e r
 
-  read_further : (xs : Items) (rest : List ℕ) (ts : List Token) → Reads n below (listed_items xs ++ rest) (spell_items xs ts) → Reads n below (Listing.further xs (listed_items xs) ++ rest) (further xs (spell_items xs ts))
-  read_further Tree.no_items rest ts r = r
-  read_further (Tree.element a xs) rest ts r = plain sign.Comma (λ b. refl) _ _ (blank _ _ r)
-  read_further (Tree.splice a xs) rest ts r = plain sign.Comma (λ b. refl) _ _ (blank _ _ r)
-  read_further (Tree.optional s xs) rest ts r = plain sign.Comma (λ b. refl) _ _ (blank _ _ r)
-  read_further (Tree.defaulted s a xs) rest ts r = plain sign.Comma (λ b. refl) _ _ (blank _ _ r)
+  read_further : (p : Parentheses) (xs : Items) (rest : List ℕ) (ts : List Token) → Reads n below (listed_items p xs ++ rest) (spell_items p xs ts) → Reads n below (Listing.further xs (listed_items p xs) ++ rest) (further xs (spell_items p xs ts))
+  read_further p Tree.no_items rest ts r = r
+  read_further p (Tree.element a xs) rest ts r = plain sign.Comma (λ b. refl) _ _ (blank _ _ r)
+  read_further p (Tree.splice a xs) rest ts r = plain sign.Comma (λ b. refl) _ _ (blank _ _ r)
+  read_further p (Tree.optional s xs) rest ts r = plain sign.Comma (λ b. refl) _ _ (blank _ _ r)
+  read_further p (Tree.defaulted s a xs) rest ts r = plain sign.Comma (λ b. refl) _ _ (blank _ _ r)
 
   -- a sign with a blank on each side
   spaced : (m : Sign) (rest : List ℕ) (ts : List Token) → begins_with (joins_sign m) (32 ∷ rest) ≡ false → Reads n below rest ts → Reads n below (32 ∷ (sign_text m ++ (32 ∷ rest))) (token.Sign m ∷ ts)
@@ -316,51 +359,51 @@ module _ {n : ℕ} {below : List (List ℕ)} where
       simp append_assoc (k _ _ (ends_selector m h (40 ∷ (name ++ (41 ∷ rest)))) (mark m _ _ (parenthesis_apart m h (name ++ (41 ∷ rest))) (plain sign.LeftParen (λ b. refl) _ _ (l _ _ (ends_at true 41 rest refl refl refl refl refl) (plain sign.RightParen (λ b. refl) rest ts r)))))
 
   mutual
-    pub read : (e : Expr) → IsSound e → (rest : List ℕ) (ts : List Token) → Ends (is_compound_base e) rest → Reads n below rest ts → Reads n below (listed e ++ rest) (spell e ts)
-    read (Tree.literal l) s rest ts e r = read_literal l s rest ts e r
-    read (Tree.variable w) s rest ts e r = step (token.Name w) rest ts s e.name r
-    read Tree.length_mark s rest ts e r = plain sign.Dollar (λ b. refl) rest ts r
-    read (Tree.unary unary.Not a) s rest ts e r = mark sign.Bang _ _ (no_equal a s rest) (group (is_compound a) (is_compound_base a) (listed a) (spell a) (read a s) rest ts e r)
-    read (Tree.unary unary.Negate a) s rest ts e r = plain sign.Minus (λ b. refl) _ _ (group (is_compound a) (is_compound_base a) (listed a) (spell a) (read a s) rest ts e r)
-    read (Tree.binary o a b) s rest ts e r =
-        simp append_assoc (group (is_compound a) (is_compound_base a) (listed a) (spell a) (read a s.0) _ _ (ends_at true 32 _ refl refl refl refl refl) (blank _ _ (read_binary o _ _ (group (is_compound b) (is_compound_base b) (listed b) (spell b) (read b s.1) rest ts e r))))
-    read (Tree.logic o a b) s rest ts e r =
-        simp append_assoc (group (is_compound a) (is_compound_base a) (listed a) (spell a) (read a s.0) _ _ (ends_at true 32 _ refl refl refl refl refl) (blank _ _ (read_logic o _ _ (group (is_compound b) (is_compound_base b) (listed b) (spell b) (read b s.1) rest ts e r))))
-    read (Tree.conditional a b c) s rest ts e r =
-        simp append_assoc (group (is_compound a) (is_compound_base a) (listed a) (spell a) (read a s.0) _ _ (ends_at true 32 _ refl refl refl refl refl) (spaced sign.Question _ _ refl (group (is_compound b) (is_compound_base b) (listed b) (spell b) (read b s.1) _ _ (ends_at true 32 _ refl refl refl refl refl) (spaced sign.Pipe _ _ refl (group (is_compound c) (is_compound_base c) (listed c) (spell c) (read c s.2) rest ts e r)))))
-    read (Tree.index a b) s rest ts e r =
-        simp append_assoc (base (is_compound_base a) (listed a) (spell a) (read a s.0) _ _ (ends_at false 91 _ refl refl refl refl refl) (plain sign.LeftBracket (λ b. refl) _ _ (read b s.1 _ _ (ends_at (is_compound_base b) 93 _ refl refl refl refl refl) (plain sign.RightBracket (λ b. refl) rest ts r))))
-    read (Tree.range a b c) s rest ts e r =
-        simp append_assoc (base (is_compound_base a) (listed a) (spell a) (read a s.0) _ _ (ends_at false 91 _ refl refl refl refl refl) (plain sign.LeftBracket (λ b. refl) _ _ (read b s.1 _ _ (ends_dots (is_compound_base b) _) (plain sign.DotDot (λ b. refl) _ _ (read c s.2 _ _ (ends_at (is_compound_base c) 93 _ refl refl refl refl refl) (plain sign.RightBracket (λ b. refl) rest ts r))))))
-    read (Tree.list xs) s rest ts e r =
-        simp append_assoc (plain sign.LeftBrace (λ b. refl) _ _ (read_items xs s _ _ (ends_at true 125 _ refl refl refl refl refl) (plain sign.RightBrace (λ b. refl) rest ts r)))
-    read (Tree.property a b) s rest ts e r =
-        read_selected sign.Dot tt b (constant_name b) refl (is_system_object a) (in_parentheses (is_compound_base a) (listed a)) (listed b) (λ ts. parens (is_compound_base a) (spell a) ts) (spell b) (base (is_compound_base a) (listed a) (spell a) (read a s.0)) (λ rest ts e r. read b s.1 rest ts (loosely (is_compound_base b) rest e) r) rest ts e r
-    read (Tree.verb_call a b xs) s rest ts e r =
-        simp append_assoc (read_selected sign.Colon tt b (constant_name b) refl (is_system_object a) (in_parentheses (is_compound_base a) (listed a)) (listed b) (λ ts. parens (is_compound_base a) (spell a) ts) (spell b) (base (is_compound_base a) (listed a) (spell a) (read a s.0)) (λ rest ts e r. read b s.1 rest ts (loosely (is_compound_base b) rest e) r) _ _ (ends_at false 40 _ refl refl refl refl refl) (plain sign.LeftParen (λ b. refl) _ _ (read_items xs s.2 _ _ (ends_at true 41 _ refl refl refl refl refl) (plain sign.RightParen (λ b. refl) rest ts r))))
-    read (Tree.call w xs) s rest ts e r =
-        simp append_assoc (step (token.Name w) _ _ s.0 refl (plain sign.LeftParen (λ b. refl) _ _ (read_items xs s.1 _ _ (ends_at true 41 _ refl refl refl refl refl) (plain sign.RightParen (λ b. refl) rest ts r))))
-    read (Tree.assign a b) s rest ts e r =
-        simp append_assoc (group (is_compound a) (is_compound_base a) (listed a) (spell a) (read a s.0) _ _ (ends_at true 32 _ refl refl refl refl refl) (spaced sign.Assign _ _ refl (read b s.1 rest ts (loosely (is_compound_base b) rest e) r)))
-    read (Tree.catch a c) s rest ts e r =
-        simp append_assoc (plain sign.Backquote (λ b. refl) _ _ (read a s.0 _ _ (ends_at (is_compound_base a) 32 _ refl refl refl refl refl) (spaced sign.Bang _ _ refl (read_codes c s.1 _ _ (ends_at true 39 _ refl refl refl refl refl) (plain sign.Quote (λ b. refl) rest ts r)))))
-    read (Tree.catch_or a c b) s rest ts e r =
-        simp append_assoc (plain sign.Backquote (λ b. refl) _ _ (read a s.0 _ _ (ends_at (is_compound_base a) 32 _ refl refl refl refl refl) (spaced sign.Bang _ _ refl (read_codes c s.1 _ _ (ends_at true 32 _ refl refl refl refl refl) (spaced sign.Arrow _ _ refl (read b s.2 _ _ (ends_at (is_compound_base b) 39 _ refl refl refl refl refl) (plain sign.Quote (λ b. refl) rest ts r)))))))
+    pub read : (p : Parentheses) (e : Expr) → IsSound e → (rest : List ℕ) (ts : List Token) → Ends (is_compound_base e) rest → Reads n below rest ts → Reads n below (listed p e ++ rest) (spell p e ts)
+    read p (Tree.literal l) s rest ts e r = read_literal l s rest ts e r
+    read p (Tree.variable w) s rest ts e r = step (token.Name w) rest ts s e.name r
+    read p Tree.length_mark s rest ts e r = plain sign.Dollar (λ b. refl) rest ts r
+    read p (Tree.unary unary.Not a) s rest ts e r = mark sign.Bang _ _ (no_equal p a s rest) (group (needs p part.Sign a) (is_compound_base a) (listed p a) (spell p a) (read p a s) rest ts e r)
+    read p (Tree.unary unary.Negate a) s rest ts e r = plain sign.Minus (λ b. refl) _ _ (group (needs p part.Sign a) (is_compound_base a) (listed p a) (spell p a) (read p a s) rest ts e r)
+    read p (Tree.binary o a b) s rest ts e r =
+        simp append_assoc (group (needs p (left_of (operator_part o)) a) (is_compound_base a) (listed p a) (spell p a) (read p a s.0) _ _ (ends_at true 32 _ refl refl refl refl refl) (blank _ _ (read_binary o _ _ (group (needs p (right_of (operator_part o)) b) (is_compound_base b) (listed p b) (spell p b) (read p b s.1) rest ts e r))))
+    read p (Tree.logic o a b) s rest ts e r =
+        simp append_assoc (group (needs p (left_of part.Logic) a) (is_compound_base a) (listed p a) (spell p a) (read p a s.0) _ _ (ends_at true 32 _ refl refl refl refl refl) (blank _ _ (read_logic o _ _ (group (needs p (right_of part.Logic) b) (is_compound_base b) (listed p b) (spell p b) (read p b s.1) rest ts e r))))
+    read p (Tree.conditional a b c) s rest ts e r =
+        simp append_assoc (group (needs p part.Logic a) (is_compound_base a) (listed p a) (spell p a) (read p a s.0) _ _ (ends_at true 32 _ refl refl refl refl refl) (spaced sign.Question _ _ refl (group (needs p part.Assignment b) (is_compound_base b) (listed p b) (spell p b) (read p b s.1) _ _ (ends_at true 32 _ refl refl refl refl refl) (spaced sign.Pipe _ _ refl (group (needs p part.Conditional c) (is_compound_base c) (listed p c) (spell p c) (read p c s.2) rest ts e r)))))
+    read p (Tree.index a b) s rest ts e r =
+        simp append_assoc (base (is_compound_base a) (listed p a) (spell p a) (read p a s.0) _ _ (ends_at false 91 _ refl refl refl refl refl) (plain sign.LeftBracket (λ b. refl) _ _ (read p b s.1 _ _ (ends_at (is_compound_base b) 93 _ refl refl refl refl refl) (plain sign.RightBracket (λ b. refl) rest ts r))))
+    read p (Tree.range a b c) s rest ts e r =
+        simp append_assoc (base (is_compound_base a) (listed p a) (spell p a) (read p a s.0) _ _ (ends_at false 91 _ refl refl refl refl refl) (plain sign.LeftBracket (λ b. refl) _ _ (read p b s.1 _ _ (ends_dots (is_compound_base b) _) (plain sign.DotDot (λ b. refl) _ _ (read p c s.2 _ _ (ends_at (is_compound_base c) 93 _ refl refl refl refl refl) (plain sign.RightBracket (λ b. refl) rest ts r))))))
+    read p (Tree.list xs) s rest ts e r =
+        simp append_assoc (plain sign.LeftBrace (λ b. refl) _ _ (read_items p xs s _ _ (ends_at true 125 _ refl refl refl refl refl) (plain sign.RightBrace (λ b. refl) rest ts r)))
+    read p (Tree.property a b) s rest ts e r =
+        read_selected sign.Dot tt b (constant_name b) refl (is_system_object a) (in_parentheses (is_compound_base a) (listed p a)) (listed p b) (λ ts. parens (is_compound_base a) (spell p a) ts) (spell p b) (base (is_compound_base a) (listed p a) (spell p a) (read p a s.0)) (λ rest ts e r. read p b s.1 rest ts (loosely (is_compound_base b) rest e) r) rest ts e r
+    read p (Tree.verb_call a b xs) s rest ts e r =
+        simp append_assoc (read_selected sign.Colon tt b (constant_name b) refl (is_system_object a) (in_parentheses (is_compound_base a) (listed p a)) (listed p b) (λ ts. parens (is_compound_base a) (spell p a) ts) (spell p b) (base (is_compound_base a) (listed p a) (spell p a) (read p a s.0)) (λ rest ts e r. read p b s.1 rest ts (loosely (is_compound_base b) rest e) r) _ _ (ends_at false 40 _ refl refl refl refl refl) (plain sign.LeftParen (λ b. refl) _ _ (read_items p xs s.2 _ _ (ends_at true 41 _ refl refl refl refl refl) (plain sign.RightParen (λ b. refl) rest ts r))))
+    read p (Tree.call w xs) s rest ts e r =
+        simp append_assoc (step (token.Name w) _ _ s.0 refl (plain sign.LeftParen (λ b. refl) _ _ (read_items p xs s.1 _ _ (ends_at true 41 _ refl refl refl refl refl) (plain sign.RightParen (λ b. refl) rest ts r))))
+    read p (Tree.assign a b) s rest ts e r =
+        simp append_assoc (group (is_compound a) (is_compound_base a) (listed p a) (spell p a) (read p a s.0) _ _ (ends_at true 32 _ refl refl refl refl refl) (spaced sign.Assign _ _ refl (read p b s.1 rest ts (loosely (is_compound_base b) rest e) r)))
+    read p (Tree.catch a c) s rest ts e r =
+        simp append_assoc (plain sign.Backquote (λ b. refl) _ _ (read p a s.0 _ _ (ends_at (is_compound_base a) 32 _ refl refl refl refl refl) (spaced sign.Bang _ _ refl (read_codes p c s.1 _ _ (ends_at true 39 _ refl refl refl refl refl) (plain sign.Quote (λ b. refl) rest ts r)))))
+    read p (Tree.catch_or a c b) s rest ts e r =
+        simp append_assoc (plain sign.Backquote (λ b. refl) _ _ (read p a s.0 _ _ (ends_at (is_compound_base a) 32 _ refl refl refl refl refl) (spaced sign.Bang _ _ refl (read_codes p c s.1 _ _ (ends_at true 32 _ refl refl refl refl refl) (spaced sign.Arrow _ _ refl (read p b s.2 _ _ (ends_at (is_compound_base b) 39 _ refl refl refl refl refl) (plain sign.Quote (λ b. refl) rest ts r)))))))
 
-    read_items : (xs : Items) → AreSound xs → (rest : List ℕ) (ts : List Token) → Ends true rest → Reads n below rest ts → Reads n below (listed_items xs ++ rest) (spell_items xs ts)
-    read_items Tree.no_items s rest ts e r = r
-    read_items (Tree.element a xs) s rest ts e r =
-        simp append_assoc (read a s.0 _ _ (loosely (is_compound_base a) _ (ends_further xs rest e)) (read_further xs rest ts (read_items xs s.1 rest ts e r)))
-    read_items (Tree.splice a xs) s rest ts e r =
-        simp append_assoc (plain sign.At (λ b. refl) _ _ (read a s.0 _ _ (loosely (is_compound_base a) _ (ends_further xs rest e)) (read_further xs rest ts (read_items xs s.1 rest ts e r))))
-    read_items (Tree.optional w xs) s rest ts e r =
-        simp append_assoc (plain sign.Question (λ b. refl) _ _ (step (token.Name w) _ _ s.0 (ends_further xs rest e).name (read_further xs rest ts (read_items xs s.1 rest ts e r))))
-    read_items (Tree.defaulted w a xs) s rest ts e r =
-        simp append_assoc (plain sign.Question (λ b. refl) _ _ (step (token.Name w) _ _ s.0 refl (spaced sign.Assign _ _ refl (read a s.1 _ _ (loosely (is_compound_base a) _ (ends_further xs rest e)) (read_further xs rest ts (read_items xs s.2 rest ts e r))))))
+    read_items : (p : Parentheses) (xs : Items) → AreSound xs → (rest : List ℕ) (ts : List Token) → Ends true rest → Reads n below rest ts → Reads n below (listed_items p xs ++ rest) (spell_items p xs ts)
+    read_items p Tree.no_items s rest ts e r = r
+    read_items p (Tree.element a xs) s rest ts e r =
+        simp append_assoc (read p a s.0 _ _ (loosely (is_compound_base a) _ (ends_further p xs rest e)) (read_further p xs rest ts (read_items p xs s.1 rest ts e r)))
+    read_items p (Tree.splice a xs) s rest ts e r =
+        simp append_assoc (plain sign.At (λ b. refl) _ _ (read p a s.0 _ _ (loosely (is_compound_base a) _ (ends_further p xs rest e)) (read_further p xs rest ts (read_items p xs s.1 rest ts e r))))
+    read_items p (Tree.optional w xs) s rest ts e r =
+        simp append_assoc (plain sign.Question (λ b. refl) _ _ (step (token.Name w) _ _ s.0 (ends_further p xs rest e).name (read_further p xs rest ts (read_items p xs s.1 rest ts e r))))
+    read_items p (Tree.defaulted w a xs) s rest ts e r =
+        simp append_assoc (plain sign.Question (λ b. refl) _ _ (step (token.Name w) _ _ s.0 refl (spaced sign.Assign _ _ refl (read p a s.1 _ _ (loosely (is_compound_base a) _ (ends_further p xs rest e)) (read_further p xs rest ts (read_items p xs s.2 rest ts e r))))))
 
-    pub read_codes : (c : Codes) → AreSoundCodes c → (rest : List ℕ) (ts : List Token) → Ends true rest → Reads n below rest ts → Reads n below (listed_codes c ++ rest) (spell_codes c ts)
-    read_codes Tree.any_error s rest ts e r = step (token.Keyword keyword.Any) rest ts tt e.name r
-    read_codes (Tree.listed_errors xs) s rest ts e r = read_items xs s rest ts e r
+    pub read_codes : (p : Parentheses) (c : Codes) → AreSoundCodes c → (rest : List ℕ) (ts : List Token) → Ends true rest → Reads n below rest ts → Reads n below (listed_codes p c ++ rest) (spell_codes p c ts)
+    read_codes p Tree.any_error s rest ts e r = step (token.Keyword keyword.Any) rest ts tt e.name r
+    read_codes p (Tree.listed_errors xs) s rest ts e r = read_items p xs s rest ts e r
 
   pub read_label : (l : Option (List ℕ)) → IsSoundLabel l → (rest : List ℕ) (ts : List Token) → begins_with continues_name rest ≡ false → Reads n below rest ts → Reads n below (Listing.labelled l ++ rest) (spell_label l ts)
   read_label None s rest ts e r = r

@@ -1,24 +1,31 @@
 //! Expressions.
 ghost use Rattle.std.specs.Prelude.{◌≡◌, ◌++◌, codes, OnOk};
-ghost use Rattle.moo_value.specs.Text.{literal as text_of};
 ghost use Rattle.moo_token.specs.Spelling.{sign_text};
-ghost use Rattle.moo_program.specs.Tree.{binary, logic, conditional, index, range, list, verb_call, call, assign, catch, catch_or, literal_value};
+ghost use Rattle.moo_program.specs.Tree.{binary, logic, conditional, index, range, list, verb_call, call, assign, catch, catch_or};
 ghost use Rattle.moo_program.specs.View.{tree, items_of, codes_of};
-ghost use Rattle.moo_program.specs.Listing.{listed, listed_items, listed_codes, is_compound, is_compound_base, in_parentheses, constant_name, is_system_object, selected};
+ghost use Rattle.moo_program.specs.Listing.{is_compound, is_compound_base, in_parentheses, constant_name, is_system_object, selected};
+ghost use Rattle.moo_unparse.specs.Parts.{needs, operator_part, left_of, right_of};
+ghost use Rattle.moo_unparse.specs.Listings.{listed, listed_items, listed_codes};
 ghost use Rattle.moo_unparse.specs.Items.{listed_item};
 
+use crate::form::{Parentheses, Part, operator_part};
 use crate::line::Line;
+use crate::literal::write_literal;
 use crate::operator::{write_binary_operator, write_logic_operator, write_unary_operator};
 use moo_program::operator::{BinaryOperator, LogicOperator};
 use moo_program::shape::{constant_name, is_compound, is_compound_base, is_system_object};
-use moo_program::{Codes, Expr, Item, Literal};
+use moo_program::{Codes, Expr, Item};
 use moo_token::Sign;
 use moo_value::MooStr;
 use std::alloc::AllocError;
 
 #[cycle(listing)]
-pub(crate) fn write_expression(expr: &Expr, line: &mut Line) -> Result<(), AllocError>
-    ensures { OnOk result (line.new ≡ line.old ++ listed (tree expr.now)) }
+pub(crate) fn write_expression(
+    parentheses: Parentheses,
+    expr: &Expr,
+    line: &mut Line,
+) -> Result<(), AllocError>
+    ensures { OnOk result (line.new ≡ line.old ++ listed parentheses (tree expr.now)) }
 {
     match expr {
         Expr::Literal(literal) => write_literal(literal, line),
@@ -26,133 +33,190 @@ pub(crate) fn write_expression(expr: &Expr, line: &mut Line) -> Result<(), Alloc
         Expr::Length => line.sign(Sign::Dollar),
         Expr::Unary(operator, operand) => {
             write_unary_operator(*operator, line)?;
-            write_operand(operand, line)
+            write_operand(parentheses, Part::Sign, operand, line)
         }
-        Expr::Binary(operator, left, right) => write_binary(*operator, left, right, line),
-        Expr::Logic(operator, left, right) => write_logic(*operator, left, right, line),
-        Expr::Conditional(test, first, second) => { write_conditional(test, first, second, line) }
-        Expr::Index(base, place) => write_index(base, place, line),
-        Expr::Range(base, low, high) => write_range(base, low, high, line),
-        Expr::List(items) => write_list(items, line),
-        Expr::Property(base, name) => write_selected(base, Sign::Dot, name, line),
-        Expr::VerbCall(base, name, arguments) => write_verb_call(base, name, arguments, line),
-        Expr::Call(name, arguments) => write_call(name, arguments, line),
-        Expr::Assign(target, value) => write_assignment(target, value, line),
-        Expr::Catch(value, errors, None) => write_catch(value, errors, line),
-        Expr::Catch(value, errors, Some(default)) => write_catch_or(value, errors, default, line),
+        Expr::Binary(operator, left, right) => write_binary(
+            parentheses,
+            *operator,
+            left,
+            right,
+            line,
+        ),
+        Expr::Logic(operator, left, right) => write_logic(
+            parentheses,
+            *operator,
+            left,
+            right,
+            line,
+        ),
+        Expr::Conditional(test, first, second) => {
+            write_conditional(parentheses, test, first, second, line)
+        }
+        Expr::Index(base, place) => write_index(parentheses, base, place, line),
+        Expr::Range(base, low, high) => write_range(parentheses, base, low, high, line),
+        Expr::List(items) => write_list(parentheses, items, line),
+        Expr::Property(base, name) => write_selected(parentheses, base, Sign::Dot, name, line),
+        Expr::VerbCall(base, name, arguments) => write_verb_call(
+            parentheses,
+            base,
+            name,
+            arguments,
+            line,
+        ),
+        Expr::Call(name, arguments) => write_call(parentheses, name, arguments, line),
+        Expr::Assign(target, value) => write_assignment(parentheses, target, value, line),
+        Expr::Catch(value, errors, None) => write_catch(parentheses, value, errors, line),
+        Expr::Catch(value, errors, Some(default)) => write_catch_or(
+            parentheses,
+            value,
+            errors,
+            default,
+            line,
+        ),
     }
 }
 
 // An expression, in parentheses or bare.
 #[cycle(listing)]
-fn write_in_parentheses(are_needed: bool, expr: &Expr, line: &mut Line) -> Result<(), AllocError>
-    ensures { OnOk result (line.new ≡ line.old ++ in_parentheses are_needed (listed (tree expr.now))) }
+fn write_in_parentheses(
+    parentheses: Parentheses,
+    are_needed: bool,
+    expr: &Expr,
+    line: &mut Line,
+) -> Result<(), AllocError>
+    ensures { OnOk result (line.new ≡ line.old ++ in_parentheses are_needed (listed parentheses (tree expr.now))) }
 {
     if !are_needed {
-        return write_expression(expr, line);
+        return write_expression(parentheses, expr, line);
     }
     line.sign(Sign::LeftParen)?;
-    write_expression(expr, line)?;
+    write_expression(parentheses, expr, line)?;
     line.sign(Sign::RightParen)
 }
 
 #[cycle(listing)]
-fn write_operand(expr: &Expr, line: &mut Line) -> Result<(), AllocError>
-    ensures { OnOk result (line.new ≡ line.old ++ in_parentheses (is_compound (tree expr.now)) (listed (tree expr.now))) }
+fn write_operand(
+    parentheses: Parentheses,
+    least: Part,
+    expr: &Expr,
+    line: &mut Line,
+) -> Result<(), AllocError>
+    ensures { OnOk result (line.new ≡ line.old ++ in_parentheses (needs parentheses least (tree expr.now)) (listed parentheses (tree expr.now))) }
 {
-    write_in_parentheses(is_compound(expr), expr, line)
+    write_in_parentheses(parentheses, parentheses.needs(least, expr), expr, line)
 }
 
 #[cycle(listing)]
-fn write_base(expr: &Expr, line: &mut Line) -> Result<(), AllocError>
-    ensures { OnOk result (line.new ≡ line.old ++ in_parentheses (is_compound_base (tree expr.now)) (listed (tree expr.now))) }
+fn write_base(parentheses: Parentheses, expr: &Expr, line: &mut Line) -> Result<(), AllocError>
+    ensures { OnOk result (line.new ≡ line.old ++ in_parentheses (is_compound_base (tree expr.now)) (listed parentheses (tree expr.now))) }
 {
-    write_in_parentheses(is_compound_base(expr), expr, line)
+    write_in_parentheses(parentheses, is_compound_base(expr), expr, line)
 }
 
 #[cycle(listing)]
 fn write_binary(
+    parentheses: Parentheses,
     operator: BinaryOperator,
     left: &Expr,
     right: &Expr,
     line: &mut Line,
 ) -> Result<(), AllocError>
-    ensures { OnOk result (line.new ≡ line.old ++ listed (binary operator (tree left.now) (tree right.now))) }
+    ensures { OnOk result (line.new ≡ line.old ++ listed parentheses (binary operator (tree left.now) (tree right.now))) }
 {
-    write_operand(left, line)?;
+    let part = operator_part(operator);
+    write_operand(parentheses, part.left(), left, line)?;
     line.blank()?;
     write_binary_operator(operator, line)?;
     line.blank()?;
-    write_operand(right, line)
+    write_operand(parentheses, part.right(), right, line)
 }
 
 #[cycle(listing)]
 fn write_logic(
+    parentheses: Parentheses,
     operator: LogicOperator,
     left: &Expr,
     right: &Expr,
     line: &mut Line,
 ) -> Result<(), AllocError>
-    ensures { OnOk result (line.new ≡ line.old ++ listed (logic operator (tree left.now) (tree right.now))) }
+    ensures { OnOk result (line.new ≡ line.old ++ listed parentheses (logic operator (tree left.now) (tree right.now))) }
 {
-    write_operand(left, line)?;
+    write_operand(parentheses, Part::Logic.left(), left, line)?;
     line.blank()?;
     write_logic_operator(operator, line)?;
     line.blank()?;
-    write_operand(right, line)
+    write_operand(parentheses, Part::Logic.right(), right, line)
 }
 
 #[cycle(listing)]
 fn write_conditional(
+    parentheses: Parentheses,
     test: &Expr,
     first: &Expr,
     second: &Expr,
     line: &mut Line,
 ) -> Result<(), AllocError>
-    ensures { OnOk result (line.new ≡ line.old ++ listed (conditional (tree test.now) (tree first.now) (tree second.now))) }
+    ensures { OnOk result (line.new ≡ line.old ++ listed parentheses (conditional (tree test.now) (tree first.now) (tree second.now))) }
 {
-    write_operand(test, line)?;
+    write_operand(parentheses, Part::Logic, test, line)?;
     line.spaced_sign(Sign::Question)?;
-    write_operand(first, line)?;
+    write_operand(parentheses, Part::Assignment, first, line)?;
     line.spaced_sign(Sign::Pipe)?;
-    write_operand(second, line)
+    write_operand(parentheses, Part::Conditional, second, line)
 }
 
 #[cycle(listing)]
-fn write_index(base: &Expr, place: &Expr, line: &mut Line) -> Result<(), AllocError>
-    ensures { OnOk result (line.new ≡ line.old ++ listed (index (tree base.now) (tree place.now))) }
+fn write_index(
+    parentheses: Parentheses,
+    base: &Expr,
+    place: &Expr,
+    line: &mut Line,
+) -> Result<(), AllocError>
+    ensures { OnOk result (line.new ≡ line.old ++ listed parentheses (index (tree base.now) (tree place.now))) }
 {
-    write_base(base, line)?;
+    write_base(parentheses, base, line)?;
     line.sign(Sign::LeftBracket)?;
-    write_expression(place, line)?;
+    write_expression(parentheses, place, line)?;
     line.sign(Sign::RightBracket)
 }
 
 #[cycle(listing)]
-fn write_range(base: &Expr, low: &Expr, high: &Expr, line: &mut Line) -> Result<(), AllocError>
-    ensures { OnOk result (line.new ≡ line.old ++ listed (range (tree base.now) (tree low.now) (tree high.now))) }
+fn write_range(
+    parentheses: Parentheses,
+    base: &Expr,
+    low: &Expr,
+    high: &Expr,
+    line: &mut Line,
+) -> Result<(), AllocError>
+    ensures { OnOk result (line.new ≡ line.old ++ listed parentheses (range (tree base.now) (tree low.now) (tree high.now))) }
 {
-    write_base(base, line)?;
+    write_base(parentheses, base, line)?;
     line.sign(Sign::LeftBracket)?;
-    write_expression(low, line)?;
+    write_expression(parentheses, low, line)?;
     line.sign(Sign::DotDot)?;
-    write_expression(high, line)?;
+    write_expression(parentheses, high, line)?;
     line.sign(Sign::RightBracket)
 }
 
 #[cycle(listing)]
-fn write_list(items: &[Item], line: &mut Line) -> Result<(), AllocError>
-    ensures { OnOk result (line.new ≡ line.old ++ listed (list (items_of items.now))) }
+fn write_list(parentheses: Parentheses, items: &[Item], line: &mut Line) -> Result<(), AllocError>
+    ensures { OnOk result (line.new ≡ line.old ++ listed parentheses (list (items_of items.now))) }
 {
     line.sign(Sign::LeftBrace)?;
-    write_items(items, line)?;
+    write_items(parentheses, items, line)?;
     line.sign(Sign::RightBrace)
 }
 
 // A property or a verb of the base, behind this sign.
 #[cycle(listing)]
-fn write_selected(base: &Expr, sign: Sign, name: &Expr, line: &mut Line) -> Result<(), AllocError>
-    ensures { OnOk result (line.new ≡ line.old ++ selected (sign_text sign) (constant_name (tree name.now)) (is_system_object (tree base.now)) (in_parentheses (is_compound_base (tree base.now)) (listed (tree base.now))) (listed (tree name.now))) }
+fn write_selected(
+    parentheses: Parentheses,
+    base: &Expr,
+    sign: Sign,
+    name: &Expr,
+    line: &mut Line,
+) -> Result<(), AllocError>
+    ensures { OnOk result (line.new ≡ line.old ++ selected (sign_text sign) (constant_name (tree name.now)) (is_system_object (tree base.now)) (in_parentheses (is_compound_base (tree base.now)) (listed parentheses (tree base.now))) (listed parentheses (tree name.now))) }
 {
     match constant_name(name) {
         Some(text) if is_system_object(base) => {
@@ -160,15 +224,15 @@ fn write_selected(base: &Expr, sign: Sign, name: &Expr, line: &mut Line) -> Resu
             line.text(text.as_bytes())
         }
         Some(text) => {
-            write_base(base, line)?;
+            write_base(parentheses, base, line)?;
             line.sign(sign)?;
             line.text(text.as_bytes())
         }
         None => {
-            write_base(base, line)?;
+            write_base(parentheses, base, line)?;
             line.sign(sign)?;
             line.sign(Sign::LeftParen)?;
-            write_expression(name, line)?;
+            write_expression(parentheses, name, line)?;
             line.sign(Sign::RightParen)
         }
     }
@@ -176,118 +240,148 @@ fn write_selected(base: &Expr, sign: Sign, name: &Expr, line: &mut Line) -> Resu
 
 #[cycle(listing)]
 fn write_verb_call(
+    parentheses: Parentheses,
     base: &Expr,
     name: &Expr,
     arguments: &[Item],
     line: &mut Line,
 ) -> Result<(), AllocError>
-    ensures { OnOk result (line.new ≡ line.old ++ listed (verb_call (tree base.now) (tree name.now) (items_of arguments.now))) }
+    ensures { OnOk result (line.new ≡ line.old ++ listed parentheses (verb_call (tree base.now) (tree name.now) (items_of arguments.now))) }
 {
-    write_selected(base, Sign::Colon, name, line)?;
-    write_arguments(arguments, line)
+    write_selected(parentheses, base, Sign::Colon, name, line)?;
+    write_arguments(parentheses, arguments, line)
 }
 
 #[cycle(listing)]
-fn write_call(name: &MooStr, arguments: &[Item], line: &mut Line) -> Result<(), AllocError>
-    ensures { OnOk result (line.new ≡ line.old ++ listed (call name.now (items_of arguments.now))) }
+fn write_call(
+    parentheses: Parentheses,
+    name: &MooStr,
+    arguments: &[Item],
+    line: &mut Line,
+) -> Result<(), AllocError>
+    ensures { OnOk result (line.new ≡ line.old ++ listed parentheses (call name.now (items_of arguments.now))) }
 {
     line.text(name.as_bytes())?;
-    write_arguments(arguments, line)
+    write_arguments(parentheses, arguments, line)
 }
 
 #[cycle(listing)]
-fn write_arguments(arguments: &[Item], line: &mut Line) -> Result<(), AllocError>
-    ensures { OnOk result (line.new ≡ line.old ++ codes "(" ++ listed_items (items_of arguments.now) ++ codes ")") }
+fn write_arguments(
+    parentheses: Parentheses,
+    arguments: &[Item],
+    line: &mut Line,
+) -> Result<(), AllocError>
+    ensures { OnOk result (line.new ≡ line.old ++ codes "(" ++ listed_items parentheses (items_of arguments.now) ++ codes ")") }
 {
     line.sign(Sign::LeftParen)?;
-    write_items(arguments, line)?;
+    write_items(parentheses, arguments, line)?;
     line.sign(Sign::RightParen)
 }
 
 #[cycle(listing)]
-fn write_assignment(target: &Expr, value: &Expr, line: &mut Line) -> Result<(), AllocError>
-    ensures { OnOk result (line.new ≡ line.old ++ listed (assign (tree target.now) (tree value.now))) }
+fn write_assignment(
+    parentheses: Parentheses,
+    target: &Expr,
+    value: &Expr,
+    line: &mut Line,
+) -> Result<(), AllocError>
+    ensures { OnOk result (line.new ≡ line.old ++ listed parentheses (assign (tree target.now) (tree value.now))) }
 {
-    write_operand(target, line)?;
+    write_in_parentheses(parentheses, is_compound(target), target, line)?;
     line.spaced_sign(Sign::Assign)?;
-    write_expression(value, line)
+    write_expression(parentheses, value, line)
 }
 
 #[cycle(listing)]
-fn write_catch(value: &Expr, errors: &Codes, line: &mut Line) -> Result<(), AllocError>
-    ensures { OnOk result (line.new ≡ line.old ++ listed (catch (tree value.now) (codes_of errors.now))) }
+fn write_catch(
+    parentheses: Parentheses,
+    value: &Expr,
+    errors: &Codes,
+    line: &mut Line,
+) -> Result<(), AllocError>
+    ensures { OnOk result (line.new ≡ line.old ++ listed parentheses (catch (tree value.now) (codes_of errors.now))) }
 {
-    write_caught(value, errors, line)?;
+    write_caught(parentheses, value, errors, line)?;
     line.sign(Sign::Quote)
 }
 
 #[cycle(listing)]
 fn write_catch_or(
+    parentheses: Parentheses,
     value: &Expr,
     errors: &Codes,
     default: &Expr,
     line: &mut Line,
 ) -> Result<(), AllocError>
-    ensures { OnOk result (line.new ≡ line.old ++ listed (catch_or (tree value.now) (codes_of errors.now) (tree default.now))) }
+    ensures { OnOk result (line.new ≡ line.old ++ listed parentheses (catch_or (tree value.now) (codes_of errors.now) (tree default.now))) }
 {
-    write_caught(value, errors, line)?;
+    write_caught(parentheses, value, errors, line)?;
     line.spaced_sign(Sign::Arrow)?;
-    write_expression(default, line)?;
+    write_expression(parentheses, default, line)?;
     line.sign(Sign::Quote)
 }
 
 // A catch up to the errors that it names.
 #[cycle(listing)]
-fn write_caught(value: &Expr, errors: &Codes, line: &mut Line) -> Result<(), AllocError>
-    ensures { OnOk result (line.new ≡ line.old ++ codes "`" ++ listed (tree value.now) ++ codes " ! " ++ listed_codes (codes_of errors.now)) }
+fn write_caught(
+    parentheses: Parentheses,
+    value: &Expr,
+    errors: &Codes,
+    line: &mut Line,
+) -> Result<(), AllocError>
+    ensures { OnOk result (line.new ≡ line.old ++ codes "`" ++ listed parentheses (tree value.now) ++ codes " ! " ++ listed_codes parentheses (codes_of errors.now)) }
 {
     line.sign(Sign::Backquote)?;
-    write_expression(value, line)?;
+    write_expression(parentheses, value, line)?;
     line.spaced_sign(Sign::Bang)?;
-    write_codes(errors, line)
+    write_codes(parentheses, errors, line)
 }
 
 #[cycle(listing)]
-pub(crate) fn write_codes(errors: &Codes, line: &mut Line) -> Result<(), AllocError>
-    ensures { OnOk result (line.new ≡ line.old ++ listed_codes (codes_of errors.now)) }
+pub(crate) fn write_codes(
+    parentheses: Parentheses,
+    errors: &Codes,
+    line: &mut Line,
+) -> Result<(), AllocError>
+    ensures { OnOk result (line.new ≡ line.old ++ listed_codes parentheses (codes_of errors.now)) }
 {
     match errors {
         Codes::Any => line.any(),
-        Codes::Listed(items) => write_items(items, line),
+        Codes::Listed(items) => write_items(parentheses, items, line),
     }
 }
 
 #[cycle(listing)]
-fn write_items(items: &[Item], line: &mut Line) -> Result<(), AllocError>
-    ensures { OnOk result (line.new ≡ line.old ++ listed_items (items_of items.now)) }
+fn write_items(parentheses: Parentheses, items: &[Item], line: &mut Line) -> Result<(), AllocError>
+    ensures { OnOk result (line.new ≡ line.old ++ listed_items parentheses (items_of items.now)) }
 {
     let Some((first, others)) = items.split_first() else {
         return Ok(());
     };
-    write_item(first, line)?;
+    write_item(parentheses, first, line)?;
     for item in others {
         line.sign(Sign::Comma)?;
         line.blank()?;
-        write_item(item, line)?;
+        write_item(parentheses, item, line)?;
     }
     Ok(())
 }
 
 #[cycle(listing)]
-fn write_item(item: &Item, line: &mut Line) -> Result<(), AllocError>
-    ensures { OnOk result (line.new ≡ line.old ++ listed_item item.now) }
+fn write_item(parentheses: Parentheses, item: &Item, line: &mut Line) -> Result<(), AllocError>
+    ensures { OnOk result (line.new ≡ line.old ++ listed_item parentheses item.now) }
 {
     match item {
-        Item::Element(expr) => write_expression(expr, line),
+        Item::Element(expr) => write_expression(parentheses, expr, line),
         Item::Splice(expr) => {
             line.sign(Sign::At)?;
-            write_expression(expr, line)
+            write_expression(parentheses, expr, line)
         }
         Item::Optional(name, None) => write_optional(name, line),
         Item::Optional(name, Some(default)) => {
             write_optional(name, line)?;
             line.spaced_sign(Sign::Assign)?;
-            write_expression(default, line)
+            write_expression(parentheses, default, line)
         }
     }
 }
@@ -297,15 +391,4 @@ fn write_optional(name: &MooStr, line: &mut Line) -> Result<(), AllocError>
 {
     line.sign(Sign::Question)?;
     line.text(name.as_bytes())
-}
-
-fn write_literal(literal: &Literal, line: &mut Line) -> Result<(), AllocError>
-    ensures { OnOk result (line.new ≡ line.old ++ text_of (literal_value literal.now)) }
-{
-    match literal {
-        Literal::Integer(number) => line.number(*number),
-        Literal::Object(number) => line.object(*number),
-        Literal::Error(error) => line.text(error.name().as_bytes()),
-        Literal::Str(string) => line.quoted(string.as_bytes()),
-    }
 }

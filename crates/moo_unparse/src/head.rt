@@ -2,9 +2,11 @@
 ghost use Rattle.std.specs.Prelude.{◌≡◌, ◌++◌, codes, Some, None, IfOk, OnOk};
 ghost use Rattle.moo_token.specs.Words.{keyword_text};
 ghost use Rattle.moo_program.specs.View.{tree, codes_of, statement as tree_of};
-ghost use Rattle.moo_program.specs.Listing.{listed, listed_codes, head, elseif_head, except_head, labelled};
+ghost use Rattle.moo_program.specs.Listing.{labelled};
+ghost use Rattle.moo_unparse.specs.Listings.{listed, listed_codes, head, elseif_head, except_head};
 
 use crate::expression::{write_codes, write_expression};
+use crate::form::Parentheses;
 use crate::line::Line;
 use moo_program::{Codes, Expr, Stmt};
 use moo_token::{Keyword, Sign};
@@ -12,70 +14,95 @@ use moo_value::MooStr;
 use std::alloc::{AllocError, Global};
 
 /// The line of a keyword by itself.
-pub(crate) fn keyword_line(alloc: Global, keyword: Keyword) -> Result<Line, AllocError>
-    ensures { IfOk result (λ line. line ≡ keyword_text keyword) }
+pub(crate) fn keyword_line(
+    alloc: Global,
+    margin: &Line,
+    keyword: Keyword,
+) -> Result<Line, AllocError>
+    ensures { IfOk result (λ line. line ≡ margin.now ++ keyword_text keyword) }
 {
-    let mut line = Line::new(alloc);
+    let mut line = margin.try_clone(alloc)?;
     line.keyword(keyword)?;
     Ok(line)
 }
 
-pub(crate) fn head_line(alloc: Global, statement: &Stmt) -> Result<Line, AllocError>
-    ensures { IfOk result (λ line. line ≡ head (tree_of statement.now)) }
+pub(crate) fn head_line(
+    alloc: Global,
+    parentheses: Parentheses,
+    margin: &Line,
+    statement: &Stmt,
+) -> Result<Line, AllocError>
+    ensures { IfOk result (λ line. line ≡ margin.now ++ head parentheses (tree_of statement.now)) }
 {
-    let mut line = Line::new(alloc);
-    write_head(statement, &mut line)?;
+    let mut line = margin.try_clone(alloc)?;
+    write_head(parentheses, statement, &mut line)?;
     Ok(line)
 }
 
-pub(crate) fn elseif_line(alloc: Global, condition: &Expr) -> Result<Line, AllocError>
-    ensures { IfOk result (λ line. line ≡ elseif_head (tree condition.now)) }
+pub(crate) fn elseif_line(
+    alloc: Global,
+    parentheses: Parentheses,
+    margin: &Line,
+    condition: &Expr,
+) -> Result<Line, AllocError>
+    ensures { IfOk result (λ line. line ≡ margin.now ++ elseif_head parentheses (tree condition.now)) }
 {
-    let mut line = Line::new(alloc);
+    let mut line = margin.try_clone(alloc)?;
     line.keyword(Keyword::ElseIf)?;
-    write_condition(condition, &mut line)?;
+    write_condition(parentheses, condition, &mut line)?;
     Ok(line)
 }
 
-pub(crate) fn except_line(alloc: Global, errors: &Codes) -> Result<Line, AllocError>
-    ensures { IfOk result (λ line. line ≡ except_head None (codes_of errors.now)) }
+pub(crate) fn except_line(
+    alloc: Global,
+    parentheses: Parentheses,
+    margin: &Line,
+    errors: &Codes,
+) -> Result<Line, AllocError>
+    ensures { IfOk result (λ line. line ≡ margin.now ++ except_head parentheses None (codes_of errors.now)) }
 {
-    let mut line = Line::new(alloc);
+    let mut line = margin.try_clone(alloc)?;
     line.keyword(Keyword::Except)?;
-    write_errors(errors, &mut line)?;
+    write_errors(parentheses, errors, &mut line)?;
     Ok(line)
 }
 
 pub(crate) fn except_as_line(
     alloc: Global,
+    parentheses: Parentheses,
+    margin: &Line,
     name: &MooStr,
     errors: &Codes,
 ) -> Result<Line, AllocError>
-    ensures { IfOk result (λ line. line ≡ except_head (Some name.now) (codes_of errors.now)) }
+    ensures { IfOk result (λ line. line ≡ margin.now ++ except_head parentheses (Some name.now) (codes_of errors.now)) }
 {
-    let mut line = Line::new(alloc);
+    let mut line = margin.try_clone(alloc)?;
     line.keyword(Keyword::Except)?;
     line.blank()?;
     line.text(name.as_bytes())?;
-    write_errors(errors, &mut line)?;
+    write_errors(parentheses, errors, &mut line)?;
     Ok(line)
 }
 
-fn write_errors(errors: &Codes, line: &mut Line) -> Result<(), AllocError>
-    ensures { OnOk result (line.new ≡ line.old ++ codes " (" ++ listed_codes (codes_of errors.now) ++ codes ")") }
+fn write_errors(parentheses: Parentheses, errors: &Codes, line: &mut Line) -> Result<(), AllocError>
+    ensures { OnOk result (line.new ≡ line.old ++ codes " (" ++ listed_codes parentheses (codes_of errors.now) ++ codes ")") }
 {
     line.blank()?;
     line.sign(Sign::LeftParen)?;
-    write_codes(errors, line)?;
+    write_codes(parentheses, errors, line)?;
     line.sign(Sign::RightParen)
 }
 
-fn write_condition(condition: &Expr, line: &mut Line) -> Result<(), AllocError>
-    ensures { OnOk result (line.new ≡ line.old ++ codes " (" ++ listed (tree condition.now) ++ codes ")") }
+fn write_condition(
+    parentheses: Parentheses,
+    condition: &Expr,
+    line: &mut Line,
+) -> Result<(), AllocError>
+    ensures { OnOk result (line.new ≡ line.old ++ codes " (" ++ listed parentheses (tree condition.now) ++ codes ")") }
 {
     line.blank()?;
     line.sign(Sign::LeftParen)?;
-    write_expression(condition, line)?;
+    write_expression(parentheses, condition, line)?;
     line.sign(Sign::RightParen)
 }
 
@@ -100,23 +127,28 @@ fn write_for(name: &MooStr, line: &mut Line) -> Result<(), AllocError>
     line.keyword(Keyword::In)
 }
 
-fn write_range(low: &Expr, high: &Expr, line: &mut Line) -> Result<(), AllocError>
-    ensures { OnOk result (line.new ≡ line.old ++ codes " [" ++ listed (tree low.now) ++ codes ".." ++ listed (tree high.now) ++ codes "]") }
+fn write_range(
+    parentheses: Parentheses,
+    low: &Expr,
+    high: &Expr,
+    line: &mut Line,
+) -> Result<(), AllocError>
+    ensures { OnOk result (line.new ≡ line.old ++ codes " [" ++ listed parentheses (tree low.now) ++ codes ".." ++ listed parentheses (tree high.now) ++ codes "]") }
 {
     line.blank()?;
     line.sign(Sign::LeftBracket)?;
-    write_expression(low, line)?;
+    write_expression(parentheses, low, line)?;
     line.sign(Sign::DotDot)?;
-    write_expression(high, line)?;
+    write_expression(parentheses, high, line)?;
     line.sign(Sign::RightBracket)
 }
 
-fn write_return(value: &Expr, line: &mut Line) -> Result<(), AllocError>
-    ensures { OnOk result (line.new ≡ line.old ++ codes "return " ++ listed (tree value.now) ++ codes ";") }
+fn write_return(parentheses: Parentheses, value: &Expr, line: &mut Line) -> Result<(), AllocError>
+    ensures { OnOk result (line.new ≡ line.old ++ codes "return " ++ listed parentheses (tree value.now) ++ codes ";") }
 {
     line.keyword(Keyword::Return)?;
     line.blank()?;
-    write_expression(value, line)?;
+    write_expression(parentheses, value, line)?;
     line.sign(Sign::Semicolon)
 }
 
@@ -129,35 +161,35 @@ fn write_jump(keyword: Keyword, label: &Option<MooStr>, line: &mut Line) -> Resu
     line.sign(Sign::Semicolon)
 }
 
-fn write_head(statement: &Stmt, line: &mut Line) -> Result<(), AllocError>
-    ensures { OnOk result (line.new ≡ line.old ++ head (tree_of statement.now)) }
+fn write_head(parentheses: Parentheses, statement: &Stmt, line: &mut Line) -> Result<(), AllocError>
+    ensures { OnOk result (line.new ≡ line.old ++ head parentheses (tree_of statement.now)) }
 {
     match statement {
         Stmt::Return(None) => {
             line.keyword(Keyword::Return)?;
             line.sign(Sign::Semicolon)
         }
-        Stmt::Return(Some(value)) => write_return(value, line),
+        Stmt::Return(Some(value)) => write_return(parentheses, value, line),
         Stmt::Expression(value) => {
-            write_expression(value, line)?;
+            write_expression(parentheses, value, line)?;
             line.sign(Sign::Semicolon)
         }
         Stmt::If(condition, ..) => {
             line.keyword(Keyword::If)?;
-            write_condition(condition, line)
+            write_condition(parentheses, condition, line)
         }
         Stmt::ForList(name, list, _) => {
             write_for(name, line)?;
-            write_condition(list, line)
+            write_condition(parentheses, list, line)
         }
         Stmt::ForRange(name, low, high, _) => {
             write_for(name, line)?;
-            write_range(low, high, line)
+            write_range(parentheses, low, high, line)
         }
         Stmt::While(label, condition, _) => {
             line.keyword(Keyword::While)?;
             write_label(label, line)?;
-            write_condition(condition, line)
+            write_condition(parentheses, condition, line)
         }
         Stmt::Break(label) => write_jump(Keyword::Break, label, line),
         Stmt::Continue(label) => write_jump(Keyword::Continue, label, line),

@@ -3,12 +3,16 @@
 
 mod block;
 mod expression;
+mod fault;
+mod form;
 mod head;
 pub mod laws;
 mod line;
 mod listing;
+mod literal;
 mod operator;
 #[cfg(test)]
 mod tests;
 
-pub use listing::{Memory, list_full};
+pub use fault::{ListFault, Memory};
+pub use listing::{list_full, list_full_indented, list_short};

@@ -1,12 +1,14 @@
 //! A line that is being written.
-ghost use Rattle.std.specs.Prelude.{◌≡◌, ◌<◌, ◌∷◌, ◌++◌, codes, length, IfOk, OnOk};
+ghost use Rattle.std.specs.Prelude.{◌≡◌, ◌<◌, ◌∷◌, ◌++◌, codes, IfOk, IfErr, OnOk};
 ghost use Rattle.std.specs.Fmt.{signed_decimal};
 ghost use Rattle.moo_value.specs.Tree.{IsTextByte, IsText};
-ghost use Rattle.moo_value.specs.Size.{weight_limit};
 ghost use Rattle.moo_value.specs.Text.{escaped, quoted};
 ghost use Rattle.moo_token.specs.Spelling.{sign_text};
 ghost use Rattle.moo_token.specs.Words.{keyword_text};
+ghost use Rattle.moo_program.specs.Limits.{FitsLine};
+ghost use Rattle.moo_unparse.specs.Refused.{IsRefusedLine};
 
+use crate::fault::ListFault;
 use itoa::Buffer;
 use moo_token::{Keyword, Sign};
 use moo_value::{MooStr, ValueFault};
@@ -37,6 +39,13 @@ impl Line {
         Line {
             bytes: Vec::new(alloc),
         }
+    }
+
+    pub(crate) fn try_clone(&self, alloc: Global) -> Result<Line, AllocError>
+        ensures { IfOk result (λ line. line ≡ self.now) }
+    {
+        let bytes = Vec::from_slice(alloc, &self.bytes)?;
+        Ok(Line { bytes })
     }
 
     pub(crate) fn text(&mut self, text: &[u8]) -> Result<(), AllocError>
@@ -130,15 +139,17 @@ impl Line {
         &self.bytes
     }
 
-    /// The line as a string, for which it has to be short enough.
-    pub(crate) fn into_string(self, alloc: Global) -> Result<MooStr, AllocError>
-        requires { length self < weight_limit }
-        ensures { IfOk result (λ s. s ≡ self) }
+    /// The line as a string, if it is short enough for one.
+    pub(crate) fn into_string(self, alloc: Global) -> Result<MooStr, ListFault>
+        ensures ok { IfOk result (λ s. s ≡ self) }
+        ensures short { OnOk result (FitsLine self) }
+        ensures refused { IfErr result (λ fault. IsRefusedLine fault self) }
     {
         match MooStr::try_from_vec(alloc, self.bytes) {
             Ok(string) => Ok(string),
-            Err(ValueFault::Memory) => Err(AllocError),
-            Err(ValueFault::BadByte | ValueFault::TooHeavy) => unreachable!(),
+            Err(ValueFault::Memory) => Err(ListFault::Memory),
+            Err(ValueFault::TooHeavy) => Err(ListFault::TooHeavy),
+            Err(ValueFault::BadByte) => unreachable!(),
         }
     }
 }

@@ -1,44 +1,78 @@
-//! Statements and programs.
-ghost use Rattle.std.specs.Prelude.{◌≡◌, IfOk};
-ghost use Rattle.moo_program.specs.Limits.{AllFit};
+//! Programs.
+ghost use Rattle.std.specs.Prelude.{◌≡◌, IfOk, IfErr};
+ghost use Rattle.moo_program.specs.View.{block};
 ghost use Rattle.moo_program.specs.Listing.{listing};
+ghost use Rattle.moo_unparse.specs.Listings.{listing_in, indented_listing, short_listing};
+ghost use Rattle.moo_unparse.specs.Refused.{IsRefusedListing};
 
 use crate::block::write_block;
+use crate::fault::{ListFault, Memory};
+use crate::form::{Form, Parentheses};
 use crate::line::Line;
-use moo_program::Program;
+use moo_program::{Program, Stmt};
 use moo_value::MooStr;
-use std::alloc::{AllocError, Global};
-use thiserror::Error;
-
-/// There was no memory for the answer.
-#[derive(Debug, Drop, Error)]
-#[error("out of memory")]
-pub struct Memory;
-
-impl From<AllocError> for Memory {
-    fn from(_error: AllocError) -> Memory {
-        Memory
-    }
-}
+use std::alloc::Global;
 
 /// The full listing of a program: its lines, with each operand that is an operator or a conditional in
 /// parentheses. Without memory it is refused, and for no other reason.
 pub fn list_full(alloc: Global, program: &Program) -> Result<Vec<MooStr>, Memory>
     ensures { IfOk result (λ lines. lines.items ≡ listing program.now) }
 {
-    let mut lines = Vec::new(alloc);
-    write_block(alloc, program.statements(), &mut lines)?;
-    let strings = strings(alloc, lines)?;
-    Ok(strings)
+    let form = Form {
+        parentheses: Parentheses::All,
+        indent: false,
+    };
+    match list_in(alloc, form, program.statements()) {
+        Ok(lines) => Ok(lines),
+        Err(ListFault::Memory) => Err(Memory),
+        Err(ListFault::TooHeavy) => unreachable!(),
+    }
 }
 
-fn strings(alloc: Global, lines: Vec<Line>) -> Result<Vec<MooStr>, AllocError>
-    requires { AllFit lines.items }
-    ensures { IfOk result (λ strings. strings.items ≡ lines.items) }
+/// The full listing of a program with two blanks before a line for each statement round it. It is refused where a line is
+/// too long for a string, and without memory.
+pub fn list_full_indented(alloc: Global, program: &Program) -> Result<Vec<MooStr>, ListFault>
+    ensures ok { IfOk result (λ lines. lines.items ≡ indented_listing program.now) }
+    ensures refused { IfErr result (λ fault. IsRefusedListing fault (indented_listing program.now)) }
+{
+    let form = Form {
+        parentheses: Parentheses::All,
+        indent: true,
+    };
+    list_in(alloc, form, program.statements())
+}
+
+/// The short listing of a program, with the parentheses alone that the grammar needs, and with those blanks or without
+/// them. It is refused where a line is too long for a string, and without memory.
+pub fn list_short(alloc: Global, program: &Program, indent: bool) -> Result<Vec<MooStr>, ListFault>
+    ensures ok { IfOk result (λ lines. lines.items ≡ short_listing indent program.now) }
+    ensures refused { IfErr result (λ fault. IsRefusedListing fault (short_listing indent program.now)) }
+{
+    let form = Form {
+        parentheses: Parentheses::Needed,
+        indent,
+    };
+    list_in(alloc, form, program.statements())
+}
+
+fn list_in(alloc: Global, form: Form, statements: &[Stmt]) -> Result<Vec<MooStr>, ListFault>
+    ensures ok { IfOk result (λ lines. lines.items ≡ listing_in form (block statements.now)) }
+    ensures refused { IfErr result (λ fault. IsRefusedListing fault (listing_in form (block statements.now))) }
+{
+    let margin = Line::new(alloc);
+    let mut lines = Vec::new(alloc);
+    write_block(alloc, form, &margin, statements, &mut lines)?;
+    strings(alloc, lines)
+}
+
+fn strings(alloc: Global, lines: Vec<Line>) -> Result<Vec<MooStr>, ListFault>
+    ensures ok { IfOk result (λ strings. strings.items ≡ lines.items) }
+    ensures refused { IfErr result (λ fault. IsRefusedListing fault lines.items) }
 {
     let mut strings = Vec::new(alloc);
     for line in lines {
-        strings.push(line.into_string(alloc)?)?;
+        let string = line.into_string(alloc)?;
+        strings.push(string).map_err(|_| ListFault::Memory)?;
     }
     Ok(strings)
 }

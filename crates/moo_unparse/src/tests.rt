@@ -1,13 +1,16 @@
 // Listings, printed.
-use crate::block::write_block;
 use crate::expression::write_expression;
+use crate::form::Parentheses;
 use crate::line::Line;
 use crate::list_full;
 use moo_program::operator::{BinaryOperator, LogicOperator, UnaryOperator};
-use moo_program::{Arm, Codes, Expr, Handler, Item, Literal, Program, Stmt};
+use moo_program::{Codes, Expr, Item, Literal, Program, Stmt};
 use moo_value::{ErrorCode, MooStr};
 use std::alloc::Global;
 use std::test::Fail;
+
+mod blocks;
+mod short;
 
 fn boxed(alloc: Global, expr: Expr) -> Result<Box<Expr>, Fail> {
     let boxed = Box::new(alloc, expr)?;
@@ -58,7 +61,7 @@ fn choice(alloc: Global) -> Result<Box<Expr>, Fail> {
 
 fn shown(alloc: Global, expr: &Expr) -> Result<Vec<u8>, Fail> {
     let mut line = Line::new(alloc);
-    write_expression(expr, &mut line)?;
+    write_expression(Parentheses::All, expr, &mut line)?;
     let shown = Vec::from_slice(alloc, line.as_bytes())?;
     Ok(shown)
 }
@@ -319,81 +322,6 @@ fn lists_catches(rt: HostRuntime) -> Result<(), Fail> {
     assert_eq!(rt;
         shown(alloc, &expr)?.as_slice(),
         b"``a - b ! ANY' ! E_DIV, @l => -1' - -1".as_slice()
-    );
-    Ok(())
-}
-
-fn performed(alloc: Global, text: &str) -> Result<Vec<Stmt>, Fail> {
-    let mut statements = Vec::new(alloc);
-    statements.push(Stmt::Expression(name(alloc, text)?))?;
-    Ok(statements)
-}
-
-// The lines of the program of this statement, each with an end.
-fn listed(alloc: Global, statement: Stmt) -> Result<Vec<u8>, Fail> {
-    let mut statements = Vec::new(alloc);
-    statements.push(statement)?;
-    let mut lines = Vec::new(alloc);
-    write_block(alloc, &statements, &mut lines)?;
-    let mut shown = Vec::new(alloc);
-    for line in &lines {
-        shown.extend_from_slice(line.as_bytes())?;
-        shown.push(b'\n')?;
-    }
-    Ok(shown)
-}
-
-#[test]
-fn lists_arms(rt: HostRuntime) -> Result<(), Fail> {
-    let alloc = rt.alloc();
-    let mut arms = Vec::new(alloc);
-    arms.push(Arm::ElseIf(name(alloc, "c")?, Vec::new(alloc)))?;
-    arms.push(Arm::Else(performed(alloc, "d")?))?;
-    let statement = Stmt::If(name(alloc, "a")?, performed(alloc, "b")?, arms);
-    assert_eq!(rt;
-        listed(alloc, statement)?.as_slice(),
-        b"if (a)\nb;\nelseif (c)\nelse\nd;\nendif\n".as_slice()
-    );
-    Ok(())
-}
-
-#[test]
-fn lists_handlers(rt: HostRuntime) -> Result<(), Fail> {
-    let alloc = rt.alloc();
-    let mut codes = Vec::new(alloc);
-    let division = boxed(alloc, Expr::Literal(Literal::Error(ErrorCode::Division)))?;
-    codes.push(Item::Element(division))?;
-    let permission = boxed(alloc, Expr::Literal(Literal::Error(ErrorCode::Permission)))?;
-    codes.push(Item::Element(permission))?;
-    let mut handlers = Vec::new(alloc);
-    let variable = MooStr::try_from_bytes(alloc, b"e")?;
-    handlers.push(Handler::ExceptAs(variable, Codes::Listed(codes), performed(alloc, "b")?))?;
-    handlers.push(Handler::Except(Codes::Any, Vec::new(alloc)))?;
-    let statement = Stmt::TryExcept(performed(alloc, "a")?, handlers);
-    assert_eq!(rt;
-        listed(alloc, statement)?.as_slice(),
-        b"try\na;\nexcept e (E_DIV, E_PERM)\nb;\nexcept (ANY)\nendtry\n".as_slice()
-    );
-    Ok(())
-}
-
-#[test]
-fn lists_loops(rt: HostRuntime) -> Result<(), Fail> {
-    let alloc = rt.alloc();
-    let mut body = Vec::new(alloc);
-    let variable = MooStr::try_from_bytes(alloc, b"w")?;
-    body.push(Stmt::Continue(Some(variable)))?;
-    body.push(Stmt::Break(None))?;
-    let label = MooStr::try_from_bytes(alloc, b"w")?;
-    let mut outer = Vec::new(alloc);
-    outer.push(Stmt::While(Some(label), name(alloc, "a")?, body))?;
-    let variable = MooStr::try_from_bytes(alloc, b"i")?;
-    let low = integer(alloc, 1)?;
-    let high = integer(alloc, 2)?;
-    let statement = Stmt::ForRange(variable, low, high, outer);
-    assert_eq!(rt;
-        listed(alloc, statement)?.as_slice(),
-        b"for i in [1..2]\nwhile w (a)\ncontinue w;\nbreak;\nendwhile\nendfor\n".as_slice()
     );
     Ok(())
 }

@@ -1,13 +1,13 @@
 use Rattle.std.proofs.Common.{◌≡◌, ◌+◌, ◌*◌, ◌++◌, drop}
 use Rattle.moo_program.specs.View.{tree, items_of, codes_of}
-use Rattle.moo_program.specs.Listing.{listed_items}
+use Rattle.moo_unparse.specs.Listings.{listed_items}
 use Rattle.moo_unparse.proofs.Items.{rest}
 use Rattle.moo_unparse.proofs.Sizes.{size, items_size, item_size, codes_size}
 use Rattle.moo_unparse.proofs.expression.+listing.Given as goal
 
 abbrev pub invariant-write_items-loop-item : goal.invariant-write_items-loop-item
 invariant-write_items-loop-item l =
-    l.line ++ rest (drop l.item-index l.others) ≡ l.fn.line ++ listed_items (items_of l.items)
+    l.line ++ rest l.parentheses (drop l.item-index l.others) ≡ l.fn.line ++ listed_items l.parentheses (items_of l.items)
 
 abbrev pub decreases-write_expression : goal.decreases-write_expression
 decreases-write_expression l = 6 * size (tree l.expr.now)

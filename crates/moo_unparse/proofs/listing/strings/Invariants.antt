@@ -1,7 +1,6 @@
--- The strings so far with the lines that are left are the lines, and those that are left are short enough.
+-- The strings so far with the lines that are left are the lines.
 use Rattle.std.proofs.Common.{◌≡◌, ◌++◌}
-use Rattle.moo_program.specs.Limits.{AllFit}
 use Rattle.moo_unparse.proofs.listing.strings.Given as goal
 
 abbrev pub invariant-loop-line : goal.invariant-loop-line
-invariant-loop-line l = (l.strings.items ++ l.line-iterator.rest.items ≡ l.fn.lines.items) × AllFit l.line-iterator.rest.items
+invariant-loop-line l = l.strings.items ++ l.line-iterator.rest.items ≡ l.fn.lines.items

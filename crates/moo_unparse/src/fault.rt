@@ -1,0 +1,37 @@
+//! Why a listing is refused.
+ghost use Rattle.std.specs.Prelude.{◌≡◌};
+
+use std::alloc::AllocError;
+use thiserror::Error;
+
+/// There was no memory for the answer.
+#[derive(Debug, Drop, Error)]
+#[error("out of memory")]
+pub struct Memory;
+
+impl From<AllocError> for Memory {
+    fn from(_error: AllocError) -> Memory {
+        Memory
+    }
+}
+
+/// Why a listing that may be longer than the full one is refused.
+#[derive(Debug, Drop, Error)]
+pub enum ListFault {
+    /// A line is too long for a string.
+    #[error("line too long")]
+    TooHeavy,
+    /// There was no memory for the answer.
+    #[error("out of memory")]
+    Memory,
+}
+
+impl From<AllocError> for ListFault {
+    ghost use Rattle.moo_unparse.specs.declared.fault.ListFault.TheVariants.{Memory};
+
+    ghost from_gives = { λ _ fault. fault ≡ Memory };
+
+    fn from(_error: AllocError) -> ListFault {
+        ListFault::Memory
+    }
+}

@@ -1,6 +1,9 @@
-//! A plain recogniser that knows the grammar as a list of rules, and tests of the parser against it.
+//! A plain recogniser that knows the grammar as a list of rules, and tests of the parser against it and of texts that are
+//! listed.
 #![tactic(auto)]
 
+#[cfg(test)]
+mod listings;
 mod recogniser;
 pub mod rules;
 #[cfg(test)]

@@ -2,3 +2,9 @@ pub mod Chains
 pub mod Firsts
 pub mod Noded
 pub mod Trees
+pub mod Worlds
+pub mod Apart
+pub mod Same
+pub mod Joined
+pub mod Bits
+pub mod Writing

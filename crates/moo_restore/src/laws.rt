@@ -2,7 +2,12 @@
 
 ghost use Rattle.std.specs.Prelude.{◌≡◌, ◌<◌, ℕ, List, length};
 ghost use Rattle.moo_forest.specs.Forest.{Links, IsForest};
+ghost use Rattle.moo_table.specs.World.{World, IsWellFormed};
+ghost use Rattle.moo_restore.specs.Faults.{IsHierarchyFault, IsCountFault};
 ghost use Rattle.moo_restore.specs.Links.{IsSound, IsTreeOf};
+ghost use Rattle.moo_restore.specs.Recorded.{records_of};
+ghost use Rattle.moo_restore.specs.Records.{Records};
+ghost use Rattle.moo_restore.specs.Says.{Says};
 
 use crate::link::Link;
 
@@ -15,4 +20,20 @@ pub fn links_say_one_tree(_links: &[Option<Link>])
 /// Links that say a forest are sound, each of them.
 pub fn links_of_a_forest_are_sound(_links: &[Option<Link>])
     ensures { (tree : List Links) (x : ℕ) → IsForest tree → IsTreeOf _links.now tree → IsSound _links.now x }
+{}
+
+/// Where an object is at fault, the records say no world that is well formed.
+pub fn records_at_fault_say_no_world()
+    ensures hierarchy { (r : Records) (w : World) (x : ℕ) → IsHierarchyFault r x → Says r w → ¬ (IsWellFormed w) }
+    ensures count { (r : Records) (w : World) (x : ℕ) → IsCountFault r x → Says r w → ¬ (IsWellFormed w) }
+{}
+
+/// Records say one world at most.
+pub fn records_say_one_world()
+    ensures { (r : Records) (v w : World) → Says r v → Says r w → v ≡ w }
+{}
+
+/// The records of a well formed world say it.
+pub fn records_of_a_world_say_it()
+    ensures { (w : World) → IsWellFormed w → Says (records_of w) w }
 {}

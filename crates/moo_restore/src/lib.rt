@@ -2,10 +2,13 @@
 #![tactic(auto)]
 
 mod first;
+mod joining;
 pub mod laws;
 mod link;
 mod lists;
 mod nodes;
+mod records;
 
+pub use joining::first_misjoined;
 pub use link::Link;
 pub use nodes::{first_misplaced, first_unsound, forest_of, nodes_of};

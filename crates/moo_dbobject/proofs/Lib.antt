@@ -4,3 +4,4 @@ pub mod ObjectFound
 pub mod ObjectLines
 pub mod ObjectClean
 pub mod ObjectCut
+pub mod ObjectStrict

@@ -26,7 +26,7 @@ connections_cut (Some p) =
     cut_on (count_or BadConnections p.0) (λ n. form_of p.1 >>= λ f. within limited (leb n most_records) (counted f n)) (λ n. form_of p.1 >>= λ f. within unlimited (leb n most_records) (counted f n))
     (λ n. cut_on (form_of p.1) (λ f. within limited (leb n most_records) (counted f n)) (λ f. within unlimited (leb n most_records) (counted f n)) (λ f. cut_within (leb n most_records) (counted f n)))
 
-connection_count_cut : (line : Line) → Cut (connection_count_of limited line) (connection_count_of unlimited line)
+pub connection_count_cut : (line : Line) → Cut (connection_count_of limited line) (connection_count_of unlimited line)
 unfolding connection_count_of
 connection_count_cut line = connections_cut (parts_of 32 line)
 

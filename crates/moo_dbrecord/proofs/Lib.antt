@@ -3,6 +3,7 @@ pub mod TakenLaws
 pub mod TableLaws
 pub mod HeadingAgain
 pub mod DumpCut
+pub mod DumpStrict
 pub mod DumpAgain
 pub mod DumpProgress
 pub mod DumpLines
@@ -11,6 +12,8 @@ pub mod DumpClean
 pub mod AnswerFound
 pub mod AnswerAgain
 pub mod AnswerCut
+pub mod AnswerLarge
 pub mod ReadLaws
 pub mod Canonical
 pub mod CanonicalText
+pub mod WriteLaws

@@ -1,6 +1,6 @@
 -- What reading a text answers, and what a reader has taken between two pieces.
-use Rattle.std.specs.Prelude.{◌≡◌, ◌≢◌, ◌<◌, length, slice_index, ℕ, ◌+◌, ◌==◌, zero, suc, List, [], ◌∷◌, ◌++◌, Result, Ok, Err, MatchOption, if◌then◌else◌}
-use Rattle.moo_dbvalue.specs.Lines.{Line, Sizes, limited}
+use Rattle.std.specs.Prelude.{◌≡◌, ◌≢◌, ◌<◌, length, slice_index, ℕ, ◌+◌, ◌==◌, zero, suc, List, [], ◌∷◌, ◌++◌, Some, None, Result, Ok, Err, MatchOption, if◌then◌else◌}
+use Rattle.moo_dbvalue.specs.Lines.{Line, Sizes, limited, unlimited}
 use Rattle.moo_dbrecord.specs.Texts.{Text}
 use Rattle.moo_dbrecord.specs.DumpReading.{Progress, progress_of, dump_step, ended, start}
 use Rattle.moo_dbvalue.specs.declared.fault.LineFault.{LineFault}
@@ -92,6 +92,14 @@ taken_of r = record { lines = r.lines; progress = progress_of r.reader; rest = r
 abbrev pub HasTaken : DbReader → List ℕ → Type 0
 HasTaken r bytes = MatchOption r.failed (taken_on limited begin bytes ≡ Ok (taken_of r)) (λ e. Stops e (taken_on limited begin bytes))
 
+-- No fault has come yet.
+abbrev pub IsGoing : DbReader → Type 0
+IsGoing r = r.failed ≡ None
+
+-- This fault has come.
+abbrev pub HasFailed : DbReader → RecordFault → Type 0
+HasFailed r e = r.failed ≡ Some e
+
 -- the bytes of the first n lines
 abbrev pub front_lines : ℕ → List ℕ → List ℕ
 front_lines zero bytes = []
@@ -124,3 +132,9 @@ IsMemoryOrSize (refusal.Fault f) = f ≡ TooLarge
 abbrev pub IsReadOrTooLarge : {X : Type 0} → (X → Text) → Text → Result X RecordFault → Type 0
 IsReadOrTooLarge view t (Ok x) = t ≡ view x
 IsReadOrTooLarge view t (Err e) = IsMemoryOrSize e.kind
+
+-- Without limits on sizes, each of the first n lines can stand where it is.
+pub record StandWithoutLimits (n : ℕ) (bytes : List ℕ) : Type 0 where
+  pub state : Taken
+  pub taken : taken_on unlimited begin (front_lines n bytes) ≡ Ok state
+  pub lines : state.lines ≡ n

@@ -8,3 +8,5 @@ pub mod DumpReading
 pub mod Answer
 -- Writing a text.
 pub mod Writing
+-- What a refusal tells.
+pub mod Faults

@@ -1,8 +1,8 @@
 -- How a text is written: what is not kept is written in one way.
 use Rattle.std.specs.Prelude.{ℕ, pos, ◌+◌, List, [], ◌∷◌, ◌++◌, Option, Some, None}
-use Rattle.moo_dbvalue.specs.Lines.{Line}
+use Rattle.moo_dbvalue.specs.Lines.{Line, Sizes}
 use Rattle.moo_dbrecord.specs.Programs.{Row, Table, Program}
-use Rattle.moo_dbrecord.specs.Texts.{Text, Slack, text_lines}
+use Rattle.moo_dbrecord.specs.Texts.{Text, Slack, text_lines, IsWritten}
 
 -- the program of a verb, if it has one
 abbrev pub verb_programs : ℕ → ℕ → Option (List Line) → List Program
@@ -29,3 +29,7 @@ canonical table = record { unused = pos 0; notes = no_notes; programs = table_pr
 -- the lines that the writer gives a text
 abbrev pub canonical_lines : Text → List Line
 canonical_lines t = text_lines t (canonical t.programs)
+
+-- what has lines that are given so: with limits on sizes, or without
+abbrev pub IsWritable : Sizes → Text → Type 0
+IsWritable s t = IsWritten s t (canonical t.programs)

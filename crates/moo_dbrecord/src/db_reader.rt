@@ -1,9 +1,10 @@
 //! A text that comes in pieces.
-ghost use Rattle.std.specs.Prelude.{◌≡◌, ℕ, ◌++◌, List, [], Some, None, Ok, OnOk, IfErr, IfOk, IfSome, IsErrOf, MatchOption};
+ghost use Rattle.std.specs.Prelude.{◌≡◌, ℕ, ◌++◌, List, [], Ok, OnOk, IfErr, IfOk, IsErrOf, MatchOption};
 ghost use Rattle.moo_dbvalue.specs.Lines.{Gives, limited};
 ghost use Rattle.moo_dbrecord.specs.Texts.{Text, Spells, SpellsWithin, text_of};
+ghost use Rattle.moo_dbrecord.specs.declared.db_reader.RecordFault.{RecordFault};
 ghost use Rattle.moo_dbrecord.specs.DumpReading.{progress_of, dump_step};
-ghost use Rattle.moo_dbrecord.specs.Answer.{Answers, HasTaken, taken_of, taken_on, line_ended, finished, answer_to, HasNoEnd, BeginsWithLine, IsOfLine, IsOfSize, IsReadOrTooLarge, front_lines};
+ghost use Rattle.moo_dbrecord.specs.Answer.{Answers, HasTaken, IsGoing, HasFailed, StandWithoutLimits, taken_of, taken_on, line_ended, finished, answer_to, HasNoEnd, BeginsWithLine, IsOfLine, IsOfSize, IsReadOrTooLarge, front_lines};
 
 use crate::dump::Dump;
 use crate::dump_reader::DumpReader;
@@ -106,9 +107,9 @@ impl DbReader {
     /// Takes the next piece of the text.
     pub fn feed(&mut self, alloc: Global, piece: &[u8]) -> Result<(), RecordFault>
         ensures taken { (text : List ℕ) → HasTaken self.old text → HasTaken self.new (text ++ piece.now) }
-        ensures ok { OnOk result (self.new.failed ≡ None) }
-        ensures failed { IfErr result (λ e. self.new.failed ≡ Some e) }
-        ensures again { IfSome self.old.failed (λ e. IsErrOf result e) }
+        ensures ok { OnOk result (IsGoing self.new) }
+        ensures failed { IfErr result (HasFailed self.new) }
+        ensures again { (e : RecordFault) → HasFailed self.old e → IsErrOf result e }
     {
         if let Some(fault) = self.failed {
             return Err(fault);
@@ -143,7 +144,7 @@ impl DbReader {
     /// The records of the whole text, once all of it has been fed.
     pub fn finish(self) -> Result<Dump, RecordFault>
         ensures answer { (text : List ℕ) → HasTaken self text → Answers text_of result (answer_to limited text) }
-        ensures again { IfSome self.failed (λ e. IsErrOf result e) }
+        ensures again { (e : RecordFault) → HasFailed self e → IsErrOf result e }
     {
         if let Some(fault) = self.failed {
             return Err(fault);
@@ -172,6 +173,8 @@ pub fn read_records(alloc: Global, bytes: &[u8]) -> Result<Dump, RecordFault>
     ensures place { IfErr result (λ e. IsOfLine e.kind → (more : List ℕ) (t : Text) → ¬ (Spells (front_lines e.line bytes.now ++ more) t)) }
     // Where a size is told, no text within the limits begins with the lines up to it.
     ensures size { IfErr result (λ e. IsOfSize e.kind → (more : List ℕ) (t : Text) → ¬ (SpellsWithin (front_lines e.line bytes.now ++ more) t)) }
+    // A size is told only of a line that can stand there but for its size.
+    ensures large { IfErr result (λ e. IsOfSize e.kind → StandWithoutLimits e.line bytes.now) }
     // The answer of a reader that is fed the same bytes in any pieces.
     ensures exact { Answers text_of result (answer_to limited bytes.now) }
 {

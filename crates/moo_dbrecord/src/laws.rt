@@ -3,7 +3,7 @@ ghost use Rattle.std.specs.Prelude.{◌≡◌, ◌≢◌, ◌++◌, ◌⊎◌, �
 ghost use Rattle.moo_dbvalue.specs.Lines.{Sizes, limited, unlimited, unlines};
 ghost use Rattle.moo_dbvalue.specs.declared.fault.LineFault.TheVariants.{TooLarge, Truncated};
 ghost use Rattle.moo_dbrecord.specs.Texts.{Text, Slack, text_lines, IsWritten, Spells, SpellsWithin};
-ghost use Rattle.moo_dbrecord.specs.Writing.{canonical, canonical_lines};
+ghost use Rattle.moo_dbrecord.specs.Writing.{canonical, canonical_lines, IsWritable};
 ghost use Rattle.moo_dbrecord.specs.Answer.{Told, answer_to, front_lines};
 
 /// The bytes of a text are read as that text, whatever stands in them that is not kept: with limits on sizes where the text
@@ -48,4 +48,15 @@ pub fn texts_may_be_written_in_order()
 /// The lines that the writer gives a text spell it, whatever bytes it was read from.
 pub fn the_writers_lines_spell_the_text()
     ensures { (bytes : List ℕ) (t : Text) → Spells bytes t → Spells (unlines (canonical_lines t)) t }
+{}
+
+/// What the writer gives records that have a text is read as those records: with limits on sizes where the records are within
+/// them, and without limits in any case.
+pub fn the_writers_lines_are_read()
+    ensures { (s : Sizes) (t : Text) → IsWritable s t → answer_to s (unlines (canonical_lines t)) ≡ Ok t }
+{}
+
+/// What was read and written is read as the same records, whatever bytes it was read from.
+pub fn copies_are_read_alike()
+    ensures { (bytes : List ℕ) (t : Text) → Spells bytes t → answer_to unlimited (unlines (canonical_lines t)) ≡ Ok t }
 {}

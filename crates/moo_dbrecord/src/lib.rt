@@ -4,6 +4,8 @@
 mod db_reader;
 mod dump;
 mod dump_reader;
+mod dump_writer;
+mod fault;
 mod heading;
 pub mod laws;
 mod program_table;
@@ -13,6 +15,8 @@ mod writing;
 
 pub use db_reader::{DbReader, RecordFault, read_records};
 pub use dump::{Connection, Dump, Form};
+pub use dump_writer::write_records;
+pub use fault::{DbFault, DbFaultKind, ProgramFault, ProgramFaultKind};
 pub use program_table::Source;
 pub use writing::{
     put_connections, put_header, put_live, put_players, put_program, put_recycled, put_tasks,

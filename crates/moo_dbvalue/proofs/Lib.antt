@@ -7,4 +7,5 @@ pub mod Resuming
 pub mod ValueAgain
 pub mod ValueFound
 pub mod Cutting
+pub mod Strictness
 pub mod Clean

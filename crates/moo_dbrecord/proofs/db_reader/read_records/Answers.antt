@@ -1,4 +1,5 @@
 use Rattle.moo_dbrecord.proofs.ReadLaws.{is_found, is_only, is_within, is_in_place, is_too_large}
+use Rattle.moo_dbrecord.proofs.AnswerLarge.{is_large}
 use Rattle.moo_dbrecord.proofs.db_reader.read_records.Goals as goal
 
 pub returns-clause-found : goal.returns-clause-found
@@ -15,3 +16,6 @@ returns-clause-place c = is_in_place c.args.bytes.now c.read_all.result c.read_a
 
 pub returns-clause-size : goal.returns-clause-size
 returns-clause-size c = is_too_large c.args.bytes.now c.read_all.result c.read_all.ensures
+
+pub returns-clause-large : goal.returns-clause-large
+returns-clause-large c = is_large c.args.bytes.now c.read_all.result c.read_all.ensures

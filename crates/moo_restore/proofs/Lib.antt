@@ -8,3 +8,4 @@ pub mod Same
 pub mod Joined
 pub mod Bits
 pub mod Writing
+pub mod Making

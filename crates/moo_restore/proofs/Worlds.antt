@@ -56,22 +56,23 @@ defined_names r x None (Some o) s = absurd s
 defined_names r x (Some b) None s = absurd s
 defined_names r x (Some b) (Some o) s = s.names
 
-own_cells : (r : Records) (x : ℕ) (b : Option recorded.Object) (o : Option Object) → SaysAt r x b o → map recorded_cell (unwrap_or o nothing).cells ≡ cells_in b
+pub own_cells : (r : Records) (x : ℕ) (b : Option recorded.Object) (o : Option Object) → SaysAt r x b o → map recorded_cell (unwrap_or o nothing).cells ≡ cells_in b
 own_cells r x None None s = refl
 own_cells r x None (Some o) s = absurd s
 own_cells r x (Some b) None s = absurd s
 own_cells r x (Some b) (Some o) s = s.cells
 
-module _ (r : Records) (w : World) (s : Says r w) where
-  names_here : (x : ℕ) → map (λ (k : Key). k.1) (keys_defined_on w.objects x) ≡ names_at r x
-  names_here x = names_of_keys x (thing_of w.objects x).defined ∙ ap (map folded) (defined_names r x (record_at r x) (object_of w.objects x) (s.objects x))
+module _ (r : Records) (objects : List (Option Object)) (said : (x : ℕ) → SaysAt r x (record_at r x) (object_of objects x)) where
+  names_here : (x : ℕ) → map (λ (k : Key). k.1) (keys_defined_on objects x) ≡ names_at r x
+  names_here x = names_of_keys x (thing_of objects x).defined ∙ ap (map folded) (defined_names r x (record_at r x) (object_of objects x) (said x))
 
-  names_of : (way : List ℕ) → map (λ (k : Key). k.1) (keys_along w.objects way) ≡ names_along r way
+  pub names_of : (way : List ℕ) → map (λ (k : Key). k.1) (keys_along objects way) ≡ names_along r way
   names_of [] = refl
   names_of (x ∷ way) =
-      map-append (λ (k : Key). k.1) (keys_defined_on w.objects x) (keys_along w.objects way)
-      ∙ (ap (λ l. l ++ map (λ (k : Key). k.1) (keys_along w.objects way)) (names_here x) ∙ ap (λ l. names_at r x ++ l) (names_of way))
+      map-append (λ (k : Key). k.1) (keys_defined_on objects x) (keys_along objects way)
+      ∙ (ap (λ l. l ++ map (λ (k : Key). k.1) (keys_along objects way)) (names_here x) ∙ ap (λ l. names_at r x ++ l) (names_of way))
 
+module _ (r : Records) (w : World) (s : Says r w) where
   module _ (f : IsWellFormed w) where
     own_names : (x : ℕ) → HasOwnNames r x
     own_names x = record {
@@ -82,7 +83,7 @@ module _ (r : Records) (w : World) (s : Says r w) where
     }
       where
         whole : has_twice (names_at r x ++ names_along r (ancestors w.inheritance x)) ≡ false
-        whole = ap has_twice (sym (names_of (x ∷ ancestors w.inheritance x))) ∙ f.stocked.names_once x
+        whole = ap has_twice (sym (names_of r w.objects s.objects (x ∷ ancestors w.inheritance x))) ∙ f.stocked.names_once x
 
     pub well_placed : (x : ℕ) → IsWellPlaced r x
     well_placed x = record {
@@ -104,5 +105,5 @@ module _ (r : Records) (w : World) (s : Says r w) where
           ∙ (sym (length-map cells key_of)
           ∙ (ap length (s.definitions x)
           ∙ (sym (length-map (definitions w.objects w.inheritance x) (λ (k : Key). k.1))
-          ∙ ap length (names_of (x ∷ ancestors w.inheritance x))))));
+          ∙ ap length (names_of r w.objects s.objects (x ∷ ancestors w.inheritance x))))));
     }

@@ -102,6 +102,11 @@ module _ (objects : List (Option Object)) (tree : List Links) (links : List (Opt
       over x None e none = joined.free x e
       over x (Some o) e none = absurd (let some : link_at links x ≡ Some (link_in tree x) = read x ∙ ap (option_map (λ (p : Object). link_in tree x)) e in cc)
 
+pub link_mapped : (g : recorded.Object → Link) (os : List (Option recorded.Object)) (x : ℕ) → get_or (map (option_map g) os) x None ≡ option_map g (get_or os x None)
+link_mapped g [] x = refl
+link_mapped g (o ∷ os) zero = refl
+link_mapped g (o ∷ os) (suc x) = link_mapped g os x
+
 module _ (w : World) (f : IsWellFormed w) where
   recorded_read : (x : ℕ) → record_at (records_of w) x ≡ recorded_at w x
   recorded_read x = ⊎_elim
@@ -111,11 +116,6 @@ module _ (w : World) (f : IsWellFormed w) where
       let here : object_of w.objects x ≡ None = get_or_past w.objects x None past in
       get_or_past (map (recorded_at w) (range_with_len 0 (length w.objects))) x None (omega (arith, len, past)) ∙ sym (ap (option_map (recorded_object w x)) here))
       (cases_lt x (length w.objects))
-
-  link_mapped : (g : recorded.Object → Link) (os : List (Option recorded.Object)) (x : ℕ) → get_or (map (option_map g) os) x None ≡ option_map g (get_or os x None)
-  link_mapped g [] x = refl
-  link_mapped g (o ∷ os) zero = refl
-  link_mapped g (o ∷ os) (suc x) = link_mapped g os x
 
   many_links : (g : recorded.Object → Link) → length (map (option_map g) (records_of w).objects) ≡ length w.objects
   many_links g = length-map (records_of w).objects (option_map g) ∙ length-map-range_with_len (recorded_at w) 0 (length w.objects)

@@ -5,3 +5,4 @@ pub mod Records
 pub mod Says
 pub mod Faults
 pub mod Recorded
+pub mod Made

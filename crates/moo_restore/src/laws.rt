@@ -1,9 +1,13 @@
 //! What follows from the definitions.
 
-ghost use Rattle.std.specs.Prelude.{◌≡◌, ◌<◌, ℕ, List, length};
+ghost use Rattle.std.specs.Prelude.{◌≡◌, ◌≤◌, ℕ, List, Option, None, length};
 ghost use Rattle.moo_forest.specs.Forest.{Links, IsForest};
-ghost use Rattle.moo_table.specs.World.{World, IsWellFormed};
-ghost use Rattle.moo_restore.specs.Faults.{IsHierarchyFault, IsCountFault};
+ghost use Rattle.moo_object.specs.Objects.{Object};
+ghost use Rattle.moo_table.specs.World.{World, most, IsWellFormed};
+ghost use Rattle.moo_table.specs.Restoring.{AreParts, restored_world};
+ghost use Rattle.moo_restore.specs.First.{IsFirst};
+ghost use Rattle.moo_restore.specs.Made.{AreMade, AreForestsOf};
+ghost use Rattle.moo_restore.specs.Faults.{IsWellPlaced, HasItsCells, IsHierarchyFault, IsCountFault};
 ghost use Rattle.moo_restore.specs.Links.{IsSound, IsTreeOf};
 ghost use Rattle.moo_restore.specs.Recorded.{records_of};
 ghost use Rattle.moo_restore.specs.Records.{Records};
@@ -36,4 +40,15 @@ pub fn records_say_one_world()
 /// The records of a well formed world say it.
 pub fn records_of_a_world_say_it()
     ensures { (w : World) → IsWellFormed w → Says (records_of w) w }
+{}
+
+/// Where no object is at fault, objects made of their records are what a world can be restored
+/// from, and the records say that world.
+pub fn records_without_fault_say_a_world()
+    ensures parts { (r : Records) (made : List (Option Object)) (parents places : List Links) → AreMade r made → AreForestsOf r parents places
+        → IsFirst (IsWellPlaced r) (length r.objects) None → IsFirst (HasItsCells r) (length r.objects) None
+        → length r.objects ≤ most → length r.players ≤ most → AreParts made parents places r.players }
+    ensures world { (r : Records) (made : List (Option Object)) (parents places : List Links) → AreMade r made → AreForestsOf r parents places
+        → IsFirst (IsWellPlaced r) (length r.objects) None → IsFirst (HasItsCells r) (length r.objects) None
+        → length r.objects ≤ most → length r.players ≤ most → Says r (restored_world made parents places r.players) }
 {}

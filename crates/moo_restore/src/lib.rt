@@ -8,6 +8,8 @@ mod link;
 mod lists;
 mod nodes;
 mod records;
+#[cfg(test)]
+mod tests;
 
 pub use joining::first_misjoined;
 pub use link::Link;

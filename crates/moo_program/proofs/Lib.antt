@@ -1,3 +1,6 @@
 pub mod Rows
+pub mod Firsts
 pub mod Lengths
 pub mod LineLengths
+pub mod Sizes
+pub mod VariableSteps

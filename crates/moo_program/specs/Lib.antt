@@ -5,3 +5,4 @@ pub mod Listing
 pub mod Length
 pub mod Limits
 pub mod Code
+pub mod Slots

@@ -7,8 +7,10 @@ mod lines;
 pub mod operator;
 mod program;
 pub mod shape;
+mod slots;
 mod target;
 mod tree;
+mod variables;
 
 pub use limits::{MOST_BRACKETS, MOST_NODES};
 pub use lines::fit_lines;

@@ -2,8 +2,11 @@
 ghost use Rattle.std.specs.Prelude.{◌≡◌, IfOk};
 ghost use Rattle.moo_program.specs.View.{block};
 ghost use Rattle.moo_program.specs.Limits.{IsWithinLimits};
+ghost use Rattle.moo_program.specs.Slots.{slots};
 
+use crate::slots::variable_names;
 use crate::tree::Stmt;
+use moo_value::MooStr;
 use std::alloc::{AllocError, Global};
 use std::marker::Model;
 use std::rc::Rc;
@@ -12,6 +15,7 @@ use std::rc::Rc;
 #[derive(Drop)]
 pub struct Program {
     statements: Rc<Vec<Stmt>>,
+    names: Rc<Vec<MooStr>>,
 }
 
 impl Model for Program {
@@ -19,7 +23,9 @@ impl Model for Program {
     ghost use Rattle.moo_program.specs.Tree.{Block};
     ghost use Rattle.moo_program.specs.Code.{block_code};
     ghost use Rattle.moo_program.specs.View.{block};
+    ghost use Rattle.std.specs.Prelude.{◌≡◌};
     ghost use Rattle.moo_program.specs.Limits.{IsWithinLimits};
+    ghost use Rattle.moo_program.specs.Slots.{slots};
 
     ghost Value = { Block };
 
@@ -27,7 +33,7 @@ impl Model for Program {
 
     ghost view = { λ p. block p.statements.value.items };
 
-    ghost invariant = { λ p. IsWithinLimits (block p.statements.value.items) };
+    ghost invariant = { λ p. IsWithinLimits (block p.statements.value.items) × (p.names.value.items ≡ slots (block p.statements.value.items)) };
 }
 
 impl Program {
@@ -36,8 +42,10 @@ impl Program {
         requires { IsWithinLimits (block statements.items) }
         ensures { IfOk result (λ p. p ≡ block statements.items) }
     {
+        let names = variable_names(alloc, &statements)?;
         let statements = Rc::new(alloc, statements)?;
-        Ok(Program { statements })
+        let names = Rc::new(alloc, names)?;
+        Ok(Program { statements, names })
     }
 
     /// The same program, with its statements shared.
@@ -45,7 +53,8 @@ impl Program {
         ensures { IfOk result (λ p. p ≡ self.now) }
     {
         let statements = self.statements.clone()?;
-        Ok(Program { statements })
+        let names = self.names.clone()?;
+        Ok(Program { statements, names })
     }
 
     /// The statements, one after another.
@@ -54,5 +63,12 @@ impl Program {
         ensures limits { IsWithinLimits self.now }
     {
         self.statements.as_slice()
+    }
+
+    /// The names of the program's variables, letters folded, each once, in the order in which they stand first in it.
+    pub fn slots(&self) -> &[MooStr]
+        ensures { result.now ≡ slots self.now }
+    {
+        self.names.as_slice()
     }
 }

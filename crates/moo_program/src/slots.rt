@@ -1,0 +1,58 @@
+//! The names of the variables of a program.
+ghost use Rattle.std.specs.Prelude.{◌≡◌, false, map, IfOk};
+ghost use Rattle.moo_value.specs.Compare.{folded};
+ghost use Rattle.moo_program.specs.View.{block};
+ghost use Rattle.moo_program.specs.Slots.{firsts, slots};
+
+use crate::tree::Stmt;
+use crate::variables::add_block;
+use moo_value::MooStr;
+use std::alloc::{AllocError, Global};
+use std::collections::BTreeMap;
+
+/// The names of the variables, letters folded, each once, in the order in which they stand first.
+pub(crate) fn variable_names(alloc: Global, statements: &[Stmt]) -> Result<Vec<MooStr>, AllocError>
+    ensures { IfOk result (λ names. names.items ≡ slots (block statements.now)) }
+{
+    let mut names = Vec::new(alloc);
+    add_block(statements, &mut names)?;
+    let names = folded_names(alloc, &names)?;
+    first_names(alloc, &names)
+}
+
+fn folded_names(alloc: Global, names: &[MooStr]) -> Result<Vec<MooStr>, AllocError>
+    ensures { IfOk result (λ all. all.items ≡ map folded names.now) }
+{
+    let mut all = Vec::new(alloc);
+    for name in names {
+        all.push(folded_name(alloc, name)?)?;
+    }
+    Ok(all)
+}
+
+fn folded_name(alloc: Global, name: &MooStr) -> Result<MooStr, AllocError>
+    ensures { IfOk result (λ s. s ≡ folded name.now) }
+{
+    let mut bytes = Vec::new(alloc);
+    for byte in name.as_bytes() {
+        bytes.push(byte.to_ascii_lowercase())?;
+    }
+    // A string stays one with its letters folded, so that only memory can be wanting.
+    MooStr::try_from_vec(alloc, bytes).map_err(|_| AllocError)
+}
+
+// Those that stand nowhere before.
+fn first_names(alloc: Global, names: &[MooStr]) -> Result<Vec<MooStr>, AllocError>
+    ensures { IfOk result (λ found. found.items ≡ firsts (λ _. false) names.now) }
+{
+    let mut seen = BTreeMap::new(alloc);
+    let mut found = Vec::new(alloc);
+    for name in names {
+        if seen.contains_key(&name.as_bytes()) {
+            continue;
+        }
+        seen.insert(name.as_bytes(), ())?;
+        found.push(name.try_clone()?)?;
+    }
+    Ok(found)
+}

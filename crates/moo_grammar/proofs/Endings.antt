@@ -1,11 +1,10 @@
 -- Where a rule alone stops a reading, tokens behind the one that comes next bring it to an end by the loose grammar.
-use Rattle.std.proofs.Common.{ℕ, List, [], ◌∷◌, ◌≡◌, refl, sym, ◌∙◌, subst, Bool, true, false, Option, Some, None, is_some, unwrap_or, pos}
+use Rattle.std.proofs.Common.{ℕ, List, [], ◌∷◌, ◌≡◌, refl, sym, subst, Bool, true, false, Option, Some, None, is_some, unwrap_or}
 use Rattle.moo_token.specs.declared.sign.Sign.{Sign}
 use Rattle.moo_token.specs.declared.sign.Sign.TheVariants as sign
 use Rattle.moo_token.specs.declared.keyword.Keyword.{Keyword}
 use Rattle.moo_token.specs.declared.token.Token.{Token}
 use Rattle.moo_token.specs.declared.token.Token.TheVariants as token
-use Rattle.moo_program.specs.declared.tree.Literal.TheVariants as literal
 use Rattle.moo_program.specs.Tree as tree
 use Rattle.moo_grammar.specs.Tokens.{is_sign, is_keyword, name_at}
 use Rattle.moo_grammar.specs.Rules.{loose}

@@ -1,5 +1,5 @@
 -- Statements, arms and handlers, one after another.
-use Rattle.std.proofs.Common.{ℕ, ◌+◌, ◌≤◌, List, [], ◌∷◌, ◌++◌, ◌≡◌, refl, ap, max, arith}
+use Rattle.std.proofs.Common.{◌≤◌, List, [], ◌∷◌, ◌++◌, ◌≡◌, refl, ap, max, arith}
 use Rattle.moo_program.specs.declared.tree.Stmt.{Stmt}
 use Rattle.moo_program.specs.declared.tree.Arm.{Arm, ElseIf', Else'}
 use Rattle.moo_program.specs.declared.tree.Handler.{Handler, Except', ExceptAs'}

@@ -1,6 +1,5 @@
 -- What a reading of statements needs of labels, and of the loops round a jump.
 use Rattle.std.proofs.Common.{ℕ, ◌+◌, ◌≤◌, List, [], ◌∷◌, ◌≡◌, refl, ap, sym, ◌∙◌, subst, Bool, true, false, not, ◌||◌, Option, Some, None, is_some, reverse, length, MatchOption, arith}
-use Rattle.std.specs.List.{list_any}
 use Rattle.std.proofs.lemmas.List.{length-reverse}
 use Rattle.moo_token.specs.declared.keyword.Keyword.{Keyword}
 use Rattle.moo_token.specs.declared.keyword.Keyword.TheVariants.{Break, Continue}
@@ -10,9 +9,9 @@ use Rattle.moo_token.specs.declared.token.Token.TheVariants as token
 use Rattle.moo_token.specs.declared.token.Token.TheVariants.{Name}
 use Rattle.moo_program.specs.Tree.{Stmt}
 use Rattle.moo_grammar.specs.declared.names.Names.{Names}
-use Rattle.moo_grammar.specs.Rules.{Rules, has_loop, is_named, may_jump}
+use Rattle.moo_grammar.specs.Rules.{Rules, has_loop, may_jump}
 use Rattle.moo_grammar.specs.Tokens.{is_sign, is_keyword, name_at}
-use Rattle.moo_grammar.specs.Grammar.{Sort, Kind, label, sort}
+use Rattle.moo_grammar.specs.Grammar.{Sort, label}
 use Rattle.moo_grammar.specs.Machine.{Reading, give, Reads, gives, misses, by_form, by_rule, Fails, refuses, forbids, sees_fails, misses_fails, next_passes}
 use Rattle.moo_grammar.specs.Predictive.{grammar, expect, loop_at, behind_jump}
 use Rattle.moo_grammar.specs.Depth.{Deep}

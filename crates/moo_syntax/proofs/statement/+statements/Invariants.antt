@@ -1,5 +1,5 @@
 -- Each call leaves fewer tokens to read, or goes to a part of what its caller reads; and what is read so far in each loop.
-use Rattle.std.proofs.Common.{ℕ, ◌+◌, ◌-◌, ◌*◌, ◌≤◌, ◌≡◌, length, reverse}
+use Rattle.std.proofs.Common.{◌+◌, ◌-◌, ◌*◌, ◌≤◌, ◌≡◌, length, reverse}
 use Rattle.moo_program.specs.Limits.{block_height, arms_height, handlers_height}
 use Rattle.moo_program.specs.View.{block, arms_of, handlers_of}
 use Rattle.moo_grammar.specs.Grammar.{statements, arms, handlers}

@@ -9,3 +9,4 @@ pub mod Items
 pub mod Minuses
 pub mod Size
 pub mod Depth
+pub mod Brackets

@@ -19,7 +19,7 @@ use Rattle.moo_syntax.specs.Outcome.{ToldBy, why, HasFailed}
 use Rattle.moo_syntax.specs.Stops.{Passes, StopsBy, ExceedLimits}
 use Rattle.moo_grammar.specs.Tokens.{words, is_sign, is_bad}
 use Rattle.moo_syntax.specs.Programs.{SameUpTo, NoProgram, BeginsProgram, with_targets, with_functions, with_loops, is_jump, IsJump, at_keyword, at_name, IsCalled, IsBadToken, IsTooDeep, line_of}
-use Rattle.moo_syntax.specs.Brackets.{open_behind, most_open_behind, most_open}
+use Rattle.moo_grammar.specs.Brackets.{open_behind, most_open_behind, most_open}
 use Rattle.moo_grammar.specs.Depth.{Deep}
 use Rattle.moo_token.specs.declared.sign.Sign.TheVariants as sign
 use Rattle.moo_grammar.specs.Grammar.{IsProgram, IsProgramBy, statements, block}

@@ -1,4 +1,3 @@
-pub mod Brackets
 pub mod Programs
 pub mod FaultText
 pub mod Cursor

@@ -16,7 +16,7 @@ use Rattle.moo_syntax.specs.declared.syntax_fault.SyntaxFaultKind.TheVariants.{B
 use Rattle.moo_grammar.specs.Tokens.{words, is_sign, is_keyword, is_bad}
 use Rattle.moo_grammar.specs.Rules.{Rules, loose, may_call}
 use Rattle.moo_grammar.specs.Machine.{next_passes}
-use Rattle.moo_syntax.specs.Brackets.{most_open}
+use Rattle.moo_grammar.specs.Brackets.{most_open}
 use Rattle.moo_grammar.specs.Grammar.{IsProgram, IsProgramBy}
 
 -- the program, and the brackets of its source, are within the limits

@@ -2,7 +2,7 @@
 ghost use Rattle.std.specs.Prelude.{◌≡◌, ◌<◌, ◌≤◌, ◌+◌, length, MatchOption};
 ghost use Rattle.moo_program.specs.Limits.{most_brackets};
 ghost use Rattle.moo_grammar.specs.Tokens.{words};
-ghost use Rattle.moo_syntax.specs.Brackets.{open_behind, most_open};
+ghost use Rattle.moo_grammar.specs.Brackets.{open_behind, most_open};
 
 use moo_program::MOST_BRACKETS;
 use moo_token::{Sign, Spot, Token};

@@ -23,7 +23,6 @@ use Rattle.moo_unparse.specs.declared.form.Parentheses.{Parentheses}
 use Rattle.moo_unparse.specs.declared.form.Part.{Part}
 use Rattle.moo_unparse.specs.declared.form.Part.TheVariants as part
 use Rattle.moo_unparse.specs.Parts.{rank, part_of, operator_part, left_of, right_of, needs}
-
 use Rattle.moo_grammar.specs.declared.level.Level.{Level}
 use Rattle.moo_grammar.specs.declared.level.Level.TheVariants as level
 use Rattle.moo_grammar.specs.declared.level.Operator.{Operator}

@@ -1,16 +1,23 @@
--- A listing of the program of a text is a text of that program.
-use Rattle.std.proofs.Common.{ℕ, List, [], ◌≡◌, refl, subst, false}
+-- A listing of the program of a text is a text of that program, with few enough brackets.
+use Rattle.std.proofs.Common.{ℕ, List, [], ◌≡◌, ◌≤◌, refl, subst, false, arith}
+use Rattle.moo_token.specs.declared.token.Spot.{Spot}
+use Rattle.moo_token.proofs.Readings.{one_token_list}
 use Rattle.moo_program.specs.Tree.{Block}
+use Rattle.moo_program.specs.Limits.{IsWithinLimits, most_brackets}
 use Rattle.moo_program.specs.Listing.{listing}
 use Rattle.moo_grammar.specs.declared.names.Names.{Names}
+use Rattle.moo_grammar.specs.Brackets.{most_open}
 use Rattle.moo_grammar.specs.Rules.{strict}
 use Rattle.moo_grammar.specs.Texts.{IsProgramOf}
+use Rattle.moo_grammar.specs.Tokens.{words}
 use Rattle.moo_grammar.proofs.Unique.{one_program_of_text}
 use Rattle.moo_unparse.specs.declared.form.Parentheses.TheVariants.{All}
 use Rattle.moo_unparse.specs.declared.form.Form.{Form}
+use Rattle.moo_unparse.specs.Brackets.{OpensFew}
 use Rattle.moo_unparse.specs.Listings.{listing_in}
 use Rattle.moo_unparse.proofs.Full.{full_is_a_form}
 use Rattle.moo_unparse.proofs.Good.{good_program}
+use Rattle.moo_unparse.proofs.Open.{open_by_height}
 use Rattle.moo_unparse.proofs.ReadLines.{read_block}
 use Rattle.moo_unparse.proofs.Sound.{tokens_sound}
 
@@ -28,3 +35,13 @@ listing_is_program names lines b p = subst (λ (v : List (List ℕ)). IsProgramO
 
 pub listing_is_no_other : (names : Names) (lines : List (List ℕ)) (b c : Block) → IsProgramOf names lines b → IsProgramOf names (listing b) c → c ≡ b
 listing_is_no_other names lines b c p q = one_program_of_text names (listing b) c b q (listing_is_program names lines b p)
+
+pub form_opens_few : (f : Form) (names : Names) (lines : List (List ℕ)) (b : Block) → IsProgramOf names lines b → IsWithinLimits b → OpensFew (listing_in f b)
+form_opens_few f names lines b p h spots t =
+    let g = good_program {p = f.parentheses} {g = strict names} refl p.program (tokens_sound lines p.spots p.tokens) in
+    let r = read_block f b g.sound 0 in
+    let one = one_token_list (listing_in f b) r.spots spots r.lexes t in
+    subst (λ (v : List Spot). most_open (words v) ≤ most_brackets) one (rw r.same (omega (arith, open_by_height f.parentheses b, h.nodes)))
+
+pub listing_opens_few : (names : Names) (lines : List (List ℕ)) (b : Block) → IsProgramOf names lines b → IsWithinLimits b → OpensFew (listing b)
+listing_opens_few names lines b p h = subst OpensFew (full_is_a_form b) (form_opens_few (record { parentheses = All; indent = false }) names lines b p h)

@@ -6,6 +6,7 @@ pub mod Law
 pub mod LineSteps
 pub mod Listed
 pub mod Names
+pub mod Open
 pub mod Phrases
 pub mod Read
 pub mod ReadLines

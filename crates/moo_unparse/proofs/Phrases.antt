@@ -16,7 +16,6 @@ use Rattle.moo_unparse.specs.declared.form.Part.{Part}
 use Rattle.moo_unparse.specs.declared.form.Part.TheVariants as part
 use Rattle.moo_unparse.specs.Parts.{rank, part_of, left_of, right_of, needs}
 
-
 -- a phrase of the part of this rank; from a sign on, an operand
 abbrev pub IsPart : Rules → Bool → ℕ → List Token → Expr → List Token → Type 0
 IsPart g i zero ts e r = Derives g (Grammar.expression i) ts e r

@@ -3,7 +3,7 @@ use Rattle.std.proofs.lemmas.List.{drop_more}
 use Rattle.moo_token.specs.declared.token.Token.{Token}
 use Rattle.moo_token.specs.declared.token.Spot.{Spot}
 use Rattle.moo_grammar.specs.Tokens.{words}
-use Rattle.moo_syntax.specs.Brackets.{open_behind, most_open_behind}
+use Rattle.moo_grammar.specs.Brackets.{open_behind, most_open_behind}
 use Rattle.moo_syntax.proofs.brackets.bracket_too_many.Goals as goal
 
 first : (ss : List Spot) (i : ℕ) (x : Spot) → i < length ss → x ≡ get_or ss i x → words (drop i ss) ≡ x.token ∷ words (drop (i + 1) ss)

@@ -2,7 +2,7 @@
 use Rattle.std.proofs.Common.{◌≤◌, ◌<◌, drop}
 use Rattle.moo_program.specs.Limits.{most_brackets}
 use Rattle.moo_grammar.specs.Tokens.{words}
-use Rattle.moo_syntax.specs.Brackets.{most_open_behind, most_open}
+use Rattle.moo_grammar.specs.Brackets.{most_open_behind, most_open}
 use Rattle.moo_syntax.proofs.brackets.bracket_too_many.Given as goal
 
 abbrev pub invariant-loop-at : goal.invariant-loop-at

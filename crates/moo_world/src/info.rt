@@ -5,7 +5,7 @@ ghost use Rattle.std.specs.Option.{option_map};
 ghost use Rattle.moo_value.specs.Compare.{folded};
 ghost use Rattle.moo_object.specs.Cells.{Cell, cell_named};
 ghost use Rattle.moo_table.specs.World.{object_of, thing_of};
-ghost use Rattle.moo_world.specs.Rights.{cell_numbered};
+ghost use Rattle.moo_world.specs.Numbered.{cell_numbered};
 ghost use Rattle.moo_world.specs.PropertyCalls.{plain_raises, info_raises};
 ghost use Rattle.moo_world.specs.Calls.{Answers, number_of, TakesNoMemory};
 

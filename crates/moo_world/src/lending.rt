@@ -7,7 +7,7 @@ ghost use Rattle.std.specs.Borrow.{Bor};
 ghost use Rattle.moo_forest.specs.Forest.{above_of, below_of};
 ghost use Rattle.moo_table.specs.World.{object_of, most};
 ghost use Rattle.moo_world.specs.NamedProperties.{number_of_place};
-ghost use Rattle.moo_world.specs.Rights.{object_numbered};
+ghost use Rattle.moo_world.specs.Numbered.{object_numbered};
 ghost use Rattle.moo_world.specs.Calls.{number_of};
 
 use crate::World;

@@ -1,8 +1,6 @@
 // What objects have from their ancestors, and what is left when one of these goes.
-use super::{CALLED, CLOSED, NO_COMMAND, OWNED, all_done, define, done, has_row, text, told};
-use crate::fault::WorldFault;
-use crate::{VerbAt, World};
-use moo_object::{Need, PropPerms, VerbPerms};
+use crate::support::{CALLED, CLOSED, NO_COMMAND, OWNED, all_done, define, done, has_row, text, told};
+use moo_world::{Need, PropPerms, VerbAt, VerbPerms, World, WorldFault};
 use moo_value::{ErrorCode, Value};
 use std::alloc::Global;
 use std::test::Fail;
@@ -177,5 +175,37 @@ fn joining_again_keeps_the_order(rt: HostRuntime) -> Result<(), Fail> {
         told(world.get(alloc, 3, b"base")),
         Err(WorldFault::Raise(ErrorCode::PropertyNotFound))
     );
+    Ok(())
+}
+
+#[test]
+fn trees_refuse_loops(rt: HostRuntime) -> Result<(), Fail> {
+    let alloc = rt.alloc();
+    let mut world = World::empty(alloc);
+    assert_eq!(rt; world.max_object(), -1);
+    assert_eq!(rt;
+        world.create(alloc, 5, 3),
+        Err(WorldFault::Raise(ErrorCode::Permission))
+    );
+    assert_eq!(rt; world.create(alloc, -1, 3), Ok(0));
+    assert_eq!(rt; world.create(alloc, 0, 3), Ok(1));
+    assert_eq!(rt; world.create(alloc, 1, 3), Ok(2));
+    assert_eq!(rt; world.move_bare(2, 1), Ok(()));
+    assert_eq!(rt;
+        world.move_bare(1, 2),
+        Err(WorldFault::Raise(ErrorCode::RecursiveMove))
+    );
+    assert_eq!(rt;
+        world.chparent(alloc, 0, 2),
+        Err(WorldFault::Raise(ErrorCode::RecursiveMove))
+    );
+    assert_eq!(rt;
+        world.chparent(alloc, 7, -1),
+        Err(WorldFault::Raise(ErrorCode::InvalidArgument))
+    );
+    assert_eq!(rt; world.chparent(alloc, 2, -1), Ok(()));
+    assert_eq!(rt; world.chparent(alloc, 0, 2), Ok(()));
+    assert!(rt; world.valid(2) && !world.valid(3));
+    assert_eq!(rt; world.max_object(), 2);
     Ok(())
 }

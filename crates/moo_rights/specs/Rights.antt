@@ -1,22 +1,18 @@
 -- Who may do what.
-use Rattle.std.specs.Prelude.{ℕ, ℤ, List, Option, Some, None, Bool, false, ◌&&◌, ◌||◌, not, is_some, slice_get}
-use Rattle.std.specs.Option.{unwrap_or, option_and_then}
+use Rattle.std.specs.Prelude.{ℕ, ℤ, List, Option, Some, None, Bool, false, ◌&&◌, ◌||◌, not, is_some}
+use Rattle.std.specs.Option.{unwrap_or}
 use Rattle.std.specs.Ordering.{int_eq}
 use Rattle.moo_value.specs.Compare.{folded}
-use Rattle.moo_world.specs.declared.rights.Action.{Action}
-use Rattle.moo_world.specs.declared.rights.Action.TheVariants as action
+use Rattle.moo_rights.specs.declared.rights.Action.{Action}
+use Rattle.moo_rights.specs.declared.rights.Action.TheVariants as action
 use Rattle.moo_object.specs.BuiltIn.{built_in_of}
 use Rattle.moo_object.specs.declared.built_in_property.BuiltInProperty.{BuiltInProperty}
 use Rattle.moo_object.specs.declared.built_in_property.BuiltInProperty.TheVariants as property
-use Rattle.moo_object.specs.Cells.{Cell, cell_named}
+use Rattle.moo_object.specs.Cells.{Cell}
 use Rattle.moo_object.specs.Objects.{Object}
 use Rattle.moo_object.specs.declared.verb.Verb.{Verb}
-use Rattle.moo_table.specs.World.{World, nothing, object_of}
-use Rattle.moo_world.specs.Calls.{number_of}
-
--- the object of a number, if it is valid
-abbrev pub object_numbered : World → ℤ → Option Object
-object_numbered w o = option_and_then (object_of w.objects) (number_of w.objects o)
+use Rattle.moo_table.specs.World.{World, nothing}
+use Rattle.moo_world.specs.Numbered.{object_numbered, verb_numbered, cell_numbered}
 
 abbrev pub is_wizard : World → ℤ → Bool
 is_wizard w p = (unwrap_or (object_numbered w p) nothing).flags.wizard
@@ -40,9 +36,6 @@ abbrev pub may_inherit_from : World → ℤ → ℤ → Bool
 may_inherit_from w p o = (unwrap_or (object_numbered w o) nothing).flags.fertile || may_own w p o
 
 -- a verb is readable with r, writable with w, to its owner and to wizards
-abbrev pub verb_numbered : World → ℤ → ℕ → Option Verb
-verb_numbered w o i = slice_get (unwrap_or (object_numbered w o) nothing).verbs i
-
 abbrev pub may_read_this_verb : World → ℤ → Option Verb → Bool
 may_read_this_verb w p None = false
 may_read_this_verb w p (Some v) = v.perms.read || controls w p v.owner
@@ -52,9 +45,6 @@ may_write_this_verb w p None = false
 may_write_this_verb w p (Some v) = v.perms.write || controls w p v.owner
 
 -- a property is readable with r, writable with w, to its owner and to wizards
-abbrev pub cell_numbered : World → ℤ → List ℕ → Option Cell
-cell_numbered w o name = cell_named (unwrap_or (object_numbered w o) nothing).cells (folded name)
-
 abbrev pub may_read_cell : World → ℤ → Option Cell → Bool
 may_read_cell w p None = false
 may_read_cell w p (Some c) = c.perms.read || controls w p c.owner

@@ -1,10 +1,8 @@
 // Each raise of each call.
-use super::{
+use crate::support::{
     CALLED, CLOSED, NO_COMMAND, all_done, define, done, first_wrong, four_objects, text, told,
 };
-use crate::World;
-use crate::fault::WorldFault;
-use moo_object::Need;
+use moo_world::{Need, World, WorldFault};
 use moo_value::{ErrorCode, Value};
 use std::alloc::Global;
 use std::test::Fail;

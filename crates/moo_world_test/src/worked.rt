@@ -1,11 +1,10 @@
 // Worked rows.
-use super::{
+use crate::support::{
     CLOSED, OWNED, all_done, define, done, first_wrong, four_objects, has_integer, has_row,
     set_name, text, told,
 };
-use crate::World;
-use crate::fault::WorldFault;
 use moo_value::{ErrorCode, Value};
+use moo_world::{World, WorldFault};
 use std::alloc::Global;
 use std::test::Fail;
 

@@ -1,22 +1,27 @@
 // Whether two worlds are the same, told without memory.
-use crate::World;
-use moo_forest::Forest;
-use moo_object::{Object, PropCell, Verb};
 use moo_value::same;
+use moo_world::{Object, PropCell, Verb, World};
 
 pub fn is_same(one: &World, other: &World) -> bool {
-    one.objects.len() == other.objects.len()
-        && one
-            .objects
-            .iter()
-            .zip(other.objects.iter())
-            .all(|(a, b)| is_same_slot(a, b))
-        && is_same_tree(&one.inheritance, &other.inheritance)
-        && is_same_tree(&one.containment, &other.containment)
-        && one.players == other.players
+    if one.max_object() != other.max_object() || one.players() != other.players() {
+        return false;
+    }
+    for o in 0..=one.max_object() {
+        if !is_same_slot(one.object(o), other.object(o)) || !is_joined_alike(one, other, o) {
+            return false;
+        }
+    }
+    true
 }
 
-fn is_same_slot(one: &Option<Object>, other: &Option<Object>) -> bool {
+fn is_joined_alike(one: &World, other: &World, o: i32) -> bool {
+    one.parent(o) == other.parent(o)
+        && one.location(o) == other.location(o)
+        && one.children(o) == other.children(o)
+        && one.contents(o) == other.contents(o)
+}
+
+fn is_same_slot(one: Option<&Object>, other: Option<&Object>) -> bool {
     match (one, other) {
         (Some(a), Some(b)) => is_same_object(a, b),
         (None, None) => true,
@@ -60,23 +65,11 @@ fn is_same_cell(one: &PropCell, other: &PropCell) -> bool {
         && is_same_value
 }
 
-// The programs aside, of which the tests have none.
+// Of the programs only whether there are some: the tests have only empty ones.
 fn is_same_verb(one: &Verb, other: &Verb) -> bool {
     one.names.as_bytes() == other.names.as_bytes()
         && one.owner == other.owner
         && one.perms == other.perms
         && one.args == other.args
         && one.program.is_some() == other.program.is_some()
-}
-
-fn is_same_tree(one: &Forest, other: &Forest) -> bool {
-    if one.len() != other.len() {
-        return false;
-    }
-    for x in 0..one.len() {
-        if one.above(x) != other.above(x) || one.below(x) != other.below(x) {
-            return false;
-        }
-    }
-    true
 }

@@ -177,7 +177,12 @@ impl Rights {
         }
     }
 
-    fn may_set_built_in(world: &World, programmer: i32, object: &Object, property: BuiltInProperty) -> bool
+    fn may_set_built_in(
+        world: &World,
+        programmer: i32,
+        object: &Object,
+        property: BuiltInProperty,
+    ) -> bool
         ensures { result ≡ may_set_built_in world.now programmer object.now property }
     {
         match property {

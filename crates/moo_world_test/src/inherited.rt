@@ -1,7 +1,9 @@
 // What objects have from their ancestors, and what is left when one of these goes.
-use crate::support::{CALLED, CLOSED, NO_COMMAND, OWNED, all_done, define, done, has_row, text, told};
-use moo_world::{Need, PropPerms, VerbAt, VerbPerms, World, WorldFault};
+use crate::support::{
+    CALLED, CLOSED, NO_COMMAND, OWNED, all_done, define, done, has_row, text, told,
+};
 use moo_value::{ErrorCode, Value};
+use moo_world::{Need, PropPerms, VerbAt, VerbPerms, World, WorldFault};
 use std::alloc::Global;
 use std::test::Fail;
 

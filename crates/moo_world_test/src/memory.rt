@@ -66,12 +66,7 @@ fn make_twins(alloc: Global) -> Result<Twins, WorldFault> {
     })
 }
 
-fn make(
-    change: Change,
-    alloc: Global,
-    world: &mut World,
-    name: MooStr,
-) -> Result<(), WorldFault> {
+fn make(change: Change, alloc: Global, world: &mut World, name: MooStr) -> Result<(), WorldFault> {
     match change {
         Change::Create => told(world.create(alloc, 2, 3)),
         Change::Recycle => world.recycle_bare(alloc, 2),

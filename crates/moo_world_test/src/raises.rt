@@ -2,8 +2,8 @@
 use crate::support::{
     CALLED, CLOSED, NO_COMMAND, all_done, define, done, first_wrong, four_objects, text, told,
 };
-use moo_world::{Need, World, WorldFault};
 use moo_value::{ErrorCode, Value};
+use moo_world::{Need, World, WorldFault};
 use std::alloc::Global;
 use std::test::Fail;
 

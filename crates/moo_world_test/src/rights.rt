@@ -1,8 +1,8 @@
 // Who may do what: the owner, a wizard and somebody else.
 use crate::support::{CALLED, CLOSED, NO_COMMAND, all_done, done, four_objects, text, told};
 use moo_rights::{Action, Rights};
-use moo_world::{PropPerms, VerbPerms, World, WorldFault};
 use moo_value::Value;
+use moo_world::{PropPerms, VerbPerms, World, WorldFault};
 use std::alloc::Global;
 use std::test::Fail;
 

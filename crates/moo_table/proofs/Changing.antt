@@ -12,6 +12,7 @@ use Rattle.moo_table.specs.Changes.{after_chparent, after_move, would_loop}
 use Rattle.moo_object.specs.Objects.{Object}
 use Rattle.moo_table.proofs.Refitting.{IsFreeTree, fitted_stocked, joined_kept, length_refitted, was_none}
 use Rattle.moo_table.proofs.FittedRows.{own_exact, already_fitted}
+use Rattle.moo_table.proofs.Counting.{programs_refitted}
 use Rattle.moo_table.proofs.Rowing.{IsFittedOutside, IsRejoined, row_for}
 
 -- a valid object has a number that was given out
@@ -94,6 +95,7 @@ module _ (w : World) (x : ℕ) (p : Option ℕ) (f : IsWellFormed w) (valid : Is
         stocked = fitted_stocked w.objects tree joined (own_exact w f) f.stocked.own_filled f.stocked.fine none room;
         few = omega (arith, many, f.few);
         few_players = f.few_players;
+        few_programs = omega (arith, programs_refitted w.objects tree, f.few_programs);
       }
 
   pub place_changed : would_loop w.containment x p ≡ false → IsWellFormed (after_move w x p)
@@ -103,6 +105,7 @@ module _ (w : World) (x : ℕ) (p : Option ℕ) (f : IsWellFormed w) (valid : Is
     stocked = f.stocked;
     few = f.few;
     few_players = f.few_players;
+    few_programs = f.few_programs;
   }
 
   pub rejoined : would_loop w.inheritance x p ≡ false → IsRejoined w.inheritance (moved w.inheritance x p) x

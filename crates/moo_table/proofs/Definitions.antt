@@ -20,6 +20,7 @@ use Rattle.moo_table.specs.World.{World, nothing, object_of, thing_of, keys_defi
 use Rattle.moo_table.specs.Rows.{AreFitted, AreReady, without_last}
 use Rattle.moo_table.specs.Changes.{with_definition, with_definition_on, after_define}
 use Rattle.moo_table.specs.Properties.{IsDefinable, has_name}
+use Rattle.moo_table.proofs.Counting.{programs_defined}
 use Rattle.moo_table.proofs.Changing.{valid_within, roomy_here}
 use Rattle.moo_table.proofs.FittedRows.{IsOwnExact, own_exact, own_cells, already_fitted}
 use Rattle.moo_table.proofs.Joining.{within_low, walk_low}
@@ -283,6 +284,7 @@ module _ (w : World) (x : ℕ) (name : List ℕ) (cell : Cell) (f : IsWellFormed
             (all_fail (is_crowded objects w.inheritance) (range_with_len 0 (length objects)) (λ y h. roomy_then y));
         few = omega (arith, len, many, f.few);
         few_players = f.few_players;
+        few_programs = omega (arith, programs_defined w.objects w.inheritance x name cell (valid_within w.objects x valid), f.few_programs);
       }
 
   outside_then : IsFittedOutside (with_definition_on w.objects x name cell) w.inheritance x

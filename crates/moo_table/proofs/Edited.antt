@@ -12,7 +12,7 @@ use Rattle.moo_object.specs.declared.cell.PropPerms.{PropPerms}
 use Rattle.moo_object.specs.declared.flags.Flags.{Flags}
 use Rattle.moo_object.specs.declared.built_in_property.BuiltInProperty.{BuiltInProperty}
 use Rattle.moo_object.specs.declared.built_in_property.BuiltInProperty.TheVariants as property
-use Rattle.moo_table.specs.World.{IsFilled, HasStored}
+use Rattle.moo_table.specs.World.{IsFilled, HasStored, programs_of}
 use Rattle.moo_table.specs.Edits.{with_name, with_owner, with_flags, with_built_in, with_clear, with_cell_info}
 use Rattle.moo_table.proofs.Single.{KeepsShape}
 
@@ -64,6 +64,32 @@ built_in_kept x property.Wizard v o s = flagged_kept x _ o
 built_in_kept x property.Read v o s = flagged_kept x _ o
 built_in_kept x property.Write v o s = flagged_kept x _ o
 built_in_kept x property.Fertile v o s = flagged_kept x _ o
+
+-- the verbs stay, and so the programs
+named_programs : (v : Tree) (o : Object) → programs_of (with_name v o).verbs ≡ programs_of o.verbs
+named_programs (integer i) o = refl
+named_programs (object n) o = refl
+named_programs (error e) o = refl
+named_programs (string b) o = refl
+named_programs (list es) o = refl
+
+owned_programs : (v : Tree) (o : Object) → programs_of (with_owner v o).verbs ≡ programs_of o.verbs
+owned_programs (integer i) o = refl
+owned_programs (object n) o = refl
+owned_programs (error e) o = refl
+owned_programs (string b) o = refl
+owned_programs (list es) o = refl
+
+pub built_in_programs : (p : BuiltInProperty) (v : Tree) (o : Object) → programs_of (with_built_in p v o).verbs ≡ programs_of o.verbs
+built_in_programs property.Name v o = named_programs v o
+built_in_programs property.Owner v o = owned_programs v o
+built_in_programs property.Location v o = refl
+built_in_programs property.Contents v o = refl
+built_in_programs property.Programmer v o = refl
+built_in_programs property.Wizard v o = refl
+built_in_programs property.Read v o = refl
+built_in_programs property.Write v o = refl
+built_in_programs property.Fertile v o = refl
 
 -- a change of a cell that keeps what it is for
 keys_at : (k : Key) (f : Cell → Cell) (cells : List Cell) → ((c : Cell) → key_of (f c) ≡ key_of c) → map key_of (map (at_key k f) cells) ≡ map key_of cells

@@ -18,6 +18,7 @@ use Rattle.moo_table.specs.World.{World, nothing, object_of, thing_of, keys_defi
 use Rattle.moo_table.specs.Changes.{changed_along}
 use Rattle.moo_table.specs.Recycling.{without_cells_of, after_recycle}
 use Rattle.moo_table.specs.Players.{players_with}
+use Rattle.moo_table.proofs.Counting.{programs_recycled}
 use Rattle.moo_table.proofs.Along.{all_along, walk_members}
 use Rattle.moo_table.proofs.Changing.{valid_within, not_valid, node_of}
 use Rattle.moo_table.proofs.PlayerLists.{none_out}
@@ -226,6 +227,7 @@ module _ (w : World) (x : ℕ) (f : IsWellFormed w) (valid : IsSome (object_of w
     };
     few = let same = many in let few = f.few in omega (arith, same, few);
     few_players = few_after;
+    few_programs = omega (arith, programs_recycled w.objects x (valid_within w.objects x valid), f.few_programs);
   }
 
   -- what is not within x has no cell for what it defines

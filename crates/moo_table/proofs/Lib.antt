@@ -2,6 +2,7 @@ pub mod Allowing
 pub mod Along
 pub mod Changing
 pub mod Clashes
+pub mod Counting
 pub mod Definitions
 pub mod FittedRows
 pub mod Joining

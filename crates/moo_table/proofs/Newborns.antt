@@ -16,6 +16,7 @@ use Rattle.moo_table.specs.Changes.{after_create, newborn}
 use Rattle.moo_object.specs.declared.verb.Verb.{Verb}
 use Rattle.moo_object.specs.Objects.{Object}
 use Rattle.moo_object.specs.Cells.{Cell, Key, key_of, cleared}
+use Rattle.moo_table.proofs.Counting.{programs_added}
 use Rattle.moo_table.proofs.Changing.{valid_within, not_valid, IsValidPlace}
 use Rattle.moo_table.proofs.Refitting.{definer_elsewhere, key_within, IsStoredCell}
 
@@ -173,6 +174,7 @@ module _ (w : World) (f : IsWellFormed w) where
         };
         few = omega (arith, many);
         few_players = f.few_players;
+        few_programs = omega (arith, programs_added w.objects o refl, f.few_programs);
       }
     where
       not_here : (o : Object) (y : ℕ) → object_of (w.objects ++ Some o ∷ []) y ≡ None → y ≡ length w.objects → ⊥

@@ -6,7 +6,7 @@ use Rattle.std.proofs.lemmas.List.{length_push}
 use Rattle.std.proofs.lemmas.Bool.{cases_Bool, lt-ltb, le-ltb, ltb-false, leb-true, leb-false}
 use Rattle.moo_value.specs.declared.error_code.ErrorCode.{ErrorCode}
 use Rattle.moo_value.specs.declared.error_code.ErrorCode.TheVariants.{Quota}
-use Rattle.moo_table.specs.World.{World, thing_of, most, IsWellFormed}
+use Rattle.moo_table.specs.World.{World, thing_of, most, IsWellFormed, IsCounted}
 use Rattle.moo_table.specs.Players.{players_with, as_player}
 use Rattle.moo_table.proofs.Single.{KeepsShape}
 
@@ -45,4 +45,7 @@ marked x on w = record {
 
 -- another list of players
 pub players_changed : (w : World) (ps : List ℤ) → IsWellFormed w → length ps ≤ most → IsWellFormed (record w { players = ps })
-players_changed w ps f few = record { parents = f.parents; places = f.places; stocked = f.stocked; few = f.few; few_players = few }
+players_changed w ps f few = record { parents = f.parents; places = f.places; stocked = f.stocked; few = f.few; few_players = few; few_programs = f.few_programs }
+
+pub players_counted : (w : World) (ps : List ℤ) (n : ℕ) → IsCounted w n → length ps ≤ most → IsCounted (record w { players = ps }) n
+players_counted w ps n c few = record { formed = players_changed w ps c.formed few; counted = c.counted }

@@ -16,6 +16,7 @@ use Rattle.moo_table.specs.World.{World, nothing, object_of, thing_of, keys_defi
 use Rattle.moo_table.specs.Changes.{without_cell, without_name, after_undefine, changed_along}
 use Rattle.moo_object.specs.Objects.{Object}
 use Rattle.moo_object.specs.Cells.{Cell, Key, key_of, is_key}
+use Rattle.moo_table.proofs.Counting.{programs_undefined}
 use Rattle.moo_table.proofs.Along.{all_along, walk_members}
 use Rattle.moo_table.proofs.Changing.{valid_within}
 use Rattle.moo_table.proofs.Refitting.{joined_kept, definer_elsewhere, key_within}
@@ -193,6 +194,7 @@ module _ (w : World) (x : ℕ) (name : List ℕ) (f : IsWellFormed w) (valid : I
         };
         few = rw many f.few;
         few_players = f.few_players;
+        few_programs = omega (arith, programs_undefined w.objects x name (valid_within w.objects x valid), f.few_programs);
       }
 
   -- what is not within x has no cell for it

@@ -21,6 +21,7 @@ use Rattle.moo_table.specs.Changes.{changed_on}
 use Rattle.moo_table.specs.Properties.{is_taken, has_name}
 use Rattle.moo_table.specs.Edits.{respelled, with_respelled, renamed_cells, with_renamed_cell}
 use Rattle.moo_table.specs.Renames.{after_rename, IsRenamable}
+use Rattle.moo_table.proofs.Counting.{programs_renamed}
 use Rattle.moo_table.proofs.Changing.{valid_within}
 use Rattle.moo_table.proofs.Joining.{within_low, walk_low}
 use Rattle.moo_table.proofs.Refitting.{joined_kept, none_passes, definer_elsewhere, key_within}
@@ -329,6 +330,7 @@ module _ (w : World) (x : ℕ) (name n : List ℕ) (f : IsWellFormed w) (valid :
         };
         few = rw many f.few;
         few_players = f.few_players;
+        few_programs = omega (arith, programs_renamed w.objects x key name (folded n) n (valid_within w.objects x valid), f.few_programs);
       }
 
   -- new rows along a walk rename all cells

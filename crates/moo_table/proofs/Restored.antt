@@ -11,8 +11,9 @@ use Rattle.moo_forest.specs.Forest.{Links, ancestors}
 use Rattle.moo_forest.proofs.Climbing.{not_met}
 use Rattle.moo_object.specs.Objects.{Object}
 use Rattle.moo_object.specs.Cells.{Cell, Key, key_of}
-use Rattle.moo_table.specs.World.{World, nothing, object_of, thing_of, keys_defined_on, keys_along, definitions, has_twice, has_clash, with_cells, most, IsFilled, IsFine, HasStored, IsJoined, IsStocked, IsWellFormed}
+use Rattle.moo_table.specs.World.{World, nothing, object_of, thing_of, keys_defined_on, keys_along, definitions, has_twice, has_clash, with_cells, most, programs_in, IsFilled, IsFine, HasStored, IsJoined, IsStocked, IsWellFormed}
 use Rattle.moo_table.specs.Restoring.{rekeyed, restored_object, restored, restored_world, AreComplete, AreParts}
+use Rattle.moo_table.proofs.Counting.{programs_alike}
 use Rattle.moo_table.proofs.Refitting.{same_defined, definer_elsewhere, joined_kept, kept_none, cells_stay, fine_with_cells, IsStoredCell}
 
 rekeyed_keys : (ks : List Key) (cells : List Cell) → length cells ≡ length ks → map key_of (rekeyed ks cells) ≡ ks
@@ -131,7 +132,16 @@ restored_well_formed objects parents places players p = record {
   stocked = restored_stocked objects parents p.parents_joined p.complete;
   few = let many = many_restored objects parents in let few = p.few in omega (arith, many, few);
   few_players = p.few_players;
+  few_programs = omega (arith, programs_restored, p.few_programs);
 }
+  where
+    verbs_left : (o : Option Object) (cells : List Cell) → (unwrap_or (with_cells o cells) nothing).verbs ≡ (unwrap_or o nothing).verbs
+    verbs_left None cells = refl
+    verbs_left (Some o) cells = refl
+
+    programs_restored : programs_in (restored objects parents) ≡ programs_in objects
+    programs_restored = programs_alike (restored objects parents) objects (many_restored objects parents)
+        (λ x. ap (λ o. (unwrap_or o nothing).verbs) (object_restored objects parents x) ∙ verbs_left (object_of objects x) (rekeyed (definitions objects parents x) (thing_of objects x).cells))
 
 -- a well formed world is restored as it was
 pub restored_same : (w : World) → IsWellFormed w → restored_world w.objects w.inheritance w.containment w.players ≡ w

@@ -1,5 +1,5 @@
 -- A change of one object that keeps what it defines keeps a world well formed.
-use Rattle.std.proofs.Common.{◌≡◌, ℕ, List, [], ◌∷◌, ◌++◌, Option, Some, None, refl, sym, ◌∙◌, ap, ⊎_elim, get_or, set, map, IsSome}
+use Rattle.std.proofs.Common.{◌≡◌, ℕ, ◌≤◌, List, [], ◌∷◌, ◌++◌, Option, Some, None, refl, sym, ◌∙◌, ap, ⊎_elim, arith, get_or, set, map, IsSome, ◌+◌}
 use Rattle.std.specs.List.{All}
 use Rattle.std.specs.Option.{unwrap_or, option_map}
 use Rattle.std.proofs.lemmas.List.{get_or_read, get_or-set_same, get_or-set_other, length-set}
@@ -8,9 +8,10 @@ use Rattle.moo_value.specs.Compare.{folded}
 use Rattle.moo_forest.specs.Forest.{ancestors}
 use Rattle.moo_object.specs.Objects.{Object}
 use Rattle.moo_object.specs.Cells.{Key, key_of}
-use Rattle.moo_table.specs.World.{World, nothing, object_of, thing_of, keys_defined_on, keys_along, has_twice, IsFilled, IsFine, IsWellFormed}
+use Rattle.moo_table.specs.World.{World, nothing, object_of, thing_of, keys_defined_on, keys_along, has_twice, most, programs_of, programs_in, IsCounted, IsFilled, IsFine, IsWellFormed}
 use Rattle.moo_table.specs.Changes.{changed_on, with_object}
 use Rattle.moo_table.proofs.Changing.{valid_within}
+use Rattle.moo_table.proofs.Counting.{programs_changed, programs_stay}
 use Rattle.moo_table.proofs.Refitting.{joined_kept}
 
 -- the object has cells for the same definitions, defines the same names, and keeps the limits
@@ -59,8 +60,8 @@ module _ (w : World) (x : ℕ) (f : Object → Object) (wf : IsWellFormed w) (va
       (λ ne. sym (there y ne) ∙ h)
       (cases_eq y x)
 
-  pub object_changed : IsWellFormed (with_object w x f)
-  object_changed =
+  pub object_changed : programs_in (changed_on w.objects x f) ≤ most → IsWellFormed (with_object w x f)
+  object_changed programs =
       let many = length-set w.objects x (option_map f (object_of w.objects x)) in
       record {
         parents = joined_kept w.objects (changed_on w.objects x f) w.inheritance many still_none wf.parents;
@@ -82,4 +83,25 @@ module _ (w : World) (x : ℕ) (f : Object → Object) (wf : IsWellFormed w) (va
         };
         few = rw many wf.few;
         few_players = wf.few_players;
+        few_programs = programs;
+      }
+
+-- the same with a count of the programs
+module _ (w : World) (x : ℕ) (f : Object → Object) (n : ℕ) (c : IsCounted w n) (valid : IsSome (object_of w.objects x)) (keeps : KeepsShape x f (thing_of w.objects x)) where
+  -- a change that leaves as many
+  pub object_kept : programs_of (f (thing_of w.objects x)).verbs ≡ programs_of (thing_of w.objects x).verbs → IsCounted (with_object w x f) n
+  object_kept same =
+      let stay = programs_stay w.objects x f (valid_within w.objects x valid) valid same in
+      record {
+        formed = object_changed w x f c.formed valid keeps (omega (arith, stay, c.formed.few_programs));
+        counted = c.counted ∙ sym stay;
+      }
+
+  -- one that leaves others
+  pub object_recounted : (m : ℕ) → m + programs_of (thing_of w.objects x).verbs ≡ n + programs_of (f (thing_of w.objects x)).verbs → m ≤ most → IsCounted (with_object w x f) m
+  object_recounted m many few =
+      let changed = programs_changed w.objects x f (valid_within w.objects x valid) valid in
+      record {
+        formed = object_changed w x f c.formed valid keeps (omega (arith, changed, many, c.counted, few));
+        counted = omega (arith, changed, many, c.counted);
       }

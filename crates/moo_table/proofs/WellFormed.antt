@@ -6,7 +6,7 @@ use Rattle.moo_value.specs.Size.{IsString}
 use Rattle.moo_forest.specs.Forest.{IsForest}
 use Rattle.moo_object.specs.Cells.{Cell}
 use Rattle.moo_object.specs.declared.verb.Verb.{Verb}
-use Rattle.moo_table.specs.World.{IsWellFormed, IsJoined, IsFine, HasStored, nothing}
+use Rattle.moo_table.specs.World.{IsWellFormed, IsCounted, IsJoined, IsFine, HasStored, nothing}
 
 empty_forest : IsForest []
 empty_forest = record { rooted = λ x. refl; exact = λ x y. refl }
@@ -36,4 +36,8 @@ empty_well_formed = record {
   };
   few = omega arith;
   few_players = omega arith;
+  few_programs = omega arith;
 }
+
+pub empty_counted : IsCounted (record { objects = []; inheritance = []; containment = []; players = [] }) 0
+empty_counted = record { formed = empty_well_formed; counted = refl }

@@ -4,7 +4,7 @@ use Rattle.std.specs.List.{range_with_len, All}
 use Rattle.moo_forest.specs.Forest.{Links}
 use Rattle.moo_object.specs.Cells.{Cell, Key}
 use Rattle.moo_object.specs.Objects.{Object}
-use Rattle.moo_table.specs.World.{World, object_of, thing_of, definitions, has_clash, with_cells, most, IsFine, IsJoined}
+use Rattle.moo_table.specs.World.{World, object_of, thing_of, definitions, has_clash, with_cells, most, programs_in, IsFine, IsJoined}
 
 -- cells for these definitions, one after the other
 abbrev pub rekeyed : List Key → List Cell → List Cell
@@ -37,3 +37,4 @@ pub record AreParts (objects : List (Option Object)) (parents places : List Link
   pub complete : AreComplete objects parents
   pub few : length objects ≤ most
   pub few_players : length players ≤ most
+  pub few_programs : programs_in objects ≤ most

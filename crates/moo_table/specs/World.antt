@@ -1,7 +1,7 @@
 -- The object world: numbered objects in a tree of parents and a tree of places, with properties and players.
 use Rattle.std.specs.Prelude.{◌≡◌, ℕ, ◌≤◌, ℤ, pos, List, [], ◌∷◌, ◌++◌, Option, Some, None, Bool, true, false, ◌||◌, length, map, slice_index_or, is_some, nat_lt}
 use Rattle.std.specs.Option.{unwrap_or}
-use Rattle.std.specs.List.{range_with_len, list_any, All}
+use Rattle.std.specs.List.{range_with_len, list_any, All, count_by, sum_by}
 use Rattle.moo_value.specs.Compare.{folded}
 use Rattle.moo_value.specs.Tree.{Tree}
 use Rattle.moo_value.specs.Size.{IsString, IsStored}
@@ -10,6 +10,7 @@ use Rattle.moo_forest.specs.Forest.{Links, alone, ancestors, IsForest}
 use Rattle.moo_object.specs.Names.{same_name}
 use Rattle.moo_object.specs.Cells.{Cell, Key, key_of}
 use Rattle.moo_object.specs.Objects.{Object, fitted_row}
+use Rattle.moo_object.specs.declared.verb.Verb.{Verb}
 
 pub record World : Type 0 where
   pub objects : List (Option Object)
@@ -53,9 +54,17 @@ has_clash objects tree x = has_twice (map (λ k. k.1) (definitions objects tree 
 abbrev pub clashes : List (Option Object) → List Links → Bool
 clashes objects tree = list_any (has_clash objects tree) (range_with_len 0 (length objects))
 
--- how many properties an object may have, inherited ones too, how many verbs, how many objects and players there may be
+-- how many properties an object may have, inherited ones too, how many verbs, how many objects, players and programs there may be
 abbrev pub most : ℕ
 most = 1000000
+
+-- how many of these verbs have a program; an empty one counts
+abbrev pub programs_of : List Verb → ℕ
+programs_of vs = count_by (λ v. is_some v.program) vs
+
+-- how many programs the verbs of all objects have together
+abbrev pub programs_in : List (Option Object) → ℕ
+programs_in objects = sum_by (λ o. programs_of (unwrap_or o nothing).verbs) objects
 
 -- whether some object would have too many properties
 abbrev pub is_crowded : List (Option Object) → List Links → ℕ → Bool
@@ -120,12 +129,19 @@ pub record IsStocked (objects : List (Option Object)) (tree : List Links) : Type
   pub own_filled : (x : ℕ) → All (IsFilled x) (thing_of objects x).cells
   pub fine : (x : ℕ) → IsFine (thing_of objects x)
 
+-- what every world keeps
 pub record IsWellFormed (w : World) : Type 0 where
   pub parents : IsJoined w.objects w.inheritance
   pub places : IsJoined w.objects w.containment
   pub stocked : IsStocked w.objects w.inheritance
   pub few : length w.objects ≤ most
   pub few_players : length w.players ≤ most
+  pub few_programs : programs_in w.objects ≤ most
+
+-- a well formed world, and how many programs it has
+pub record IsCounted (w : World) (programs : ℕ) : Type 0 where
+  pub formed : IsWellFormed w
+  pub counted : programs ≡ programs_in w.objects
 
 -- the cells of an object, and none for no object
 abbrev pub cells_of : List (Option Object) → Option ℕ → List Cell

@@ -1,9 +1,10 @@
 //! The verbs of one object.
 
-ghost use Rattle.std.specs.Prelude.{◌≡◌, ◌<◌, length, OnOk, OnErr, Option, Some, None, slice_get};
+ghost use Rattle.std.specs.Prelude.{◌≡◌, ◌<◌, ◌≤◌, length, OnOk, OnErr, Option, Some, None, slice_get};
 ghost use Rattle.std.specs.Option.{option_copied, option_map, unwrap_or};
 ghost use Rattle.moo_object.specs.Verbs.{with_verb_info, with_args, with_program};
-ghost use Rattle.moo_table.specs.World.{nothing};
+ghost use Rattle.moo_table.specs.World.{nothing, most, programs_of, programs_in};
+ghost use Rattle.moo_table.specs.Verbs.{has_program};
 ghost use Rattle.moo_table.specs.Changes.{with_verb, without_verb, with_changed_verb};
 
 use moo_object::{Object, Verb, VerbArgs, VerbPerms};
@@ -86,4 +87,43 @@ pub fn set_program_in(slot: &mut Option<Object>, index: usize, program: Option<P
     if let Some(object) = slot {
         object.set_program(index, program);
     }
+}
+
+/// Whether the verb at a place has a program; an empty one is one.
+pub fn has_program(slot: &Option<Object>, index: usize) -> bool
+    ensures { result ≡ has_program (unwrap_or slot.now nothing).verbs index }
+{
+    match verb_in(slot, index) {
+        Some(verb) => verb.program.is_some(),
+        None => false,
+    }
+}
+
+/// How many programs the verbs of what stands at a number have.
+pub fn programs_on(slot: &Option<Object>) -> usize
+    ensures { result ≡ programs_of (unwrap_or slot.now nothing).verbs }
+{
+    count_programs(verbs_of(slot))
+}
+
+fn count_programs(verbs: &[Verb]) -> usize
+    ensures { result ≡ programs_of verbs.now }
+{
+    let mut programs = 0;
+    for verb in verbs {
+        programs += usize::from(verb.program.is_some());
+    }
+    programs
+}
+
+/// How many programs the verbs of all objects have together.
+pub fn all_programs(objects: &[Option<Object>]) -> usize
+    requires { programs_in objects.now ≤ most }
+    ensures { result ≡ programs_in objects.now }
+{
+    let mut programs = 0;
+    for slot in objects {
+        programs += programs_on(slot);
+    }
+    programs
 }

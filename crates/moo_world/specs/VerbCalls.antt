@@ -1,11 +1,12 @@
 -- When the calls on verbs raise, and what they leave.
-use Rattle.std.specs.Prelude.{ℕ, pos, List, Option, Some, None, if◌then◌else◌, nat_lt, length}
+use Rattle.std.specs.Prelude.{ℕ, pos, List, Option, Some, None, Bool, if◌then◌else◌, nat_lt, length}
 use Rattle.moo_value.specs.declared.error_code.ErrorCode.{ErrorCode}
 use Rattle.moo_value.specs.declared.error_code.ErrorCode.TheVariants.{InvalidArgument, VerbNotFound, Quota}
 use Rattle.moo_object.specs.Objects.{Object}
 use Rattle.moo_object.specs.Patterns.{has_word}
 use Rattle.moo_table.specs.World.{World, thing_of, most}
 use Rattle.moo_table.specs.Changes.{with_object}
+use Rattle.moo_table.specs.Verbs.{programs_with}
 use Rattle.moo_world.specs.declared.looking.VerbAt.{VerbAt}
 
 -- what looking at a verb of an object raises
@@ -18,6 +19,12 @@ abbrev pub verb_info_raises : World → Option ℕ → ℕ → List ℕ → Opti
 verb_info_raises w None i names = Some InvalidArgument
 verb_info_raises w (Some x) i names =
     if nat_lt i (length (thing_of w.objects x).verbs) then (if has_word names then None else Some InvalidArgument) else Some VerbNotFound
+
+-- what another program for a verb, or none, raises: there may not be too many
+abbrev pub program_raises : World → Option ℕ → ℕ → Bool → Option ErrorCode
+program_raises w None i on = Some InvalidArgument
+program_raises w (Some x) i on =
+    if nat_lt i (length (thing_of w.objects x).verbs) then (if nat_lt most (programs_with w x i on) then Some Quota else None) else Some VerbNotFound
 
 -- what one more verb raises
 abbrev pub add_verb_raises : World → Option ℕ → List ℕ → Option ErrorCode

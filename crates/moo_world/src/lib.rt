@@ -15,6 +15,7 @@ mod numbers;
 mod parents;
 mod places;
 mod players;
+mod programs;
 mod properties;
 mod property_info;
 mod recycling;
@@ -39,10 +40,12 @@ pub struct World {
     inheritance: Forest,
     containment: Forest,
     players: Vec<i32>,
+    // How many programs the verbs have.
+    programs: usize,
 }
 
 impl Model for World {
-    ghost use Rattle.moo_table.specs.World.{World as Contents, IsWellFormed};
+    ghost use Rattle.moo_table.specs.World.{World as Contents, IsCounted};
     ghost use Rattle.std.specs.Coded.{codes};
     ghost use Rattle.moo_value.specs.TreeCode.{tree_code};
     ghost use Rattle.moo_program.specs.Code.{block_code};
@@ -58,10 +61,10 @@ impl Model for World {
       players = w.players.items;
     } };
 
-    ghost invariant = { λ w. IsWellFormed (record {
+    ghost invariant = { λ w. IsCounted (record {
       objects = w.objects.items;
       inheritance = w.inheritance;
       containment = w.containment;
       players = w.players.items;
-    }) };
+    }) w.programs };
 }

@@ -19,6 +19,7 @@ impl World {
             inheritance: Forest::new(alloc),
             containment: Forest::new(alloc),
             players: Vec::new(alloc),
+            programs: 0,
         }
     }
 

@@ -10,6 +10,7 @@ use crate::World;
 use crate::fault::WorldFault;
 use moo_table::players::take_player_out;
 use moo_table::recycling::{empty, lose_all_along};
+use moo_table::verbs::programs_on;
 use moo_value::ErrorCode;
 use std::alloc::Global;
 
@@ -46,11 +47,13 @@ impl World {
         let walk = self.inheritance.walk_down(alloc, x)?;
         let contents = Vec::from_slice(alloc, self.containment.below(x))?;
         let parent = self.inheritance.above(x);
+        let programs = programs_on(&self.objects[x]);
         self.inheritance.dissolve(alloc, x, parent)?;
         self.containment.scatter(x, &contents);
         empty(&mut self.objects[x]);
         lose_all_along(&mut self.objects, &walk, x);
         take_player_out(&mut self.players, x as i32);
+        self.programs -= programs;
         Ok(())
     }
 }

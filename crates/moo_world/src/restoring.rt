@@ -6,6 +6,7 @@ ghost use Rattle.moo_table.specs.World.{World as Contents, IsWellFormed};
 use crate::World;
 use moo_forest::Forest;
 use moo_object::Object;
+use moo_table::verbs::all_programs;
 
 impl World {
     /// The world of these objects, trees and players, as a database gives them.
@@ -18,11 +19,13 @@ impl World {
         requires { let w : Contents = record { objects = objects.items; inheritance = inheritance; containment = containment; players = players.items } in IsWellFormed w }
         ensures { result ≡ record { objects = objects.items; inheritance = inheritance; containment = containment; players = players.items } }
     {
+        let programs = all_programs(&objects);
         World {
             objects,
             inheritance,
             containment,
             players,
+            programs,
         }
     }
 }

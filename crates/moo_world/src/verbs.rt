@@ -3,7 +3,7 @@
 ghost use Rattle.std.specs.Prelude.{◌≡◌, ◌<◌, length, IsSome, IfOk, OnOk, Option, Some, None, slice_get};
 ghost use Rattle.std.specs.Option.{option_copied, option_map, option_and_then};
 ghost use Rattle.moo_value.specs.Size.{IsString};
-ghost use Rattle.moo_object.specs.Verbs.{with_verb_info, with_args, with_program};
+ghost use Rattle.moo_object.specs.Verbs.{with_verb_info, with_args};
 ghost use Rattle.moo_table.specs.World.{object_of, thing_of};
 ghost use Rattle.moo_table.specs.Changes.{with_object, with_verb, without_verb, with_changed_verb};
 ghost use Rattle.moo_world.specs.Calls.{Changes, Tests, number_of, TakesNoMemory};
@@ -12,11 +12,9 @@ ghost use Rattle.moo_world.specs.VerbCalls.{verb_raises, verb_info_raises, add_v
 use crate::World;
 use crate::fault::WorldFault;
 use moo_object::{Verb, VerbArgs, VerbPerms, has_word};
-use moo_program::Program;
 use moo_table::MOST;
 use moo_table::verbs::{
-    add_verb_in, remove_verb_in, set_program_in, set_verb_args_in, set_verb_info_in, verb_in,
-    verbs_of,
+    add_verb_in, remove_verb_in, set_verb_args_in, set_verb_info_in, verb_in, verbs_of,
 };
 use moo_value::{ErrorCode, MooStr};
 
@@ -78,7 +76,8 @@ impl World {
 
     // The same, of a valid object.
     fn put_verb(&mut self, x: usize, verb: Verb) -> Result<usize, WorldFault>
-        requires { IsSome (object_of self.old.objects x) }
+        requires object { IsSome (object_of self.old.objects x) }
+        requires bare { verb.program ≡ None }
         ensures world { Changes result self.old self.new (add_verb_raises self.old (Some x) verb.names) (with_object self.old x (with_verb verb)) }
         ensures place { IfOk result (λ i. i ≡ length (thing_of self.old.objects x).verbs) }
     {
@@ -104,7 +103,7 @@ impl World {
     }
 
     /// What looking at a verb of an object raises; so do taking it away and changing its
-    /// specifiers and its program.
+    /// specifiers.
     pub fn try_verb(&self, o: i32, index: usize) -> Result<(), WorldFault>
         ensures raises { Tests result (verb_raises self.now (number_of self.now.objects o) index) }
         ensures memory { TakesNoMemory result }
@@ -115,7 +114,7 @@ impl World {
         }
     }
 
-    fn test_verb(&self, x: usize, index: usize) -> Result<(), WorldFault>
+    pub(crate) fn test_verb(&self, x: usize, index: usize) -> Result<(), WorldFault>
         requires { IsSome (object_of self.now.objects x) }
         ensures raises { Tests result (verb_raises self.now (Some x) index) }
         ensures memory { TakesNoMemory result }
@@ -144,7 +143,9 @@ impl World {
         ensures memory { TakesNoMemory result }
     {
         self.test_verb(x, index)?;
+        let programs = self.programs_with(x, index, false);
         remove_verb_in(&mut self.objects[x], index);
+        self.programs = programs;
         Ok(())
     }
 
@@ -227,38 +228,6 @@ impl World {
     {
         self.test_verb(x, index)?;
         set_verb_args_in(&mut self.objects[x], index, args);
-        Ok(())
-    }
-
-    /// Gives a verb another program, or none.
-    pub fn set_program(
-        &mut self,
-        o: i32,
-        index: usize,
-        program: Option<Program>,
-    ) -> Result<(), WorldFault>
-        ensures world { let x = number_of self.old.objects o in
-            Changes result self.old self.new (verb_raises self.old x index) (world_with_object self.old x (with_changed_verb index (with_program program))) }
-        ensures memory { TakesNoMemory result }
-    {
-        match self.number(o) {
-            Some(x) => self.change_program(x, index, program),
-            None => Err(WorldFault::Raise(ErrorCode::InvalidArgument)),
-        }
-    }
-
-    fn change_program(
-        &mut self,
-        x: usize,
-        index: usize,
-        program: Option<Program>,
-    ) -> Result<(), WorldFault>
-        requires { IsSome (object_of self.old.objects x) }
-        ensures world { Changes result self.old self.new (verb_raises self.old (Some x) index) (with_object self.old x (with_changed_verb index (with_program program))) }
-        ensures memory { TakesNoMemory result }
-    {
-        self.test_verb(x, index)?;
-        set_program_in(&mut self.objects[x], index, program);
         Ok(())
     }
 }

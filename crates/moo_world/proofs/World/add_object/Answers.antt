@@ -1,9 +1,10 @@
-use Rattle.std.proofs.Common.{◌≡◌, ◌++◌, ◌∷◌, [], Some, sym, ◌∙◌, ap, arith, length, subst, map, w32}
+use Rattle.std.proofs.Common.{◌≡◌, ◌++◌, ◌∷◌, [], Some, refl, sym, ◌∙◌, ap, arith, length, subst, map, w32}
 use Rattle.std.proofs.lemmas.Int.{to_z-of_z}
 use Rattle.std.proofs.lemmas.Grind.{common_steps}
 use Rattle.moo_forest.specs.Forest.{alone, moved}
 use Rattle.moo_object.specs.Cells.{cleared}
 use Rattle.moo_table.specs.World.{World, cells_of}
+use Rattle.moo_table.proofs.Counting.{programs_added}
 use Rattle.moo_table.proofs.Changing.{IsValidPlace, valid_within}
 use Rattle.moo_table.proofs.Newborns.{create_well_formed, made}
 use Rattle.moo_world.proofs.World.add_object.Goals as goal
@@ -37,6 +38,6 @@ invariant_of-self-else-is_err-2 c =
     let object : c.in_ok-object.object ≡ made w c.args.p c.args.owner = child ∙ ap (λ cs. record (made w c.args.p c.args.owner) { cells = map (cleared c.args.owner) cs }) cells in
     let objects : c.push.new.self.items ≡ w.objects ++ Some (made w c.args.p c.args.owner) ∷ [] = c.in_ok-push.ensures.items ∙ ap (λ o. w.objects ++ Some o ∷ []) object in
     let told : c.add_below.new.self ≡ moved (c.self.inside.inheritance ++ alone ∷ []) (length c.self.inside.inheritance) c.args.p = grind (arith, common_steps) in
-    let parents : c.add_below.new.self ≡ moved (w.inheritance ++ alone ∷ []) (length w.objects) c.args.p = told ∙ ap (λ n. moved (w.inheritance ++ alone ∷ []) n c.args.p) c.self.invariant.parents.many in
+    let parents : c.add_below.new.self ≡ moved (w.inheritance ++ alone ∷ []) (length w.objects) c.args.p = told ∙ ap (λ n. moved (w.inheritance ++ alone ∷ []) n c.args.p) c.self.invariant.formed.parents.many in
     let places : c.add.new.self ≡ w.containment ++ alone ∷ [] = grind (arith, common_steps) in
-    rw (objects, parents, places) (create_well_formed w c.self.invariant c.args.p c.args.owner valid (omega (arith, c.len.ensures, c.self.inside.objects.ok.0)))
+    rw (objects, parents, places) (record { formed = (create_well_formed w c.self.invariant.formed c.args.p c.args.owner valid (omega (arith, c.len.ensures, c.self.inside.objects.ok.0))); counted = c.self.invariant.counted ∙ sym (programs_added w.objects (made w c.args.p c.args.owner) refl) })

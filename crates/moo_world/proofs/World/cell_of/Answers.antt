@@ -15,7 +15,7 @@ returns-in-Some-clause-cell c =
     let valid = subst (λ v. IsSome (object_of v.objects c.args.x)) (sym c.self.view_is) c.requires in
     let thing = thing_read w.objects c.args.x c.index.result.now valid c.index.ensures in
     let found = sym (ap option_copied c.in-Some.is) ∙ c.cell_in.ensures ∙ ap (λ (o : Object). cell_named o.cells (folded c.args.name.now)) thing in (
-      ap (λ v. plain_raises v c.args.x (folded c.args.name.now)) (sym c.self.view_is) ∙ cell_allowed w c.args.x (folded c.args.name.now) c.in-Some.cell.now c.self.invariant found,
+      ap (λ v. plain_raises v c.args.x (folded c.args.name.now)) (sym c.self.view_is) ∙ cell_allowed w c.args.x (folded c.args.name.now) c.in-Some.cell.now c.self.invariant.formed found,
       ap (λ v. cell_named (thing_of v.objects c.args.x).cells (folded c.args.name.now)) (sym c.self.view_is) ∙ sym found,
     )
 
@@ -25,4 +25,4 @@ returns-in-None-clause-cell c =
     let valid = subst (λ v. IsSome (object_of v.objects c.args.x)) (sym c.self.view_is) c.requires in
     let thing = thing_read w.objects c.args.x c.index.result.now valid c.index.ensures in
     let found = sym (ap option_copied c.in-None.is) ∙ c.cell_in.ensures ∙ ap (λ (o : Object). cell_named o.cells (folded c.args.name.now)) thing in
-    ap (λ v. plain_raises v c.args.x (folded c.args.name.now)) (sym c.self.view_is) ∙ cell_refused w c.args.x (folded c.args.name.now) c.self.invariant found
+    ap (λ v. plain_raises v c.args.x (folded c.args.name.now)) (sym c.self.view_is) ∙ cell_refused w c.args.x (folded c.args.name.now) c.self.invariant.formed found

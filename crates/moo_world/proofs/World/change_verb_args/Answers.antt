@@ -1,9 +1,10 @@
-use Rattle.std.proofs.Common.{Some, sym, ◌∙◌, ap, subst, arith, length, IsSome}
+use Rattle.std.proofs.Common.{Some, sym, ◌∙◌, ap, subst, arith, length, IsSome, refl}
 use Rattle.moo_object.specs.Verbs.{with_args}
 use Rattle.moo_table.specs.World.{World, object_of, thing_of}
 use Rattle.moo_table.specs.Changes.{with_object, with_changed_verb}
 use Rattle.moo_world.specs.VerbCalls.{verb_raises}
-use Rattle.moo_table.proofs.Single.{slot_changed, object_changed}
+use Rattle.moo_table.proofs.Counting.{programs_as_before}
+use Rattle.moo_table.proofs.Single.{slot_changed, object_kept}
 use Rattle.moo_table.proofs.VerbChanges.{verb_changed, thing_read, verb_free}
 use Rattle.moo_world.proofs.World.change_verb_args.Goals as goal
 
@@ -20,7 +21,7 @@ invariant_of-self c =
     let w : World = record { objects = c.self.inside.objects.items; inheritance = c.self.inside.inheritance; containment = c.self.inside.containment; players = c.self.inside.players.items } in
     let valid = subst (λ v. IsSome (object_of v.objects c.args.x)) (sym c.self.view_is) c.requires in
     let slot = slot_changed w.objects c.args.x (with_changed_verb c.args.index (with_args c.args.args)) c.index_mut.result.now c.set_verb_args_in.new.slot valid c.index_mut.ensures.value c.set_verb_args_in.ensures in
-    rw slot (object_changed w c.args.x (with_changed_verb c.args.index (with_args c.args.args)) c.self.invariant valid (verb_changed c.args.x c.args.index (with_args c.args.args) (thing_of w.objects c.args.x) (λ v h. h)))
+    rw slot (object_kept w c.args.x (with_changed_verb c.args.index (with_args c.args.args)) c.self.inside.programs c.self.invariant valid (verb_changed c.args.x c.args.index (with_args c.args.args) (thing_of w.objects c.args.x) (λ v h. h)) (programs_as_before (thing_of w.objects c.args.x).verbs c.args.index (with_args c.args.args) (λ v. refl)))
 
 pub returns-clause-world : goal.returns-clause-world
 returns-clause-world c =

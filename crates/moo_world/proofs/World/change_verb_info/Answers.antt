@@ -1,4 +1,4 @@
-use Rattle.std.proofs.Common.{◌≡◌, Some, sym, ◌∙◌, ap, subst, arith, length, IsSome, w32}
+use Rattle.std.proofs.Common.{◌≡◌, Some, sym, ◌∙◌, ap, subst, arith, length, IsSome, w32, refl}
 use Rattle.std.proofs.lemmas.Int.{to_z-of_z}
 use Rattle.std.specs.Option.{option_map}
 use Rattle.moo_object.specs.Patterns.{has_word}
@@ -6,7 +6,8 @@ use Rattle.moo_object.specs.Verbs.{with_verb_info}
 use Rattle.moo_table.specs.World.{World, object_of, thing_of}
 use Rattle.moo_table.specs.Changes.{with_object, with_changed_verb}
 use Rattle.moo_world.specs.VerbCalls.{verb_info_raises}
-use Rattle.moo_table.proofs.Single.{slot_changed, object_changed}
+use Rattle.moo_table.proofs.Counting.{programs_as_before}
+use Rattle.moo_table.proofs.Single.{slot_changed, object_kept}
 use Rattle.moo_table.proofs.VerbChanges.{verb_changed, thing_read, info_free}
 use Rattle.moo_world.proofs.World.change_verb_info.Goals as goal
 
@@ -25,7 +26,7 @@ invariant_of-self c =
     let owner = to_z-of_z w32 c.args.owner c.ranges.owner in
     let wrote : c.set_verb_info_in.new.slot ≡ option_map (with_changed_verb c.args.index (with_verb_info c.args.names c.args.owner c.args.perms)) c.index_mut.result.now = c.set_verb_info_in.ensures ∙ ap (λ n. option_map (with_changed_verb c.args.index (with_verb_info c.args.names n c.args.perms)) c.index_mut.result.now) owner in
     let slot = slot_changed w.objects c.args.x (with_changed_verb c.args.index (with_verb_info c.args.names c.args.owner c.args.perms)) c.index_mut.result.now c.set_verb_info_in.new.slot valid c.index_mut.ensures.value wrote in
-    rw slot (object_changed w c.args.x (with_changed_verb c.args.index (with_verb_info c.args.names c.args.owner c.args.perms)) c.self.invariant valid (verb_changed c.args.x c.args.index (with_verb_info c.args.names c.args.owner c.args.perms) (thing_of w.objects c.args.x) (λ v h. c.in_ok-test_verb_info.ensures.string)))
+    rw slot (object_kept w c.args.x (with_changed_verb c.args.index (with_verb_info c.args.names c.args.owner c.args.perms)) c.self.inside.programs c.self.invariant valid (verb_changed c.args.x c.args.index (with_verb_info c.args.names c.args.owner c.args.perms) (thing_of w.objects c.args.x) (λ v h. c.in_ok-test_verb_info.ensures.string)) (programs_as_before (thing_of w.objects c.args.x).verbs c.args.index (with_verb_info c.args.names c.args.owner c.args.perms) (λ v. refl)))
 
 pub returns-clause-world : goal.returns-clause-world
 returns-clause-world c =

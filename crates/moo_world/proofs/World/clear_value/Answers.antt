@@ -1,11 +1,11 @@
-use Rattle.std.proofs.Common.{sym, ap, subst, IsSome}
+use Rattle.std.proofs.Common.{sym, ap, subst, IsSome, refl}
 use Rattle.moo_value.specs.Compare.{folded}
 use Rattle.moo_object.specs.Cells.{Key}
 use Rattle.moo_table.specs.World.{World, object_of, thing_of}
 use Rattle.moo_table.specs.Changes.{with_object}
 use Rattle.moo_table.specs.Edits.{with_clear}
 use Rattle.moo_table.specs.Properties.{definition_named}
-use Rattle.moo_table.proofs.Single.{slot_changed, object_changed}
+use Rattle.moo_table.proofs.Single.{slot_changed, object_kept}
 use Rattle.moo_table.proofs.Edited.{clear_kept}
 use Rattle.moo_world.proofs.Inheriting.{inherited_is_other}
 use Rattle.moo_world.proofs.World.clear_value.Goals as goal
@@ -17,7 +17,7 @@ invariant_of-self c =
     let k : Key = (c.in_ok-definer.definer, folded c.args.name.now) in
     let slot = slot_changed w.objects c.args.x (with_clear k) c.index_mut.result.now c.clear_in.new.slot valid c.index_mut.ensures.value c.clear_in.ensures in
     let other = inherited_is_other c.args.x k (definition_named c.args.self.now c.args.x (folded c.args.name.now)) c.in_ok-definer.ensures.raises.1 c.in_ok-definer.ensures.raises.0 in
-    rw slot (object_changed w c.args.x (with_clear k) c.self.invariant valid (clear_kept c.args.x k (thing_of w.objects c.args.x) other))
+    rw slot (object_kept w c.args.x (with_clear k) c.self.inside.programs c.self.invariant valid (clear_kept c.args.x k (thing_of w.objects c.args.x) other) refl)
 
 pub returns-clause-world : goal.returns-clause-world
 returns-clause-world c =

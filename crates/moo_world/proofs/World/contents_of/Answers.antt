@@ -6,7 +6,7 @@ use Rattle.moo_world.proofs.World.contents_of.Goals as goal
 pub returns-clause-low : goal.returns-clause-low
 returns-clause-low c k d h =
     let nodes = c.self.inside.containment in
-    let low = subst (λ ys. All (λ y. y < length nodes) ys) (sym c.below.ensures) (listed_within nodes c.self.invariant.places.forest.exact c.args.x) k d h in
-    let few = c.self.invariant.few in
-    let many = c.self.invariant.places.many in
+    let low = subst (λ ys. All (λ y. y < length nodes) ys) (sym c.below.ensures) (listed_within nodes c.self.invariant.formed.places.forest.exact c.args.x) k d h in
+    let few = c.self.invariant.formed.few in
+    let many = c.self.invariant.formed.places.many in
     omega (arith, low, many, few)

@@ -9,6 +9,8 @@ use Rattle.moo_table.specs.Changes.{changed_on}
 use Rattle.moo_table.specs.Rows.{with_rows}
 use Rattle.moo_table.specs.Edits.{with_respelled, renamed_cells}
 use Rattle.moo_table.specs.Renames.{after_rename, IsRenamable}
+use Rattle.moo_table.proofs.Changing.{valid_within}
+use Rattle.moo_table.proofs.Counting.{programs_renamed}
 use Rattle.moo_table.proofs.Single.{slot_changed}
 use Rattle.moo_table.proofs.Renamed.{rows_met, rows_renamed, renamed_well_formed, renamed_valid}
 use Rattle.moo_world.proofs.World.rename.Goals as goal
@@ -28,8 +30,8 @@ invariant_of-self c =
     ap (λ os. map (λ (s : Step). renamed_cells k (folded n) (thing_of os s.node)) walk) c.deref.ensures.value ∙ rows_met w.objects k (folded n) walk in
     let fit = c.put_rows.ensures ∙ ap (λ ys. with_rows (set w.objects c.args.x c.respell_in.new.slot) (met ys) c.in_ok-rows.rows.items) c.deref-3.ensures.value ∙
     ap (λ os. with_rows os (met walk) c.in_ok-rows.rows.items) start ∙ ap (with_rows (changed_on w.objects c.args.x (with_respelled name n)) (met walk)) rows ∙
-    rows_renamed w c.args.x name n c.self.invariant valid walk c.in_ok-walk.ensures in
-    rw fit (renamed_well_formed w c.args.x name n c.self.invariant valid allowed)
+    rows_renamed w c.args.x name n c.self.invariant.formed valid walk c.in_ok-walk.ensures in
+    rw fit (record { formed = (renamed_well_formed w c.args.x name n c.self.invariant.formed valid allowed); counted = c.self.invariant.counted ∙ sym (programs_renamed w.objects c.args.x k name (folded n) n (valid_within w.objects c.args.x valid)) })
 
 pub returns-clause-ok : goal.returns-clause-ok
 returns-clause-ok c =
@@ -45,7 +47,7 @@ returns-clause-ok c =
     ap (λ os. map (λ (s : Step). renamed_cells k (folded n) (thing_of os s.node)) walk) c.deref.ensures.value ∙ rows_met w.objects k (folded n) walk in
     let fit = c.put_rows.ensures ∙ ap (λ ys. with_rows (set w.objects c.args.x c.respell_in.new.slot) (met ys) c.in_ok-rows.rows.items) c.deref-3.ensures.value ∙
     ap (λ os. with_rows os (met walk) c.in_ok-rows.rows.items) start ∙ ap (with_rows (changed_on w.objects c.args.x (with_respelled name n)) (met walk)) rows ∙
-    rows_renamed w c.args.x name n c.self.invariant valid walk c.in_ok-walk.ensures in
+    rows_renamed w c.args.x name n c.self.invariant.formed valid walk c.in_ok-walk.ensures in
     rw fit (ap (λ v. after_rename v c.args.x name n) c.self.view_is)
 
 pub returns-clause-valid : goal.returns-clause-valid
@@ -62,5 +64,5 @@ returns-clause-valid c =
     ap (λ os. map (λ (s : Step). renamed_cells k (folded n) (thing_of os s.node)) walk) c.deref.ensures.value ∙ rows_met w.objects k (folded n) walk in
     let fit = c.put_rows.ensures ∙ ap (λ ys. with_rows (set w.objects c.args.x c.respell_in.new.slot) (met ys) c.in_ok-rows.rows.items) c.deref-3.ensures.value ∙
     ap (λ os. with_rows os (met walk) c.in_ok-rows.rows.items) start ∙ ap (with_rows (changed_on w.objects c.args.x (with_respelled name n)) (met walk)) rows ∙
-    rows_renamed w c.args.x name n c.self.invariant valid walk c.in_ok-walk.ensures in
-    rw fit (renamed_valid w c.args.x name n c.self.invariant valid)
+    rows_renamed w c.args.x name n c.self.invariant.formed valid walk c.in_ok-walk.ensures in
+    rw fit (renamed_valid w c.args.x name n c.self.invariant.formed valid)

@@ -3,8 +3,8 @@ use Rattle.moo_value.specs.View.{tree}
 use Rattle.moo_table.specs.World.{World, object_of, thing_of}
 use Rattle.moo_table.specs.Changes.{with_object}
 use Rattle.moo_table.specs.Edits.{with_built_in}
-use Rattle.moo_table.proofs.Single.{slot_changed, object_changed}
-use Rattle.moo_table.proofs.Edited.{built_in_kept}
+use Rattle.moo_table.proofs.Single.{slot_changed, object_kept}
+use Rattle.moo_table.proofs.Edited.{built_in_kept, built_in_programs}
 use Rattle.moo_world.proofs.World.set_built_in.Goals as goal
 
 pub invariant_of-self : goal.invariant_of-self
@@ -13,7 +13,7 @@ invariant_of-self c =
     let valid = subst (λ v. IsSome (object_of v.objects c.args.x)) (sym c.self.view_is) c.requires in
     let f = with_built_in c.args.property (tree c.args.value) in
     let slot = slot_changed w.objects c.args.x f c.index_mut.result.now c.set_built_in_in.new.slot valid c.index_mut.ensures.value c.set_built_in_in.ensures in
-    rw slot (object_changed w c.args.x f c.self.invariant valid (built_in_kept c.args.x c.args.property (tree c.args.value) (thing_of w.objects c.args.x) (c.weight-weight.ensures.value, c.weight-weight.ensures.limits)))
+    rw slot (object_kept w c.args.x f c.self.inside.programs c.self.invariant valid (built_in_kept c.args.x c.args.property (tree c.args.value) (thing_of w.objects c.args.x) (c.weight-weight.ensures.value, c.weight-weight.ensures.limits)) (built_in_programs c.args.property (tree c.args.value) (thing_of w.objects c.args.x)))
 
 pub returns-clause-world : goal.returns-clause-world
 returns-clause-world c =

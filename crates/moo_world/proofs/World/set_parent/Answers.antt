@@ -5,6 +5,7 @@ use Rattle.moo_table.specs.World.{World, object_of, clashes, crowds}
 use Rattle.moo_table.specs.Rows.{AreReady, with_rows}
 use Rattle.moo_table.specs.Changes.{after_chparent, would_loop}
 use Rattle.moo_world.specs.Calls.{parent_raises}
+use Rattle.moo_table.proofs.Counting.{programs_refitted}
 use Rattle.moo_table.proofs.Changing.{IsValidPlace, parent_changed, parent_free, node_of, place_of_nodes, apart_from_test}
 use Rattle.moo_world.proofs.World.set_parent.Goals as goal
 
@@ -16,8 +17,8 @@ move_to-requires c =
     let free = parent_free (would_loop w.inheritance c.args.x c.args.p) (clashes w.objects (moved w.inheritance c.args.x c.args.p)) (crowds w.objects (moved w.inheritance c.args.x c.args.p))
     (ap (λ v. parent_raises v c.args.x c.args.p) c.self.view_is ∙ c.in_ok-walk.ensures.rows.0) in
     record {
-      node = node_of w.objects w.inheritance c.self.invariant.parents c.args.x valid;
-      place = place_of_nodes w.objects w.inheritance c.self.invariant.parents c.args.p p_valid;
+      node = node_of w.objects w.inheritance c.self.invariant.formed.parents c.args.x valid;
+      place = place_of_nodes w.objects w.inheritance c.self.invariant.formed.parents c.args.p p_valid;
       apart = apart_from_test w.inheritance c.args.x c.args.p free.0;
     }
 
@@ -40,7 +41,7 @@ invariant_of-self-2 c =
     (ap (λ v. parent_raises v c.args.x c.args.p) c.self.view_is ∙ c.in_ok-walk.ensures.rows.0) in
     let fit = c.put_rows.ensures ∙ ap (λ ys. with_rows w.objects (met ys) c.in_ok-walk.field-0.rows.items) c.deref.ensures.value ∙ ready.fit in
     let tree = c.in_ok-move_to.ensures.ok in
-    rw (fit, tree) (parent_changed w c.args.x c.args.p c.self.invariant valid p_valid free.0 free.1 free.2)
+    rw (fit, tree) (record { formed = (parent_changed w c.args.x c.args.p c.self.invariant.formed valid p_valid free.0 free.1 free.2); counted = c.self.invariant.counted ∙ sym (programs_refitted w.objects (moved w.inheritance c.args.x c.args.p)) })
 
 pub returns-clause-world : goal.returns-clause-world
 returns-clause-world c =

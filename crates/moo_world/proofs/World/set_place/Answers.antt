@@ -12,4 +12,4 @@ invariant_of-self-2 c =
     let to_valid = subst (λ v. IsValidPlace v.objects c.args.to) (sym c.self.view_is) c.requires.place in
     let free = place_free (would_loop w.containment c.args.x c.args.to) (ap (λ v. place_raises v c.args.x c.args.to) c.self.view_is ∙ c.in_ok-test_place.ensures.raises.0) in
     let tree = c.in_ok-move_to.ensures.ok in
-    rw tree (place_changed w c.args.x c.args.to c.self.invariant valid to_valid free)
+    rw tree (record { formed = place_changed w c.args.x c.args.to c.self.invariant.formed valid to_valid free; counted = c.self.invariant.counted })

@@ -10,12 +10,12 @@ pub returns-then-is_none-clause-raises : goal.returns-then-is_none-clause-raises
 returns-then-is_none-clause-raises c =
     let w : World = record { objects = c.self.inside.objects.items; inheritance = c.self.inside.inheritance; containment = c.self.inside.containment; players = c.self.inside.players.items } in
     let valid = subst (λ v. IsSome (object_of v.objects c.args.x)) (sym c.self.view_is) c.requires in
-    let found = definition_is w c.args.x (folded c.args.name.now) c.index.result.now c.definer_in.result c.self.invariant valid c.index.ensures c.definer_in.ensures in
+    let found = definition_is w c.args.x (folded c.args.name.now) c.index.result.now c.definer_in.result c.self.invariant.formed valid c.index.ensures c.definer_in.ensures in
     ap (λ v. plain_raises v c.args.x (folded c.args.name.now)) (sym c.self.view_is) ∙ plain_refused w c.args.x (folded c.args.name.now) c.definer_in.result found (c.is_none.ensures ∙ ap not c.if-is_none.true)
 
 pub returns-clause-raises : goal.returns-clause-raises
 returns-clause-raises c =
     let w : World = record { objects = c.self.inside.objects.items; inheritance = c.self.inside.inheritance; containment = c.self.inside.containment; players = c.self.inside.players.items } in
     let valid = subst (λ v. IsSome (object_of v.objects c.args.x)) (sym c.self.view_is) c.requires in
-    let found = definition_is w c.args.x (folded c.args.name.now) c.index.result.now c.definer_in.result c.self.invariant valid c.index.ensures c.definer_in.ensures in
+    let found = definition_is w c.args.x (folded c.args.name.now) c.index.result.now c.definer_in.result c.self.invariant.formed valid c.index.ensures c.definer_in.ensures in
     (ap (λ v. plain_raises v c.args.x (folded c.args.name.now)) (sym c.self.view_is) ∙ plain_allowed w c.args.x (folded c.args.name.now) c.definer_in.result found (c.is_none.ensures ∙ ap not c.if-is_none.false), tt)

@@ -15,14 +15,14 @@ pub walk_down-requires : goal.walk_down-requires
 walk_down-requires c =
     let w : World = record { objects = c.self.inside.objects.items; inheritance = c.self.inside.inheritance; containment = c.self.inside.containment; players = c.self.inside.players.items } in
     let valid = subst (λ v. IsSome (object_of v.objects c.args.x)) (sym c.self.view_is) c.requires in
-    let low = valid_within w.objects c.args.x valid in omega (arith, low, c.self.invariant.parents.many)
+    let low = valid_within w.objects c.args.x valid in omega (arith, low, c.self.invariant.formed.parents.many)
 
 pub some_named-requires : goal.some_named-requires
 some_named-requires c =
     let w : World = record { objects = c.self.inside.objects.items; inheritance = c.self.inside.inheritance; containment = c.self.inside.containment; players = c.self.inside.players.items } in
     let valid = subst (λ v. IsSome (object_of v.objects c.args.x)) (sym c.self.view_is) c.requires in
     subst (λ os. (k : ℕ) → k < length c.deref-2.result.now → (step_at c.deref-2.result.now k).node < length os) (sym c.deref.ensures.value)
-    (subst (λ ys. (k : ℕ) → k < length ys → (step_at ys k).node < length w.objects) (sym c.deref-2.ensures.value) (walk_low w.objects w.inheritance c.self.invariant.parents c.args.x valid c.in_ok-walk.walk.items c.in_ok-walk.ensures))
+    (subst (λ ys. (k : ℕ) → k < length ys → (step_at ys k).node < length w.objects) (sym c.deref-2.ensures.value) (walk_low w.objects w.inheritance c.self.invariant.formed.parents c.args.x valid c.in_ok-walk.walk.items c.in_ok-walk.ensures))
 
 pub returns-then-some_named : goal.returns-then-some_named
 returns-then-some_named c =
@@ -31,7 +31,7 @@ returns-then-some_named c =
     let taken : c.some_named.result ≡ is_taken w.objects w.inheritance c.args.x (folded c.args.name.now) = c.some_named.ensures ∙
     ap (λ ys. list_any (λ y. list_any (is_named (folded c.args.name.now)) (thing_of c.deref.result.now y).cells) (met ys)) c.deref-2.ensures.value ∙
     ap (λ os. list_any (λ y. list_any (is_named (folded c.args.name.now)) (thing_of os y).cells) (met c.in_ok-walk.walk.items)) c.deref.ensures.value ∙
-    taken_tested w c.args.x c.self.invariant valid c.in_ok-walk.walk.items c.in_ok-walk.ensures (folded c.args.name.now) in
+    taken_tested w c.args.x c.self.invariant.formed valid c.in_ok-walk.walk.items c.in_ok-walk.ensures (folded c.args.name.now) in
     let on = sym taken ∙ c.if-some_named.true in
     ap (λ v. taken_raises v c.args.x (folded c.args.name.now)) (sym c.self.view_is) ∙ (rw on refl)
 
@@ -42,6 +42,6 @@ returns c =
     let taken : c.some_named.result ≡ is_taken w.objects w.inheritance c.args.x (folded c.args.name.now) = c.some_named.ensures ∙
     ap (λ ys. list_any (λ y. list_any (is_named (folded c.args.name.now)) (thing_of c.deref.result.now y).cells) (met ys)) c.deref-2.ensures.value ∙
     ap (λ os. list_any (λ y. list_any (is_named (folded c.args.name.now)) (thing_of os y).cells) (met c.in_ok-walk.walk.items)) c.deref.ensures.value ∙
-    taken_tested w c.args.x c.self.invariant valid c.in_ok-walk.walk.items c.in_ok-walk.ensures (folded c.args.name.now) in
+    taken_tested w c.args.x c.self.invariant.formed valid c.in_ok-walk.walk.items c.in_ok-walk.ensures (folded c.args.name.now) in
     let off = sym taken ∙ c.if-some_named.false in
     (ap (λ v. taken_raises v c.args.x (folded c.args.name.now)) (sym c.self.view_is) ∙ (rw off refl), tt)

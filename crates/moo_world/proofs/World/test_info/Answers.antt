@@ -15,7 +15,7 @@ returns-in_default c =
     let w : World = record { objects = c.self.inside.objects.items; inheritance = c.self.inside.inheritance; containment = c.self.inside.containment; players = c.self.inside.players.items } in
     let valid = subst (λ v. IsSome (object_of v.objects c.args.x)) (sym c.self.view_is) c.requires in
     let name = folded c.args.name.now in
-    let found = definition_is w c.args.x name c.index.result.now c.definer_in.result c.self.invariant valid c.index.ensures c.definer_in.ensures ∙ ap (λ v. definition_named v c.args.x name) c.self.view_is in
+    let found = definition_is w c.args.x name c.index.result.now c.definer_in.result c.self.invariant.formed valid c.index.ensures c.definer_in.ensures ∙ ap (λ v. definition_named v c.args.x name) c.self.view_is in
     no_info c.args.self.now c.args.x (option_copied c.args.new_name) name c.definer_in.result _ found c.in_default.is
 
 pub returns-in_err-test_rename : goal.returns-in_err-test_rename
@@ -24,7 +24,7 @@ returns-in_err-test_rename c =
     let valid = subst (λ v. IsSome (object_of v.objects c.args.x)) (sym c.self.view_is) c.requires in
     let name = folded c.args.name.now in
     let k : Key = (c.in-Some.definer, name) in
-    let found = definition_is w c.args.x name c.index.result.now c.definer_in.result c.self.invariant valid c.index.ensures c.definer_in.ensures ∙ ap (λ v. definition_named v c.args.x name) c.self.view_is in
+    let found = definition_is w c.args.x name c.index.result.now c.definer_in.result c.self.invariant.formed valid c.index.ensures c.definer_in.ensures ∙ ap (λ v. definition_named v c.args.x name) c.self.view_is in
     let there = found_then name c.definer_in.result c.in-Some.definer _ found c.in-Some.is in
     let same = info_named c.args.self.now c.args.x (option_copied c.args.new_name) c.in-Some-new_name.new_name.now _ k there (ap option_copied c.in-Some-new_name.is) ∙
     ap (λ s. rename_raises c.args.self.now c.args.x k (folded s)) (sym c.as_bytes.ensures.value) in
@@ -37,7 +37,7 @@ returns-in_ok-test_rename c =
     let valid = subst (λ v. IsSome (object_of v.objects c.args.x)) (sym c.self.view_is) c.requires in
     let name = folded c.args.name.now in
     let k : Key = (c.in-Some.definer, name) in
-    let found = definition_is w c.args.x name c.index.result.now c.definer_in.result c.self.invariant valid c.index.ensures c.definer_in.ensures ∙ ap (λ v. definition_named v c.args.x name) c.self.view_is in
+    let found = definition_is w c.args.x name c.index.result.now c.definer_in.result c.self.invariant.formed valid c.index.ensures c.definer_in.ensures ∙ ap (λ v. definition_named v c.args.x name) c.self.view_is in
     let there = found_then name c.definer_in.result c.in-Some.definer _ found c.in-Some.is in
     let same = info_named c.args.self.now c.args.x (option_copied c.args.new_name) c.in-Some-new_name.new_name.now _ k there (ap option_copied c.in-Some-new_name.is) ∙
     ap (λ s. rename_raises c.args.self.now c.args.x k (folded s)) (sym c.as_bytes.ensures.value) in
@@ -49,6 +49,6 @@ returns-in_default-new_name c =
     let valid = subst (λ v. IsSome (object_of v.objects c.args.x)) (sym c.self.view_is) c.requires in
     let name = folded c.args.name.now in
     let k : Key = (c.in-Some.definer, name) in
-    let found = definition_is w c.args.x name c.index.result.now c.definer_in.result c.self.invariant valid c.index.ensures c.definer_in.ensures ∙ ap (λ v. definition_named v c.args.x name) c.self.view_is in
+    let found = definition_is w c.args.x name c.index.result.now c.definer_in.result c.self.invariant.formed valid c.index.ensures c.definer_in.ensures ∙ ap (λ v. definition_named v c.args.x name) c.self.view_is in
     let there = found_then name c.definer_in.result c.in-Some.definer _ found c.in-Some.is in
     (info_unnamed c.args.self.now c.args.x (option_copied c.args.new_name) _ k there (ap option_copied c.in_default-new_name.is), there)

@@ -12,7 +12,7 @@ returns-in_default-clause-raises c =
     let w : World = record { objects = c.self.inside.objects.items; inheritance = c.self.inside.inheritance; containment = c.self.inside.containment; players = c.self.inside.players.items } in
     let valid = subst (λ v. IsSome (object_of v.objects c.args.x)) (sym c.self.view_is) c.requires in
     let name = folded c.args.name.now in
-    let found = definition_is w c.args.x name c.index.result.now c.definer_in.result c.self.invariant valid c.index.ensures c.definer_in.ensures in
+    let found = definition_is w c.args.x name c.index.result.now c.definer_in.result c.self.invariant.formed valid c.index.ensures c.definer_in.ensures in
     ap (λ v. clear_definition_raises c.args.x (definition_named v c.args.x name)) (sym c.self.view_is) ∙
     none_inherited c.args.x name c.definer_in.result (definition_named w c.args.x name) found c.in_default.is
 
@@ -21,7 +21,7 @@ returns-then-definer-x-clause-raises c =
     let w : World = record { objects = c.self.inside.objects.items; inheritance = c.self.inside.inheritance; containment = c.self.inside.containment; players = c.self.inside.players.items } in
     let valid = subst (λ v. IsSome (object_of v.objects c.args.x)) (sym c.self.view_is) c.requires in
     let name = folded c.args.name.now in
-    let found = definition_is w c.args.x name c.index.result.now c.definer_in.result c.self.invariant valid c.index.ensures c.definer_in.ensures in
+    let found = definition_is w c.args.x name c.index.result.now c.definer_in.result c.self.invariant.formed valid c.index.ensures c.definer_in.ensures in
     ap (λ v. clear_definition_raises c.args.x (definition_named v c.args.x name)) (sym c.self.view_is) ∙
     own_not_inherited c.args.x name c.definer_in.result (definition_named w c.args.x name) c.in-Some.definer found c.in-Some.is c.if-definer-x.true
 
@@ -30,7 +30,7 @@ returns-clause-raises c =
     let w : World = record { objects = c.self.inside.objects.items; inheritance = c.self.inside.inheritance; containment = c.self.inside.containment; players = c.self.inside.players.items } in
     let valid = subst (λ v. IsSome (object_of v.objects c.args.x)) (sym c.self.view_is) c.requires in
     let name = folded c.args.name.now in
-    let found = definition_is w c.args.x name c.index.result.now c.definer_in.result c.self.invariant valid c.index.ensures c.definer_in.ensures in
+    let found = definition_is w c.args.x name c.index.result.now c.definer_in.result c.self.invariant.formed valid c.index.ensures c.definer_in.ensures in
     let both = inherited_found c.args.x name c.definer_in.result (definition_named w c.args.x name) c.in-Some.definer found c.in-Some.is c.if-definer-x.false in (
       ap (λ v. clear_definition_raises c.args.x (definition_named v c.args.x name)) (sym c.self.view_is) ∙ both.0,
       ap (λ v. definition_named v c.args.x name) (sym c.self.view_is) ∙ both.1,

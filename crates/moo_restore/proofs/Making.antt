@@ -118,6 +118,7 @@ module _ (r : Records) (placed : IsFirst (IsWellPlaced r) (length r.objects) Non
       };
       few = let many = m.many in omega (arith, many, few);
       few_players = few_players;
+      few_programs = m.few_programs;
     }
 
     object_made : (x : ℕ) → object_of (restored made parents) x ≡ restored_object made parents x

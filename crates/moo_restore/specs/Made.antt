@@ -1,9 +1,9 @@
 -- Objects made of their records, before their cells have their definitions.
-use Rattle.std.specs.Prelude.{◌≡◌, ℕ, List, Option, true, length, take, is_some}
+use Rattle.std.specs.Prelude.{◌≡◌, ◌≤◌, ℕ, List, Option, true, length, take, is_some}
 use Rattle.std.specs.List.{All}
 use Rattle.moo_forest.specs.Forest.{Links, IsForest}
 use Rattle.moo_object.specs.Objects.{Object}
-use Rattle.moo_table.specs.World.{object_of, thing_of, IsFine}
+use Rattle.moo_table.specs.World.{object_of, thing_of, most, programs_in, IsFine}
 use Rattle.moo_restore.specs.First.{IsFirst}
 use Rattle.moo_restore.specs.Links.{IsTreeOf}
 use Rattle.moo_restore.specs.Records.{Records, record_at, parent_links, place_links}
@@ -15,6 +15,7 @@ pub record AreMade (r : Records) (made : List (Option Object)) : Type 0 where
   pub objects : (x : ℕ) → SaysAt r x (record_at r x) (object_of made x)
   pub own_filled : (x : ℕ) → All (λ c. is_some c.value ≡ true) (take (length (thing_of made x).defined) (thing_of made x).cells)
   pub fine : (x : ℕ) → IsFine (thing_of made x)
+  pub few_programs : programs_in made ≤ most
 
 -- forests as the records say
 pub record AreForestsOf (r : Records) (inheritance containment : List Links) : Type 0 where

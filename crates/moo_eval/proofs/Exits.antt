@@ -15,7 +15,8 @@ use Rattle.moo_program.specs.declared.tree.Expr.{None', Some'}
 use Rattle.moo_program.specs.declared.tree.Item.{Item, Element', Splice', Optional'}
 use Rattle.moo_program.specs.Tree.{Items}
 use Rattle.moo_program.specs.View.{with_item}
-use Rattle.moo_outcome.specs.State.{Context, State}
+use Rattle.moo_access.specs.State.{State}
+use Rattle.moo_outcome.specs.State.{Context}
 use Rattle.moo_outcome.specs.Handling.{Guarded, guarded_before}
 use Rattle.moo_outcome.specs.Outcome.{Stop, Failure, fails, answers, goes_on}
 use Rattle.moo_eval.specs.Meaning.{EvaluatesAll, optional_fails, defaulted_fails, before}

@@ -6,8 +6,9 @@ use Rattle.moo_outcome.specs.Outcome.{Stop, Failure, fails, answers, passes, set
 use Rattle.moo_outcome.specs.Variables.{bind}
 use Rattle.moo_outcome.specs.Catching.{caught}
 use Rattle.moo_outcome.specs.Scatter.{given, LeftOut, missing}
-use Rattle.moo_outcome.specs.Target.{Root, Step, Path, spots, root_from}
-use Rattle.moo_outcome.specs.State.{Context, State, within, bound, trace}
+use Rattle.moo_access.specs.Target.{Root, Step, Path, spots, root_from}
+use Rattle.moo_access.specs.State.{State, bound, trace}
+use Rattle.moo_outcome.specs.State.{Context, within}
 use Rattle.moo_eval.specs.Meaning.{Evaluates, Computes, EvaluatesAll, Applies, Assigns, Locates, Finds, Enters, Steps, Stores, Puts, SetsDefaults, places, before, with_value, spent, begins, operands_end, places_end, applies, no_more, element_stops, element_then, splice_stops, splice_fails, splice_then, optional_fails, defaulted_fails, literal_is, variable_is, length_is, unary_is, binary_is, logic_decides, logic_goes_on, conditional_true, conditional_false, index_is, range_is, list_is, property_is, verb_is, call_is, assign_is, catch_passes, catch_gives, catch_or_passes, catch_or_goes_on, target_ends, value_stops, assigns, root_ends, locates, parts_end, finds, inside, step_ends, enters, unread, spot_ends, steps_in, no_store, stores, puts_variable, puts_property, scatter_fails, scatters, none_missing, default_stops, default_then}
 
 -- two outcomes are the same, and so are the states after them

@@ -10,7 +10,8 @@ use Rattle.moo_outcome.specs.Variables.{Binding, bind}
 use Rattle.moo_outcome.specs.Catching.{coded}
 use Rattle.moo_outcome.specs.Leading.{after_turn, no_turn, runs_finally, after_finally}
 use Rattle.moo_outcome.specs.Handling.{Guarded, guarded, guarded_before, chosen}
-use Rattle.moo_outcome.specs.State.{Context, State, bound, ticked, trace}
+use Rattle.moo_access.specs.State.{State, bound, ticked, trace}
+use Rattle.moo_outcome.specs.State.{Context}
 use Rattle.moo_eval.specs.Meaning.{Evaluates, EvaluatesAll}
 use Rattle.moo_eval.specs.Statements.{Prepares, Runs, Does, RunsAll, Selects, Turns, Loops, Visits, Counts, Handles, Takes, no_codes, codes_stop, codes_then, statement_spent, statement_begins, gives_zero, gives, evaluates, selects, list_stops, list_fails, visits, span_stops, span_fails, counts, loops, breaks_out, continues_on, unprepared, tries, finally_skipped, finally_runs, ends, leaves, proceeds, none_selected, else_runs, test_stops, arm_runs, arm_passed, turn_spent, turns, loop_stops, loop_ends, loop_left, loop_then, all_visited, visit_left, visit_then, all_counted, count_left, count_then, nothing_raised, ticks_out, handles, untaken, untold, takes}
 use Rattle.moo_eval.specs.Task.{End, TaskEnds, end_of}

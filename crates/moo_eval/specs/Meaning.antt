@@ -14,11 +14,12 @@ use Rattle.moo_operation.specs.Truth.{is_true, is_decided}
 use Rattle.moo_operation.specs.Operators.{unary_of, binary_of}
 use Rattle.moo_operation.specs.Places.{index_of, range_of, spliced_of, made_list}
 use Rattle.moo_outcome.specs.Variables.{bind}
-use Rattle.moo_outcome.specs.State.{Context, State, ticked, within, bound, trace, measured}
+use Rattle.moo_access.specs.State.{State, ticked, bound, trace}
+use Rattle.moo_outcome.specs.State.{Context, within, measured}
 use Rattle.moo_outcome.specs.Catching.{guards, caught}
-use Rattle.moo_outcome.specs.Calls.{read_property, put_refusal, call_verb, call_function}
+use Rattle.moo_access.specs.Calls.{read_property, put_refusal, call_verb, call_function}
 use Rattle.moo_outcome.specs.Scatter.{dealt, given, LeftOut, missing}
-use Rattle.moo_outcome.specs.Target.{Root, named, owned, scattered, Step, Path, root_of, spots, root_parts, root_from, held, rebuilt}
+use Rattle.moo_access.specs.Target.{Root, named, owned, scattered, Step, Path, root_of, spots, root_parts, root_from, held, rebuilt}
 use Rattle.moo_outcome.specs.Outcome.{Stop, out_of_ticks, Failure, fails, stops, or_error, answers, passes, settled}
 
 -- the parts of an expression that are evaluated first, from left to right

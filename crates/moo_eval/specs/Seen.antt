@@ -1,7 +1,7 @@
 -- The state that the program keeps, in the meaning.
 use Rattle.moo_eval.specs.declared.interpreter.Task.{Task}
 use Rattle.moo_outcome.specs.declared.frame.Activation.{Activation}
-use Rattle.moo_outcome.specs.State.{State}
+use Rattle.moo_access.specs.State.{State}
 use Rattle.moo_outcome.specs.Seen.{variables_of}
 
 abbrev pub state_of : Task → Activation → State

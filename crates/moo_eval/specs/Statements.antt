@@ -8,7 +8,8 @@ use Rattle.moo_operation.specs.Places.{spliced_of}
 use Rattle.moo_outcome.specs.declared.frame.TraceEntry.{TraceEntry}
 use Rattle.moo_outcome.specs.declared.leading.Span.{Span}
 use Rattle.moo_outcome.specs.Variables.{Binding, bind}
-use Rattle.moo_outcome.specs.State.{Context, State, ticked, bound, trace}
+use Rattle.moo_access.specs.State.{State, ticked, bound, trace}
+use Rattle.moo_outcome.specs.State.{Context}
 use Rattle.moo_outcome.specs.Catching.{guards, coded}
 use Rattle.moo_outcome.specs.Leading.{after_turn, no_turn, runs_finally, after_finally, span_of, numbered}
 use Rattle.moo_outcome.specs.Handling.{Guarded, guarded, guarded_before, chosen, told_as}

@@ -5,7 +5,8 @@ use Rattle.moo_program.specs.Tree.{Expr, Block}
 use Rattle.moo_outcome.specs.declared.frame.Frame.{Frame}
 use Rattle.moo_outcome.specs.Outcome as outcome
 use Rattle.moo_outcome.specs.Outcome.{Stop, raised, Flow, next, returned, broken, continued}
-use Rattle.moo_outcome.specs.State.{Context, State}
+use Rattle.moo_access.specs.State.{State}
+use Rattle.moo_outcome.specs.State.{Context}
 use Rattle.moo_outcome.specs.Variables.{first_bindings, value_of_name}
 use Rattle.moo_outcome.specs.Traceback.{traceback}
 use Rattle.moo_eval.specs.Meaning.{Evaluates}

@@ -3,16 +3,20 @@ ghost use Rattle.std.specs.Prelude.{◌≡◌, ◌≤◌, map};
 ghost use Rattle.moo_program.specs.Tree.{assign};
 ghost use Rattle.moo_program.specs.View.{tree, items_of};
 ghost use Rattle.moo_value.specs.View.{tree as value_tree};
-ghost use Rattle.moo_outcome.specs.Target.{Path, scattered};
+ghost use Rattle.moo_access.specs.Target.{Path, scattered};
 ghost use Rattle.moo_eval.specs.Meaning.{Computes, Locates, Finds, Steps, Stores, Puts, SetsDefaults};
 ghost use Rattle.moo_outcome.specs.Seen.{context_of, seen_answer, seen_by, seen_done, IsKnownFailure};
 ghost use Rattle.moo_eval.specs.Seen.{state_of};
-ghost use Rattle.moo_outcome.specs.SeenTarget.{root_seen, step_of, steps_of, path_of, spot_of, left_out_of};
+ghost use Rattle.moo_access.specs.SeenTarget.{root_seen, step_of, steps_of, path_of, spot_of};
+ghost use Rattle.moo_outcome.specs.SeenScatter.{left_out_of};
 
 use crate::interpreter::Task;
+use moo_access::{
+    Path, Places, Root, Spot, Step, as_property, push_step, rebuilt, root_alone, set_variable,
+    taken_apart,
+};
 use moo_outcome::{
-    Activation, CallStack, Failure, LeftOut, Path, Places, Root, Spot, Step, as_property, dealt,
-    missing, push_step, put_refusal, rebuilt, root_alone, set_shares, set_variable, taken_apart,
+    Activation, CallStack, Failure, LeftOut, dealt, missing, put_refusal, set_shares,
 };
 use moo_program::{Expr, Item};
 use moo_value::Value;

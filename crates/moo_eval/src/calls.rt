@@ -8,9 +8,8 @@ ghost use Rattle.moo_outcome.specs.Seen.{context_of, seen_answer, seen_answers, 
 ghost use Rattle.moo_eval.specs.Seen.{state_of};
 
 use crate::interpreter::Task;
-use moo_outcome::{
-    Activation, CallStack, Failure, call_function, call_verb, caught, read_property,
-};
+use moo_access::{call_function, read_property};
+use moo_outcome::{Activation, CallStack, Failure, call_verb, caught};
 use moo_program::{Codes, Expr, Item};
 use moo_value::{MooStr, Value};
 

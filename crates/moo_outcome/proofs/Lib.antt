@@ -1,5 +1,4 @@
 pub mod Names
-pub mod Containers
 pub mod Rest
 pub mod Scattered
 pub mod Stored

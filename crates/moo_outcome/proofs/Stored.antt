@@ -2,7 +2,6 @@
 use Rattle.std.proofs.Common.{◌≡◌, ℕ, zero, suc, ◌<◌, Bool, true, false, cond, List, [], ◌∷◌, ◌++◌, Option, Some, None, Result, Ok, Err, map, length, get_or, position, refl, sym, ap, ◌∙◌, arith}
 use Rattle.std.proofs.Math.ListN.{set}
 use Rattle.std.specs.Str.{bytes_eq}
-use Rattle.std.specs.Result.{result_err}
 use Rattle.std.specs.List.{find}
 use Rattle.std.proofs.lemmas.Slice.Eq.{bytes_eq-Decides}
 use Rattle.std.proofs.lemmas.Bool.{ltb-false}
@@ -15,8 +14,6 @@ use Rattle.moo_value.specs.Tree.{Tree}
 use Rattle.moo_value.specs.Compare.{folded}
 use Rattle.moo_value.specs.View.{tree}
 use Rattle.moo_outcome.specs.declared.variables.Variable.{Variable}
-use Rattle.moo_value.specs.declared.error_code.ErrorCode.{ErrorCode}
-use Rattle.moo_outcome.specs.LetGo.{IsLetGo, kept, let_go}
 use Rattle.moo_outcome.specs.Variables.{Binding, bind, with_variable, with_all}
 use Rattle.moo_outcome.specs.Seen.{binding_of}
 use Rattle.moo_outcome.proofs.Names.{looked, split}
@@ -86,22 +83,3 @@ set_new name v rows h = λ j n. put_last name n v (record { name = name; value =
 pub with_all_append : (vars : List ℕ → Option Tree) (bs cs : List Binding) → with_all vars (bs ++ cs) ≡ with_all (with_all vars bs) cs
 with_all_append vars [] cs = refl
 with_all_append vars (b ∷ bs) cs = with_all_append (with_variable vars b) bs cs
-
--- the later of two values of a variable is left
-set_twice : (vars : List ℕ → Option Tree) (name : List ℕ) (v w : Tree) → with_variable (with_variable vars (bind name v)) (bind name w) ≡ with_variable vars (bind name w)
-set_twice vars name v w = λ j n. one_test (bytes_eq (folded name) n) (Some w) (Some v) (vars n) j
-
--- A variable that was let go of is set as if it had not been.
-pub set_after : {whole : Result Tree ErrorCode} {before after last : List ℕ → Option Tree} (name : List ℕ) (w : Tree) → IsLetGo before name whole after → last ≡ with_variable after (bind name w) → last ≡ with_variable before (bind name w)
-set_after name w (kept e) h = h ∙ ap (λ vars. with_variable vars (bind name w)) e
-set_after {before = before} name w (let_go u v o e) h = h ∙ ap (λ vars. with_variable vars (bind name w)) e ∙ set_twice before name v w
-
--- What can't be put is not let go of.
-pub not_let_go : {before after : List ℕ → Option Tree} (name : List ℕ) (code : ErrorCode) {whole : Result Tree ErrorCode} → IsLetGo before name whole after → whole ≡ Err code → after ≡ before
-not_let_go name code (kept e) h = e
-not_let_go name code (let_go w v o e) h = let q = sym o ∙ h in absurd cc
-
--- where there is no error there is a value
-pub some_value : (r : Result Tree ErrorCode) → result_err r ≡ None → (w : Tree) × (r ≡ Ok w)
-some_value (Ok w) h = (w, refl)
-some_value (Err code) h = absurd cc

@@ -4,12 +4,9 @@ pub mod Outcome
 pub mod Catching
 pub mod Leading
 pub mod Handling
-pub mod Calls
 pub mod Scatter
-pub mod Target
 pub mod Traceback
 pub mod Seen
-pub mod SeenTarget
+pub mod SeenScatter
 pub mod SeenHandling
 pub mod Fault
-pub mod LetGo

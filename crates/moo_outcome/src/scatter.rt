@@ -7,7 +7,7 @@ ghost use Rattle.moo_program.specs.View as view;
 ghost use Rattle.moo_outcome.specs.Variables.{with_all};
 ghost use Rattle.moo_outcome.specs.Scatter.{required, optionals, takes_rest, fits, dealt, binds, shares, lacking, given, missing};
 ghost use Rattle.moo_outcome.specs.Seen.{variables_of};
-ghost use Rattle.moo_outcome.specs.SeenTarget.{left_out_of, left_out_by, share_of};
+ghost use Rattle.moo_outcome.specs.SeenScatter.{left_out_of, left_out_by, share_of};
 
 use crate::frame::Activation;
 use moo_program::{Expr, Item};

@@ -1,7 +1,7 @@
 use Rattle.std.proofs.Common.{◌≡◌, ◌++◌, drop, map}
 use Rattle.moo_program.specs.View.{items_of}
 use Rattle.moo_outcome.specs.Scatter.{lacking, missing}
-use Rattle.moo_outcome.specs.SeenTarget.{left_out_of}
+use Rattle.moo_outcome.specs.SeenScatter.{left_out_of}
 use Rattle.moo_outcome.proofs.scatter.missing.Given as goal
 
 abbrev pub invariant-loop-item : goal.invariant-loop-item

@@ -11,10 +11,10 @@ use Rattle.moo_program.specs.View.{tree as expression, items_of, codes_of}
 use Rattle.moo_eval.specs.declared.interpreter.Task.{Task}
 use Rattle.moo_outcome.specs.Seen.{context_of, stop_of, failure_of, seen_value}
 use Rattle.moo_eval.specs.Seen.{state_of}
-use Rattle.moo_outcome.specs.Target.{named}
+use Rattle.moo_access.specs.Target.{named}
 use Rattle.moo_eval.specs.Meaning.{EvaluatesAll, Stores, before, spent, begins, operands_end, places_end, applies, no_more, element_stops, element_then, splice_stops, splice_fails, splice_then, literal_is, variable_is, length_is, unary_is, binary_is, logic_decides, logic_goes_on, conditional_true, conditional_false, index_is, range_is, list_is, property_is, verb_is, call_is, assign_is, catch_gives, catch_or_goes_on, target_ends, value_stops, assigns, root_ends, locates, parts_end, finds, inside, step_ends, enters, unread, spot_ends, steps_in, no_store, stores, puts_variable, puts_property, scatter_fails, scatters, none_missing, default_stops, default_then}
 use Rattle.moo_value.specs.declared.error_code.ErrorCode.TheVariants.{TypeMismatch}
-use Rattle.moo_outcome.specs.SeenTarget.{path_of, steps_of}
+use Rattle.moo_access.specs.SeenTarget.{path_of, steps_of}
 use Rattle.moo_eval.proofs.Caught.{guards_end, passes_on, none_left, known_caught}
 use Rattle.moo_eval.proofs.Exits.{refused, gathered, trees_pushed, same_state, optional_ends}
 use Rattle.moo_outcome.proofs.Rest.{drop_next}

@@ -3,10 +3,11 @@ use Rattle.moo_value.specs.Tree.{Tree}
 use Rattle.moo_value.specs.View.{trees}
 use Rattle.moo_program.specs.View.{tree, items_of}
 use Rattle.moo_outcome.specs.Outcome.{Failure}
-use Rattle.moo_outcome.specs.State.{State}
-use Rattle.moo_outcome.specs.Target.{Path}
+use Rattle.moo_access.specs.State.{State}
+use Rattle.moo_access.specs.Target.{Path}
 use Rattle.moo_eval.specs.Meaning.{EvaluatesAll, Locates, Enters, SetsDefaults, before}
-use Rattle.moo_outcome.specs.SeenTarget.{root_seen, steps_of, spot_of, left_out_of}
+use Rattle.moo_access.specs.SeenTarget.{root_seen, steps_of, spot_of}
+use Rattle.moo_outcome.specs.SeenScatter.{left_out_of}
 use Rattle.moo_outcome.specs.Seen.{context_of}
 use Rattle.moo_eval.specs.Seen.{state_of}
 use Rattle.moo_eval.proofs.interpreter.Task.+evaluation.Given as goal

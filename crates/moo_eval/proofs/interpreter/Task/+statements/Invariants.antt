@@ -3,7 +3,7 @@ use Rattle.std.specs.Prelude.{◌≤ℤ◌}
 use Rattle.moo_value.specs.View.{trees}
 use Rattle.moo_program.specs.View.{tree, block, arms_of}
 use Rattle.moo_outcome.specs.Outcome.{Flow, Stop}
-use Rattle.moo_outcome.specs.State.{State}
+use Rattle.moo_access.specs.State.{State}
 use Rattle.moo_outcome.specs.Seen.{context_of}
 use Rattle.moo_eval.specs.Statements.{RunsAll, Selects, Loops, Visits, Counts}
 use Rattle.moo_eval.specs.Seen.{state_of}

@@ -2,7 +2,7 @@ use Rattle.std.proofs.Common.{◌≤◌, None, drop, map, List, Result}
 use Rattle.moo_program.specs.View.{handlers_of}
 use Rattle.moo_outcome.specs.Outcome.{Stop}
 use Rattle.moo_outcome.specs.Handling.{Guarded, guarded_before}
-use Rattle.moo_outcome.specs.State.{State}
+use Rattle.moo_access.specs.State.{State}
 use Rattle.moo_outcome.specs.Seen.{context_of}
 use Rattle.moo_outcome.specs.SeenHandling.{guarded_of}
 use Rattle.moo_eval.specs.Statements.{Prepares}

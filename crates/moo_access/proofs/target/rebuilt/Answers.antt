@@ -2,8 +2,8 @@ use Rattle.std.proofs.Common.{sym, ap, ◌∙◌}
 use Rattle.std.proofs.lemmas.Result.{err_from_is_err_and}
 use Rattle.moo_value.specs.View.{tree}
 use Rattle.moo_outcome.specs.Outcome.{answers}
-use Rattle.moo_outcome.proofs.Containers.{refused_inside}
-use Rattle.moo_outcome.proofs.target.rebuilt.Goals as goal
+use Rattle.moo_access.proofs.Containers.{refused_inside}
+use Rattle.moo_access.proofs.target.rebuilt.Goals as goal
 
 pub returns-in_err-whole : goal.returns-in_err-whole
 returns-in_err-whole c =

@@ -1,5 +1,5 @@
 -- What an assignment sets.
-use Rattle.std.specs.Prelude.{ℕ, List, [], ◌∷◌, ◌++◌, Option, Result, Ok, Err}
+use Rattle.std.specs.Prelude.{ℕ, ℤ, List, [], ◌∷◌, ◌++◌, Option, Result, Ok, Err}
 use Rattle.moo_value.specs.declared.error_code.ErrorCode.{ErrorCode}
 use Rattle.moo_value.specs.declared.error_code.ErrorCode.TheVariants.{TypeMismatch, VariableNotFound}
 use Rattle.moo_value.specs.Tree.{Tree}
@@ -8,7 +8,8 @@ use Rattle.moo_program.specs.Tree as program
 use Rattle.moo_program.specs.Tree.{Expr, variable, index, range, property, Items, no_items, element}
 use Rattle.moo_operation.specs.Places.{index_of, range_of}
 use Rattle.moo_operation.specs.Assignment.{with_index_of, with_range_of}
-use Rattle.moo_outcome.specs.Calls.{read_property}
+use Rattle.moo_table.specs.World.{World}
+use Rattle.moo_access.specs.Calls.{read_property}
 use Rattle.moo_outcome.specs.Outcome.{or_error}
 
 -- a variable, a property of an object, or the names of a scatter
@@ -63,15 +64,16 @@ with_part x (i ∷ []) v = with_index_of x i v
 with_part x (i ∷ j ∷ []) v = with_range_of x i j v
 with_part x _ v = Err TypeMismatch
 
-abbrev pub root_value : Root → (List ℕ → Option Tree) → Result Tree ErrorCode
-root_value (named x) variables = or_error (variables (folded x)) VariableNotFound
-root_value (owned base name) variables = read_property base name
-root_value (scattered items) variables = Err TypeMismatch
+-- a property is read with the rights of the programmer
+abbrev pub root_value : World → ℤ → Root → (List ℕ → Option Tree) → Result Tree ErrorCode
+root_value w programmer (named x) variables = or_error (variables (folded x)) VariableNotFound
+root_value w programmer (owned base name) variables = read_property w programmer base name
+root_value w programmer (scattered items) variables = Err TypeMismatch
 
 -- the value to which a way leads, which is the next container
-abbrev pub held : Root → List Step → (List ℕ → Option Tree) → Result Tree ErrorCode
-held root [] variables = root_value root variables
-held root (step ∷ steps) variables = part_at step.container step.places
+abbrev pub held : World → ℤ → Root → List Step → (List ℕ → Option Tree) → Result Tree ErrorCode
+held w programmer root [] variables = root_value w programmer root variables
+held w programmer root (step ∷ steps) variables = part_at step.container step.places
 
 -- each container with what it holds replaced, from the innermost outwards
 abbrev pub rebuilt : List Step → Result Tree ErrorCode → Result Tree ErrorCode

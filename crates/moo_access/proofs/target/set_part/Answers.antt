@@ -1,6 +1,6 @@
 use Rattle.moo_value.specs.View.{tree}
-use Rattle.moo_outcome.proofs.Stored.{set_after}
-use Rattle.moo_outcome.proofs.target.set_part.Goals as goal
+use Rattle.moo_access.proofs.LettingGo.{set_after}
+use Rattle.moo_access.proofs.target.set_part.Goals as goal
 
 pub returns-clause-ok : goal.returns-clause-ok
 returns-clause-ok c =

@@ -1,7 +1,7 @@
 use Rattle.std.proofs.Common.{sym, ◌∙◌}
-use Rattle.moo_outcome.specs.LetGo.{let_go}
-use Rattle.moo_outcome.proofs.Stored.{some_value}
-use Rattle.moo_outcome.proofs.target.let_go.Goals as goal
+use Rattle.moo_access.specs.LetGo.{let_go}
+use Rattle.moo_access.proofs.LettingGo.{some_value}
+use Rattle.moo_access.proofs.target.let_go.Goals as goal
 
 pub returns-in_ok-set-in-None : goal.returns-in_ok-set-in-None
 returns-in_ok-set-in-None c =

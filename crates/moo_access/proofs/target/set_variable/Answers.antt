@@ -3,8 +3,8 @@ use Rattle.std.proofs.lemmas.Result.{err_from_is_err_and}
 use Rattle.moo_value.specs.View.{tree}
 use Rattle.moo_outcome.specs.Outcome.{answers}
 use Rattle.moo_outcome.specs.Seen.{failure_of}
-use Rattle.moo_outcome.proofs.Containers.{taken_first, inner_fails, all_give, on_ok, on_err}
-use Rattle.moo_outcome.proofs.target.set_variable.Goals as goal
+use Rattle.moo_access.proofs.Containers.{taken_first, inner_fails, all_give, on_ok, on_err}
+use Rattle.moo_access.proofs.target.set_variable.Goals as goal
 
 pub returns-in_err-value-clause-err : goal.returns-in_err-value-clause-err
 returns-in_err-value-clause-err c =

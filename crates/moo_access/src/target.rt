@@ -6,21 +6,19 @@ ghost use Rattle.moo_program.specs.View.{tree as expression};
 ghost use Rattle.moo_program.specs.Tree.{property, no_items};
 ghost use Rattle.moo_operation.specs.Answer.{Gives};
 ghost use Rattle.moo_outcome.specs.Outcome.{answers};
-ghost use Rattle.moo_outcome.specs.Target.{root_of, root_parts, root_from, spots, part_at, with_part, root_value, held, rebuilt};
+ghost use Rattle.moo_access.specs.Target.{root_of, root_parts, root_from, spots, part_at, with_part, root_value, held, rebuilt};
 ghost use Rattle.moo_outcome.specs.Seen.{variables_of, seen_answer, seen_by, failure_of, IsKnownFailure, HadMemoryIn};
-ghost use Rattle.moo_outcome.specs.SeenTarget.{root_seen, places_of, step_of, steps_of, spot_of};
+ghost use Rattle.moo_access.specs.SeenTarget.{root_seen, places_of, step_of, steps_of, spot_of};
 ghost use Rattle.moo_outcome.specs.Variables.{bind, with_variable};
-ghost use Rattle.moo_outcome.specs.LetGo.{IsLetGo};
+ghost use Rattle.moo_access.specs.LetGo.{IsLetGo};
 
-use crate::access::read_variable;
-use crate::frame::Activation;
 use crate::object::read_property;
-use crate::outcome::Failure;
-use crate::variables::Variables;
 use moo_operation as operation;
 use moo_operation::OperationFault;
+use moo_outcome::{Activation, Failure, Variables, read_variable};
 use moo_program::{Expr, Item};
 use moo_value::{ErrorCode, MooStr, Value};
+use moo_world::World;
 use std::alloc::{AllocError, Global};
 
 /// A target as it is written: what stands before its indexes and ranges, and these from there on.
@@ -114,12 +112,14 @@ pub fn root_alone(root: &Expr) -> Result<Root<'_>, Failure>
 }
 
 impl<'a> Root<'a> {
-    fn value(&self, active: &Activation) -> Result<Value, Failure>
-        ensures { IsKnownFailure result → answers (root_value (root_seen self.now) (variables_of active.now.variables)) ≡ seen_answer result }
+    fn value(&self, alloc: Global, world: &World, active: &Activation) -> Result<Value, Failure>
+        ensures { IsKnownFailure result → answers (root_value world.now active.now.programmer (root_seen self.now) (variables_of active.now.variables)) ≡ seen_answer result }
     {
         match self {
             Root::Variable(name) => read_variable(active, name),
-            Root::Property(base, name) => read_property(base, name),
+            Root::Property(base, name) => {
+                read_property(alloc, world, active.programmer, base, name)
+            }
             Root::Scatter(_) => Err(Failure::Fails(ErrorCode::TypeMismatch)),
         }
     }
@@ -152,11 +152,11 @@ impl Step {
 
 impl<'a> Path<'a> {
     /// The value to which the path leads.
-    pub fn value(&self, alloc: Global, active: &Activation) -> Result<Value, Failure>
-        ensures { IsKnownFailure result → answers (held (root_seen self.now.root) (steps_of self.now.steps.items) (variables_of active.now.variables)) ≡ seen_answer result }
+    pub fn value(&self, alloc: Global, world: &World, active: &Activation) -> Result<Value, Failure>
+        ensures { IsKnownFailure result → answers (held world.now active.now.programmer (root_seen self.now.root) (steps_of self.now.steps.items) (variables_of active.now.variables)) ≡ seen_answer result }
     {
         match self.steps.split_last() {
-            None => self.root.value(active),
+            None => self.root.value(alloc, world, active),
             Some((step, _)) => Ok(step.value(alloc)?),
         }
     }

@@ -7,11 +7,11 @@ use Rattle.moo_value.specs.View.{tree}
 use Rattle.moo_operation.specs.declared.fault.OperationFault.{OperationFault}
 use Rattle.moo_operation.specs.declared.fault.OperationFault.TheVariants as fault
 use Rattle.moo_operation.specs.Answer.{IsRefused}
-use Rattle.moo_outcome.specs.declared.target.Step as code_step
+use Rattle.moo_access.specs.declared.target.Step as code_step
 use Rattle.moo_outcome.specs.Outcome.{Failure, answers}
-use Rattle.moo_outcome.specs.Target.{Step, with_part, rebuilt}
+use Rattle.moo_access.specs.Target.{Step, with_part, rebuilt}
 use Rattle.moo_outcome.specs.Seen.{failure_of, HadMemoryIn}
-use Rattle.moo_outcome.specs.SeenTarget.{places_of, step_of, steps_of}
+use Rattle.moo_access.specs.SeenTarget.{places_of, step_of, steps_of}
 use Rattle.moo_outcome.specs.Fault.{failed}
 
 -- the last step comes first

@@ -1,0 +1,65 @@
+-- What properties of objects and built-in functions give.
+use Rattle.std.specs.Prelude.{ℕ, ℤ, List, Option, None, Some, Result, Ok, Err, if◌then◌else◌}
+use Rattle.moo_value.specs.declared.error_code.ErrorCode.{ErrorCode}
+use Rattle.moo_value.specs.declared.error_code.ErrorCode.TheVariants.{TypeMismatch, PropertyNotFound, Permission, InvalidArgument}
+use Rattle.moo_value.specs.Tree.{Tree, object, string}
+use Rattle.moo_value.specs.Compare.{folded}
+use Rattle.moo_function.specs.declared.function.Function.{Function}
+use Rattle.moo_function.specs.Table.{row}
+use Rattle.moo_function.specs.Names.{function_of}
+use Rattle.moo_function.specs.Check.{mismatch}
+use Rattle.moo_function.specs.Hand.{is_at_hand}
+use Rattle.moo_builtin.specs.Calls.{plain_answer}
+use Rattle.moo_table.specs.World.{World}
+use Rattle.moo_world.specs.Calls.{number_of}
+use Rattle.moo_world.specs.NamedProperties.{get_raises, value_got}
+use Rattle.moo_world.specs.EditCalls.{set_raises, world_set}
+use Rattle.moo_world.specs.Rights.{may_read_property, may_write_property}
+use Rattle.moo_outcome.specs.Outcome.{or_error}
+
+-- an answer, where nothing is raised before it
+abbrev pub unless_raised : {A : Type 0} → Option ErrorCode → Result A ErrorCode → Result A ErrorCode
+unless_raised None r = r
+unless_raised (Some code) r = Err code
+
+-- a property that the programmer may read
+abbrev pub allowed_value : World → ℤ → ℤ → List ℕ → Result Tree ErrorCode
+allowed_value w programmer o name =
+    if may_read_property w programmer o name then or_error (value_got w (number_of w.objects o) (folded name)) PropertyNotFound else Err Permission
+
+-- The value of a property: the object has to be valid and to have it, and the programmer needs the right to read it.
+abbrev pub read_property : World → ℤ → Tree → Tree → Result Tree ErrorCode
+read_property w programmer (object o) (string name) =
+    unless_raised (get_raises w (number_of w.objects o) (folded name)) (allowed_value w programmer o name)
+read_property w programmer _ _ = Err TypeMismatch
+
+-- the world with a property set, where the programmer may set it
+abbrev pub allowed_world : World → ℤ → ℤ → List ℕ → Tree → Result World ErrorCode
+allowed_world w programmer o name v =
+    if may_write_property w programmer o name then Ok (world_set w (number_of w.objects o) (folded name) v) else Err Permission
+
+-- The world with a property set: the object has to be valid and to have it, a built-in one has to take the value, and
+-- the programmer needs the right to set it.
+abbrev pub write_property : World → ℤ → Tree → Tree → Tree → Result World ErrorCode
+write_property w programmer (object o) (string name) v =
+    unless_raised (set_raises w (number_of w.objects o) (folded name) v) (allowed_world w programmer o name v)
+write_property w programmer _ _ v = Err TypeMismatch
+
+-- what a function gives for arguments of a right count and right types, if it looks at them alone
+abbrev pub given_by : Option (Result Tree ErrorCode) → Result Tree ErrorCode
+given_by None = Err InvalidArgument
+given_by (Some r) = r
+
+-- a wrong count or a wrong type of the arguments comes first
+abbrev pub checked : Option ErrorCode → Option (Result Tree ErrorCode) → Result Tree ErrorCode
+checked (Some code) r = Err code
+checked None r = given_by r
+
+-- a call of a function that looks at its arguments alone; others, and names of none, are not to be called here
+abbrev pub called_function : Option Function → List Tree → Result Tree ErrorCode
+called_function None vs = Err InvalidArgument
+called_function (Some f) vs = if is_at_hand f then checked (mismatch (row f) vs) (plain_answer f 0 vs) else Err InvalidArgument
+
+-- a call of a built-in function by its name, in any case
+abbrev pub call_function : List ℕ → List Tree → Result Tree ErrorCode
+call_function name vs = called_function (function_of name) vs

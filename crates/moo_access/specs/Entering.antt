@@ -1,0 +1,131 @@
+-- How a call enters a verb.
+use Rattle.std.specs.Prelude.{ℕ, suc, ℤ, List, [], ◌∷◌, codes, Option, None, Some, Result, Ok, Err, Bool, true, false, nat_lt, length, filter, is_some, if◌then◌else◌}
+use Rattle.std.specs.Option.{unwrap_or, option_map, option_and_then}
+use Rattle.std.specs.List.{filter_map}
+use Rattle.moo_value.specs.declared.error_code.ErrorCode.{ErrorCode}
+use Rattle.moo_value.specs.declared.error_code.ErrorCode.TheVariants.{TypeMismatch, InvalidIndirection, VerbNotFound, MaximumRecursion}
+use Rattle.moo_value.specs.Tree.{Tree, integer, object, error, string, list}
+use Rattle.moo_program.specs.Tree.{no_statement}
+use Rattle.moo_operation.specs.Places.{made_list}
+use Rattle.moo_object.specs.declared.verb.Verb.{Verb}
+use Rattle.moo_object.specs.declared.verb.Need.TheVariants as need
+use Rattle.moo_table.specs.World.{World}
+use Rattle.moo_table.specs.Verbs.{verb_found}
+use Rattle.moo_world.specs.declared.looking.VerbAt.{VerbAt}
+use Rattle.moo_world.specs.Calls.{number_of}
+use Rattle.moo_world.specs.VerbCalls.{verb_place}
+use Rattle.moo_world.specs.Rights.{is_wizard, verb_numbered}
+use Rattle.moo_outcome.specs.Variables.{Binding, bind, first_bindings, value_of_name, with_all}
+use Rattle.moo_outcome.specs.State.{Context, entries}
+use Rattle.moo_outcome.specs.declared.frame.Frame.{Frame}
+use Rattle.moo_outcome.specs.declared.frame.TraceEntry.{TraceEntry}
+use Rattle.moo_outcome.specs.declared.frame.TraceEntry.TheVariants as entry
+
+-- what a called verb begins with
+pub record Entered : Type 0 where
+  pub context : Context
+  -- by their folded names
+  pub variables : List ℕ → Option Tree
+  pub programmer : ℤ
+
+-- the object that has a verb, and the verb
+abbrev pub verb_there : World → VerbAt → Option (ℤ × Verb)
+verb_there w place = option_map (λ v. (place.definer, v)) (verb_numbered w place.definer place.index)
+
+-- the verb that a call runs: the first that fits, of those that can be executed
+abbrev pub called_verb : World → ℤ → List ℕ → Option (ℤ × Verb)
+called_verb w o name =
+    option_and_then (verb_there w) (option_map verb_place (option_and_then (verb_found w need.Call name) (number_of w.objects o)))
+
+-- the frames of verbs among the entries
+abbrev pub is_frame : TraceEntry → Bool
+is_frame (entry.Verb f) = true
+is_frame (entry.BuiltIn name) = false
+
+-- how many frames stand, the running one among them
+abbrev pub frames : List TraceEntry → ℕ
+frames callers = suc (length (filter is_frame callers))
+
+abbrev pub most_frames : ℕ
+most_frames = 50
+
+-- the object that a variable holds, if it holds one
+abbrev pub object_or : ℤ → Option Tree → ℤ
+object_or other None = other
+object_or other (Some (integer i)) = other
+object_or other (Some (object o)) = o
+object_or other (Some (error code)) = other
+object_or other (Some (string text)) = other
+object_or other (Some (list es)) = other
+
+-- the player of a called verb: that of the caller's frame, or what its variable holds where a wizard calls
+abbrev pub player_of_call : World → Frame → (List ℕ → Option Tree) → ℤ → ℤ
+player_of_call w f variables programmer = if is_wizard w programmer then object_or f.player (variables (codes "player")) else f.player
+
+-- The frame of a verb that is called on an object: its owner is the programmer, and it has the d bit of its verb. A verb
+-- without a program runs as one with an empty program.
+abbrev pub called_frame : Frame → ℤ → ℤ → ℤ × Verb → List ℕ → List Tree → Frame
+called_frame f player this found name vs = record {
+  program = unwrap_or found.1.program no_statement;
+  d = found.1.perms.debug;
+  programmer = found.1.owner;
+  this = this;
+  definer = found.0;
+  caller = f.this;
+  player = player;
+  dobj = f.dobj;
+  iobj = f.iobj;
+  names = found.1.names;
+  verb = name;
+  argstr = f.argstr;
+  dobjstr = f.dobjstr;
+  prepstr = f.prepstr;
+  iobjstr = f.iobjstr;
+  args = vs;
+}
+
+-- the variables that tell of the command
+abbrev pub command_names : List (List ℕ)
+command_names = codes "argstr" ∷ codes "dobj" ∷ codes "dobjstr" ∷ codes "prepstr" ∷ codes "iobj" ∷ codes "iobjstr" ∷ []
+
+-- these variables as they stand
+abbrev pub taken_over : (List ℕ → Option Tree) → List (List ℕ) → List Binding
+taken_over variables names = filter_map (λ name. option_map (bind name) (variables name)) names
+
+-- the variables of a called verb: those of its frame, with what is told of the command as its caller's variables tell it
+abbrev pub called_variables : Frame → (List ℕ → Option Tree) → List ℕ → Option Tree
+called_variables f variables = with_all (value_of_name (first_bindings f)) (taken_over variables command_names)
+
+-- a frame that is entered from a context
+abbrev pub entered : Context → (List ℕ → Option Tree) → ℤ → Frame → Entered
+entered c variables programmer f = record {
+  context = record { frame = f; callers = entries c.frame programmer c.callers; indexed = None };
+  variables = called_variables f variables;
+  programmer = f.programmer;
+}
+
+-- a verb that was found is entered where frames are left
+abbrev pub entered_found : World → Context → (List ℕ → Option Tree) → ℤ → ℤ → List ℕ → List Tree → Option (ℤ × Verb) → Result Entered ErrorCode
+entered_found w c variables programmer this name vs None = Err VerbNotFound
+entered_found w c variables programmer this name vs (Some found) =
+    if nat_lt (frames c.callers) most_frames
+    then Ok (entered c variables programmer (called_frame c.frame (player_of_call w c.frame variables programmer) this found name vs))
+    else Err MaximumRecursion
+
+abbrev pub entered_on : World → Context → (List ℕ → Option Tree) → ℤ → ℤ → List ℕ → List Tree → Result Entered ErrorCode
+entered_on w c variables programmer this name vs =
+    if is_some (number_of w.objects this) then entered_found w c variables programmer this name vs (called_verb w this name) else Err InvalidIndirection
+
+abbrev pub entered_by : World → Context → (List ℕ → Option Tree) → ℤ → Tree → Tree → List Tree → Result Entered ErrorCode
+entered_by w c variables programmer (object this) (string name) vs = entered_on w c variables programmer this name vs
+entered_by w c variables programmer _ _ vs = Err TypeMismatch
+
+-- the list of the arguments comes first
+abbrev pub after_list : Result Tree ErrorCode → Result Entered ErrorCode → Result Entered ErrorCode
+after_list (Ok args) r = r
+after_list (Err code) r = Err code
+
+-- What a call of a verb begins with: its arguments have to be a list within the limits, the object valid, with a verb of
+-- that name that can be executed, and frames have to be left.
+abbrev pub entered_verb : World → Context → (List ℕ → Option Tree) → ℤ → Tree → Tree → List Tree → Result Entered ErrorCode
+entered_verb w c variables programmer base name vs = after_list (made_list vs) (entered_by w c variables programmer base name vs)

@@ -1,0 +1,12 @@
+-- What an entered verb stands for in the meaning.
+use Rattle.std.specs.Prelude.{None}
+use Rattle.moo_outcome.specs.Seen.{context_of, variables_of}
+use Rattle.moo_access.specs.declared.entering.Called.{Called}
+use Rattle.moo_access.specs.Entering.{Entered}
+
+abbrev pub entered_of : Called → Entered
+entered_of called = record {
+  context = context_of called.stack None;
+  variables = variables_of called.active.variables;
+  programmer = called.active.programmer;
+}

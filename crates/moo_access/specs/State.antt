@@ -1,0 +1,28 @@
+-- What changes while a task runs.
+use Rattle.std.specs.Prelude.{ℕ, ◌-◌, ℤ, List, Option}
+use Rattle.moo_value.specs.Tree.{Tree}
+use Rattle.moo_table.specs.World.{World}
+use Rattle.moo_outcome.specs.Variables.{Binding, with_all}
+use Rattle.moo_outcome.specs.State.{Context, entries}
+use Rattle.moo_outcome.specs.declared.frame.TraceEntry.{TraceEntry}
+
+-- what changes while a task runs: the world and the ticks, and what the running frame has
+pub record State : Type 0 where
+  -- how many are left
+  pub ticks : ℕ
+  pub world : World
+  -- by their folded names
+  pub variables : List ℕ → Option Tree
+  pub programmer : ℤ
+
+-- with one tick less
+abbrev pub ticked : State → State
+ticked s = record s { ticks = s.ticks - 1 }
+
+-- with these variables set, from the left
+abbrev pub bound : List Binding → State → State
+bound bindings s = record s { variables = with_all s.variables bindings }
+
+-- the entries at the present state
+abbrev pub trace : Context → State → List TraceEntry
+trace c s = entries c.frame s.programmer c.callers

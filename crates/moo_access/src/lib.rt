@@ -1,0 +1,13 @@
+//! What evaluation reaches in a world: properties, verbs to run, and what targets of assignments set.
+#![tactic(auto)]
+
+mod entering;
+mod object;
+mod target;
+
+pub use entering::{Called, MOST_FRAMES, enter_verb};
+pub use object::{call_function, read_property, write_property};
+pub use target::{
+    Path, Places, Root, Spot, Step, Target, as_property, push_step, rebuilt, root_alone,
+    set_variable, taken_apart,
+};

@@ -1,0 +1,84 @@
+//! Properties of objects, and built-in functions.
+ghost use Rattle.std.specs.Prelude.{◌≡◌, IfErr};
+ghost use Rattle.moo_value.specs.View.{tree, trees};
+ghost use Rattle.moo_access.specs.Calls.{read_property, write_property, call_function};
+ghost use Rattle.moo_outcome.specs.Outcome.{answers};
+ghost use Rattle.moo_outcome.specs.Seen.{seen_answer, seen_by, IsKnownFailure};
+
+use moo_builtin::plain_answer;
+use moo_function::Function;
+use moo_outcome::{Failure, Stop};
+use moo_value::{ErrorCode, MooStr, Value};
+use moo_world::{World, WorldFault};
+use std::alloc::Global;
+
+/// The value of a property, read with the rights of a programmer.
+pub fn read_property(
+    alloc: Global,
+    world: &World,
+    programmer: i32,
+    base: &Value,
+    name: &Value,
+) -> Result<Value, Failure>
+    ensures { IsKnownFailure result → answers (read_property world.now programmer (tree base.now) (tree name.now)) ≡ seen_answer result }
+{
+    let (Value::Obj(o), Value::Str(name)) = (base, name) else {
+        return Err(Failure::Fails(ErrorCode::TypeMismatch));
+    };
+    let value = world.get(alloc, *o, name.as_bytes()).map_err(failure)?;
+    if world.may_read_property(programmer, *o, name.as_bytes()) {
+        Ok(value)
+    } else {
+        Err(Failure::Fails(ErrorCode::Permission))
+    }
+}
+
+/// Sets a property, with the rights of a programmer. Where that is refused nothing changes.
+pub fn write_property(
+    world: &mut World,
+    programmer: i32,
+    base: &Value,
+    name: &Value,
+    value: Value,
+) -> Result<(), Failure>
+    ensures world { answers (write_property world.old programmer (tree base.now) (tree name.now) (tree value)) ≡ seen_by (λ _. world.new) result }
+    ensures kept { IfErr result (λ _. world.new ≡ world.old) }
+{
+    let (Value::Obj(o), Value::Str(name)) = (base, name) else {
+        return Err(Failure::Fails(ErrorCode::TypeMismatch));
+    };
+    world.try_set(*o, name.as_bytes(), &value).map_err(failure)?;
+    if !world.may_write_property(programmer, *o, name.as_bytes()) {
+        return Err(Failure::Fails(ErrorCode::Permission));
+    }
+    world.set(*o, name.as_bytes(), value).map_err(failure)
+}
+
+// What a refusal of the world is to a node.
+fn failure(fault: WorldFault) -> Failure {
+    match fault {
+        WorldFault::Raise(code) => Failure::Fails(code),
+        WorldFault::Memory => Failure::Stops(Stop::Memory),
+    }
+}
+
+/// What a call of a built-in function gives. Those that look at their arguments alone can be called.
+pub fn call_function(alloc: Global, name: &MooStr, args: Vec<Value>) -> Result<Value, Failure>
+    ensures { IsKnownFailure result → answers (call_function name.now (trees args.items)) ≡ seen_answer result }
+{
+    let mut args = args;
+    let refused = Err(Failure::Fails(ErrorCode::InvalidArgument));
+    let Some(function) = Function::from_name(name.as_bytes()) else {
+        return refused;
+    };
+    if !function.is_at_hand() {
+        return refused;
+    }
+    if let Some(error) = function.mismatch(&args) {
+        return Err(Failure::Fails(error));
+    }
+    match plain_answer(alloc, function, &mut args, 0) {
+        Some(answer) => Ok(answer?),
+        None => refused,
+    }
+}

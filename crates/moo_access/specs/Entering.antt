@@ -1,7 +1,6 @@
 -- How a call enters a verb.
-use Rattle.std.specs.Prelude.{ℕ, suc, ℤ, List, [], ◌∷◌, codes, Option, None, Some, Result, Ok, Err, Bool, true, false, nat_lt, length, filter, is_some, if◌then◌else◌}
+use Rattle.std.specs.Prelude.{ℕ, suc, ℤ, List, [], ◌∷◌, codes, Option, None, Some, Result, Ok, Err, Bool, true, false, nat_lt, count_by, is_some, if◌then◌else◌}
 use Rattle.std.specs.Option.{unwrap_or, option_map, option_and_then}
-use Rattle.std.specs.List.{filter_map}
 use Rattle.moo_value.specs.declared.error_code.ErrorCode.{ErrorCode}
 use Rattle.moo_value.specs.declared.error_code.ErrorCode.TheVariants.{TypeMismatch, InvalidIndirection, VerbNotFound, MaximumRecursion}
 use Rattle.moo_value.specs.Tree.{Tree, integer, object, error, string, list}
@@ -14,9 +13,10 @@ use Rattle.moo_table.specs.Verbs.{verb_found}
 use Rattle.moo_world.specs.declared.looking.VerbAt.{VerbAt}
 use Rattle.moo_world.specs.Calls.{number_of}
 use Rattle.moo_world.specs.VerbCalls.{verb_place}
-use Rattle.moo_world.specs.Rights.{is_wizard, verb_numbered}
-use Rattle.moo_outcome.specs.Variables.{Binding, bind, first_bindings, value_of_name, with_all}
+use Rattle.moo_world.specs.Rights.{is_wizard, object_numbered, verb_numbered}
+use Rattle.moo_outcome.specs.Variables.{bind, first_bindings, value_of_name, with_variable}
 use Rattle.moo_outcome.specs.State.{Context, entries}
+use Rattle.moo_outcome.specs.Outcome.{or_error}
 use Rattle.moo_outcome.specs.declared.frame.Frame.{Frame}
 use Rattle.moo_outcome.specs.declared.frame.TraceEntry.{TraceEntry}
 use Rattle.moo_outcome.specs.declared.frame.TraceEntry.TheVariants as entry
@@ -32,10 +32,14 @@ pub record Entered : Type 0 where
 abbrev pub verb_there : World → VerbAt → Option (ℤ × Verb)
 verb_there w place = option_map (λ v. (place.definer, v)) (verb_numbered w place.definer place.index)
 
--- the verb that a call runs: the first that fits, of those that can be executed
+-- the first verb that fits, of those that can be executed
 abbrev pub called_verb : World → ℤ → List ℕ → Option (ℤ × Verb)
 called_verb w o name =
     option_and_then (verb_there w) (option_map verb_place (option_and_then (verb_found w need.Call name) (number_of w.objects o)))
+
+-- the verb that a call on an object runs, and the object that has it
+abbrev pub found_verb : World → ℤ → List ℕ → Result (ℤ × Verb) ErrorCode
+found_verb w o name = if is_some (object_numbered w o) then or_error (called_verb w o name) VerbNotFound else Err InvalidIndirection
 
 -- the frames of verbs among the entries
 abbrev pub is_frame : TraceEntry → Bool
@@ -44,7 +48,7 @@ is_frame (entry.BuiltIn name) = false
 
 -- how many frames stand, the running one among them
 abbrev pub frames : List TraceEntry → ℕ
-frames callers = suc (length (filter is_frame callers))
+frames callers = suc (count_by is_frame callers)
 
 abbrev pub most_frames : ℕ
 most_frames = 50
@@ -88,13 +92,19 @@ called_frame f player this found name vs = record {
 abbrev pub command_names : List (List ℕ)
 command_names = codes "argstr" ∷ codes "dobj" ∷ codes "dobjstr" ∷ codes "prepstr" ∷ codes "iobj" ∷ codes "iobjstr" ∷ []
 
--- these variables as they stand
-abbrev pub taken_over : (List ℕ → Option Tree) → List (List ℕ) → List Binding
-taken_over variables names = filter_map (λ name. option_map (bind name) (variables name)) names
+-- with a variable as it stands elsewhere, if it is set there
+abbrev pub with_taken : (List ℕ → Option Tree) → List ℕ → Option Tree → List ℕ → Option Tree
+with_taken variables name None = variables
+with_taken variables name (Some v) = with_variable variables (bind name v)
 
--- the variables of a called verb: those of its frame, with what is told of the command as its caller's variables tell it
+-- with these variables as they stand elsewhere
+abbrev pub taken_over : (List ℕ → Option Tree) → List (List ℕ) → (List ℕ → Option Tree) → List ℕ → Option Tree
+taken_over elsewhere [] variables = variables
+taken_over elsewhere (name ∷ names) variables = taken_over elsewhere names (with_taken variables name (elsewhere name))
+
+-- the variables of a called verb: those of its frame, with what tells of the command as it stands with the caller
 abbrev pub called_variables : Frame → (List ℕ → Option Tree) → List ℕ → Option Tree
-called_variables f variables = with_all (value_of_name (first_bindings f)) (taken_over variables command_names)
+called_variables f variables = taken_over variables command_names (value_of_name (first_bindings f))
 
 -- a frame that is entered from a context
 abbrev pub entered : Context → (List ℕ → Option Tree) → ℤ → Frame → Entered
@@ -104,28 +114,24 @@ entered c variables programmer f = record {
   programmer = f.programmer;
 }
 
--- a verb that was found is entered where frames are left
-abbrev pub entered_found : World → Context → (List ℕ → Option Tree) → ℤ → ℤ → List ℕ → List Tree → Option (ℤ × Verb) → Result Entered ErrorCode
-entered_found w c variables programmer this name vs None = Err VerbNotFound
-entered_found w c variables programmer this name vs (Some found) =
+-- a verb that was found is entered where a frame is left for it
+abbrev pub entered_found : World → Context → (List ℕ → Option Tree) → ℤ → ℤ → List ℕ → List Tree → Result (ℤ × Verb) ErrorCode → Result Entered ErrorCode
+entered_found w c variables programmer this name vs (Err code) = Err code
+entered_found w c variables programmer this name vs (Ok found) =
     if nat_lt (frames c.callers) most_frames
     then Ok (entered c variables programmer (called_frame c.frame (player_of_call w c.frame variables programmer) this found name vs))
     else Err MaximumRecursion
 
-abbrev pub entered_on : World → Context → (List ℕ → Option Tree) → ℤ → ℤ → List ℕ → List Tree → Result Entered ErrorCode
-entered_on w c variables programmer this name vs =
-    if is_some (number_of w.objects this) then entered_found w c variables programmer this name vs (called_verb w this name) else Err InvalidIndirection
-
 abbrev pub entered_by : World → Context → (List ℕ → Option Tree) → ℤ → Tree → Tree → List Tree → Result Entered ErrorCode
-entered_by w c variables programmer (object this) (string name) vs = entered_on w c variables programmer this name vs
+entered_by w c variables programmer (object this) (string name) vs = entered_found w c variables programmer this name vs (found_verb w this name)
 entered_by w c variables programmer _ _ vs = Err TypeMismatch
 
 -- the list of the arguments comes first
-abbrev pub after_list : Result Tree ErrorCode → Result Entered ErrorCode → Result Entered ErrorCode
+abbrev pub after_list : {A : Type 0} → Result Tree ErrorCode → Result A ErrorCode → Result A ErrorCode
 after_list (Ok args) r = r
 after_list (Err code) r = Err code
 
 -- What a call of a verb begins with: its arguments have to be a list within the limits, the object valid, with a verb of
--- that name that can be executed, and frames have to be left.
+-- that name that can be executed, and a frame has to be left.
 abbrev pub entered_verb : World → Context → (List ℕ → Option Tree) → ℤ → Tree → Tree → List Tree → Result Entered ErrorCode
 entered_verb w c variables programmer base name vs = after_list (made_list vs) (entered_by w c variables programmer base name vs)

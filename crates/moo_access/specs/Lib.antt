@@ -5,3 +5,4 @@ pub mod SeenCalled
 pub mod Target
 pub mod SeenTarget
 pub mod LetGo
+pub mod Fault

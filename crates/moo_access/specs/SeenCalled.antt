@@ -1,8 +1,13 @@
--- What an entered verb stands for in the meaning.
-use Rattle.std.specs.Prelude.{None}
+-- What the program's entered verbs stand for in the meaning.
+use Rattle.std.specs.Prelude.{ℤ, None}
+use Rattle.moo_object.specs.declared.verb.Verb.{Verb}
 use Rattle.moo_outcome.specs.Seen.{context_of, variables_of}
 use Rattle.moo_access.specs.declared.entering.Called.{Called}
+use Rattle.moo_access.specs.declared.entering.Found.{Found}
 use Rattle.moo_access.specs.Entering.{Entered}
+
+abbrev pub found_of : Found → ℤ × Verb
+found_of found = (found.definer, found.verb.now)
 
 abbrev pub entered_of : Called → Entered
 entered_of called = record {

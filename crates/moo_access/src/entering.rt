@@ -1,15 +1,22 @@
 //! How a call enters a verb.
-ghost use Rattle.std.specs.Prelude.{◌≡◌, None};
+ghost use Rattle.std.specs.Prelude.{◌≡◌, ◌∷◌, [], None, Some, Ok, Err, codes, is_some, option_map, IfOk, IfErr, OnOk};
+ghost use Rattle.std.specs.Option.{unwrap_or};
+ghost use Rattle.moo_value.specs.Tree.{list_of};
+ghost use Rattle.moo_value.specs.Compare.{folded};
 ghost use Rattle.moo_value.specs.View.{tree, trees};
-ghost use Rattle.moo_access.specs.Entering.{entered_verb};
-ghost use Rattle.moo_access.specs.SeenCalled.{entered_of};
+ghost use Rattle.moo_program.specs.Tree.{no_statement};
+ghost use Rattle.moo_operation.specs.Places.{made_list};
+ghost use Rattle.moo_access.specs.Entering.{entered_verb, found_verb, verb_there, called_verb, frames, object_or, player_of_call, called_frame, is_frame, with_taken, called_variables, entered};
+ghost use Rattle.moo_access.specs.SeenCalled.{entered_of, found_of};
 ghost use Rattle.moo_outcome.specs.Outcome.{answers};
-ghost use Rattle.moo_outcome.specs.Seen.{context_of, variables_of, seen_by, IsKnownFailure};
+ghost use Rattle.moo_outcome.specs.Seen.{context_of, variables_of, failure_of, seen_by, IsKnownFailure, HadMemoryIn};
 
-use moo_outcome::{Activation, CallStack, Failure};
-use moo_value::{ErrorCode, Value};
-use moo_world::World;
-use std::alloc::Global;
+use moo_object::{Need, Verb};
+use moo_outcome::{Activation, CallStack, Failure, Frame, Stop, TraceEntry, Variables};
+use moo_program::Program;
+use moo_value::{ErrorCode, ListFault, MooList, MooStr, Value};
+use moo_world::{VerbAt, World};
+use std::alloc::{AllocError, Global};
 
 /// How many frames a task may have.
 pub const MOST_FRAMES: usize = 50;
@@ -21,9 +28,15 @@ pub struct Called {
     pub active: Activation,
 }
 
-/// Enters the verb that a call names: E_QUOTA for too many arguments, E_TYPE for what is no object
-/// or no name, E_INVIND where the object isn't valid, E_VERBNF where it has no such verb that can be
-/// executed, E_MAXREC where no frame is left.
+// A verb, and the object that has it.
+struct Found<'a> {
+    definer: i32,
+    verb: &'a Verb,
+}
+
+/// Enters the verb that a call names, with its owner's rights: E_QUOTA for a list of arguments past
+/// the limits, E_TYPE for what is no object or no name, E_INVIND where the object isn't valid,
+/// E_VERBNF where it has no such verb that can be executed, E_MAXREC where no frame is left.
 pub fn enter_verb(
     alloc: Global,
     world: &World,
@@ -35,5 +48,193 @@ pub fn enter_verb(
 ) -> Result<Called, Failure>
     ensures { IsKnownFailure result → answers (entered_verb world.now (context_of stack.now None) (variables_of active.now.variables) active.now.programmer (tree base.now) (tree name.now) (trees args.items)) ≡ seen_by entered_of result }
 {
-    Err(Failure::Fails(ErrorCode::VerbNotFound))
+    let args = arguments(alloc, args)?;
+    let (Value::Obj(this), Value::Str(name)) = (base, name) else {
+        return Err(Failure::Fails(ErrorCode::TypeMismatch));
+    };
+    let found = found_verb(world, *this, name)?;
+    if frames(stack) >= MOST_FRAMES {
+        return Err(Failure::Fails(ErrorCode::MaximumRecursion));
+    }
+    let player = player_of_call(world, &stack.running, active);
+    let frame = called_frame(alloc, &stack.running, player, *this, found, name, args)?;
+    Ok(entered(alloc, stack, active, frame)?)
+}
+
+// The list of the arguments.
+fn arguments(alloc: Global, args: Vec<Value>) -> Result<MooList, Failure>
+    ensures ok { OnOk result (made_list (trees args.items) ≡ Ok (list_of (trees args.items))) }
+    ensures same { IfOk result (λ list. list ≡ trees args.items) }
+    ensures err { IfErr result (λ failure. HadMemoryIn failure → answers (made_list (trees args.items)) ≡ Err (failure_of failure)) }
+{
+    match MooList::try_from_vec(alloc, args) {
+        Ok(list) => Ok(list),
+        Err(ListFault::TooLarge) => Err(Failure::Fails(ErrorCode::Quota)),
+        Err(ListFault::Memory) => Err(Failure::Stops(Stop::Memory)),
+    }
+}
+
+// The first verb that fits, of those that can be executed.
+fn found_verb<'a>(world: &'a World, this: i32, name: &MooStr) -> Result<Found<'a>, ErrorCode>
+    ensures ok { IfOk result (λ found. found_verb world.now this name.now ≡ Ok (found_of found)) }
+    ensures err { IfErr result (λ code. found_verb world.now this name.now ≡ Err code) }
+{
+    if world.object(this).is_none() {
+        return Err(ErrorCode::InvalidIndirection);
+    }
+    match called_verb(world, this, name) {
+        Some(found) => Ok(found),
+        None => Err(ErrorCode::VerbNotFound),
+    }
+}
+
+fn called_verb<'a>(world: &'a World, this: i32, name: &MooStr) -> Option<Found<'a>>
+    ensures { option_map found_of result ≡ called_verb world.now this name.now }
+{
+    let place = world.find_verb(this, name.as_bytes(), Need::Call)?;
+    verb_there(world, place)
+}
+
+fn verb_there(world: &World, place: VerbAt) -> Option<Found<'_>>
+    ensures { option_map found_of result ≡ verb_there world.now place }
+{
+    let verb = world.object(place.definer)?.verb(place.index)?;
+    Some(Found {
+        definer: place.definer,
+        verb,
+    })
+}
+
+// How many frames stand, the running one among them.
+fn frames(stack: &CallStack) -> usize
+    ensures { result ≡ frames stack.now.callers.items }
+{
+    let below = stack
+        .callers
+        .iter()
+        .filter(|entry| is_frame(*entry))
+        .count();
+    below + 1
+}
+
+fn is_frame(entry: &TraceEntry) -> bool
+    ensures { result ≡ is_frame entry.now }
+{
+    matches!(entry, TraceEntry::Verb(_))
+}
+
+// The player of a called verb: a wizard may have put another into the variable.
+fn player_of_call(world: &World, caller: &Frame, active: &Activation) -> i32
+    ensures { result ≡ player_of_call world.now caller.now (variables_of active.now.variables) active.now.programmer }
+{
+    let is_wizard = match world.object(active.programmer) {
+        Some(programmer) => programmer.flags().wizard,
+        None => false,
+    };
+    if !is_wizard {
+        return caller.player;
+    }
+    match active.variables.get(b"player") {
+        Some(Value::Obj(player)) => *player,
+        _ => caller.player,
+    }
+}
+
+fn called_frame(
+    alloc: Global,
+    caller: &Frame,
+    player: i32,
+    this: i32,
+    found: Found<'_>,
+    name: &MooStr,
+    args: MooList,
+) -> Result<Frame, AllocError>
+    ensures { IfOk result (λ frame. frame ≡ called_frame caller.now player this (found_of found.entry) name.now args) }
+{
+    let verb = found.verb;
+    Ok(Frame {
+        program: program_of(alloc, verb)?,
+        d: verb.perms.debug,
+        programmer: verb.owner,
+        this,
+        definer: found.definer,
+        caller: caller.this,
+        player,
+        dobj: caller.dobj,
+        iobj: caller.iobj,
+        names: verb.names.try_clone()?,
+        verb: name.try_clone()?,
+        argstr: caller.argstr.try_clone()?,
+        dobjstr: caller.dobjstr.try_clone()?,
+        prepstr: caller.prepstr.try_clone()?,
+        iobjstr: caller.iobjstr.try_clone()?,
+        args,
+    })
+}
+
+// The program of a verb, an empty one where it has none. It is shared: it goes on as it is when the verb gets another.
+fn program_of(alloc: Global, verb: &Verb) -> Result<Program, AllocError>
+    ensures { IfOk result (λ program. program ≡ unwrap_or verb.now.program no_statement) }
+{
+    match &verb.program {
+        Some(program) => program.try_clone(),
+        None => Program::try_new(alloc, Vec::new(alloc)),
+    }
+}
+
+fn entered(
+    alloc: Global,
+    stack: &CallStack,
+    active: &Activation,
+    frame: Frame,
+) -> Result<Called, AllocError>
+    ensures { IfOk result (λ called. entered_of called ≡ entered (context_of stack.now None) (variables_of active.now.variables) active.now.programmer frame) }
+{
+    let callers = stack.trace(alloc, active)?;
+    let variables = called_variables(alloc, &frame, &active.variables)?;
+    let programmer = frame.programmer;
+    Ok(Called {
+        stack: CallStack {
+            running: frame,
+            callers,
+        },
+        active: Activation {
+            variables,
+            programmer,
+        },
+    })
+}
+
+// The variables of a frame, with what tells of the command as it stands with the caller.
+fn called_variables(
+    alloc: Global,
+    frame: &Frame,
+    caller: &Variables,
+) -> Result<Variables, AllocError>
+    ensures { IfOk result (λ variables. variables_of variables ≡ called_variables frame.now (variables_of caller.now)) }
+{
+    let mut variables = Variables::first(alloc, frame)?;
+    take_over(alloc, &mut variables, caller, "argstr")?;
+    take_over(alloc, &mut variables, caller, "dobj")?;
+    take_over(alloc, &mut variables, caller, "dobjstr")?;
+    take_over(alloc, &mut variables, caller, "prepstr")?;
+    take_over(alloc, &mut variables, caller, "iobj")?;
+    take_over(alloc, &mut variables, caller, "iobjstr")?;
+    Ok(variables)
+}
+
+// Sets a variable as it stands elsewhere, if it is set there. The letters of the name are small.
+fn take_over(
+    alloc: Global,
+    variables: &mut Variables,
+    elsewhere: &Variables,
+    name: &str,
+) -> Result<(), AllocError>
+    ensures { OnOk result (variables_of variables.new ≡ with_taken (variables_of variables.old) name.now (variables_of elsewhere.now (folded name.now))) }
+{
+    let Some(value) = elsewhere.get(name.as_bytes()) else {
+        return Ok(());
+    };
+    let name = MooStr::try_from_bytes(alloc, name.as_bytes()).map_err(|_| AllocError)?;
+    variables.set(&name, value.try_clone()?)
 }

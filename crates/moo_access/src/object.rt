@@ -1,6 +1,7 @@
 //! Properties of objects, and built-in functions.
 ghost use Rattle.std.specs.Prelude.{◌≡◌, IfErr};
 ghost use Rattle.moo_value.specs.View.{tree, trees};
+ghost use Rattle.moo_access.specs.Fault.{failed};
 ghost use Rattle.moo_access.specs.Calls.{read_property, write_property, call_function};
 ghost use Rattle.moo_outcome.specs.Outcome.{answers};
 ghost use Rattle.moo_outcome.specs.Seen.{seen_answer, seen_by, IsKnownFailure};
@@ -25,7 +26,7 @@ pub fn read_property(
     let (Value::Obj(o), Value::Str(name)) = (base, name) else {
         return Err(Failure::Fails(ErrorCode::TypeMismatch));
     };
-    let value = world.get(alloc, *o, name.as_bytes()).map_err(failure)?;
+    let value = world.get(alloc, *o, name.as_bytes()).map_err(failed)?;
     if world.may_read_property(programmer, *o, name.as_bytes()) {
         Ok(value)
     } else {
@@ -47,15 +48,17 @@ pub fn write_property(
     let (Value::Obj(o), Value::Str(name)) = (base, name) else {
         return Err(Failure::Fails(ErrorCode::TypeMismatch));
     };
-    world.try_set(*o, name.as_bytes(), &value).map_err(failure)?;
+    world.try_set(*o, name.as_bytes(), &value).map_err(failed)?;
     if !world.may_write_property(programmer, *o, name.as_bytes()) {
         return Err(Failure::Fails(ErrorCode::Permission));
     }
-    world.set(*o, name.as_bytes(), value).map_err(failure)
+    world.set(*o, name.as_bytes(), value).map_err(failed)
 }
 
 // What a refusal of the world is to a node.
-fn failure(fault: WorldFault) -> Failure {
+fn failed(fault: WorldFault) -> Failure
+    ensures { result ≡ failed fault }
+{
     match fault {
         WorldFault::Raise(code) => Failure::Fails(code),
         WorldFault::Memory => Failure::Stops(Stop::Memory),

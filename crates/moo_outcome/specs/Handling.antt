@@ -1,5 +1,5 @@
 -- What handlers of a `try` take, and what they are told.
-use Rattle.std.specs.Prelude.{ℕ, List, [], ◌∷◌, ◌++◌, Option, Some, None, Result, Ok, Err}
+use Rattle.std.specs.Prelude.{ℕ, ◌-◌, List, [], ◌∷◌, ◌++◌, length, take, Option, Some, None, Result, Ok, Err}
 use Rattle.std.specs.List.{find}
 use Rattle.moo_value.specs.declared.error_code.ErrorCode.{ErrorCode}
 use Rattle.moo_value.specs.Tree.{Tree, error, object, string}
@@ -62,15 +62,20 @@ abbrev pub told_with : Raise → Result Tree ErrorCode → Result Tree ErrorCode
 told_with raise (Err code) = Err code
 told_with raise (Ok frames) = made_list (error raise.code ∷ string raise.message ∷ raise.value ∷ frames ∷ [])
 
--- `{code, message, value, frames}`, within the limits
-abbrev pub told : Raise → Result Tree ErrorCode
-told raise = told_with raise (listed (frame_lists raise.trace))
+-- the entries of a trace down to the frame that has these callers
+abbrev pub above : List TraceEntry → List TraceEntry → List TraceEntry
+above callers trace = take (length trace - length callers) trace
+
+-- `{code, message, value, frames}`, within the limits. The frames are those from the raising one to the handler's own,
+-- which has these callers.
+abbrev pub told : List TraceEntry → Raise → Result Tree ErrorCode
+told callers raise = told_with raise (listed (frame_lists (above callers raise.trace)))
 
 abbrev pub bound_to : List ℕ → Result Tree ErrorCode → Result (List Binding) ErrorCode
 bound_to name (Ok v) = Ok (bind name v ∷ [])
 bound_to name (Err code) = Err code
 
 -- what a handler sets
-abbrev pub told_as : Option (List ℕ) → Raise → Result (List Binding) ErrorCode
-told_as None raise = Ok []
-told_as (Some name) raise = bound_to name (told raise)
+abbrev pub told_as : List TraceEntry → Option (List ℕ) → Raise → Result (List Binding) ErrorCode
+told_as callers None raise = Ok []
+told_as callers (Some name) raise = bound_to name (told callers raise)

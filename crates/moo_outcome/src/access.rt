@@ -33,7 +33,7 @@ pub fn literal_value(literal: &Literal) -> Result<Value, AllocError>
 pub fn read_variable(active: &Activation, name: &MooStr) -> Result<Value, Failure>
     ensures { IsKnownFailure result → answers (or_error (variables_of active.now.variables (folded name.now)) VariableNotFound) ≡ seen_answer result }
 {
-    match active.variables.get(name) {
+    match active.variables.get(name.as_bytes()) {
         Some(value) => Ok(value.try_clone()?),
         None => Err(Failure::Fails(ErrorCode::VariableNotFound)),
     }

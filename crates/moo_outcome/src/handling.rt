@@ -7,7 +7,7 @@ ghost use Rattle.moo_program.specs.View.{with_handler, codes_of, block};
 ghost use Rattle.moo_outcome.specs.Outcome as meaning;
 ghost use Rattle.moo_outcome.specs.Outcome.{answers, raised_by};
 ghost use Rattle.moo_outcome.specs.Variables.{Binding, with_all};
-ghost use Rattle.moo_outcome.specs.Handling.{guarded, chosen, frame_list, entry_lists, frame_lists, told, told_as};
+ghost use Rattle.moo_outcome.specs.Handling.{guarded, chosen, frame_list, entry_lists, frame_lists, above, told, told_as};
 ghost use Rattle.moo_outcome.specs.Catching.{is_caught};
 ghost use Rattle.moo_outcome.specs.Seen.{variables_of, raise_of, stop_of, failure_of, trace_of, seen_answer, seen_answers, HadMemory, HadMemoryIn, IsKnownFailure};
 ghost use Rattle.moo_outcome.specs.SeenHandling.{guarded_of};
@@ -130,11 +130,19 @@ fn frame_lists(alloc: Global, trace: &[TraceEntry]) -> Result<Vec<Value>, Failur
     Ok(values)
 }
 
-// `{code, message, value, frames}`
-fn told(alloc: Global, raise: Raise) -> Result<Value, Failure>
-    ensures { IsKnownFailure result → answers (told (raise_of raise)) ≡ seen_answer result }
+// The entries of a trace down to the frame that has these callers.
+fn above<'a>(callers: &[TraceEntry], trace: &'a [TraceEntry]) -> &'a [TraceEntry]
+    ensures { result.now ≡ above callers.now trace.now }
 {
-    let frames = frame_lists(alloc, &raise.trace)?;
+    let count = trace.len().saturating_sub(callers.len());
+    &trace[..count]
+}
+
+// `{code, message, value, frames}`, with the frames from the raising one to that which has these callers.
+fn told(alloc: Global, callers: &[TraceEntry], raise: Raise) -> Result<Value, Failure>
+    ensures { IsKnownFailure result → answers (told callers.now (raise_of raise)) ≡ seen_answer result }
+{
+    let frames = frame_lists(alloc, above(callers, &raise.trace))?;
     let frames = operation::list(alloc, frames)?;
     let mut values = Vec::new(alloc);
     push(&mut values, Value::Err(raise.code))?;
@@ -144,8 +152,8 @@ fn told(alloc: Global, raise: Raise) -> Result<Value, Failure>
     Ok(operation::list(alloc, values)?)
 }
 
-/// Sets the variable of a handler, if it has one, to `{code, message, value, frames}`. Past the limits E_QUOTA is raised,
-/// whatever the d bit.
+/// Sets the variable of a handler, if it has one, to `{code, message, value, frames}`. The frames go from the raising one
+/// to the handler's own. Past the limits E_QUOTA is raised, whatever the d bit.
 pub fn set_caught(
     alloc: Global,
     stack: &CallStack,
@@ -153,15 +161,15 @@ pub fn set_caught(
     name: Option<&MooStr>,
     raise: Raise,
 ) -> Result<(), Stop>
-    ensures ok { OnOk result ((bs : List Binding) × (told_as (option_copied name.entry) (raise_of raise) ≡ Ok bs) × (variables_of active.new.variables ≡ with_all (variables_of active.old.variables) bs)) }
+    ensures ok { OnOk result ((bs : List Binding) × (told_as stack.now.callers.items (option_copied name.entry) (raise_of raise) ≡ Ok bs) × (variables_of active.new.variables ≡ with_all (variables_of active.old.variables) bs)) }
     ensures programmer { active.new.programmer ≡ active.old.programmer }
-    ensures err { IfErr result (λ stop. HadMemory stop → (failure : meaning.Failure) × (answers (told_as (option_copied name.entry) (raise_of raise)) ≡ Err failure) × (stop_of stop ≡ raised_by (trace_of stack.now active.old) failure)) }
+    ensures err { IfErr result (λ stop. HadMemory stop → (failure : meaning.Failure) × (answers (told_as stack.now.callers.items (option_copied name.entry) (raise_of raise)) ≡ Err failure) × (stop_of stop ≡ raised_by (trace_of stack.now active.old) failure)) }
     ensures kept { IfErr result (λ stop. HadMemory stop → active.new ≡ active.old) }
 {
     let Some(name) = name else {
         return Ok(());
     };
-    match told(alloc, raise) {
+    match told(alloc, &stack.callers, raise) {
         Ok(value) => {
             active.variables.set(name, value)?;
             Ok(())

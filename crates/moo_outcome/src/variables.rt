@@ -88,15 +88,11 @@ impl Variables {
     }
 
     /// The value of a variable, or `None` where it isn't set.
-    pub fn get(&self, name: &MooStr) -> Option<&Value>
+    pub fn get(&self, name: &[u8]) -> Option<&Value>
         ensures { option_map (λ v. tree v.now) result ≡ variables_of self.now (folded name.now) }
     {
         for binding in &self.bindings {
-            if binding
-                .name
-                .as_bytes()
-                .eq_ignore_ascii_case(name.as_bytes())
-            {
+            if binding.name.as_bytes().eq_ignore_ascii_case(name) {
                 return Some(&binding.value);
             }
         }

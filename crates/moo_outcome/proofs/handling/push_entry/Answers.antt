@@ -1,8 +1,7 @@
-use Rattle.std.proofs.Common.{◌∷◌, [], Ok, sym, ap, ◌∙◌}
+use Rattle.std.proofs.Common.{◌∷◌, [], ap, ◌∙◌}
 use Rattle.std.proofs.lemmas.List.{map-append}
 use Rattle.moo_value.specs.View.{tree, trees}
-use Rattle.moo_outcome.specs.Outcome.{answers}
-use Rattle.moo_outcome.specs.Handling.{alone, frame_list}
+use Rattle.moo_outcome.specs.Handling.{frame_list}
 use Rattle.moo_outcome.proofs.Told.{alone_ok}
 use Rattle.moo_outcome.proofs.handling.push_entry.Goals as goal
 

@@ -1,5 +1,5 @@
 -- Containers that are rebuilt one after another.
-use Rattle.std.proofs.Common.{◌≡◌, ℕ, ◌==◌, false, length, get_or, drop, List, [], ◌∷◌, ◌++◌, Option, Result, OnOk, IfErr, Ok, Err, map, reverse, refl, sym, ap, ◌∙◌}
+use Rattle.std.proofs.Common.{◌≡◌, ℕ, ◌==◌, false, length, get_or, drop, List, [], ◌∷◌, ◌++◌, Result, OnOk, IfErr, Ok, Err, map, reverse, refl, sym, ap, ◌∙◌}
 use Rattle.std.proofs.lemmas.List.{reverse-append, map-append}
 use Rattle.moo_value.specs.declared.error_code.ErrorCode.{ErrorCode}
 use Rattle.moo_value.specs.Tree.{Tree}

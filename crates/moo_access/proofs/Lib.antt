@@ -1,2 +1,3 @@
 pub mod Containers
+pub mod Entered
 pub mod LettingGo

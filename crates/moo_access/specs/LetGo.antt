@@ -1,7 +1,7 @@
 -- A variable whose value is about to be replaced, for private clauses alone.
-use Rattle.std.specs.Prelude.{◌≡◌, ℕ, pos, List, Option, Result, Ok}
+use Rattle.std.specs.Prelude.{◌≡◌, ℕ, List, Option, Result, Ok}
 use Rattle.moo_value.specs.declared.error_code.ErrorCode.{ErrorCode}
-use Rattle.moo_value.specs.Tree.{Tree, integer}
+use Rattle.moo_value.specs.Tree.{Tree}
 use Rattle.moo_outcome.specs.Variables.{bind, with_variable}
 
 -- the variables are as they were, or another value stands in for that of this name, where what is to be put there can be

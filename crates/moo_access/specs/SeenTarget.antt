@@ -1,6 +1,5 @@
 -- What the program's targets stand for in the meaning.
-use Rattle.std.specs.Prelude.{ℕ, List, [], ◌∷◌, map, reverse}
-use Rattle.moo_value.specs.declared.value.Value.{Value}
+use Rattle.std.specs.Prelude.{List, [], ◌∷◌, map, reverse}
 use Rattle.moo_value.specs.Tree.{Tree}
 use Rattle.moo_value.specs.View.{tree}
 use Rattle.moo_program.specs.Tree.{Items, no_items, element}

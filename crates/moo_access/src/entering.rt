@@ -14,6 +14,7 @@ ghost use Rattle.moo_outcome.specs.Seen.{context_of, variables_of, failure_of, s
 use moo_object::{Need, Verb};
 use moo_outcome::{Activation, CallStack, Failure, Frame, Stop, TraceEntry, Variables};
 use moo_program::Program;
+use moo_rights::Rights;
 use moo_value::{ErrorCode, ListFault, MooList, MooStr, Value};
 use moo_world::{VerbAt, World};
 use std::alloc::{AllocError, Global};
@@ -29,6 +30,7 @@ pub struct Called {
 }
 
 // A verb, and the object that has it.
+#[derive(Clone, Copy)]
 struct Found<'a> {
     definer: i32,
     verb: &'a Verb,
@@ -127,11 +129,7 @@ fn is_frame(entry: &TraceEntry) -> bool
 fn player_of_call(world: &World, caller: &Frame, active: &Activation) -> i32
     ensures { result ≡ player_of_call world.now caller.now (variables_of active.now.variables) active.now.programmer }
 {
-    let is_wizard = match world.object(active.programmer) {
-        Some(programmer) => programmer.flags().wizard,
-        None => false,
-    };
-    if !is_wizard {
+    if !Rights::is_wizard(world, active.programmer) {
         return caller.player;
     }
     match active.variables.get(b"player") {

@@ -9,6 +9,7 @@ ghost use Rattle.moo_outcome.specs.Seen.{seen_answer, seen_by, IsKnownFailure};
 use moo_builtin::plain_answer;
 use moo_function::Function;
 use moo_outcome::{Failure, Stop};
+use moo_rights::Rights;
 use moo_value::{ErrorCode, MooStr, Value};
 use moo_world::{World, WorldFault};
 use std::alloc::Global;
@@ -27,7 +28,7 @@ pub fn read_property(
         return Err(Failure::Fails(ErrorCode::TypeMismatch));
     };
     let value = world.get(alloc, *o, name.as_bytes()).map_err(failed)?;
-    if world.may_read_property(programmer, *o, name.as_bytes()) {
+    if Rights::may_read_property(world, programmer, *o, name.as_bytes()) {
         Ok(value)
     } else {
         Err(Failure::Fails(ErrorCode::Permission))
@@ -49,7 +50,7 @@ pub fn write_property(
         return Err(Failure::Fails(ErrorCode::TypeMismatch));
     };
     world.try_set(*o, name.as_bytes(), &value).map_err(failed)?;
-    if !world.may_write_property(programmer, *o, name.as_bytes()) {
+    if !Rights::may_write_property(world, programmer, *o, name.as_bytes()) {
         return Err(Failure::Fails(ErrorCode::Permission));
     }
     world.set(*o, name.as_bytes(), value).map_err(failed)

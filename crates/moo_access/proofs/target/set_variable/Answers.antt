@@ -1,4 +1,4 @@
-use Rattle.std.proofs.Common.{Ok, Err, vec_len, refl, sym, ap, ◌∙◌}
+use Rattle.std.proofs.Common.{Ok, Err, vec_len, sym, ap, ◌∙◌}
 use Rattle.std.proofs.lemmas.Result.{err_from_is_err_and}
 use Rattle.moo_value.specs.View.{tree}
 use Rattle.moo_outcome.specs.Outcome.{answers}

@@ -6,8 +6,8 @@ use Rattle.moo_value.specs.Tree.{Tree}
 use Rattle.moo_program.specs.declared.tree.Expr as code_expr
 use Rattle.moo_program.specs.Tree.{Expr, Codes}
 use Rattle.moo_outcome.specs.Outcome.{Stop, Failure, passes}
-use Rattle.moo_access.specs.State.{State}
 use Rattle.moo_outcome.specs.State.{Context}
+use Rattle.moo_access.specs.State.{State}
 use Rattle.moo_outcome.specs.Catching.{guards, caught}
 use Rattle.moo_eval.specs.Meaning.{Evaluates, EvaluatesAll, Computes, operands_end, applies, no_more, catch_passes, catch_or_passes}
 use Rattle.moo_value.specs.declared.value.Value.{Value}

@@ -1,5 +1,5 @@
 -- What the exits of a function say.
-use Rattle.std.proofs.Common.{◌≡◌, ℕ, ℤ, Option, Some, None, List, [], ◌∷◌, ◌++◌, append_assoc, false, Result, Ok, Err, refl, sym, ap, ◌∙◌}
+use Rattle.std.proofs.Common.{◌≡◌, ℕ, ℤ, Option, Some, None, List, [], ◌∷◌, ◌++◌, append_assoc, false, Result, Ok, Err, IfErr, refl, sym, ap, ◌∙◌, subst}
 use Rattle.std.proofs.lemmas.List.{map-append}
 use Rattle.moo_value.specs.declared.value.Value.{Value}
 use Rattle.moo_value.specs.declared.error_code.ErrorCode.{ErrorCode}
@@ -13,14 +13,19 @@ use Rattle.moo_outcome.specs.declared.outcome.Flow.TheVariants as flow_case
 use Rattle.moo_value.specs.declared.error_code.ErrorCode.TheVariants.{TypeMismatch}
 use Rattle.moo_program.specs.declared.tree.Expr.{None', Some'}
 use Rattle.moo_program.specs.declared.tree.Item.{Item, Element', Splice', Optional'}
-use Rattle.moo_program.specs.Tree.{Items}
+use Rattle.moo_program.specs.Tree.{Items, Block}
 use Rattle.moo_program.specs.View.{with_item}
-use Rattle.moo_access.specs.State.{State}
+use Rattle.moo_outcome.specs.declared.outcome.Failure as code_failure
 use Rattle.moo_outcome.specs.State.{Context}
+use Rattle.moo_table.specs.World.{World}
+use Rattle.moo_access.specs.State.{State}
+use Rattle.moo_access.specs.Calls.{write_property}
+use Rattle.moo_access.specs.Target.{owned}
 use Rattle.moo_outcome.specs.Handling.{Guarded, guarded_before}
-use Rattle.moo_outcome.specs.Outcome.{Stop, Failure, fails, answers, goes_on}
-use Rattle.moo_eval.specs.Meaning.{EvaluatesAll, optional_fails, defaulted_fails, before}
-use Rattle.moo_outcome.specs.Seen.{failure_of, flow_of, HadMemoryIn}
+use Rattle.moo_outcome.specs.Outcome.{Stop, Failure, Flow, fails, answers, goes_on}
+use Rattle.moo_eval.specs.Operands.{before}
+use Rattle.moo_eval.specs.Meaning.{EvaluatesAll, optional_fails, defaulted_fails, Puts, property_unset, puts_property, RunsAll}
+use Rattle.moo_outcome.specs.Seen.{failure_of, flow_of, seen_by, seen_done, HadMemoryIn}
 use Rattle.moo_outcome.specs.Fault.{failed}
 
 -- an operation that is refused with memory enough fails with its error
@@ -47,8 +52,8 @@ goes_on-not (flow_case.Break n) h = refl
 goes_on-not (flow_case.Continue n) h = refl
 
 -- states with the same variables and programmer
-pub same_state : {n : ℕ} {f g : List ℕ → Option Tree} {p q : ℤ} → f ≡ g → p ≡ q → ◌≡◌ {A = State} (record { ticks = n; variables = f; programmer = p }) (record { ticks = n; variables = g; programmer = q })
-same_state {n = n} e h = λ i. record { ticks = n; variables = e i; programmer = h i }
+pub same_state : {n : ℕ} {w : World} {f g : List ℕ → Option Tree} {p q : ℤ} → f ≡ g → p ≡ q → ◌≡◌ {A = State} (record { ticks = n; world = w; variables = f; programmer = p }) (record { ticks = n; world = w; variables = g; programmer = q })
+same_state {n = n} {w = w} e h = λ i. record { ticks = n; world = w; variables = e i; programmer = h i }
 
 -- a name that may be left out stands in no list that is evaluated
 abbrev pub IsOptional : Item → Type 0
@@ -68,10 +73,19 @@ guarded_on gs us g (Ok hs) p = ap Ok (sym (append_assoc gs (g ∷ []) hs) ∙ ap
 guarded_on gs us g (Err stop) p = refl
 
 -- states with as many ticks and the same variables
-pub state_at : {n m : ℕ} {f g : List ℕ → Option Tree} {p : ℤ} → n ≡ m → f ≡ g → ◌≡◌ {A = State} (record { ticks = n; variables = f; programmer = p }) (record { ticks = m; variables = g; programmer = p })
-state_at {p = p} e h = λ i. record { ticks = e i; variables = h i; programmer = p }
+pub state_at : {n m : ℕ} {w : World} {f g : List ℕ → Option Tree} {p : ℤ} → n ≡ m → f ≡ g → ◌≡◌ {A = State} (record { ticks = n; world = w; variables = f; programmer = p }) (record { ticks = m; world = w; variables = g; programmer = p })
+state_at {w = w} {p = p} e h = λ i. record { ticks = e i; world = w; variables = h i; programmer = p }
 
 -- a turn after which the loop goes on
 pub no_flow : (o : Option code_flow.Flow) → ((flow : code_flow.Flow) → o ≡ Some flow → ⊥) → o ≡ None
 no_flow None h = refl
 no_flow (Some flow) h = absurd (h flow refl)
+
+-- a property that was set, or was not and the world is as it was
+pub property_put : {c : Context} {n : ℕ} {w w' : World} {f : List ℕ → Option Tree} {p : ℤ} {base name v : Tree} (r : Result (Unit {0}) code_failure.Failure) → answers (write_property w p base name v) ≡ seen_by (λ done. w') r → IfErr r (λ failure. w' ≡ w) → Puts c (owned base name) v (record { ticks = n; world = w; variables = f; programmer = p }) (seen_done r) (record { ticks = n; world = w'; variables = f; programmer = p })
+property_put (Ok done) e h = puts_property e refl
+property_put {c = c} {n = n} {w = w} {f = f} {p = p} {base = base} {name = name} {v = v} (Err failure) e h = subst (λ x. Puts c (owned base name) v (record { ticks = n; world = w; variables = f; programmer = p }) (Err (failure_of failure)) (record { ticks = n; world = x; variables = f; programmer = p })) (sym h) (property_unset e)
+
+-- statements that are these run as these do
+pub runs_at : {c : Context} {b b' : Block} {s s' : State} {o : Result Flow Stop} → b ≡ b' → RunsAll c b s o s' → RunsAll c b' s o s'
+runs_at {c = c} {s = s} {s' = s'} {o = o} q h = subst (λ x. RunsAll c x s o s') q h

@@ -2,6 +2,7 @@ pub mod Caught
 pub mod Counting
 pub mod Exits
 pub mod Held
+pub mod Moved
 pub mod Texts
 pub mod Unique
-pub mod UniqueStatements
+pub mod UniqueTask

@@ -1,5 +1,5 @@
+pub mod Operands
 pub mod Meaning
-pub mod Statements
 pub mod Task
 pub mod Seen
 pub mod Ends

@@ -8,6 +8,7 @@ use Rattle.moo_syntax.specs.declared.syntax_fault.SyntaxFault.{SyntaxFault}
 use Rattle.moo_syntax.specs.declared.syntax_fault.SyntaxFaultKind.TheVariants.{Memory}
 use Rattle.moo_syntax.specs.Programs.{IsParsed, Blames}
 use Rattle.moo_syntax.specs.FaultText.{fault_text}
+use Rattle.moo_table.specs.World.{World}
 use Rattle.moo_eval.specs.Task.{End, TaskEnds}
 use Rattle.moo_eval.specs.Typed.{typed_frame, shown}
 
@@ -15,11 +16,16 @@ use Rattle.moo_eval.specs.Typed.{typed_frame, shown}
 abbrev pub program_text : List ℕ → List ℕ
 program_text line = codes "return " ++ line ++ codes ";"
 
--- the text is a program, and its task ends so
+-- the world without objects and players
+abbrev pub no_world : World
+no_world = record { objects = []; inheritance = []; containment = []; players = [] }
+
+-- the text is a program, and its task over no world ends so
 pub record RunsTo (text : List ℕ) (end : End) : Type 0 where
   pub program : Block
+  pub after : World
   pub parsed : IsParsed Known (text ∷ []) program
-  pub ends : TaskEnds (typed_frame program (negsuc 0) (negsuc 0) (negsuc 0)) end
+  pub ends : TaskEnds (typed_frame program (negsuc 0) (negsuc 0) (negsuc 0)) no_world end after
 
 -- the text has this fault, which is not want of memory
 pub record HasFault (text : List ℕ) (fault : SyntaxFault) : Type 0 where

@@ -1,5 +1,6 @@
--- What an expression gives: a big-step relation between a state, an outcome and the state after it.
-use Rattle.std.specs.Prelude.{◌≡◌, ◌<◌, ℕ, pos, true, false, List, [], ◌∷◌, ◌++◌, Some, None, Result, Ok, Err}
+-- What expressions and statements do: a big-step relation between a state, an outcome and the state after it. A verb
+-- call runs statements, so all rules are one block.
+use Rattle.std.specs.Prelude.{◌≡◌, ◌<◌, ◌+ℤ◌, ℕ, ℤ, pos, true, false, List, [], ◌∷◌, Option, Some, None, Result, Ok, Err, int_le}
 use Rattle.moo_value.specs.declared.error_code.ErrorCode.TheVariants.{VariableNotFound, TypeMismatch}
 use Rattle.moo_value.specs.declared.error_code.ErrorCode.{ErrorCode}
 use Rattle.moo_value.specs.Tree.{Tree, integer, error}
@@ -9,66 +10,25 @@ use Rattle.moo_program.specs.declared.operator.BinaryOperator.{BinaryOperator}
 use Rattle.moo_program.specs.declared.operator.LogicOperator.{LogicOperator}
 use Rattle.moo_program.specs.declared.tree.Literal.{Literal}
 use Rattle.moo_program.specs.Tree as program
-use Rattle.moo_program.specs.Tree.{Expr, literal, variable, length_mark, unary, binary, logic, conditional, index, range, property, verb_call, call, assign, catch, catch_or, Items, no_items, element, splice, optional, defaulted, Codes, literal_value}
+use Rattle.moo_program.specs.Tree.{Expr, literal, variable, length_mark, unary, binary, logic, conditional, index, range, property, verb_call, call, assign, catch, catch_or, Items, no_items, element, splice, optional, defaulted, Codes, literal_value, Stmt, return_nothing, returns, performs, branches, for_list, for_range, while_loop, breaks, continues, try_except, try_finally, Arms, no_else, otherwise, elseif, Handlers, no_handler, handler, Block, no_statement, then}
+use Rattle.moo_table.specs.World.{World}
 use Rattle.moo_operation.specs.Truth.{is_true, is_decided}
 use Rattle.moo_operation.specs.Operators.{unary_of, binary_of}
 use Rattle.moo_operation.specs.Places.{index_of, range_of, spliced_of, made_list}
-use Rattle.moo_outcome.specs.Variables.{bind}
-use Rattle.moo_access.specs.State.{State, ticked, bound, trace}
+use Rattle.moo_outcome.specs.declared.frame.TraceEntry.{TraceEntry}
+use Rattle.moo_outcome.specs.declared.leading.Span.{Span}
+use Rattle.moo_outcome.specs.Variables.{Binding, bind}
 use Rattle.moo_outcome.specs.State.{Context, within, measured}
-use Rattle.moo_outcome.specs.Catching.{guards, caught}
-use Rattle.moo_access.specs.Calls.{read_property, put_refusal, call_verb, call_function}
+use Rattle.moo_outcome.specs.Catching.{guards, caught, coded}
+use Rattle.moo_outcome.specs.Leading.{after_turn, no_turn, runs_finally, after_finally, span_of, numbered}
+use Rattle.moo_outcome.specs.Handling.{Guarded, guarded, guarded_before, chosen, told_as}
 use Rattle.moo_outcome.specs.Scatter.{dealt, given, LeftOut, missing}
+use Rattle.moo_access.specs.State.{State, ticked, bound, trace}
+use Rattle.moo_access.specs.Calls.{read_property, write_property, call_function}
+use Rattle.moo_access.specs.Entering.{Entered, entered_verb}
 use Rattle.moo_access.specs.Target.{Root, named, owned, scattered, Step, Path, root_of, spots, root_parts, root_from, held, rebuilt}
-use Rattle.moo_outcome.specs.Outcome.{Stop, out_of_ticks, Failure, fails, stops, or_error, answers, passes, settled}
-
--- the parts of an expression that are evaluated first, from left to right
-abbrev pub operands : Expr → Items
-operands (literal l) = no_items
-operands (variable name) = no_items
-operands length_mark = no_items
-operands (unary op a) = element a no_items
-operands (binary op a b) = element a (element b no_items)
-operands (logic op a b) = element a no_items
-operands (conditional test a b) = element test no_items
-operands (index a i) = element a no_items
-operands (range a i j) = element a no_items
-operands (program.list items) = items
-operands (property a b) = element a (element b no_items)
-operands (verb_call a b items) = element a (element b items)
-operands (call name items) = items
-operands (assign t e) = no_items
-operands (catch a codes) = guards codes
-operands (catch_or a codes b) = guards codes
-
--- the parts that are evaluated next, where `$` measures the first operand
-abbrev pub places : Expr → Items
-places (literal l) = no_items
-places (variable name) = no_items
-places length_mark = no_items
-places (unary op a) = no_items
-places (binary op a b) = no_items
-places (logic op a b) = no_items
-places (conditional test a b) = no_items
-places (index a i) = element i no_items
-places (range a i j) = element i (element j no_items)
-places (program.list items) = no_items
-places (property a b) = no_items
-places (verb_call a b items) = no_items
-places (call name items) = no_items
-places (assign t e) = no_items
-places (catch a codes) = no_items
-places (catch_or a codes b) = no_items
-
--- the values so far before those of the rest
-abbrev pub before : List Tree → Result (List Tree) Failure → Result (List Tree) Failure
-before vs (Ok ws) = Ok (vs ++ ws)
-before vs (Err failure) = Err failure
-
--- the assigned value, where nothing failed
-abbrev pub with_value : Tree → Result (Unit {0}) Failure → Result Tree Failure
-with_value v (Ok done) = Ok v
-with_value v (Err failure) = Err failure
+use Rattle.moo_outcome.specs.Outcome.{Raise, Stop, raised, out_of_ticks, Failure, fails, stops, Flow, next, returned, broken, continued, or_error, answers, passes, settled, raised_by, goes_out, goes_next, goes_on}
+use Rattle.moo_eval.specs.Operands.{operands, places, before, with_value, answered, begun, left}
 
 mutual
   -- An expression takes a tick as it begins, and its own error is settled by the frame's d bit.
@@ -155,11 +115,14 @@ mutual
         answers (made_list vs) ≡ r →
         Applies c (program.list items) vs [] s r s
     property_is : {c : Context} {s : State} {a b : Expr} {x y : Tree} {r : Result Tree Failure} →
-        answers (read_property x y) ≡ r →
+        answers (read_property s.world s.programmer x y) ≡ r →
         Applies c (property a b) (x ∷ y ∷ []) [] s r s
-    verb_is : {c : Context} {s : State} {a b : Expr} {items : Items} {x y : Tree} {vs : List Tree} {r : Result Tree Failure} →
-        answers (call_verb x y vs) ≡ r →
-        Applies c (verb_call a b items) (x ∷ y ∷ vs) [] s r s
+    verb_fails : {c : Context} {s : State} {a b : Expr} {items : Items} {x y : Tree} {vs : List Tree} {failure : Failure} →
+        answers (entered_verb s.world c s.variables s.programmer x y vs) ≡ Err failure →
+        Applies c (verb_call a b items) (x ∷ y ∷ vs) [] s (Err failure) s
+    verb_runs : {c : Context} {s s' s'' : State} {a b : Expr} {items : Items} {x y : Tree} {vs : List Tree} {e : Entered} {o : Result Flow Stop} {r : Result Tree Failure} →
+        answers (entered_verb s.world c s.variables s.programmer x y vs) ≡ Ok e → RunsAll e.context e.context.frame.program (begun e s) o s' → left s s' ≡ s'' → answered o ≡ r →
+        Applies c (verb_call a b items) (x ∷ y ∷ vs) [] s r s''
     call_is : {c : Context} {s : State} {name : List ℕ} {items : Items} {vs : List Tree} {r : Result Tree Failure} →
         answers (call_function name vs) ≡ r →
         Applies c (call name items) vs [] s r s
@@ -221,13 +184,13 @@ mutual
   -- A container is read before the places in it are evaluated, where `$` measures it.
   pub data Steps : Context → Root → List Step → Items → State → Result Step Failure → State → Type 0 where
     unread : {c : Context} {root : Root} {steps : List Step} {spot : Items} {s : State} {failure : Failure} →
-        answers (held root steps s.variables) ≡ Err failure →
+        answers (held s.world s.programmer root steps s.variables) ≡ Err failure →
         Steps c root steps spot s (Err failure) s
     spot_ends : {c : Context} {root : Root} {steps : List Step} {spot : Items} {s s' : State} {x : Tree} {failure : Failure} →
-        answers (held root steps s.variables) ≡ Ok x → EvaluatesAll (within c (x ∷ [])) spot s (Err failure) s' →
+        answers (held s.world s.programmer root steps s.variables) ≡ Ok x → EvaluatesAll (within c (x ∷ [])) spot s (Err failure) s' →
         Steps c root steps spot s (Err failure) s'
     steps_in : {c : Context} {root : Root} {steps : List Step} {spot : Items} {s s' : State} {x : Tree} {ys : List Tree} →
-        answers (held root steps s.variables) ≡ Ok x → EvaluatesAll (within c (x ∷ [])) spot s (Ok ys) s' →
+        answers (held s.world s.programmer root steps s.variables) ≡ Ok x → EvaluatesAll (within c (x ∷ [])) spot s (Ok ys) s' →
         Steps c root steps spot s (Ok (record { container = x; places = ys })) s'
 
   -- Where a container can't be rebuilt nothing is stored.
@@ -243,9 +206,12 @@ mutual
     puts_variable : {c : Context} {x : List ℕ} {v : Tree} {s s' : State} →
         bound (bind x v ∷ []) s ≡ s' →
         Puts c (named x) v s (Ok tt) s'
-    puts_property : {c : Context} {base name v : Tree} {s : State} {code : ErrorCode} →
-        put_refusal base name v ≡ code →
-        Puts c (owned base name) v s (Err (fails code)) s
+    property_unset : {c : Context} {base name v : Tree} {s : State} {failure : Failure} →
+        answers (write_property s.world s.programmer base name v) ≡ Err failure →
+        Puts c (owned base name) v s (Err failure) s
+    puts_property : {c : Context} {base name v : Tree} {s s' : State} {w : World} →
+        answers (write_property s.world s.programmer base name v) ≡ Ok w → record s { world = w } ≡ s' →
+        Puts c (owned base name) v s (Ok tt) s'
     scatter_fails : {c : Context} {items : Items} {v : Tree} {s : State} {failure : Failure} →
         answers (dealt items v) ≡ Err failure →
         Puts c (scattered items) v s (Err failure) s
@@ -263,3 +229,169 @@ mutual
     default_then : {c : Context} {d : LeftOut} {ds : List LeftOut} {s s' s'' s3 : State} {v : Tree} {o : Result (Unit {0}) Failure} →
         Evaluates c d.value s (Ok v) s' → bound (bind d.name v ∷ []) s' ≡ s'' → SetsDefaults c ds s'' o s3 →
         SetsDefaults c (d ∷ ds) s o s3
+
+  -- The codes of all handlers, in order.
+  pub data Prepares : Context → Handlers → State → Result (List Guarded) Stop → State → Type 0 where
+    no_codes : {c : Context} {s : State} →
+        Prepares c no_handler s (Ok []) s
+    codes_stop : {c : Context} {x : Option (List ℕ)} {codes : Codes} {b : Block} {hs : Handlers} {s s' : State} {o : Result (List Tree) Failure} {stop : Stop} →
+        EvaluatesAll c (guards codes) s o s' → coded c.frame.d (trace c s') o ≡ Err stop →
+        Prepares c (handler x codes b hs) s (Err stop) s'
+    codes_then : {c : Context} {x : Option (List ℕ)} {codes : Codes} {b : Block} {hs : Handlers} {s s' s'' : State} {o : Result (List Tree) Failure} {vs : List Tree} {r q : Result (List Guarded) Stop} →
+        EvaluatesAll c (guards codes) s o s' → coded c.frame.d (trace c s') o ≡ Ok vs → Prepares c hs s' r s'' → guarded_before (guarded x codes b vs ∷ []) r ≡ q →
+        Prepares c (handler x codes b hs) s q s''
+
+  -- A statement takes a tick as it begins.
+  pub data Runs : Context → Stmt → State → Result Flow Stop → State → Type 0 where
+    statement_spent : {c : Context} {t : Stmt} {s : State} →
+        s.ticks ≡ 0 →
+        Runs c t s (Err (out_of_ticks (trace c s))) s
+    statement_begins : {c : Context} {t : Stmt} {s s' : State} {o : Result Flow Stop} →
+        0 < s.ticks → Does c t (ticked s) o s' →
+        Runs c t s o s'
+
+  pub data Does : Context → Stmt → State → Result Flow Stop → State → Type 0 where
+    gives_zero : {c : Context} {s : State} →
+        Does c return_nothing s (Ok (returned (integer (pos 0)))) s
+    gives : {c : Context} {e : Expr} {s s' : State} {o : Result Tree Stop} {r : Result Flow Stop} →
+        Evaluates c e s o s' → goes_out o ≡ r →
+        Does c (returns e) s r s'
+    evaluates : {c : Context} {e : Expr} {s s' : State} {o : Result Tree Stop} {r : Result Flow Stop} →
+        Evaluates c e s o s' → goes_next o ≡ r →
+        Does c (performs e) s r s'
+    selects : {c : Context} {e : Expr} {b : Block} {arms : Arms} {s s' : State} {o : Result Flow Stop} →
+        Selects c (elseif e b arms) s o s' →
+        Does c (branches e b arms) s o s'
+    list_stops : {c : Context} {x : List ℕ} {e : Expr} {b : Block} {s s' : State} {stop : Stop} →
+        Evaluates c e s (Err stop) s' →
+        Does c (for_list x e b) s (Err stop) s'
+    list_fails : {c : Context} {x : List ℕ} {e : Expr} {b : Block} {s s' : State} {v : Tree} {code : ErrorCode} {r : Result Flow Stop} →
+        Evaluates c e s (Ok v) s' → spliced_of v ≡ Err code → no_turn c.frame.d (trace c s') code ≡ r →
+        Does c (for_list x e b) s r s'
+    visits : {c : Context} {x : List ℕ} {e : Expr} {b : Block} {s s' s'' : State} {v : Tree} {vs : List Tree} {o : Result Flow Stop} →
+        Evaluates c e s (Ok v) s' → spliced_of v ≡ Ok vs → Visits c x vs b s' o s'' →
+        Does c (for_list x e b) s o s''
+    span_stops : {c : Context} {x : List ℕ} {e f : Expr} {b : Block} {s s' : State} {stop : Stop} →
+        EvaluatesAll c (element e (element f no_items)) s (Err (stops stop)) s' →
+        Does c (for_range x e f b) s (Err stop) s'
+    span_fails : {c : Context} {x : List ℕ} {e f : Expr} {b : Block} {s s' : State} {v w : Tree} {code : ErrorCode} {r : Result Flow Stop} →
+        EvaluatesAll c (element e (element f no_items)) s (Ok (v ∷ w ∷ [])) s' → span_of v w ≡ Err code → no_turn c.frame.d (trace c s') code ≡ r →
+        Does c (for_range x e f b) s r s'
+    counts : {c : Context} {x : List ℕ} {e f : Expr} {b : Block} {s s' s'' : State} {v w : Tree} {span : Span} {o : Result Flow Stop} →
+        EvaluatesAll c (element e (element f no_items)) s (Ok (v ∷ w ∷ [])) s' → span_of v w ≡ Ok span → Counts c x span span.low b s' o s'' →
+        Does c (for_range x e f b) s o s''
+    loops : {c : Context} {own : Option (List ℕ)} {e : Expr} {b : Block} {s s' : State} {o : Result Flow Stop} →
+        Loops c own e b s o s' →
+        Does c (while_loop own e b) s o s'
+    breaks_out : {c : Context} {x : Option (List ℕ)} {s : State} →
+        Does c (breaks x) s (Ok (broken x)) s
+    continues_on : {c : Context} {x : Option (List ℕ)} {s : State} →
+        Does c (continues x) s (Ok (continued x)) s
+    unprepared : {c : Context} {b : Block} {hs : Handlers} {s s' : State} {stop : Stop} →
+        Prepares c hs s (Err stop) s' →
+        Does c (try_except b hs) s (Err stop) s'
+    tries : {c : Context} {b : Block} {hs : Handlers} {s s' s'' s3 : State} {all : List Guarded} {o r : Result Flow Stop} →
+        Prepares c hs s (Ok all) s' → RunsAll c b s' o s'' → Handles c all o s'' r s3 →
+        Does c (try_except b hs) s r s3
+    finally_skipped : {c : Context} {b f : Block} {s s' : State} {o : Result Flow Stop} →
+        RunsAll c b s o s' → runs_finally o ≡ false →
+        Does c (try_finally b f) s o s'
+    finally_runs : {c : Context} {b f : Block} {s s' s'' : State} {o p r : Result Flow Stop} →
+        RunsAll c b s o s' → runs_finally o ≡ true → RunsAll c f s' p s'' → after_finally o p ≡ r →
+        Does c (try_finally b f) s r s''
+
+  -- Statements in order, up to one that leads elsewhere.
+  pub data RunsAll : Context → Block → State → Result Flow Stop → State → Type 0 where
+    ends : {c : Context} {s : State} →
+        RunsAll c no_statement s (Ok next) s
+    leaves : {c : Context} {t : Stmt} {b : Block} {s s' : State} {o : Result Flow Stop} →
+        Runs c t s o s' → goes_on o ≡ false →
+        RunsAll c (then t b) s o s'
+    proceeds : {c : Context} {t : Stmt} {b : Block} {s s' s'' : State} {o : Result Flow Stop} →
+        Runs c t s (Ok next) s' → RunsAll c b s' o s'' →
+        RunsAll c (then t b) s o s''
+
+  -- The first arm of an `if` whose condition is true.
+  pub data Selects : Context → Arms → State → Result Flow Stop → State → Type 0 where
+    none_selected : {c : Context} {s : State} →
+        Selects c no_else s (Ok next) s
+    else_runs : {c : Context} {b : Block} {s s' : State} {o : Result Flow Stop} →
+        RunsAll c b s o s' →
+        Selects c (otherwise b) s o s'
+    test_stops : {c : Context} {e : Expr} {b : Block} {arms : Arms} {s s' : State} {stop : Stop} →
+        Evaluates c e s (Err stop) s' →
+        Selects c (elseif e b arms) s (Err stop) s'
+    arm_runs : {c : Context} {e : Expr} {b : Block} {arms : Arms} {s s' s'' : State} {v : Tree} {o : Result Flow Stop} →
+        Evaluates c e s (Ok v) s' → is_true v ≡ true → RunsAll c b s' o s'' →
+        Selects c (elseif e b arms) s o s''
+    arm_passed : {c : Context} {e : Expr} {b : Block} {arms : Arms} {s s' s'' : State} {v : Tree} {o : Result Flow Stop} →
+        Evaluates c e s (Ok v) s' → is_true v ≡ false → Selects c arms s' o s'' →
+        Selects c (elseif e b arms) s o s''
+
+  -- A turn of a loop takes a tick as it begins; then the loop's variable is set, if it has one. `None` is on to the next turn.
+  pub data Turns : Context → Option (List ℕ) → List Binding → Block → State → Option (Result Flow Stop) → State → Type 0 where
+    turn_spent : {c : Context} {own : Option (List ℕ)} {bindings : List Binding} {b : Block} {s : State} →
+        s.ticks ≡ 0 →
+        Turns c own bindings b s (Some (Err (out_of_ticks (trace c s)))) s
+    turns : {c : Context} {own : Option (List ℕ)} {bindings : List Binding} {b : Block} {s s' s'' : State} {o : Result Flow Stop} {r : Option (Result Flow Stop)} →
+        0 < s.ticks → bound bindings (ticked s) ≡ s' → RunsAll c b s' o s'' → after_turn own o ≡ r →
+        Turns c own bindings b s r s''
+
+  -- A `while` loop from a test on.
+  pub data Loops : Context → Option (List ℕ) → Expr → Block → State → Result Flow Stop → State → Type 0 where
+    loop_stops : {c : Context} {own : Option (List ℕ)} {e : Expr} {b : Block} {s s' : State} {stop : Stop} →
+        Evaluates c e s (Err stop) s' →
+        Loops c own e b s (Err stop) s'
+    loop_ends : {c : Context} {own : Option (List ℕ)} {e : Expr} {b : Block} {s s' : State} {v : Tree} →
+        Evaluates c e s (Ok v) s' → is_true v ≡ false →
+        Loops c own e b s (Ok next) s'
+    loop_left : {c : Context} {own : Option (List ℕ)} {e : Expr} {b : Block} {s s' s'' : State} {v : Tree} {o : Result Flow Stop} →
+        Evaluates c e s (Ok v) s' → is_true v ≡ true → Turns c own [] b s' (Some o) s'' →
+        Loops c own e b s o s''
+    loop_then : {c : Context} {own : Option (List ℕ)} {e : Expr} {b : Block} {s s' s'' s3 : State} {v : Tree} {o : Result Flow Stop} →
+        Evaluates c e s (Ok v) s' → is_true v ≡ true → Turns c own [] b s' None s'' → Loops c own e b s'' o s3 →
+        Loops c own e b s o s3
+
+  -- A `for` loop over the values that are left. Its name is its variable.
+  pub data Visits : Context → List ℕ → List Tree → Block → State → Result Flow Stop → State → Type 0 where
+    all_visited : {c : Context} {x : List ℕ} {b : Block} {s : State} →
+        Visits c x [] b s (Ok next) s
+    visit_left : {c : Context} {x : List ℕ} {v : Tree} {vs : List Tree} {b : Block} {s s' : State} {o : Result Flow Stop} →
+        Turns c (Some x) (bind x v ∷ []) b s (Some o) s' →
+        Visits c x (v ∷ vs) b s o s'
+    visit_then : {c : Context} {x : List ℕ} {v : Tree} {vs : List Tree} {b : Block} {s s' s'' : State} {o : Result Flow Stop} →
+        Turns c (Some x) (bind x v ∷ []) b s None s' → Visits c x vs b s' o s'' →
+        Visits c x (v ∷ vs) b s o s''
+
+  -- A `for` loop from a number on up to the end of the span.
+  pub data Counts : Context → List ℕ → Span → ℤ → Block → State → Result Flow Stop → State → Type 0 where
+    all_counted : {c : Context} {x : List ℕ} {span : Span} {n : ℤ} {b : Block} {s : State} →
+        int_le n span.high ≡ false →
+        Counts c x span n b s (Ok next) s
+    count_left : {c : Context} {x : List ℕ} {span : Span} {n : ℤ} {b : Block} {s s' : State} {o : Result Flow Stop} →
+        int_le n span.high ≡ true → Turns c (Some x) (bind x (numbered span.are_objects n) ∷ []) b s (Some o) s' →
+        Counts c x span n b s o s'
+    count_then : {c : Context} {x : List ℕ} {span : Span} {n : ℤ} {b : Block} {s s' s'' : State} {o : Result Flow Stop} →
+        int_le n span.high ≡ true → Turns c (Some x) (bind x (numbered span.are_objects n) ∷ []) b s None s' → Counts c x span (n +ℤ pos 1) b s' o s'' →
+        Counts c x span n b s o s''
+
+  -- An error that a handler names is handled. What it is told comes before its statements; past the limits E_QUOTA is
+  -- raised out of the `try`, whatever the d bit.
+  pub data Handles : Context → List Guarded → Result Flow Stop → State → Result Flow Stop → State → Type 0 where
+    nothing_raised : {c : Context} {all : List Guarded} {flow : Flow} {s : State} →
+        Handles c all (Ok flow) s (Ok flow) s
+    ticks_out : {c : Context} {all : List Guarded} {entries : List TraceEntry} {s : State} →
+        Handles c all (Err (out_of_ticks entries)) s (Err (out_of_ticks entries)) s
+    handles : {c : Context} {all : List Guarded} {raise : Raise} {taken : Option Guarded} {s s' : State} {o : Result Flow Stop} →
+        chosen all raise.code ≡ taken → Takes c taken raise s o s' →
+        Handles c all (Err (raised raise)) s o s'
+
+  pub data Takes : Context → Option Guarded → Raise → State → Result Flow Stop → State → Type 0 where
+    untaken : {c : Context} {raise : Raise} {s : State} →
+        Takes c None raise s (Err (raised raise)) s
+    untold : {c : Context} {g : Guarded} {raise : Raise} {s : State} {failure : Failure} →
+        answers (told_as c.callers g.name raise) ≡ Err failure →
+        Takes c (Some g) raise s (Err (raised_by (trace c s) failure)) s
+    takes : {c : Context} {g : Guarded} {raise : Raise} {bindings : List Binding} {s s' s'' : State} {o : Result Flow Stop} →
+        told_as c.callers g.name raise ≡ Ok bindings → bound bindings s ≡ s' → RunsAll c g.body s' o s'' →
+        Takes c (Some g) raise s o s''

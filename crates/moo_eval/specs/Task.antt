@@ -5,12 +5,12 @@ use Rattle.moo_program.specs.Tree.{Expr, Block}
 use Rattle.moo_outcome.specs.declared.frame.Frame.{Frame}
 use Rattle.moo_outcome.specs.Outcome as outcome
 use Rattle.moo_outcome.specs.Outcome.{Stop, raised, Flow, next, returned, broken, continued}
-use Rattle.moo_access.specs.State.{State}
 use Rattle.moo_outcome.specs.State.{Context}
+use Rattle.moo_access.specs.State.{State}
 use Rattle.moo_outcome.specs.Variables.{first_bindings, value_of_name}
 use Rattle.moo_outcome.specs.Traceback.{traceback}
-use Rattle.moo_eval.specs.Meaning.{Evaluates}
-use Rattle.moo_eval.specs.Statements.{RunsAll}
+use Rattle.moo_table.specs.World.{World}
+use Rattle.moo_eval.specs.Meaning.{Evaluates, RunsAll}
 
 -- how a task ends: a value, or the lines of its traceback
 pub data End : Type 0 where
@@ -32,15 +32,16 @@ most_ticks = 100000
 abbrev pub first_context : Frame → Context
 first_context start = record { frame = start; callers = []; indexed = None }
 
-abbrev pub first_state : Frame → State
-first_state start = record { ticks = most_ticks; variables = value_of_name (first_bindings start); programmer = start.programmer }
+abbrev pub first_state : Frame → World → State
+first_state start world = record { ticks = most_ticks; world = world; variables = value_of_name (first_bindings start); programmer = start.programmer }
 
--- a task that begins with this frame ends so
-pub record TaskEnds (start : Frame) (end : End) : Type 0 where
+-- A task that begins with this frame over a world ends so, and leaves this world: all that it changed stays, however it ends.
+pub record TaskEnds (start : Frame) (before : World) (end : End) (after : World) : Type 0 where
   pub outcome : Result Flow Stop
-  pub after : State
-  pub runs : RunsAll (first_context start) start.program (first_state start) outcome after
+  pub last : State
+  pub runs : RunsAll (first_context start) start.program (first_state start before) outcome last
   pub ends : end_of outcome ≡ end
+  pub leaves : last.world ≡ after
 
 -- for one input an expression, statements and a task have at most one result
 abbrev pub OneResultOfExpressions : Type 0
@@ -50,4 +51,4 @@ abbrev pub OneResultOfStatements : Type 0
 OneResultOfStatements = (c : Context) (b : Block) (s s' t : State) (o p : Result Flow Stop) → RunsAll c b s o s' → RunsAll c b s p t → (o ≡ p) × (s' ≡ t)
 
 abbrev pub OneResultOfTasks : Type 0
-OneResultOfTasks = (start : Frame) (end other : End) → TaskEnds start end → TaskEnds start other → end ≡ other
+OneResultOfTasks = (start : Frame) (before after instead : World) (end other : End) → TaskEnds start before end after → TaskEnds start before other instead → (end ≡ other) × (after ≡ instead)

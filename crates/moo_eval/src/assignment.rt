@@ -13,31 +13,31 @@ ghost use Rattle.moo_outcome.specs.SeenScatter.{left_out_of};
 use crate::interpreter::Task;
 use moo_access::{
     Path, Places, Root, Spot, Step, as_property, push_step, rebuilt, root_alone, set_variable,
-    taken_apart,
+    taken_apart, write_property,
 };
-use moo_outcome::{
-    Activation, CallStack, Failure, LeftOut, dealt, missing, put_refusal, set_shares,
-};
+use moo_outcome::{Activation, CallStack, Failure, LeftOut, dealt, missing, set_shares};
 use moo_program::{Expr, Item};
 use moo_value::Value;
+use moo_world::World;
 
 impl Task {
     // The target is found first, then the value is evaluated, then it is stored.
     #[cycle(evaluation)]
     pub(crate) fn assign(
         &mut self,
+        world: &mut World,
         active: &mut Activation,
         stack: &CallStack,
         indexed: Option<&Value>,
         target: &Expr,
         value: &Expr,
     ) -> Result<Value, Failure>
-        ensures meaning { IsKnownFailure result → Computes (context_of stack.now indexed.entry) (assign (tree target.now) (tree value.now)) (state_of self.old active.old) (seen_answer result) (state_of self.new active.new) }
+        ensures meaning { IsKnownFailure result → Computes (context_of stack.now indexed.entry) (assign (tree target.now) (tree value.now)) (state_of self.old world.old active.old) (seen_answer result) (state_of self.new world.new active.new) }
         ensures ticks { self.new.ticks_left ≤ self.old.ticks_left }
     {
-        let path = self.locate(active, stack, indexed, target)?;
-        let value = self.evaluate(active, stack, indexed, value)?;
-        self.store(active, stack, indexed, path, &value)?;
+        let path = self.locate(world, active, stack, indexed, target)?;
+        let value = self.evaluate(world, active, stack, indexed, value)?;
+        self.store(world, active, stack, indexed, path, &value)?;
         Ok(value)
     }
 
@@ -45,22 +45,23 @@ impl Task {
     #[cycle(evaluation)]
     fn locate<'a>(
         &mut self,
+        world: &mut World,
         active: &mut Activation,
         stack: &CallStack,
         indexed: Option<&Value>,
         target: &'a Expr,
     ) -> Result<Path<'a>, Failure>
-        ensures meaning { IsKnownFailure result → Locates (context_of stack.now indexed.entry) (tree target.now) (state_of self.old active.old) (seen_by path_of result) (state_of self.new active.new) }
+        ensures meaning { IsKnownFailure result → Locates (context_of stack.now indexed.entry) (tree target.now) (state_of self.old world.old active.old) (seen_by path_of result) (state_of self.new world.new active.new) }
         ensures ticks { self.new.ticks_left ≤ self.old.ticks_left }
     {
         let parts = taken_apart(self.alloc(), target)?;
-        let root = self.find(active, stack, indexed, parts.root)?;
+        let root = self.find(world, active, stack, indexed, parts.root)?;
         let mut path = Path {
             root,
             steps: Vec::new(self.alloc()),
         };
         for spot in &parts.spots {
-            let step = self.step(active, stack, indexed, &path, spot)?;
+            let step = self.step(world, active, stack, indexed, &path, spot)?;
             push_step(&mut path, step)?;
         }
         Ok(path)
@@ -70,18 +71,19 @@ impl Task {
     #[cycle(evaluation)]
     fn find<'a>(
         &mut self,
+        world: &mut World,
         active: &mut Activation,
         stack: &CallStack,
         indexed: Option<&Value>,
         root: &'a Expr,
     ) -> Result<Root<'a>, Failure>
-        ensures meaning { IsKnownFailure result → Finds (context_of stack.now indexed.entry) (tree root.now) (state_of self.old active.old) (seen_by root_seen result) (state_of self.new active.new) }
+        ensures meaning { IsKnownFailure result → Finds (context_of stack.now indexed.entry) (tree root.now) (state_of self.old world.old active.old) (seen_by root_seen result) (state_of self.new world.new active.new) }
         ensures ticks { self.new.ticks_left ≤ self.old.ticks_left }
     {
         match as_property(root) {
             Some((base, name)) => {
-                let base = self.evaluate(active, stack, indexed, base)?;
-                let name = self.evaluate(active, stack, indexed, name)?;
+                let base = self.evaluate(world, active, stack, indexed, base)?;
+                let name = self.evaluate(world, active, stack, indexed, name)?;
                 Ok(Root::Property(base, name))
             }
             None => root_alone(root),
@@ -92,25 +94,26 @@ impl Task {
     #[cycle(evaluation)]
     fn step(
         &mut self,
+        world: &mut World,
         active: &mut Activation,
         stack: &CallStack,
         indexed: Option<&Value>,
         path: &Path<'_>,
         spot: &Spot<'_>,
     ) -> Result<Step, Failure>
-        ensures meaning { IsKnownFailure result → Steps (context_of stack.now indexed.entry) (root_seen path.now.root) (steps_of path.now.steps.items) (spot_of spot.now) (state_of self.old active.old) (seen_by step_of result) (state_of self.new active.new) }
+        ensures meaning { IsKnownFailure result → Steps (context_of stack.now indexed.entry) (root_seen path.now.root) (steps_of path.now.steps.items) (spot_of spot.now) (state_of self.old world.old active.old) (seen_by step_of result) (state_of self.new world.new active.new) }
         ensures ticks { self.new.ticks_left ≤ self.old.ticks_left }
     {
-        let container = path.value(self.alloc(), active)?;
+        let container = path.value(self.alloc(), world, active)?;
         match spot {
             Spot::Element(place) => {
-                let place = self.evaluate(active, stack, Some(&container), place)?;
+                let place = self.evaluate(world, active, stack, Some(&container), place)?;
                 let places = Places::Element(place);
                 Ok(Step { container, places })
             }
             Spot::Part(low, high) => {
-                let low = self.evaluate(active, stack, Some(&container), low)?;
-                let high = self.evaluate(active, stack, Some(&container), high)?;
+                let low = self.evaluate(world, active, stack, Some(&container), low)?;
+                let high = self.evaluate(world, active, stack, Some(&container), high)?;
                 let places = Places::Part(low, high);
                 Ok(Step { container, places })
             }
@@ -120,13 +123,14 @@ impl Task {
     #[cycle(evaluation)]
     fn store(
         &mut self,
+        world: &mut World,
         active: &mut Activation,
         stack: &CallStack,
         indexed: Option<&Value>,
         path: Path<'_>,
         value: &Value,
     ) -> Result<(), Failure>
-        ensures meaning { IsKnownFailure result → Stores (context_of stack.now indexed.entry) (root_seen path.entry.root) (steps_of path.entry.steps.items) (value_tree value.now) (state_of self.old active.old) (seen_done result) (state_of self.new active.new) }
+        ensures meaning { IsKnownFailure result → Stores (context_of stack.now indexed.entry) (root_seen path.entry.root) (steps_of path.entry.steps.items) (value_tree value.now) (state_of self.old world.old active.old) (seen_done result) (state_of self.new world.new active.new) }
         ensures ticks { self.new.ticks_left ≤ self.old.ticks_left }
     {
         let Path { root, steps } = path;
@@ -138,11 +142,11 @@ impl Task {
             }
             Root::Property(base, name) => {
                 let whole = rebuilt(self.alloc(), steps, value)?;
-                Err(Failure::Fails(put_refusal(&base, &name, &whole)))
+                write_property(world, active.programmer, &base, &name, whole)
             }
             Root::Scatter(items) => {
                 let whole = rebuilt(self.alloc(), steps, value)?;
-                self.scatter(active, stack, indexed, items, &whole)
+                self.scatter(world, active, stack, indexed, items, &whole)
             }
         }
     }
@@ -151,34 +155,36 @@ impl Task {
     #[cycle(evaluation)]
     fn scatter(
         &mut self,
+        world: &mut World,
         active: &mut Activation,
         stack: &CallStack,
         indexed: Option<&Value>,
         items: &[Item],
         value: &Value,
     ) -> Result<(), Failure>
-        ensures meaning { IsKnownFailure result → Puts (context_of stack.now indexed.entry) (scattered (items_of items.now)) (value_tree value.now) (state_of self.old active.old) (seen_done result) (state_of self.new active.new) }
+        ensures meaning { IsKnownFailure result → Puts (context_of stack.now indexed.entry) (scattered (items_of items.now)) (value_tree value.now) (state_of self.old world.old active.old) (seen_done result) (state_of self.new world.new active.new) }
         ensures ticks { self.new.ticks_left ≤ self.old.ticks_left }
     {
         let list = dealt(items, value)?;
         set_shares(self.alloc(), active, items, list)?;
         let defaults = missing(self.alloc(), items, list)?;
-        self.set_defaults(active, stack, indexed, &defaults)
+        self.set_defaults(world, active, stack, indexed, &defaults)
     }
 
     #[cycle(evaluation)]
     fn set_defaults(
         &mut self,
+        world: &mut World,
         active: &mut Activation,
         stack: &CallStack,
         indexed: Option<&Value>,
         defaults: &[LeftOut<'_>],
     ) -> Result<(), Failure>
-        ensures meaning { IsKnownFailure result → SetsDefaults (context_of stack.now indexed.entry) (map left_out_of defaults.now) (state_of self.old active.old) (seen_done result) (state_of self.new active.new) }
+        ensures meaning { IsKnownFailure result → SetsDefaults (context_of stack.now indexed.entry) (map left_out_of defaults.now) (state_of self.old world.old active.old) (seen_done result) (state_of self.new world.new active.new) }
         ensures ticks { self.new.ticks_left ≤ self.old.ticks_left }
     {
         for default in defaults {
-            let value = self.evaluate(active, stack, indexed, default.value)?;
+            let value = self.evaluate(world, active, stack, indexed, default.value)?;
             active.variables.set(default.name, value)?;
         }
         Ok(())

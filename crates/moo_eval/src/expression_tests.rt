@@ -5,6 +5,7 @@ use crate::line::eval_line;
 use crate::task::{Ended, run_task};
 use crate::tests::{are, frame};
 use moo_outcome::{Activation, CallStack, Stop, Variables};
+use moo_world::World;
 use std::alloc::Global;
 use std::test::Fail;
 
@@ -106,7 +107,11 @@ fn functions_outside_the_table_take_their_arguments_first(rt: HostRuntime) -> Re
         ("return size(@1, x);", TYPE),
     ];
     for (program, first) in rows {
-        let Ended::Uncaught(lines) = run_task(alloc, frame(alloc, program)?) else {
+        let Ended::Uncaught(lines) = run_task(
+            alloc,
+            &mut World::empty(alloc),
+            frame(alloc, program)?,
+        ) else {
             return Err(Fail::from("no error"));
         };
         assert!(rt; are(&lines, &[first, "(End of traceback)"]));
@@ -246,7 +251,7 @@ fn without_the_d_bit_a_failed_assignment_is_an_error(rt: HostRuntime) -> Result<
     for (program, literal) in rows {
         let mut start = frame(alloc, program)?;
         start.d = false;
-        let Ended::Value(value) = run_task(alloc, start) else {
+        let Ended::Value(value) = run_task(alloc, &mut World::empty(alloc), start) else {
             return Err(Fail::from("no value"));
         };
         assert!(rt; value.to_literal(alloc)?.as_slice() == literal.as_bytes());
@@ -268,8 +273,9 @@ pub(crate) fn ticks(alloc: Global, program: &str) -> Result<u32, Fail> {
             callers: Vec::new(alloc),
         };
         let mut task = Task::new(alloc, count);
+        let mut world = World::empty(alloc);
         let statements = stack.running.program.statements();
-        match task.run_all(&mut active, &stack, statements) {
+        match task.run_all(&mut world, &mut active, &stack, statements) {
             Err(Stop::OutOfTicks(_)) => {}
             _ => return Ok(count),
         }

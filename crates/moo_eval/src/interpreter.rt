@@ -15,6 +15,7 @@ use moo_outcome::{
 use moo_program::operator::{BinaryOperator, LogicOperator, UnaryOperator};
 use moo_program::{Expr, Item};
 use moo_value::{ErrorCode, Value};
+use moo_world::World;
 use std::alloc::Global;
 
 /// What a task may still use.
@@ -54,16 +55,17 @@ impl Task {
     #[cycle(evaluation)]
     pub fn evaluate(
         &mut self,
+        world: &mut World,
         active: &mut Activation,
         stack: &CallStack,
         indexed: Option<&Value>,
         expr: &Expr,
     ) -> Result<Value, Stop>
-        ensures meaning { IsKnown result → Evaluates (context_of stack.now indexed.entry) (tree expr.now) (state_of self.old active.old) (seen_value result) (state_of self.new active.new) }
+        ensures meaning { IsKnown result → Evaluates (context_of stack.now indexed.entry) (tree expr.now) (state_of self.old world.old active.old) (seen_value result) (state_of self.new world.new active.new) }
         ensures ticks { self.new.ticks_left ≤ self.old.ticks_left }
     {
         self.take_tick(active, stack)?;
-        let outcome = self.compute(active, stack, indexed, expr);
+        let outcome = self.compute(world, active, stack, indexed, expr);
         settle(self.alloc, stack, active, outcome)
     }
 
@@ -75,12 +77,13 @@ impl Task {
     #[cycle(evaluation)]
     fn compute(
         &mut self,
+        world: &mut World,
         active: &mut Activation,
         stack: &CallStack,
         indexed: Option<&Value>,
         expr: &Expr,
     ) -> Result<Value, Failure>
-        ensures meaning { IsKnownFailure result → Computes (context_of stack.now indexed.entry) (tree expr.now) (state_of self.old active.old) (seen_answer result) (state_of self.new active.new) }
+        ensures meaning { IsKnownFailure result → Computes (context_of stack.now indexed.entry) (tree expr.now) (state_of self.old world.old active.old) (seen_answer result) (state_of self.new world.new active.new) }
         ensures ticks { self.new.ticks_left ≤ self.old.ticks_left }
     {
         match expr {
@@ -88,28 +91,32 @@ impl Task {
             Expr::Variable(name) => read_variable(active, name),
             Expr::Length => measure(indexed),
             Expr::Unary(operator, operand) => {
-                self.unary(active, stack, indexed, *operator, operand)
+                self.unary(world, active, stack, indexed, *operator, operand)
             }
             Expr::Binary(operator, left, right) => {
-                self.binary(active, stack, indexed, *operator, left, right)
+                self.binary(world, active, stack, indexed, *operator, left, right)
             }
             Expr::Logic(operator, left, right) => {
-                self.logic(active, stack, indexed, *operator, left, right)
+                self.logic(world, active, stack, indexed, *operator, left, right)
             }
             Expr::Conditional(test, first, second) => {
-                self.conditional(active, stack, indexed, test, first, second)
+                self.conditional(world, active, stack, indexed, test, first, second)
             }
-            Expr::Index(base, place) => self.index(active, stack, indexed, base, place),
-            Expr::Range(base, low, high) => self.range(active, stack, indexed, base, low, high),
-            Expr::List(items) => self.list(active, stack, indexed, items),
-            Expr::Property(base, name) => self.property(active, stack, indexed, base, name),
+            Expr::Index(base, place) => self.index(world, active, stack, indexed, base, place),
+            Expr::Range(base, low, high) => self.range(
+                world, active, stack, indexed, base, low, high,
+            ),
+            Expr::List(items) => self.list(world, active, stack, indexed, items),
+            Expr::Property(base, name) => self.property(world, active, stack, indexed, base, name),
             Expr::VerbCall(base, name, items) => {
-                self.verb_call(active, stack, indexed, base, name, items)
+                self.verb_call(world, active, stack, indexed, base, name, items)
             }
-            Expr::Call(name, items) => self.call(active, stack, indexed, name, items),
-            Expr::Assign(target, value) => self.assign(active, stack, indexed, target, value),
+            Expr::Call(name, items) => self.call(world, active, stack, indexed, name, items),
+            Expr::Assign(target, value) => self.assign(
+                world, active, stack, indexed, target, value,
+            ),
             Expr::Catch(body, codes, other) => {
-                self.catch(active, stack, indexed, body, codes, other)
+                self.catch(world, active, stack, indexed, body, codes, other)
             }
         }
     }
@@ -118,23 +125,24 @@ impl Task {
     #[cycle(evaluation)]
     pub(crate) fn evaluate_all(
         &mut self,
+        world: &mut World,
         active: &mut Activation,
         stack: &CallStack,
         indexed: Option<&Value>,
         items: &[Item],
     ) -> Result<Vec<Value>, Failure>
-        ensures meaning { IsKnownFailure result → EvaluatesAll (context_of stack.now indexed.entry) (items_of items.now) (state_of self.old active.old) (seen_answers result) (state_of self.new active.new) }
+        ensures meaning { IsKnownFailure result → EvaluatesAll (context_of stack.now indexed.entry) (items_of items.now) (state_of self.old world.old active.old) (seen_answers result) (state_of self.new world.new active.new) }
         ensures ticks { self.new.ticks_left ≤ self.old.ticks_left }
     {
         let mut values = Vec::new(self.alloc);
         for item in items {
             match item {
                 Item::Element(expr) => {
-                    let value = self.evaluate(active, stack, indexed, expr)?;
+                    let value = self.evaluate(world, active, stack, indexed, expr)?;
                     push(&mut values, value)?;
                 }
                 Item::Splice(expr) => {
-                    let value = self.evaluate(active, stack, indexed, expr)?;
+                    let value = self.evaluate(world, active, stack, indexed, expr)?;
                     splice(&mut values, value)?;
                 }
                 Item::Optional(..) => return Err(Failure::Fails(ErrorCode::TypeMismatch)),
@@ -146,22 +154,24 @@ impl Task {
     #[cycle(evaluation)]
     fn unary(
         &mut self,
+        world: &mut World,
         active: &mut Activation,
         stack: &CallStack,
         indexed: Option<&Value>,
         operator: UnaryOperator,
         operand: &Expr,
     ) -> Result<Value, Failure>
-        ensures meaning { IsKnownFailure result → Computes (context_of stack.now indexed.entry) (unary operator (tree operand.now)) (state_of self.old active.old) (seen_answer result) (state_of self.new active.new) }
+        ensures meaning { IsKnownFailure result → Computes (context_of stack.now indexed.entry) (unary operator (tree operand.now)) (state_of self.old world.old active.old) (seen_answer result) (state_of self.new world.new active.new) }
         ensures ticks { self.new.ticks_left ≤ self.old.ticks_left }
     {
-        let operand = self.evaluate(active, stack, indexed, operand)?;
+        let operand = self.evaluate(world, active, stack, indexed, operand)?;
         Ok(operation::unary(operator, &operand)?)
     }
 
     #[cycle(evaluation)]
     fn binary(
         &mut self,
+        world: &mut World,
         active: &mut Activation,
         stack: &CallStack,
         indexed: Option<&Value>,
@@ -169,11 +179,11 @@ impl Task {
         left: &Expr,
         right: &Expr,
     ) -> Result<Value, Failure>
-        ensures meaning { IsKnownFailure result → Computes (context_of stack.now indexed.entry) (binary operator (tree left.now) (tree right.now)) (state_of self.old active.old) (seen_answer result) (state_of self.new active.new) }
+        ensures meaning { IsKnownFailure result → Computes (context_of stack.now indexed.entry) (binary operator (tree left.now) (tree right.now)) (state_of self.old world.old active.old) (seen_answer result) (state_of self.new world.new active.new) }
         ensures ticks { self.new.ticks_left ≤ self.old.ticks_left }
     {
-        let left = self.evaluate(active, stack, indexed, left)?;
-        let right = self.evaluate(active, stack, indexed, right)?;
+        let left = self.evaluate(world, active, stack, indexed, left)?;
+        let right = self.evaluate(world, active, stack, indexed, right)?;
         Ok(operation::binary(self.alloc, operator, &left, &right)?)
     }
 
@@ -181,6 +191,7 @@ impl Task {
     #[cycle(evaluation)]
     fn logic(
         &mut self,
+        world: &mut World,
         active: &mut Activation,
         stack: &CallStack,
         indexed: Option<&Value>,
@@ -188,19 +199,20 @@ impl Task {
         left: &Expr,
         right: &Expr,
     ) -> Result<Value, Failure>
-        ensures meaning { IsKnownFailure result → Computes (context_of stack.now indexed.entry) (logic operator (tree left.now) (tree right.now)) (state_of self.old active.old) (seen_answer result) (state_of self.new active.new) }
+        ensures meaning { IsKnownFailure result → Computes (context_of stack.now indexed.entry) (logic operator (tree left.now) (tree right.now)) (state_of self.old world.old active.old) (seen_answer result) (state_of self.new world.new active.new) }
         ensures ticks { self.new.ticks_left ≤ self.old.ticks_left }
     {
-        let first = self.evaluate(active, stack, indexed, left)?;
+        let first = self.evaluate(world, active, stack, indexed, left)?;
         if operation::is_decided(operator, &first) {
             return Ok(first);
         }
-        Ok(self.evaluate(active, stack, indexed, right)?)
+        Ok(self.evaluate(world, active, stack, indexed, right)?)
     }
 
     #[cycle(evaluation)]
     fn conditional(
         &mut self,
+        world: &mut World,
         active: &mut Activation,
         stack: &CallStack,
         indexed: Option<&Value>,
@@ -208,37 +220,39 @@ impl Task {
         first: &Expr,
         second: &Expr,
     ) -> Result<Value, Failure>
-        ensures meaning { IsKnownFailure result → Computes (context_of stack.now indexed.entry) (conditional (tree test.now) (tree first.now) (tree second.now)) (state_of self.old active.old) (seen_answer result) (state_of self.new active.new) }
+        ensures meaning { IsKnownFailure result → Computes (context_of stack.now indexed.entry) (conditional (tree test.now) (tree first.now) (tree second.now)) (state_of self.old world.old active.old) (seen_answer result) (state_of self.new world.new active.new) }
         ensures ticks { self.new.ticks_left ≤ self.old.ticks_left }
     {
-        let test = self.evaluate(active, stack, indexed, test)?;
+        let test = self.evaluate(world, active, stack, indexed, test)?;
         if operation::is_true(&test) {
-            return Ok(self.evaluate(active, stack, indexed, first)?);
+            return Ok(self.evaluate(world, active, stack, indexed, first)?);
         }
-        Ok(self.evaluate(active, stack, indexed, second)?)
+        Ok(self.evaluate(world, active, stack, indexed, second)?)
     }
 
     // The index is evaluated with the base as what `$` measures.
     #[cycle(evaluation)]
     fn index(
         &mut self,
+        world: &mut World,
         active: &mut Activation,
         stack: &CallStack,
         indexed: Option<&Value>,
         base: &Expr,
         place: &Expr,
     ) -> Result<Value, Failure>
-        ensures meaning { IsKnownFailure result → Computes (context_of stack.now indexed.entry) (index (tree base.now) (tree place.now)) (state_of self.old active.old) (seen_answer result) (state_of self.new active.new) }
+        ensures meaning { IsKnownFailure result → Computes (context_of stack.now indexed.entry) (index (tree base.now) (tree place.now)) (state_of self.old world.old active.old) (seen_answer result) (state_of self.new world.new active.new) }
         ensures ticks { self.new.ticks_left ≤ self.old.ticks_left }
     {
-        let base = self.evaluate(active, stack, indexed, base)?;
-        let place = self.evaluate(active, stack, Some(&base), place)?;
+        let base = self.evaluate(world, active, stack, indexed, base)?;
+        let place = self.evaluate(world, active, stack, Some(&base), place)?;
         Ok(operation::index(self.alloc, &base, &place)?)
     }
 
     #[cycle(evaluation)]
     fn range(
         &mut self,
+        world: &mut World,
         active: &mut Activation,
         stack: &CallStack,
         indexed: Option<&Value>,
@@ -246,27 +260,28 @@ impl Task {
         low: &Expr,
         high: &Expr,
     ) -> Result<Value, Failure>
-        ensures meaning { IsKnownFailure result → Computes (context_of stack.now indexed.entry) (range (tree base.now) (tree low.now) (tree high.now)) (state_of self.old active.old) (seen_answer result) (state_of self.new active.new) }
+        ensures meaning { IsKnownFailure result → Computes (context_of stack.now indexed.entry) (range (tree base.now) (tree low.now) (tree high.now)) (state_of self.old world.old active.old) (seen_answer result) (state_of self.new world.new active.new) }
         ensures ticks { self.new.ticks_left ≤ self.old.ticks_left }
     {
-        let base = self.evaluate(active, stack, indexed, base)?;
-        let low = self.evaluate(active, stack, Some(&base), low)?;
-        let high = self.evaluate(active, stack, Some(&base), high)?;
+        let base = self.evaluate(world, active, stack, indexed, base)?;
+        let low = self.evaluate(world, active, stack, Some(&base), low)?;
+        let high = self.evaluate(world, active, stack, Some(&base), high)?;
         Ok(operation::range(self.alloc, &base, &low, &high)?)
     }
 
     #[cycle(evaluation)]
     fn list(
         &mut self,
+        world: &mut World,
         active: &mut Activation,
         stack: &CallStack,
         indexed: Option<&Value>,
         items: &[Item],
     ) -> Result<Value, Failure>
-        ensures meaning { IsKnownFailure result → Computes (context_of stack.now indexed.entry) (list (items_of items.now)) (state_of self.old active.old) (seen_answer result) (state_of self.new active.new) }
+        ensures meaning { IsKnownFailure result → Computes (context_of stack.now indexed.entry) (list (items_of items.now)) (state_of self.old world.old active.old) (seen_answer result) (state_of self.new world.new active.new) }
         ensures ticks { self.new.ticks_left ≤ self.old.ticks_left }
     {
-        let values = self.evaluate_all(active, stack, indexed, items)?;
+        let values = self.evaluate_all(world, active, stack, indexed, items)?;
         Ok(operation::list(self.alloc, values)?)
     }
 }

@@ -17,6 +17,8 @@ mod task;
 mod tests;
 mod trying;
 mod typed;
+#[cfg(test)]
+mod world_tests;
 
 pub use line::{EvalLine, eval_line};
 pub use task::{Ended, MOST_TICKS, run_task};

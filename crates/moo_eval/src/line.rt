@@ -10,6 +10,7 @@ ghost use Rattle.moo_eval.specs.Line.{program_text, AnswersLine};
 use crate::typed::{one_line, run_typed};
 use moo_syntax::{Names, SyntaxFault, SyntaxFaultKind, parse};
 use moo_value::{MooStr, WEIGHT_LIMIT, is_text};
+use moo_world::World;
 use std::alloc::{AllocError, Global};
 
 /// The status of a line that was run.
@@ -27,8 +28,9 @@ pub struct EvalLine {
     pub status: u8,
 }
 
-/// Runs `line` as the program `return LINE;`, in a frame like that of the built-in `eval`: with the value's literal
-/// or the lines of a traceback, or where it is no program with the line that tells why. The error is want of memory.
+/// Runs `line` as the program `return LINE;`, in a frame like that of the built-in `eval` and over an empty world:
+/// with the value's literal or the lines of a traceback, or where it is no program with the line that tells why. The
+/// error is want of memory.
 pub fn eval_line(alloc: Global, line: &[u8]) -> Result<EvalLine, AllocError>
     ensures { IfOk result (λ answer. AnswersLine line.now (texts answer.lines.items) answer.status) }
 {
@@ -43,7 +45,8 @@ pub fn eval_line(alloc: Global, line: &[u8]) -> Result<EvalLine, AllocError>
     };
     match parse(alloc, &[text], Names::Known) {
         Ok(program) => {
-            let lines = run_typed(alloc, program)?;
+            let mut world = World::empty(alloc);
+            let lines = run_typed(alloc, &mut world, program)?;
             Ok(EvalLine { lines, status: RUN })
         }
         Err(fault) => {

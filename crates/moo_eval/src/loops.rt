@@ -3,7 +3,7 @@ ghost use Rattle.std.specs.Prelude.{◌≡◌, ◌≤◌, ◌<◌, ◌∷◌, []
 ghost use Rattle.moo_value.specs.View.{tree as value_tree, trees};
 ghost use Rattle.moo_program.specs.Tree.{for_list, for_range};
 ghost use Rattle.moo_program.specs.View.{tree, block};
-ghost use Rattle.moo_eval.specs.Statements.{Does, Turns, Loops, Visits, Counts};
+ghost use Rattle.moo_eval.specs.Meaning.{Does, Turns, Loops, Visits, Counts};
 ghost use Rattle.moo_outcome.specs.Variables.{bind};
 ghost use Rattle.moo_outcome.specs.Seen.{context_of, seen_flow, seen_turn, IsKnown};
 ghost use Rattle.moo_eval.specs.Seen.{state_of};
@@ -13,113 +13,120 @@ use moo_operation::{is_true, spliced};
 use moo_outcome::{Activation, CallStack, Flow, Span, Stop, after_turn, no_turn};
 use moo_program::{Expr, Stmt};
 use moo_value::{MooStr, Value};
+use moo_world::World;
 
 impl Task {
     // A turn of a `while`, which takes a tick as it begins: how the loop ends, or `None` where it goes on.
-    #[cycle(statements)]
+    #[cycle(evaluation)]
     fn turn(
         &mut self,
+        world: &mut World,
         active: &mut Activation,
         stack: &CallStack,
         own: &Option<MooStr>,
         body: &[Stmt],
     ) -> Result<Option<Flow>, Stop>
-        ensures meaning { IsKnown result → Turns (context_of stack.now None) own.now [] (block body.now) (state_of self.old active.old) (seen_turn result) (state_of self.new active.new) }
+        ensures meaning { IsKnown result → Turns (context_of stack.now None) own.now [] (block body.now) (state_of self.old world.old active.old) (seen_turn result) (state_of self.new world.new active.new) }
         ensures ticks { self.new.ticks_left ≤ self.old.ticks_left }
         ensures fewer { OnOk result (self.new.ticks_left < self.old.ticks_left) }
     {
         self.take_tick(active, stack)?;
-        let flow = self.run_all(active, stack, body)?;
+        let flow = self.run_all(world, active, stack, body)?;
         Ok(after_turn(own.as_ref(), flow))
     }
 
     // A turn of a `for`, which takes a tick before the variable is set.
-    #[cycle(statements)]
+    #[cycle(evaluation)]
     fn visit(
         &mut self,
+        world: &mut World,
         active: &mut Activation,
         stack: &CallStack,
         name: &MooStr,
         value: Value,
         body: &[Stmt],
     ) -> Result<Option<Flow>, Stop>
-        ensures meaning { IsKnown result → Turns (context_of stack.now None) (Some name.now) (bind name.now (value_tree value) ∷ []) (block body.now) (state_of self.old active.old) (seen_turn result) (state_of self.new active.new) }
+        ensures meaning { IsKnown result → Turns (context_of stack.now None) (Some name.now) (bind name.now (value_tree value) ∷ []) (block body.now) (state_of self.old world.old active.old) (seen_turn result) (state_of self.new world.new active.new) }
         ensures ticks { self.new.ticks_left ≤ self.old.ticks_left }
         ensures fewer { OnOk result (self.new.ticks_left < self.old.ticks_left) }
     {
         self.take_tick(active, stack)?;
         active.variables.set(name, value)?;
-        let flow = self.run_all(active, stack, body)?;
+        let flow = self.run_all(world, active, stack, body)?;
         Ok(after_turn(Some(name), flow))
     }
 
     // A `while`, from a test on.
-    #[cycle(statements)]
+    #[cycle(evaluation)]
     pub(crate) fn repeat(
         &mut self,
+        world: &mut World,
         active: &mut Activation,
         stack: &CallStack,
         own: &Option<MooStr>,
         test: &Expr,
         body: &[Stmt],
     ) -> Result<Flow, Stop>
-        ensures meaning { IsKnown result → Loops (context_of stack.now None) own.now (tree test.now) (block body.now) (state_of self.old active.old) (seen_flow result) (state_of self.new active.new) }
+        ensures meaning { IsKnown result → Loops (context_of stack.now None) own.now (tree test.now) (block body.now) (state_of self.old world.old active.old) (seen_flow result) (state_of self.new world.new active.new) }
         ensures ticks { self.new.ticks_left ≤ self.old.ticks_left }
     {
         'turns: loop {
-            let value = self.evaluate(active, stack, None, test)?;
+            let value = self.evaluate(world, active, stack, None, test)?;
             if !is_true(&value) {
                 return Ok(Flow::Next);
             }
-            if let Some(flow) = self.turn(active, stack, own, body)? {
+            if let Some(flow) = self.turn(world, active, stack, own, body)? {
                 return Ok(flow);
             }
         }
     }
 
-    #[cycle(statements)]
+    #[cycle(evaluation)]
     pub(crate) fn for_list(
         &mut self,
+        world: &mut World,
         active: &mut Activation,
         stack: &CallStack,
         name: &MooStr,
         list: &Expr,
         body: &[Stmt],
     ) -> Result<Flow, Stop>
-        ensures meaning { IsKnown result → Does (context_of stack.now None) (for_list name.now (tree list.now) (block body.now)) (state_of self.old active.old) (seen_flow result) (state_of self.new active.new) }
+        ensures meaning { IsKnown result → Does (context_of stack.now None) (for_list name.now (tree list.now) (block body.now)) (state_of self.old world.old active.old) (seen_flow result) (state_of self.new world.new active.new) }
         ensures ticks { self.new.ticks_left ≤ self.old.ticks_left }
     {
-        let list = self.evaluate(active, stack, None, list)?;
+        let list = self.evaluate(world, active, stack, None, list)?;
         match spliced(&list) {
-            Ok(values) => self.visit_all(active, stack, name, values, body),
+            Ok(values) => self.visit_all(world, active, stack, name, values, body),
             Err(code) => no_turn(self.alloc(), stack, active, code),
         }
     }
 
-    #[cycle(statements)]
+    #[cycle(evaluation)]
     fn visit_all(
         &mut self,
+        world: &mut World,
         active: &mut Activation,
         stack: &CallStack,
         name: &MooStr,
         values: &[Value],
         body: &[Stmt],
     ) -> Result<Flow, Stop>
-        ensures meaning { IsKnown result → Visits (context_of stack.now None) name.now (trees values.now) (block body.now) (state_of self.old active.old) (seen_flow result) (state_of self.new active.new) }
+        ensures meaning { IsKnown result → Visits (context_of stack.now None) name.now (trees values.now) (block body.now) (state_of self.old world.old active.old) (seen_flow result) (state_of self.new world.new active.new) }
         ensures ticks { self.new.ticks_left ≤ self.old.ticks_left }
     {
         for value in values {
             let value = value.try_clone()?;
-            if let Some(flow) = self.visit(active, stack, name, value, body)? {
+            if let Some(flow) = self.visit(world, active, stack, name, value, body)? {
                 return Ok(flow);
             }
         }
         Ok(Flow::Next)
     }
 
-    #[cycle(statements)]
+    #[cycle(evaluation)]
     pub(crate) fn for_range(
         &mut self,
+        world: &mut World,
         active: &mut Activation,
         stack: &CallStack,
         name: &MooStr,
@@ -127,34 +134,35 @@ impl Task {
         high: &Expr,
         body: &[Stmt],
     ) -> Result<Flow, Stop>
-        ensures meaning { IsKnown result → Does (context_of stack.now None) (for_range name.now (tree low.now) (tree high.now) (block body.now)) (state_of self.old active.old) (seen_flow result) (state_of self.new active.new) }
+        ensures meaning { IsKnown result → Does (context_of stack.now None) (for_range name.now (tree low.now) (tree high.now) (block body.now)) (state_of self.old world.old active.old) (seen_flow result) (state_of self.new world.new active.new) }
         ensures ticks { self.new.ticks_left ≤ self.old.ticks_left }
     {
-        let low = self.evaluate(active, stack, None, low)?;
-        let high = self.evaluate(active, stack, None, high)?;
+        let low = self.evaluate(world, active, stack, None, low)?;
+        let high = self.evaluate(world, active, stack, None, high)?;
         match Span::new(&low, &high) {
-            Ok(span) => self.count(active, stack, name, span, body),
+            Ok(span) => self.count(world, active, stack, name, span, body),
             Err(code) => no_turn(self.alloc(), stack, active, code),
         }
     }
 
     // The counter goes one past `high`, so it is wider than the numbers.
-    #[cycle(statements)]
+    #[cycle(evaluation)]
     fn count(
         &mut self,
+        world: &mut World,
         active: &mut Activation,
         stack: &CallStack,
         name: &MooStr,
         span: Span,
         body: &[Stmt],
     ) -> Result<Flow, Stop>
-        ensures meaning { IsKnown result → Counts (context_of stack.now None) name.now span span.low (block body.now) (state_of self.old active.old) (seen_flow result) (state_of self.new active.new) }
+        ensures meaning { IsKnown result → Counts (context_of stack.now None) name.now span span.low (block body.now) (state_of self.old world.old active.old) (seen_flow result) (state_of self.new world.new active.new) }
         ensures ticks { self.new.ticks_left ≤ self.old.ticks_left }
     {
         let mut number = i64::from(span.low);
         'numbers: while number <= i64::from(span.high) {
             let value = span.value(number as i32);
-            if let Some(flow) = self.visit(active, stack, name, value, body)? {
+            if let Some(flow) = self.visit(world, active, stack, name, value, body)? {
                 return Ok(flow);
             }
             number += 1;

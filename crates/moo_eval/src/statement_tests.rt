@@ -4,6 +4,7 @@ use crate::expression_tests::ticks;
 use crate::task::{Ended, run_task};
 use crate::tests::{are, frame};
 use moo_value::MooStr;
+use moo_world::World;
 use std::alloc::Global;
 use std::test::Fail;
 
@@ -11,7 +12,7 @@ use std::test::Fail;
 fn end(alloc: Global, program: &str, d: bool) -> Result<Vec<Vec<u8>>, Fail> {
     let mut start = frame(alloc, program)?;
     start.d = d;
-    match run_task(alloc, start) {
+    match run_task(alloc, &mut World::empty(alloc), start) {
         Ended::Value(value) => {
             let mut lines = Vec::new(alloc);
             lines.push(value.to_literal(alloc)?)?;
@@ -188,7 +189,7 @@ fn what_a_handler_is_told_has_limits(rt: HostRuntime) -> Result<(), Fail> {
     let mut long = Vec::new(alloc);
     long.resize(999_000, b'a')?;
     start.verb = MooStr::try_from_vec(alloc, long).map_err(|_| Fail::from("no string"))?;
-    let Ended::Value(value) = run_task(alloc, start) else {
+    let Ended::Value(value) = run_task(alloc, &mut World::empty(alloc), start) else {
         return Err(Fail::from("no value"));
     };
     assert!(rt; value.to_literal(alloc)?.as_slice() == "1".as_bytes());
@@ -199,7 +200,7 @@ fn what_a_handler_is_told_has_limits(rt: HostRuntime) -> Result<(), Fail> {
     let mut long = Vec::new(alloc);
     long.resize(999_990, b'a')?;
     start.verb = MooStr::try_from_vec(alloc, long).map_err(|_| Fail::from("no string"))?;
-    let Ended::Uncaught(lines) = run_task(alloc, start) else {
+    let Ended::Uncaught(lines) = run_task(alloc, &mut World::empty(alloc), start) else {
         return Err(Fail::from("no error"));
     };
     let texts = [

@@ -9,6 +9,7 @@ ghost use Rattle.moo_eval.specs.Ends.{IfEnded};
 use crate::interpreter::Task;
 use moo_outcome::{Activation, CallStack, Flow, Frame, Stop, Variables, traceback_lines};
 use moo_value::Value;
+use moo_world::World;
 use std::alloc::{AllocError, Global};
 
 /// How many ticks a task has.
@@ -23,19 +24,19 @@ pub enum Ended {
     Memory,
 }
 
-/// Runs the program of a frame, with a fresh budget of ticks.
-pub fn run_task(alloc: Global, start: Frame) -> Ended
-    ensures { IfEnded result (TaskEnds start) }
+/// Runs the program of a frame, with a fresh budget of ticks. What it changed in the world stays, however it ends.
+pub fn run_task(alloc: Global, world: &mut World, start: Frame) -> Ended
+    ensures { IfEnded result (λ end. TaskEnds start world.old end world.new) }
 {
     match Variables::first(alloc, &start) {
-        Ok(variables) => run_frame(alloc, start, variables),
+        Ok(variables) => run_frame(alloc, world, start, variables),
         Err(AllocError) => Ended::Memory,
     }
 }
 
-fn run_frame(alloc: Global, start: Frame, variables: Variables) -> Ended
+fn run_frame(alloc: Global, world: &mut World, start: Frame, variables: Variables) -> Ended
     requires { bindings_of variables ≡ first_bindings start }
-    ensures { IfEnded result (TaskEnds start) }
+    ensures { IfEnded result (λ end. TaskEnds start world.old end world.new) }
 {
     let mut active = Activation {
         variables,
@@ -46,7 +47,12 @@ fn run_frame(alloc: Global, start: Frame, variables: Variables) -> Ended
         callers: Vec::new(alloc),
     };
     let mut task = Task::new(alloc, MOST_TICKS);
-    let outcome = task.run_all(&mut active, &stack, stack.running.program.statements());
+    let outcome = task.run_all(
+        world,
+        &mut active,
+        &stack,
+        stack.running.program.statements(),
+    );
     end_of_task(alloc, outcome)
 }
 

@@ -6,10 +6,11 @@ use crate::typed::typed_frame;
 use moo_outcome::{Frame, TraceEntry, TraceFrame, traceback_lines};
 use moo_syntax::{Names, parse};
 use moo_value::{MooList, MooStr, Value};
+use moo_world::World;
 use std::alloc::Global;
 use std::test::Fail;
 
-fn text(alloc: Global, text: &str) -> Result<MooStr, Fail> {
+pub(crate) fn text(alloc: Global, text: &str) -> Result<MooStr, Fail> {
     MooStr::try_from_bytes(alloc, text.as_bytes()).map_err(|_| Fail::from("no string"))
 }
 
@@ -195,7 +196,7 @@ fn without_the_d_bit_an_error_is_a_value(rt: HostRuntime) -> Result<(), Fail> {
     let alloc = rt.alloc();
     let mut start = frame(alloc, "return {1 / 0, 2};")?;
     start.d = false;
-    let Ended::Value(value) = run_task(alloc, start) else {
+    let Ended::Value(value) = run_task(alloc, &mut World::empty(alloc), start) else {
         return Err(Fail::from("no value"));
     };
     assert!(rt; value.to_literal(alloc)?.as_slice() == "{E_DIV, 2}".as_bytes());
@@ -211,7 +212,7 @@ fn a_list_that_is_too_heavy_is_an_error(rt: HostRuntime) -> Result<(), Fail> {
     let mut args = Vec::new(alloc);
     args.push(Value::Str(MooStr::try_from_vec(alloc, long).map_err(|_| Fail::from("no string"))?))?;
     start.args = MooList::try_from_vec(alloc, args).map_err(|_| Fail::from("no list"))?;
-    let Ended::Uncaught(lines) = run_task(alloc, start) else {
+    let Ended::Uncaught(lines) = run_task(alloc, &mut World::empty(alloc), start) else {
         return Err(Fail::from("no error"));
     };
     let texts = [

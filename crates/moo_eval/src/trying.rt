@@ -3,7 +3,7 @@ ghost use Rattle.std.specs.Prelude.{◌≡◌, ◌≤◌, None};
 ghost use Rattle.std.specs.Prelude.{map};
 ghost use Rattle.moo_program.specs.Tree.{try_except, try_finally};
 ghost use Rattle.moo_program.specs.View.{block, handlers_of};
-ghost use Rattle.moo_eval.specs.Statements.{Does, Prepares, Handles, Takes};
+ghost use Rattle.moo_eval.specs.Meaning.{Does, Prepares, Handles, Takes};
 ghost use Rattle.moo_outcome.specs.Handling.{chosen};
 ghost use Rattle.moo_outcome.specs.Seen.{context_of, raise_of, seen_flow, IsKnown};
 ghost use Rattle.moo_outcome.specs.SeenHandling.{guarded_of, seen_guarded};
@@ -15,43 +15,47 @@ use moo_outcome::{
     push_guarded, runs_finally, set_caught, settle_codes,
 };
 use moo_program::{Handler, Stmt};
+use moo_world::World;
 
 impl Task {
     // The codes of all handlers come before the statements.
-    #[cycle(statements)]
+    #[cycle(evaluation)]
     pub(crate) fn try_except(
         &mut self,
+        world: &mut World,
         active: &mut Activation,
         stack: &CallStack,
         body: &[Stmt],
         handlers: &[Handler],
     ) -> Result<Flow, Stop>
-        ensures meaning { IsKnown result → Does (context_of stack.now None) (try_except (block body.now) (handlers_of handlers.now)) (state_of self.old active.old) (seen_flow result) (state_of self.new active.new) }
+        ensures meaning { IsKnown result → Does (context_of stack.now None) (try_except (block body.now) (handlers_of handlers.now)) (state_of self.old world.old active.old) (seen_flow result) (state_of self.new world.new active.new) }
         ensures ticks { self.new.ticks_left ≤ self.old.ticks_left }
     {
-        let guarded = self.prepare(active, stack, handlers)?;
-        match self.run_all(active, stack, body) {
+        let guarded = self.prepare(world, active, stack, handlers)?;
+        match self.run_all(world, active, stack, body) {
             Ok(flow) => Ok(flow),
-            Err(Stop::Raised(raise)) => self.handle(active, stack, &guarded, raise),
+            Err(Stop::Raised(raise)) => self.handle(world, active, stack, &guarded, raise),
             Err(Stop::OutOfTicks(trace)) => Err(Stop::OutOfTicks(trace)),
             Err(Stop::Memory) => Err(Stop::Memory),
         }
     }
 
     // The codes of handlers, in order.
+    #[cycle(evaluation)]
     fn prepare<'a>(
         &mut self,
+        world: &mut World,
         active: &mut Activation,
         stack: &CallStack,
         handlers: &'a [Handler],
     ) -> Result<Vec<Guarded<'a>>, Stop>
-        ensures meaning { IsKnown result → Prepares (context_of stack.now None) (handlers_of handlers.now) (state_of self.old active.old) (seen_guarded result) (state_of self.new active.new) }
+        ensures meaning { IsKnown result → Prepares (context_of stack.now None) (handlers_of handlers.now) (state_of self.old world.old active.old) (seen_guarded result) (state_of self.new world.new active.new) }
         ensures ticks { self.new.ticks_left ≤ self.old.ticks_left }
     {
         let mut guarded = Vec::new(self.alloc());
         for handler in handlers {
             let parts = handler_parts(handler);
-            let outcome = self.guards(active, stack, None, parts.codes);
+            let outcome = self.guards(world, active, stack, None, parts.codes);
             let values = settle_codes(self.alloc(), stack, active, outcome)?;
             push_guarded(&mut guarded, parts, values)?;
         }
@@ -59,41 +63,43 @@ impl Task {
     }
 
     // The first handler that names the error runs, with its variable set, or the error goes on.
-    #[cycle(statements)]
+    #[cycle(evaluation)]
     fn handle(
         &mut self,
+        world: &mut World,
         active: &mut Activation,
         stack: &CallStack,
         guarded: &[Guarded<'_>],
         raise: Raise,
     ) -> Result<Flow, Stop>
-        ensures meaning { IsKnown result → Takes (context_of stack.now None) (chosen (map guarded_of guarded.now) raise.code) (raise_of raise) (state_of self.old active.old) (seen_flow result) (state_of self.new active.new) }
+        ensures meaning { IsKnown result → Takes (context_of stack.now None) (chosen (map guarded_of guarded.now) raise.code) (raise_of raise) (state_of self.old world.old active.old) (seen_flow result) (state_of self.new world.new active.new) }
         ensures ticks { self.new.ticks_left ≤ self.old.ticks_left }
     {
         let Some(taken) = chosen(guarded, raise.code) else {
             return Err(Stop::Raised(raise));
         };
         set_caught(self.alloc(), stack, active, taken.name, raise)?;
-        self.run_all(active, stack, taken.body)
+        self.run_all(world, active, stack, taken.body)
     }
 
     // The cleanup runs after the statements, however they end, unless the ticks ran out.
-    #[cycle(statements)]
+    #[cycle(evaluation)]
     pub(crate) fn try_finally(
         &mut self,
+        world: &mut World,
         active: &mut Activation,
         stack: &CallStack,
         body: &[Stmt],
         cleanup: &[Stmt],
     ) -> Result<Flow, Stop>
-        ensures meaning { IsKnown result → Does (context_of stack.now None) (try_finally (block body.now) (block cleanup.now)) (state_of self.old active.old) (seen_flow result) (state_of self.new active.new) }
+        ensures meaning { IsKnown result → Does (context_of stack.now None) (try_finally (block body.now) (block cleanup.now)) (state_of self.old world.old active.old) (seen_flow result) (state_of self.new world.new active.new) }
         ensures ticks { self.new.ticks_left ≤ self.old.ticks_left }
     {
-        let outcome = self.run_all(active, stack, body);
+        let outcome = self.run_all(world, active, stack, body);
         if !runs_finally(&outcome) {
             return outcome;
         }
-        let last = self.run_all(active, stack, cleanup);
+        let last = self.run_all(world, active, stack, cleanup);
         after_finally(outcome, last)
     }
 }

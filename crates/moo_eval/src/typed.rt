@@ -8,14 +8,19 @@ use crate::task::{Ended, run_task};
 use moo_outcome::Frame;
 use moo_program::Program;
 use moo_value::{MooList, MooStr};
+use moo_world::World;
 use std::alloc::{AllocError, Global};
 
 /// Runs a program that was typed in by nobody, and gives the lines that are shown of its end.
-pub fn run_typed(alloc: Global, program: Program) -> Result<Vec<Vec<u8>>, AllocError>
-    ensures { IfOk result (λ lines. (end : End) × TaskEnds (typed_frame program (negsuc 0) (negsuc 0) (negsuc 0)) end × (texts lines.items ≡ shown end)) }
+pub fn run_typed(
+    alloc: Global,
+    world: &mut World,
+    program: Program,
+) -> Result<Vec<Vec<u8>>, AllocError>
+    ensures { IfOk result (λ lines. (end : End) × TaskEnds (typed_frame program (negsuc 0) (negsuc 0) (negsuc 0)) world.old end world.new × (texts lines.items ≡ shown end)) }
 {
     let start = typed_frame(alloc, program, -1, -1, -1)?;
-    match run_task(alloc, start) {
+    match run_task(alloc, world, start) {
         Ended::Value(value) => {
             let lines = one_line(alloc, value.to_literal(alloc)?)?;
             Ok(lines)

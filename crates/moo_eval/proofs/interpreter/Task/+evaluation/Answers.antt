@@ -1,24 +1,34 @@
-use Rattle.std.proofs.Common.{◌∷◌, [], Ok, Err, refl, sym, ap, subst, ◌∙◌, arith}
+use Rattle.std.proofs.Common.{◌∷◌, [], Ok, Err, refl, sym, ap, subst, ◌∙◌, arith, rules, Some, None, ◌+◌, drop, map}
 use Rattle.std.proofs.lemmas.Result.{err_from_is_err_and}
 use Rattle.std.proofs.lemmas.List.{append-nil}
+use Rattle.std.proofs.lemmas.Int.{to_z-of_z}
 use Rattle.std.proofs.Math.ListN.{drop_of_length-le}
-use Rattle.moo_outcome.specs.Outcome.{fails, stops, answers, passes}
-use Rattle.std.specs.declared.vec.Vec as code_vec
-use Rattle.std.specs.declared.alloc.Global as code_global
-use Rattle.moo_value.specs.declared.value.Value as code_value
+use Rattle.moo_outcome.specs.Outcome.{fails, stops, answers, passes, next}
 use Rattle.moo_value.specs.View.{tree, trees}
-use Rattle.moo_program.specs.View.{tree as expression, items_of, codes_of}
+use Rattle.moo_program.specs.View.{tree as expression, items_of, codes_of, block, handlers_of}
 use Rattle.moo_eval.specs.declared.interpreter.Task.{Task}
-use Rattle.moo_outcome.specs.Seen.{context_of, stop_of, failure_of, seen_value}
+use Rattle.moo_outcome.specs.Seen.{context_of, stop_of, failure_of, seen_value, flow_of}
 use Rattle.moo_eval.specs.Seen.{state_of}
 use Rattle.moo_access.specs.Target.{named}
-use Rattle.moo_eval.specs.Meaning.{EvaluatesAll, Stores, before, spent, begins, operands_end, places_end, applies, no_more, element_stops, element_then, splice_stops, splice_fails, splice_then, literal_is, variable_is, length_is, unary_is, binary_is, logic_decides, logic_goes_on, conditional_true, conditional_false, index_is, range_is, list_is, property_is, verb_is, call_is, assign_is, catch_gives, catch_or_goes_on, target_ends, value_stops, assigns, root_ends, locates, parts_end, finds, inside, step_ends, enters, unread, spot_ends, steps_in, no_store, stores, puts_variable, puts_property, scatter_fails, scatters, none_missing, default_stops, default_then}
+use Rattle.moo_eval.specs.Meaning.{EvaluatesAll, Stores, spent, begins, operands_end, places_end, applies, no_more, element_stops, element_then, splice_stops, splice_fails, splice_then, literal_is, variable_is, length_is, unary_is, binary_is, logic_decides, logic_goes_on, conditional_true, conditional_false, index_is, range_is, list_is, property_is, verb_fails, verb_runs, call_is, assign_is, catch_gives, catch_or_goes_on, target_ends, value_stops, assigns, root_ends, locates, parts_end, finds, inside, step_ends, enters, unread, spot_ends, steps_in, no_store, stores, puts_variable, scatter_fails, scatters, none_missing, default_stops, default_then, Counts, statement_spent, statement_begins, selects, list_stops, list_fails, visits, span_stops, span_fails, counts, loops, breaks_out, continues_on, unprepared, tries, finally_skipped, finally_runs, ends, leaves, proceeds, none_selected, else_runs, test_stops, arm_runs, arm_passed, turn_spent, turns, loop_stops, loop_ends, loop_left, loop_then, all_visited, visit_left, visit_then, all_counted, count_left, count_then, nothing_raised, ticks_out, handles, untaken, untold, takes, Prepares, no_codes, codes_stop, codes_then, gives_zero, gives, evaluates}
 use Rattle.moo_value.specs.declared.error_code.ErrorCode.TheVariants.{TypeMismatch}
 use Rattle.moo_access.specs.SeenTarget.{path_of, steps_of}
 use Rattle.moo_eval.proofs.Caught.{guards_end, passes_on, none_left, known_caught}
-use Rattle.moo_eval.proofs.Exits.{refused, gathered, trees_pushed, same_state, optional_ends}
-use Rattle.moo_outcome.proofs.Rest.{drop_next}
-use Rattle.moo_program.proofs.Rows.{row_items}
+use Rattle.moo_eval.proofs.Exits.{refused, gathered, trees_pushed, same_state, optional_ends, goes_on-not, state_at, no_flow, guarded_on, property_put, runs_at}
+use Rattle.moo_outcome.proofs.Rest.{drop_next, next_tree}
+use Rattle.moo_program.proofs.Rows.{row_items, row_block, row_arms, row_handlers}
+use Rattle.std.specs.Option.{option_map}
+use Rattle.std.specs.Prelude.{◌≤ℤ◌, true, false, option_copied}
+use mir.Syntax.{w32, w64}
+use mir.Val.{SFits, to_z}
+use Rattle.moo_outcome.specs.Leading.{after_turn, numbered}
+use Rattle.moo_outcome.specs.SeenHandling.{guarded_of}
+use Rattle.moo_eval.proofs.Counting.{narrow, next_number, not_below, reached}
+use Rattle.moo_outcome.specs.Handling.{guarded, guarded_before}
+use Rattle.moo_eval.specs.Operands.{before}
+use Rattle.std.specs.declared.vec.Vec as code_vec
+use Rattle.std.specs.declared.alloc.Global as code_global
+use Rattle.moo_value.specs.declared.value.Value as code_value
 use Rattle.moo_eval.proofs.interpreter.Task.+evaluation.Goals as goal
 use Rattle.moo_eval.proofs.interpreter.Task.+evaluation.Goals.{evaluate_all-in-Element+in_ok-value-in-Element+in_ok-push-in-Element, evaluate_all-in-Splice+in_ok-value-in-Splice+in_ok-splice-in-Splice}
 
@@ -156,20 +166,20 @@ evaluate_all-loop-item-preserved t c =
       | evaluate_all-in-Element+in_ok-value-in-Element+in_ok-push-in-Element w ↦ record {
         ticks = omega (arith, ap (λ (x : Task). x.ticks_left) w.self-is);
         rest = λ o s d.
-            let e = rw (w.self-is, w.active-is) at d in
+            let e = rw (w.self-is, w.world-is, w.active-is) at d in
             let more = tree w.in_ok-value-in-Element.value ∷ [] in
             let sums = trees_pushed c.loop-item.values.items c.match-item.values.items w.in_ok-value-in-Element.value (ap (λ (x : code_vec.Vec code_value.Value code_global.Global). x.items) w.values-is ∙ w.in_ok-push-in-Element.ensures) in
-            subst (λ r. EvaluatesAll (context_of c.args.stack.now c.args.indexed) (items_of c.args.items.now) (state_of c.args.self.now c.args.active.now) r s)
+            subst (λ r. EvaluatesAll (context_of c.args.stack.now c.args.indexed) (items_of c.args.items.now) (state_of c.args.self.now c.args.world.now c.args.active.now) r s)
             (gathered c.loop-item.values.items c.match-item.values.items more o sums)
             (c.loop-item.invariant.rest (before more o) s (rw (drop_next c.args.items.now c.loop-item.item-index c.item-item.result c.loop-item-test.true c.item-item.is, w.in-Element.is, ← w.deref.ensures) (element_then (w.in_ok-value-in-Element.ensures.meaning tt) e refl)));
       }
       | evaluate_all-in-Splice+in_ok-value-in-Splice+in_ok-splice-in-Splice w ↦ record {
         ticks = omega (arith, ap (λ (x : Task). x.ticks_left) w.self-is);
         rest = λ o s d.
-            let e = rw (w.self-is, w.active-is) at d in
+            let e = rw (w.self-is, w.world-is, w.active-is) at d in
             let more = w.in_ok-splice-in-Splice.ensures.ok.0 in
             let sums = ap (λ (x : code_vec.Vec code_value.Value code_global.Global). trees x.items) w.values-is ∙ w.in_ok-splice-in-Splice.ensures.ok.2 in
-            subst (λ r. EvaluatesAll (context_of c.args.stack.now c.args.indexed) (items_of c.args.items.now) (state_of c.args.self.now c.args.active.now) r s)
+            subst (λ r. EvaluatesAll (context_of c.args.stack.now c.args.indexed) (items_of c.args.items.now) (state_of c.args.self.now c.args.world.now c.args.active.now) r s)
             (gathered c.loop-item.values.items c.match-item.values.items more o sums)
             (c.loop-item.invariant.rest (before more o) s (rw (drop_next c.args.items.now c.loop-item.item-index c.item-item.result c.loop-item-test.true c.item-item.is, w.in-Splice.is, ← w.deref-in-Splice.ensures) (splice_then (w.in_ok-value-in-Splice.ensures.meaning tt) w.in_ok-splice-in-Splice.ensures.ok.1 e refl)));
       }
@@ -177,7 +187,7 @@ evaluate_all-loop-item-preserved t c =
 
 pub evaluate_all-returns-clause-meaning : goal.evaluate_all-returns-clause-meaning
 evaluate_all-returns-clause-meaning t c =
-    λ k. rw append-nil at (c.loop-item.invariant.rest (Ok []) (state_of c.loop-item.self c.loop-item.active) (rw (drop_of_length-le c.args.items.now c.loop-item-test.false) no_more))
+    λ k. rw append-nil at (c.loop-item.invariant.rest (Ok []) (state_of c.loop-item.self c.loop-item.world c.loop-item.active) (rw (drop_of_length-le c.args.items.now c.loop-item-test.false) no_more))
 
 pub evaluate_all-returns-in_err-value-in-Element-clause-meaning : goal.evaluate_all-returns-in_err-value-in-Element-clause-meaning
 evaluate_all-returns-in_err-value-in-Element-clause-meaning t c =
@@ -233,7 +243,7 @@ property-returns-in_err-name-clause-meaning t c =
 
 pub property-returns-clause-meaning : goal.property-returns-clause-meaning
 property-returns-clause-meaning t c =
-    λ k. applies (element_then (c.in_ok-base.ensures.meaning tt) (element_then (c.in_ok-name.ensures.meaning tt) no_more refl) refl) no_more (property_is (c.read_property.ensures k))
+    λ k. applies (element_then (c.in_ok-base.ensures.meaning tt) (element_then (c.in_ok-name.ensures.meaning tt) no_more refl) refl) no_more (let f : SFits w32 c.evaluate-2.new.active.programmer = search rules in property_is (rw (to_z-of_z w32 c.evaluate-2.new.active.programmer f) at (c.read_property.ensures k)))
 
 pub verb_call-returns-in_err-base-clause-meaning : goal.verb_call-returns-in_err-base-clause-meaning
 verb_call-returns-in_err-base-clause-meaning t c =
@@ -249,7 +259,11 @@ verb_call-returns-in_err-args-clause-meaning t c =
 
 pub verb_call-returns-clause-meaning : goal.verb_call-returns-clause-meaning
 verb_call-returns-clause-meaning t c =
-    λ k. applies (element_then (c.in_ok-base.ensures.meaning tt) (element_then (c.in_ok-name.ensures.meaning tt) (c.in_ok-args.ensures.meaning tt) refl) refl) no_more (verb_is (c.call_verb.ensures k))
+    λ k. applies (element_then (c.in_ok-base.ensures.meaning tt) (element_then (c.in_ok-name.ensures.meaning tt) (c.in_ok-args.ensures.meaning tt) refl) refl) no_more (verb_runs (c.in_ok-called.ensures tt) (runs_at c.statements-statements.ensures.statements (c.run_all.ensures.meaning (c.answered.ensures.known k))) refl c.answered.ensures.answer)
+
+pub verb_call-returns-in_err-called-clause-meaning : goal.verb_call-returns-in_err-called-clause-meaning
+verb_call-returns-in_err-called-clause-meaning t c =
+    let p = err_from_is_err_and c.from_residual-in_err-called.result c.from_residual-in_err-called.ensures.1 in rw (p.1, p.2) (λ k. applies (element_then (c.in_ok-base.ensures.meaning tt) (element_then (c.in_ok-name.ensures.meaning tt) (c.in_ok-args.ensures.meaning tt) refl) refl) no_more (verb_fails (c.in_err-called.ensures k)))
 
 pub catch-returns-in_err-values-clause-meaning : goal.catch-returns-in_err-values-clause-meaning
 catch-returns-in_err-values-clause-meaning t c =
@@ -383,11 +397,11 @@ store-returns-in_ok-set_variable-in-Variable-clause-meaning t c =
 pub store-returns-in_err-set_variable-in-Variable-clause-meaning : goal.store-returns-in_err-set_variable-in-Variable-clause-meaning
 store-returns-in_err-set_variable-in-Variable-clause-meaning t c =
     let p = err_from_is_err_and c.from_residual-in_err-set_variable-in-Variable.result c.from_residual-in_err-set_variable-in-Variable.ensures.1 in
-    rw (p.1, p.2, c.in-Variable.is) (λ k. subst (λ s. Stores (context_of c.args.stack.now c.args.indexed) (named c.in-Variable.name.now) (steps_of c.args.path.steps.items) (tree c.args.value.now) (state_of c.args.self.now c.args.active.now) (Err (failure_of c.in_err-set_variable-in-Variable.field-0.0)) s) (same_state (sym (c.in_err-set_variable-in-Variable.ensures.kept k)) refl) (no_store (rw c.in_ok-value.ensures.value at (c.in_err-set_variable-in-Variable.ensures.err k))))
+    rw (p.1, p.2, c.in-Variable.is) (λ k. subst (λ s. Stores (context_of c.args.stack.now c.args.indexed) (named c.in-Variable.name.now) (steps_of c.args.path.steps.items) (tree c.args.value.now) (state_of c.args.self.now c.args.world.now c.args.active.now) (Err (failure_of c.in_err-set_variable-in-Variable.field-0.0)) s) (same_state (sym (c.in_err-set_variable-in-Variable.ensures.kept k)) refl) (no_store (rw c.in_ok-value.ensures.value at (c.in_err-set_variable-in-Variable.ensures.err k))))
 
 pub store-returns-in_ok-whole-in-Property-clause-meaning : goal.store-returns-in_ok-whole-in-Property-clause-meaning
 store-returns-in_ok-whole-in-Property-clause-meaning t c =
-    λ k. rw c.in-Property.is (stores (rw c.in_ok-value.ensures.value at (c.in_ok-whole-in-Property.ensures tt)) (puts_property (sym c.put_refusal.ensures)))
+    λ k. rw c.in-Property.is (stores (rw c.in_ok-value.ensures.value at (c.in_ok-whole-in-Property.ensures tt)) (let f : SFits w32 c.args.active.now.programmer = search rules in property_put _ (rw (to_z-of_z w32 c.args.active.now.programmer f) at c.write_property.ensures.world) c.write_property.ensures.kept))
 
 pub store-returns-in_err-whole-in-Property-clause-meaning : goal.store-returns-in_err-whole-in-Property-clause-meaning
 store-returns-in_err-whole-in-Property-clause-meaning t c =
@@ -400,3 +414,286 @@ store-returns-in_ok-whole-in-Scatter-clause-meaning t c =
 pub store-returns-in_err-whole-in-Scatter-clause-meaning : goal.store-returns-in_err-whole-in-Scatter-clause-meaning
 store-returns-in_err-whole-in-Scatter-clause-meaning t c =
     let p = err_from_is_err_and c.from_residual-in_err-whole-in-Scatter.result c.from_residual-in_err-whole-in-Scatter.ensures.1 in rw (p.1, p.2) (λ k. no_store (rw c.in_ok-value.ensures.value at (c.in_err-whole-in-Scatter.ensures k)))
+
+pub run-returns-clause-meaning : goal.run-returns-clause-meaning
+run-returns-clause-meaning t c =
+    λ k. statement_begins c.in_ok-take_tick.ensures.taken (rw c.in_ok-take_tick.ensures.left at (c.perform.ensures.meaning k))
+
+pub run-returns-in_err-take_tick-clause-meaning : goal.run-returns-in_err-take_tick-clause-meaning
+run-returns-in_err-take_tick-clause-meaning t c =
+    let p = err_from_is_err_and c.from_residual.result c.from_residual.ensures.1 in rw (p.1, p.2) (λ k. let h = c.in_err-take_tick.ensures.spent k in rw (c.in_err-take_tick.ensures.kept, h.1) (statement_spent h.0))
+
+pub run_all-returns-in_err-flow-clause-meaning : goal.run_all-returns-in_err-flow-clause-meaning
+run_all-returns-in_err-flow-clause-meaning t c =
+    let p = err_from_is_err_and c.from_residual.result c.from_residual.ensures.1 in rw (p.1, p.2) (λ k. c.loop-statement.invariant.rest (Err (stop_of c.in_err-flow.field-0.0)) _ (rw (drop_next c.args.statements.now c.loop-statement.statement-index c.statement-item.result c.loop-statement-test.true c.statement-item.is) (leaves (c.in_err-flow.ensures.meaning k) refl)))
+
+pub run_all-loop-statement-preserved : goal.run_all-loop-statement-preserved
+run_all-loop-statement-preserved t c =
+    record { ticks = omega arith; rest = λ o s d. c.loop-statement.invariant.rest o s (rw (drop_next c.args.statements.now c.loop-statement.statement-index c.statement-item.result c.loop-statement-test.true c.statement-item.is) (proceeds (rw c.in-Next.is at (c.in_ok-flow.ensures.meaning tt)) d)) }
+
+pub run_all-returns-clause-meaning : goal.run_all-returns-clause-meaning
+run_all-returns-clause-meaning t c =
+    λ k. c.loop-statement.invariant.rest (Ok next) _ (rw (drop_of_length-le c.args.statements.now c.loop-statement-test.false) ends)
+
+pub branch-returns-clause-meaning : goal.branch-returns-clause-meaning
+branch-returns-clause-meaning t c =
+    λ k. selects (arm_passed (c.in_ok-value.ensures.meaning tt) (sym c.is_true.ensures ∙ c.if-is_true.false) (c.select.ensures.meaning k))
+
+pub branch-returns-then-is_true-clause-meaning : goal.branch-returns-then-is_true-clause-meaning
+branch-returns-then-is_true-clause-meaning t c =
+    λ k. selects (arm_runs (c.in_ok-value.ensures.meaning tt) (sym c.is_true.ensures ∙ c.if-is_true.true) (c.run_all.ensures.meaning k))
+
+pub branch-returns-in_err-value-clause-meaning : goal.branch-returns-in_err-value-clause-meaning
+branch-returns-in_err-value-clause-meaning t c =
+    let p = err_from_is_err_and c.from_residual.result c.from_residual.ensures.1 in rw (p.1, p.2) (λ k. selects (test_stops (c.in_err-value.ensures.meaning k)))
+
+pub select-returns-clause-meaning : goal.select-returns-clause-meaning
+select-returns-clause-meaning t c =
+    λ k. c.loop-arm.invariant.rest (Ok next) _ (rw (drop_of_length-le c.args.arms.now c.loop-arm-test.false) none_selected)
+
+pub select-returns-in-Else-clause-meaning : goal.select-returns-in-Else-clause-meaning
+select-returns-in-Else-clause-meaning t c =
+    λ k. c.loop-arm.invariant.rest _ _ (rw (drop_next c.args.arms.now c.loop-arm.arm-index c.arm-item.result c.loop-arm-test.true c.arm-item.is, c.in-Else.is, row_block, ← c.deref-in-Else.ensures.value) (else_runs (c.run_all-in-Else.ensures.meaning k)))
+
+pub select-returns-in_err-value-in-ElseIf-clause-meaning : goal.select-returns-in_err-value-in-ElseIf-clause-meaning
+select-returns-in_err-value-in-ElseIf-clause-meaning t c =
+    let p = err_from_is_err_and c.from_residual.result c.from_residual.ensures.1 in rw (p.1, p.2) (λ k. c.loop-arm.invariant.rest (Err (stop_of c.in_err-value-in-ElseIf.field-0.0)) _ (rw (drop_next c.args.arms.now c.loop-arm.arm-index c.arm-item.result c.loop-arm-test.true c.arm-item.is, c.in-ElseIf.is, ← c.deref.ensures) (test_stops (c.in_err-value-in-ElseIf.ensures.meaning k))))
+
+pub select-loop-arm-preserved : goal.select-loop-arm-preserved
+select-loop-arm-preserved t c =
+    record { ticks = omega arith; rest = λ o s d. c.loop-arm.invariant.rest o s (rw (drop_next c.args.arms.now c.loop-arm.arm-index c.arm-item.result c.loop-arm-test.true c.arm-item.is, c.in-ElseIf.is, ← c.deref.ensures) (arm_passed (c.in_ok-value-in-ElseIf.ensures.meaning tt) (sym c.is_true.ensures ∙ c.if-is_true.false) d)) }
+
+pub turn-returns-clause-meaning : goal.turn-returns-clause-meaning
+turn-returns-clause-meaning t c =
+    λ k. turns c.in_ok-take_tick.ensures.taken (ap (λ x. state_of x c.args.world.now c.args.active.now) (sym c.in_ok-take_tick.ensures.left)) (c.in_ok-flow.ensures.meaning tt) (sym (c.after_turn.ensures ∙ ap (λ x. after_turn x (Ok (flow_of c.in_ok-flow.flow))) c.as_ref.ensures.value))
+
+pub turn-returns-in_err-take_tick-clause-meaning : goal.turn-returns-in_err-take_tick-clause-meaning
+turn-returns-in_err-take_tick-clause-meaning t c =
+    let p = err_from_is_err_and c.from_residual.result c.from_residual.ensures.1 in rw (p.1, p.2) (λ k. let h = c.in_err-take_tick.ensures.spent k in rw (c.in_err-take_tick.ensures.kept, h.1) (turn_spent h.0))
+
+pub turn-returns-in_err-flow-clause-meaning : goal.turn-returns-in_err-flow-clause-meaning
+turn-returns-in_err-flow-clause-meaning t c =
+    let p = err_from_is_err_and c.from_residual-in_err-flow.result c.from_residual-in_err-flow.ensures.1 in rw (p.1, p.2) (λ k. turns c.in_ok-take_tick.ensures.taken (ap (λ x. state_of x c.args.world.now c.args.active.now) (sym c.in_ok-take_tick.ensures.left)) (c.in_err-flow.ensures.meaning k) refl)
+
+pub visit-returns-clause-meaning : goal.visit-returns-clause-meaning
+visit-returns-clause-meaning t c =
+    λ k. turns c.in_ok-take_tick.ensures.taken (state_at (ap (λ (x : Task). x.ticks_left) (sym c.in_ok-take_tick.ensures.left)) (sym c.in_ok-set.ensures)) (c.in_ok-flow.ensures.meaning tt) (sym c.after_turn.ensures)
+
+pub visit-returns-in_err-take_tick-clause-meaning : goal.visit-returns-in_err-take_tick-clause-meaning
+visit-returns-in_err-take_tick-clause-meaning t c =
+    let p = err_from_is_err_and c.from_residual.result c.from_residual.ensures.1 in rw (p.1, p.2) (λ k. let h = c.in_err-take_tick.ensures.spent k in rw (c.in_err-take_tick.ensures.kept, h.1) (turn_spent h.0))
+
+pub visit-returns-in_err-flow-clause-meaning : goal.visit-returns-in_err-flow-clause-meaning
+visit-returns-in_err-flow-clause-meaning t c =
+    let p = err_from_is_err_and c.from_residual-in_err-flow.result c.from_residual-in_err-flow.ensures.1 in rw (p.1, p.2) (λ k. turns c.in_ok-take_tick.ensures.taken (state_at (ap (λ (x : Task). x.ticks_left) (sym c.in_ok-take_tick.ensures.left)) (sym c.in_ok-set.ensures)) (c.in_err-flow.ensures.meaning k) refl)
+
+pub repeat-returns-then-not-is_true-clause-meaning : goal.repeat-returns-then-not-is_true-clause-meaning
+repeat-returns-then-not-is_true-clause-meaning t c =
+    λ k. c.turns.invariant.rest (Ok next) _ (loop_ends (c.in_ok-value.ensures.meaning tt) (sym c.is_true.ensures ∙ c.if-not-is_true.true))
+
+pub repeat-returns-in-Some-clause-meaning : goal.repeat-returns-in-Some-clause-meaning
+repeat-returns-in-Some-clause-meaning t c =
+    λ k. c.turns.invariant.rest (Ok (flow_of c.in-Some.flow)) _ (loop_left (c.in_ok-value.ensures.meaning tt) (sym c.is_true.ensures ∙ c.if-not-is_true.false) (rw c.in-Some.is at (c.in_ok-flow.ensures.meaning tt)))
+
+pub repeat-returns-in_err-value-clause-meaning : goal.repeat-returns-in_err-value-clause-meaning
+repeat-returns-in_err-value-clause-meaning t c =
+    let p = err_from_is_err_and c.from_residual.result c.from_residual.ensures.1 in rw (p.1, p.2) (λ k. c.turns.invariant.rest (Err (stop_of c.in_err-value.field-0.0)) _ (loop_stops (c.in_err-value.ensures.meaning k)))
+
+pub repeat-turns-preserved : goal.repeat-turns-preserved
+repeat-turns-preserved t c =
+    record { ticks = omega arith; rest = λ o s d. c.turns.invariant.rest o s (loop_then (c.in_ok-value.ensures.meaning tt) (sym c.is_true.ensures ∙ c.if-not-is_true.false) (rw (no_flow c.in_ok-flow.field-0 c.in_default.not-Some) at (c.in_ok-flow.ensures.meaning tt)) d) }
+
+pub for_list-returns-in-Ok-clause-meaning : goal.for_list-returns-in-Ok-clause-meaning
+for_list-returns-in-Ok-clause-meaning t c =
+    λ k. visits (c.in_ok-list.ensures.meaning tt) c.in-Ok.ensures.ok (c.visit_all.ensures.meaning k)
+
+pub for_list-returns-in_err-list-clause-meaning : goal.for_list-returns-in_err-list-clause-meaning
+for_list-returns-in_err-list-clause-meaning t c =
+    let p = err_from_is_err_and c.from_residual.result c.from_residual.ensures.1 in rw (p.1, p.2) (λ k. list_stops (c.in_err-list.ensures.meaning k))
+
+pub visit_all-returns-clause-meaning : goal.visit_all-returns-clause-meaning
+visit_all-returns-clause-meaning t c =
+    λ k. c.loop-value.invariant.rest (Ok next) _ (rw (drop_of_length-le c.args.values.now c.loop-value-test.false) all_visited)
+
+pub visit_all-returns-in-Some-clause-meaning : goal.visit_all-returns-in-Some-clause-meaning
+visit_all-returns-in-Some-clause-meaning t c =
+    λ k. c.loop-value.invariant.rest (Ok (flow_of c.in-Some.flow)) _ (rw (drop_next c.args.values.now c.loop-value.value-index c.value-item.result c.loop-value-test.true c.value-item.is) (visit_left (rw (c.in-Some.is, c.in_ok-value.ensures.value) at (c.in_ok-flow.ensures.meaning tt))))
+
+pub visit_all-loop-value-preserved : goal.visit_all-loop-value-preserved
+visit_all-loop-value-preserved t c =
+    record { ticks = omega arith; rest = λ o s d. c.loop-value.invariant.rest o s (rw (drop_next c.args.values.now c.loop-value.value-index c.value-item.result c.loop-value-test.true c.value-item.is) (visit_then (rw ((no_flow c.in_ok-flow.field-0 c.in_default.not-Some), c.in_ok-value.ensures.value) at (c.in_ok-flow.ensures.meaning tt)) d)) }
+
+pub for_range-returns-in_err-low-clause-meaning : goal.for_range-returns-in_err-low-clause-meaning
+for_range-returns-in_err-low-clause-meaning t c =
+    let p = err_from_is_err_and c.from_residual.result c.from_residual.ensures.1 in rw (p.1, p.2) (λ k. span_stops (element_stops (c.in_err-low.ensures.meaning k)))
+
+pub for_range-returns-in_err-high-clause-meaning : goal.for_range-returns-in_err-high-clause-meaning
+for_range-returns-in_err-high-clause-meaning t c =
+    let p = err_from_is_err_and c.from_residual-in_err-high.result c.from_residual-in_err-high.ensures.1 in rw (p.1, p.2) (λ k. span_stops (element_then (c.in_ok-low.ensures.meaning tt) (element_stops (c.in_err-high.ensures.meaning k)) refl))
+
+pub for_range-returns-in-Ok-clause-meaning : goal.for_range-returns-in-Ok-clause-meaning
+for_range-returns-in-Ok-clause-meaning t c =
+    λ k. counts (element_then (c.in_ok-low.ensures.meaning tt) (element_then (c.in_ok-high.ensures.meaning tt) no_more refl) refl) c.in-Ok.ensures.ok (c.count.ensures.meaning k)
+
+pub try_finally-returns-then-not-runs_finally-clause-meaning : goal.try_finally-returns-then-not-runs_finally-clause-meaning
+try_finally-returns-then-not-runs_finally-clause-meaning t c =
+    λ k. finally_skipped (c.run_all-outcome.ensures.meaning k) (sym (c.runs_finally.ensures.outcome k) ∙ c.if-not-runs_finally.true)
+
+pub try_finally-returns-clause-meaning : goal.try_finally-returns-clause-meaning
+try_finally-returns-clause-meaning t c =
+    λ k. let h = c.runs_finally.ensures.known c.if-not-runs_finally.false in finally_runs (c.run_all-outcome.ensures.meaning h) (sym (c.runs_finally.ensures.outcome h) ∙ c.if-not-runs_finally.false) (c.run_all-last.ensures.meaning (c.after_finally.ensures.known k)) (sym c.after_finally.ensures.outcome)
+
+pub try_except-returns-in_err-guarded-clause-meaning : goal.try_except-returns-in_err-guarded-clause-meaning
+try_except-returns-in_err-guarded-clause-meaning t c =
+    let p = err_from_is_err_and c.from_residual.result c.from_residual.ensures.1 in rw (p.1, p.2) (λ k. unprepared (c.in_err-guarded.ensures.meaning k))
+
+pub try_except-returns-in-Ok-clause-meaning : goal.try_except-returns-in-Ok-clause-meaning
+try_except-returns-in-Ok-clause-meaning t c =
+    λ k. tries (c.in_ok-guarded.ensures.meaning tt) (c.in-Ok.ensures.meaning tt) nothing_raised
+
+pub try_except-returns-in-Err-Raised-clause-meaning : goal.try_except-returns-in-Err-Raised-clause-meaning
+try_except-returns-in-Err-Raised-clause-meaning t c =
+    λ k. tries (c.in_ok-guarded.ensures.meaning tt) ((rw c.in-Err-Raised.field-0-is at c.in-Err-Raised.ensures.meaning) tt) (handles refl (rw c.deref.ensures.value at (c.handle.ensures.meaning k)))
+
+pub try_except-returns-in-Err-OutOfTicks-clause-meaning : goal.try_except-returns-in-Err-OutOfTicks-clause-meaning
+try_except-returns-in-Err-OutOfTicks-clause-meaning t c =
+    λ k. tries (c.in_ok-guarded.ensures.meaning tt) ((rw c.in-Err-OutOfTicks.field-0-is at c.in-Err-OutOfTicks.ensures.meaning) tt) ticks_out
+
+pub handle-returns-in_default-clause-meaning : goal.handle-returns-in_default-clause-meaning
+handle-returns-in_default-clause-meaning t c =
+    λ k. rw (sym c.chosen.ensures ∙ ap (λ o. option_map (λ g. guarded_of g.now) o) (none_left _ c.in_default.not-Some)) untaken
+
+pub handle-returns-clause-meaning : goal.handle-returns-clause-meaning
+handle-returns-clause-meaning t c =
+    λ k. rw (sym c.chosen.ensures ∙ ap (option_map (λ g. guarded_of g.now)) c.in-Some.is) (let h = c.in_ok-set_caught.ensures.ok in takes h.1 (same_state (sym h.2) (sym c.in_ok-set_caught.ensures.programmer)) (c.run_all.ensures.meaning k))
+
+pub handle-returns-in_err-set_caught-clause-meaning : goal.handle-returns-in_err-set_caught-clause-meaning
+handle-returns-in_err-set_caught-clause-meaning t c =
+    let p = err_from_is_err_and c.from_residual.result c.from_residual.ensures.1 in rw (p.1, p.2) (λ k. rw (sym c.chosen.ensures ∙ ap (option_map (λ g. guarded_of g.now)) c.in-Some.is) (let h = c.in_err-set_caught.ensures.err k in rw (h.2, c.in_err-set_caught.ensures.kept k) (untold h.1)))
+
+pub perform-returns-in-Return-clause-meaning : goal.perform-returns-in-Return-clause-meaning
+perform-returns-in-Return-clause-meaning t c =
+    λ k. rw c.in-Return.is (c.give.ensures.meaning k)
+
+pub perform-returns-in-Expression-clause-meaning : goal.perform-returns-in-Expression-clause-meaning
+perform-returns-in-Expression-clause-meaning t c =
+    λ k. rw (c.in-Expression.is, ← c.deref.ensures) (c.evaluate_alone.ensures.meaning k)
+
+pub perform-returns-in-If-clause-meaning : goal.perform-returns-in-If-clause-meaning
+perform-returns-in-If-clause-meaning t c =
+    λ k. rw (c.in-If.is, row_block, row_arms, ← c.deref-in-If.ensures, ← c.deref-in-If-2.ensures.value, ← c.deref-in-If-3.ensures.value) (c.branch-self.ensures.meaning k)
+
+pub perform-returns-in-ForList-clause-meaning : goal.perform-returns-in-ForList-clause-meaning
+perform-returns-in-ForList-clause-meaning t c =
+    λ k. rw (c.in-ForList.is, row_block, ← c.deref-in-ForList.ensures, ← c.deref-in-ForList-2.ensures.value) (c.for_list.ensures.meaning k)
+
+pub perform-returns-in-ForRange-clause-meaning : goal.perform-returns-in-ForRange-clause-meaning
+perform-returns-in-ForRange-clause-meaning t c =
+    λ k. rw (c.in-ForRange.is, row_block, ← c.deref-in-ForRange.ensures, ← c.deref-in-ForRange-2.ensures, ← c.deref-in-ForRange-3.ensures.value) (c.for_range.ensures.meaning k)
+
+pub perform-returns-in-While-clause-meaning : goal.perform-returns-in-While-clause-meaning
+perform-returns-in-While-clause-meaning t c =
+    λ k. rw (c.in-While.is, row_block, ← c.deref-in-While.ensures, ← c.deref-in-While-2.ensures.value) (loops (c.repeat.ensures.meaning k))
+
+pub perform-returns-in_ok-copied_name-in-Break-clause-meaning : goal.perform-returns-in_ok-copied_name-in-Break-clause-meaning
+perform-returns-in_ok-copied_name-in-Break-clause-meaning t c =
+    λ k. rw (c.in-Break.is, c.in_ok-copied_name-in-Break.ensures) breaks_out
+
+pub perform-returns-in_ok-copied_name-in-Continue-clause-meaning : goal.perform-returns-in_ok-copied_name-in-Continue-clause-meaning
+perform-returns-in_ok-copied_name-in-Continue-clause-meaning t c =
+    λ k. rw (c.in-Continue.is, c.in_ok-copied_name-in-Continue.ensures) continues_on
+
+pub perform-returns-in-TryExcept-clause-meaning : goal.perform-returns-in-TryExcept-clause-meaning
+perform-returns-in-TryExcept-clause-meaning t c =
+    λ k. rw (c.in-TryExcept.is, row_block, row_handlers, ← c.deref-in-TryExcept.ensures.value, ← c.deref-in-TryExcept-2.ensures.value) (c.try_except.ensures.meaning k)
+
+pub perform-returns-in-TryFinally-clause-meaning : goal.perform-returns-in-TryFinally-clause-meaning
+perform-returns-in-TryFinally-clause-meaning t c =
+    λ k. rw (c.in-TryFinally.is, row_block c.in-TryFinally.body, row_block c.in-TryFinally.cleanup, ← c.deref-in-TryFinally.ensures.value, ← c.deref-in-TryFinally-2.ensures.value) (c.try_finally.ensures.meaning k)
+
+pub run_all-returns-in_default : goal.run_all-returns-in_default
+run_all-returns-in_default t c =
+    record { meaning = λ k. c.loop-statement.invariant.rest (Ok (flow_of c.in_ok-flow.flow)) _ (rw (drop_next c.args.statements.now c.loop-statement.statement-index c.statement-item.result c.loop-statement-test.true c.statement-item.is) (leaves (c.in_ok-flow.ensures.meaning tt) (goes_on-not _ c.in_default.not-Next))); ticks = omega arith }
+
+pub select-returns-then-is_true-clause-meaning : goal.select-returns-then-is_true-clause-meaning
+select-returns-then-is_true-clause-meaning t c =
+    λ k. c.loop-arm.invariant.rest _ _ (rw (drop_next c.args.arms.now c.loop-arm.arm-index c.arm-item.result c.loop-arm-test.true c.arm-item.is, c.in-ElseIf.is, row_block, ← c.deref.ensures, ← c.deref-then-is_true.ensures.value) (arm_runs (c.in_ok-value-in-ElseIf.ensures.meaning tt) (sym c.is_true.ensures ∙ c.if-is_true.true) (c.run_all.ensures.meaning k)))
+
+pub repeat-returns-in_err-flow-clause-meaning : goal.repeat-returns-in_err-flow-clause-meaning
+repeat-returns-in_err-flow-clause-meaning t c =
+    let p = err_from_is_err_and c.from_residual-in_err-flow.result c.from_residual-in_err-flow.ensures.1 in rw (p.1, p.2) (λ k. c.turns.invariant.rest (Err (stop_of c.in_err-flow.field-0.0)) _ (loop_left (c.in_ok-value.ensures.meaning tt) (sym c.is_true.ensures ∙ c.if-not-is_true.false) (c.in_err-flow.ensures.meaning k)))
+
+pub repeat-turns-preserved-in_default : goal.repeat-turns-preserved-in_default
+repeat-turns-preserved-in_default t c =
+    record { ticks = omega arith; rest = λ o s d. c.turns.invariant.rest o s (loop_then (c.in_ok-value.ensures.meaning tt) (sym c.is_true.ensures ∙ c.if-not-is_true.false) (rw (no_flow c.in_ok-flow.field-0 c.in_default.not-Some) at (c.in_ok-flow.ensures.meaning tt)) d) }
+
+pub repeat-turns-preserved-in_default-2 : goal.repeat-turns-preserved-in_default-2
+repeat-turns-preserved-in_default-2 t c =
+    record { ticks = omega arith; rest = λ o s d. c.turns.invariant.rest o s (loop_then (c.in_ok-value.ensures.meaning tt) (sym c.is_true.ensures ∙ c.if-not-is_true.false) (rw (no_flow c.in_ok-flow.field-0 c.in_default.not-Some) at (c.in_ok-flow.ensures.meaning tt)) d) }
+
+pub for_list-returns-clause-meaning : goal.for_list-returns-clause-meaning
+for_list-returns-clause-meaning t c =
+    λ k. list_fails (c.in_ok-list.ensures.meaning tt) c.in-Err.ensures.err (c.no_turn.ensures k)
+
+pub for_range-returns-clause-meaning : goal.for_range-returns-clause-meaning
+for_range-returns-clause-meaning t c =
+    λ k. span_fails (element_then (c.in_ok-low.ensures.meaning tt) (element_then (c.in_ok-high.ensures.meaning tt) no_more refl) refl) c.in-Err.ensures.err (c.no_turn.ensures k)
+
+pub visit_all-returns-in_err-flow-clause-meaning : goal.visit_all-returns-in_err-flow-clause-meaning
+visit_all-returns-in_err-flow-clause-meaning t c =
+    let p = err_from_is_err_and c.from_residual-in_err-flow.result c.from_residual-in_err-flow.ensures.1 in rw (p.1, p.2) (λ k. c.loop-value.invariant.rest (Err (stop_of c.in_err-flow.field-0.0)) _ (rw (drop_next c.args.values.now c.loop-value.value-index c.value-item.result c.loop-value-test.true c.value-item.is) (visit_left (rw c.in_ok-value.ensures.value at (c.in_err-flow.ensures.meaning k)))))
+
+pub count-returns-in_err-flow-clause-meaning : goal.count-returns-in_err-flow-clause-meaning
+count-returns-in_err-flow-clause-meaning t c =
+    let p = err_from_is_err_and c.from_residual.result c.from_residual.ensures.1 in rw (p.1, p.2) (λ k. let f : SFits w32 c.args.span.low = search rules in let g : SFits w32 c.args.span.high = search rules in let h = reached (to_z w64 c.numbers.number-bits) c.from.result c.args.span.high true g c.from.ensures c.numbers-test.true in let e = c.value-value.ensures ∙ ap (numbered c.args.span.are_objects) (narrow c.args.span.low c.args.span.high (to_z w64 c.numbers.number-bits) f g c.numbers.invariant.low h) in c.numbers.invariant.rest (Err (stop_of c.in_err-flow.field-0.0)) _ (count_left h (rw e at (c.in_err-flow.ensures.meaning k))))
+
+pub count-returns-in-Some-clause-meaning : goal.count-returns-in-Some-clause-meaning
+count-returns-in-Some-clause-meaning t c =
+    λ k. let f : SFits w32 c.args.span.low = search rules in let g : SFits w32 c.args.span.high = search rules in let h = reached (to_z w64 c.numbers.number-bits) c.from.result c.args.span.high true g c.from.ensures c.numbers-test.true in let e = c.value-value.ensures ∙ ap (numbered c.args.span.are_objects) (narrow c.args.span.low c.args.span.high (to_z w64 c.numbers.number-bits) f g c.numbers.invariant.low h) in c.numbers.invariant.rest (Ok (flow_of c.in-Some.flow)) _ (count_left h (rw (c.in-Some.is, e) at (c.in_ok-flow.ensures.meaning tt)))
+
+pub count-numbers-preserved : goal.count-numbers-preserved
+count-numbers-preserved t c =
+    let f : SFits w32 c.args.span.low = search rules in let g : SFits w32 c.args.span.high = search rules in let h = reached (to_z w64 c.numbers.number-bits) c.from.result c.args.span.high true g c.from.ensures c.numbers-test.true in let e = c.value-value.ensures ∙ ap (numbered c.args.span.are_objects) (narrow c.args.span.low c.args.span.high (to_z w64 c.numbers.number-bits) f g c.numbers.invariant.low h) in let q = next_number c.args.span.low c.args.span.high (to_z w64 c.numbers.number-bits) f g c.numbers.invariant.low h in record { ticks = omega arith; low = subst (λ x. c.args.span.low ≤ℤ x) (sym q) (not_below c.args.span.low (to_z w64 c.numbers.number-bits) c.numbers.invariant.low); rest = λ o s d. c.numbers.invariant.rest o s (count_then h (rw (c.in_default.is, e) at (c.in_ok-flow.ensures.meaning tt)) (subst (λ x. Counts (context_of c.args.stack.now None) c.args.name.now c.args.span x (block c.args.body.now) (state_of c.visit.new.self c.visit.new.world c.visit.new.active) o s) q d)) }
+
+pub count-returns-clause-meaning : goal.count-returns-clause-meaning
+count-returns-clause-meaning t c =
+    λ k. let g : SFits w32 c.args.span.high = search rules in let h = reached (to_z w64 c.numbers.number-bits) c.from.result c.args.span.high false g c.from.ensures c.numbers-test.false in c.numbers.invariant.rest (Ok next) _ (all_counted h)
+
+pub prepare-loop-handler-preserved : goal.prepare-loop-handler-preserved
+prepare-loop-handler-preserved t c = record {
+  ticks = omega arith;
+  rest = λ o s d.
+      let g = guarded (option_copied c.handler_parts-parts.result.name) (codes_of c.handler_parts-parts.result.codes.now) (block c.handler_parts-parts.result.body.now) (trees c.in_ok-values.values.items) in
+      subst (λ r. Prepares (context_of c.args.stack.now None) (handlers_of c.args.handlers.now) (state_of c.args.self.now c.args.world.now c.args.active.now) r s)
+      (guarded_on (map guarded_of c.loop-handler.guarded.items) _ g o c.in_ok-push_guarded.ensures)
+      (c.loop-handler.invariant.rest _ s (rw (drop_next c.args.handlers.now c.loop-handler.handler-index c.handler-item.result c.loop-handler-test.true c.handler-item.is, c.handler_parts-parts.ensures (handlers_of (drop (c.loop-handler.handler-index + 1) c.args.handlers.now))) (codes_then (c.guards-outcome.ensures.meaning (c.in_ok-values.ensures.known tt)) (c.in_ok-values.ensures.outcome tt) d refl)));
+}
+
+pub prepare-returns-clause-meaning : goal.prepare-returns-clause-meaning
+prepare-returns-clause-meaning t c =
+    λ k. rw append-nil at (c.loop-handler.invariant.rest (Ok []) (state_of c.loop-handler.self c.loop-handler.world c.loop-handler.active) (rw (drop_of_length-le c.args.handlers.now c.loop-handler-test.false) no_codes))
+
+pub prepare-returns-in_err-values-clause-meaning : goal.prepare-returns-in_err-values-clause-meaning
+prepare-returns-in_err-values-clause-meaning t c =
+    let p = err_from_is_err_and c.from_residual.result c.from_residual.ensures.1 in
+    rw (p.1, p.2) (λ k. c.loop-handler.invariant.rest (Err (stop_of c.in_err-values.field-0.0)) _ (rw (drop_next c.args.handlers.now c.loop-handler.handler-index c.handler-item.result c.loop-handler-test.true c.handler-item.is, c.handler_parts-parts.ensures (handlers_of (drop (c.loop-handler.handler-index + 1) c.args.handlers.now))) (codes_stop (c.guards-outcome.ensures.meaning (c.in_err-values.ensures.known k)) (c.in_err-values.ensures.outcome k))))
+
+pub give-returns-in-None-clause-meaning : goal.give-returns-in-None-clause-meaning
+give-returns-in-None-clause-meaning t c = rw c.in-None.is (λ k. gives_zero)
+
+pub give-returns-in_ok-evaluate-in-Some-clause-meaning : goal.give-returns-in_ok-evaluate-in-Some-clause-meaning
+give-returns-in_ok-evaluate-in-Some-clause-meaning t c =
+    rw (c.in-Some.is, ← c.deref.ensures) (λ k. gives (c.in_ok-evaluate-in-Some.ensures.meaning tt) refl)
+
+pub give-returns-in_err-evaluate-in-Some-clause-meaning : goal.give-returns-in_err-evaluate-in-Some-clause-meaning
+give-returns-in_err-evaluate-in-Some-clause-meaning t c =
+    let p = err_from_is_err_and c.from_residual.result c.from_residual.ensures.1 in
+    rw (p.1, p.2, c.in-Some.is, ← c.deref.ensures) (λ k. gives (c.in_err-evaluate-in-Some.ensures.meaning k) refl)
+
+pub evaluate_alone-returns-clause-meaning : goal.evaluate_alone-returns-clause-meaning
+evaluate_alone-returns-clause-meaning t c = λ k. evaluates (c.in_ok-_value.ensures.meaning tt) refl
+
+pub evaluate_alone-returns-in_err-_value-clause-meaning : goal.evaluate_alone-returns-in_err-_value-clause-meaning
+evaluate_alone-returns-in_err-_value-clause-meaning t c =
+    let p = err_from_is_err_and c.from_residual.result c.from_residual.ensures.1 in
+    rw (p.1, p.2) (λ k. evaluates (c.in_err-_value.ensures.meaning k) refl)

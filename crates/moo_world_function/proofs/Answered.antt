@@ -1,0 +1,35 @@
+-- How answers of the program join what functions give.
+use Rattle.std.proofs.Common.{◌≡◌, ℕ, refl, subst}
+use Rattle.std.specs.Prelude.{Option, None, Some, Result, Ok, Err}
+use Rattle.moo_value.specs.declared.error_code.ErrorCode.{ErrorCode}
+use Rattle.moo_value.specs.declared.value.Value.{Value}
+use Rattle.moo_value.specs.Tree.{Tree}
+use Rattle.moo_operation.specs.declared.fault.OperationFault.{OperationFault}
+use Rattle.moo_operation.specs.declared.fault.OperationFault.TheVariants.{Raise, Memory}
+use Rattle.moo_operation.specs.Answer as operation
+use Rattle.moo_text_function.specs.Answers.{Gives}
+use Rattle.moo_table.specs.World.{World}
+use Rattle.moo_world_function.specs.Answers.{Does, GivesSome}
+use Rattle.moo_world_function.specs.Calls.{looked_or}
+use Rattle.moo_world_function.specs.Verbs.{on_verb}
+
+-- where memory is wanting nothing more is said
+pub weaker : (a : Result Value OperationFault) (r : Result Tree ErrorCode) → operation.Gives a r → Gives a r
+weaker (Ok v) r gives = gives
+weaker (Err (Raise e)) r gives = gives
+weaker (Err Memory) r gives = tt
+
+-- a function that looks does what it gives, and leaves the world
+pub looked : (a : Result Value OperationFault) (r : Option (Result Tree ErrorCode)) (w : World) (changed : Result (Tree × World) ErrorCode) → GivesSome (Some a) r → Does a w w (looked_or w r changed)
+looked a None w changed gives = absurd gives
+looked (Ok v) (Some r) w changed gives = rw gives refl
+looked (Err (Raise e)) (Some r) w changed gives = rw gives (refl, refl)
+looked (Err Memory) (Some r) w changed gives = refl
+
+-- a verb that was found
+pub on_found : (a : Result Value OperationFault) (place : Option ℕ) (i : ℕ) (f : ℕ → Result Tree ErrorCode) → Some i ≡ place → Gives a (f i) → Gives a (on_verb place f)
+on_found a place i f found gives = subst (λ (x : Option ℕ). Gives a (on_verb x f)) found gives
+
+-- one that doesn't look does what the change does
+pub unlooked : (a : Result Value OperationFault) (r : Option (Result Tree ErrorCode)) (old new : World) (changed : Result (Tree × World) ErrorCode) → r ≡ None → Does a old new changed → Does a old new (looked_or old r changed)
+unlooked a r old new changed none does = rw none does

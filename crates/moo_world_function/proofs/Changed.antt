@@ -1,0 +1,72 @@
+-- A change of the world that was tested and is permitted, and one that isn't.
+use Rattle.std.proofs.Common.{◌≡◌, Bool, true, false, refl, sym, ap, ◌∙◌, subst}
+use Rattle.std.specs.Prelude.{Option, None, Some, Result, Ok, Err, if◌then◌else◌}
+use Rattle.moo_value.specs.declared.error_code.ErrorCode.{ErrorCode}
+use Rattle.moo_value.specs.declared.error_code.ErrorCode.TheVariants.{Permission}
+use Rattle.moo_value.specs.declared.value.Value.{Value}
+use Rattle.moo_value.specs.Tree.{Tree}
+use Rattle.moo_operation.specs.declared.fault.OperationFault.{OperationFault}
+use Rattle.moo_operation.specs.declared.fault.OperationFault.TheVariants.{Raise, Memory}
+use Rattle.moo_table.specs.World.{World}
+use Rattle.moo_world.specs.Calls.{Changes, Tests}
+use Rattle.moo_world.specs.declared.fault.WorldFault.{WorldFault}
+use Rattle.moo_world.specs.declared.fault.WorldFault.TheVariants as world
+use Rattle.moo_world_function.specs.Answers.{Does, Reads, permitted, changed}
+use Rattle.moo_world_function.specs.Order.{changes, given}
+
+refused_as : {T : Type 0} (tested : Result T WorldFault) (raises : Option ErrorCode) (allowed : Bool) (e : OperationFault) (w after : World)
+    → Tests tested raises → permitted tested allowed ≡ Err e → Does (Err e) w w (changes raises allowed after)
+refused_as (Ok v) raises true e w after tests is = absurd (cc)
+refused_as (Ok v) raises false e w after tests is =
+    let same : Raise Permission ≡ e = cc in
+    subst (λ (x : OperationFault). Does (Err x) w w (changes raises false after)) same (rw tests.0 (refl, refl))
+refused_as (Err (world.Raise c)) raises allowed e w after tests is =
+    let same : Raise c ≡ e = cc in
+    subst (λ (x : OperationFault). Does (Err x) w w (changes raises allowed after)) same (rw tests (refl, refl))
+refused_as (Err world.Memory) raises allowed e w after tests is =
+    let same : Memory ≡ e = cc in
+    subst (λ (x : OperationFault). Does (Err x) w w (changes raises allowed after)) same refl
+
+done_as : {S T : Type 0} (tested : Result T WorldFault) (u : T) (raises plain : Option ErrorCode) (allowed : Bool) (made : Result S WorldFault) (old new after : World)
+    → Tests tested raises → permitted tested allowed ≡ Ok u → (raises ≡ None → plain ≡ None) → Changes made old new plain after
+    → Does (changed made) old new (changes raises allowed after)
+done_as (Ok v) u raises plain true (Ok s) old new after tests is less made = rw (tests.0, made.1) refl
+done_as (Ok v) u raises plain true (Err (world.Raise e)) old new after tests is less made = let none : plain ≡ None = less tests.0 in let some = made.0 in absurd (cc)
+done_as (Ok v) u raises plain true (Err world.Memory) old new after tests is less made = made
+done_as (Ok v) u raises plain false made old new after tests is less changes = absurd (cc)
+done_as (Err (world.Raise c)) u raises plain allowed made old new after tests is less changes = absurd (cc)
+done_as (Err world.Memory) u raises plain allowed made old new after tests is less changes = absurd (cc)
+
+-- what isn't permitted changes nothing
+pub refused : {T : Type 0} (tested : Result T WorldFault) (raises : Option ErrorCode) (is_allowed allowed : Bool) (e : OperationFault) (w after : World)
+    → Tests tested raises → is_allowed ≡ allowed → Err e ≡ permitted tested is_allowed → Does (Err e) w w (changes raises allowed after)
+refused tested raises is_allowed allowed e w after tests right is =
+    refused_as tested raises allowed e w after tests (ap (permitted tested) (sym right) ∙ sym is)
+
+-- what is permitted is done; the change itself asks for no more than the test
+pub done : {S T : Type 0} (tested : Result T WorldFault) (u : T) (raises plain : Option ErrorCode) (is_allowed allowed : Bool) (made : Result S WorldFault) (old new after : World)
+    → Tests tested raises → is_allowed ≡ allowed → Ok u ≡ permitted tested is_allowed → (raises ≡ None → plain ≡ None) → Changes made old new plain after
+    → Does (changed made) old new (changes raises allowed after)
+done tested u raises plain is_allowed allowed made old new after tests right is less changes =
+    done_as tested u raises plain allowed made old new after tests (ap (permitted tested) (sym right) ∙ sym is) less changes
+
+-- its answer is that of the change
+pub answered : (a b : Result Value OperationFault) (old new : World) (r : Result (Tree × World) ErrorCode) → a ≡ b → Does b old new r → Does a old new r
+answered a b old new r same does = subst (λ (x : Result Value OperationFault). Does x old new r) (sym same) does
+
+pub same : {X : Type 0} (raises : Option X) → raises ≡ None → raises ≡ None
+same raises h = h
+
+-- one more raise before the others
+pub past : {X : Type 0} (b : Bool) (x : X) (plain : Option X) → (if b then Some x else plain) ≡ None → plain ≡ None
+past true x plain h = absurd (cc)
+past false x plain h = h
+
+-- an argument that gives nothing
+pub misread : {X : Type 0} (a : OperationFault) (r : Result X ErrorCode) (f : X → Result (Tree × World) ErrorCode) (w : World) → Reads (Err a) r → Does (Err a) w w (given r f)
+misread (Raise e) r f w reads = rw reads (refl, refl)
+misread Memory r f w reads = refl
+
+-- and one that gives something
+pub read : {X : Type 0} (x : X) (r : Result X ErrorCode) (f : X → Result (Tree × World) ErrorCode) (a : Result Value OperationFault) (old new : World) → Reads (Ok x) r → Does a old new (f x) → Does a old new (given r f)
+read x r f a old new reads does = rw reads does

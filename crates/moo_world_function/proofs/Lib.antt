@@ -1,0 +1,3 @@
+pub mod Answered
+pub mod Changed
+pub mod Informed

@@ -1,0 +1,56 @@
+-- How an answer of the program stands to what a function gives.
+use Rattle.std.specs.Prelude.{◌≡◌, pos, Bool, if◌then◌else◌, Option, None, Some, Result, Ok, Err}
+use Rattle.moo_value.specs.declared.error_code.ErrorCode.{ErrorCode}
+use Rattle.moo_value.specs.declared.error_code.ErrorCode.TheVariants.{Permission}
+use Rattle.moo_value.specs.declared.value.Value.{Value}
+use Rattle.moo_value.specs.declared.value.Value.TheVariants.{Int}
+use Rattle.moo_value.specs.Tree.{Tree}
+use Rattle.moo_value.specs.View.{tree}
+use Rattle.moo_operation.specs.declared.fault.OperationFault.{OperationFault}
+use Rattle.moo_operation.specs.declared.fault.OperationFault.TheVariants.{Raise, Memory}
+use Rattle.moo_text_function.specs.Answers.{Gives}
+use Rattle.moo_table.specs.World.{World}
+use Rattle.moo_world.specs.declared.fault.WorldFault.{WorldFault}
+use Rattle.moo_world.specs.declared.fault.WorldFault.TheVariants as world
+
+-- the answer and the world after it are what the function gives; a raise and want of memory leave the world as it was
+abbrev pub Does : Result Value OperationFault → World → World → Result (Tree × World) ErrorCode → Type 0
+Does (Ok v) old new r = r ≡ Ok (tree v, new)
+Does (Err (Raise e)) old new r = (r ≡ Err e) × (new ≡ old)
+Does (Err Memory) old new r = new ≡ old
+
+-- the same of a function that may be another crate's: it leaves the world as it was
+abbrev pub DoesSome : Option (Result Value OperationFault) → World → World → Option (Result (Tree × World) ErrorCode) → Type 0
+DoesSome None old new r = (r ≡ None) × (new ≡ old)
+DoesSome (Some a) old new None = ⊥
+DoesSome (Some a) old new (Some r) = Does a old new r
+
+-- the same of a function that only looks
+abbrev pub GivesSome : Option (Result Value OperationFault) → Option (Result Tree ErrorCode) → Type 0
+GivesSome None r = r ≡ None
+GivesSome (Some a) None = ⊥
+GivesSome (Some a) (Some r) = Gives a r
+
+-- what was read of an argument is what it gives
+abbrev pub Reads : {T : Type 0} → Result T OperationFault → Result T ErrorCode → Type 0
+Reads (Ok x) r = r ≡ Ok x
+Reads (Err (Raise e)) r = r ≡ Err e
+Reads (Err Memory) r = Unit {0}
+
+-- For private clauses: an answer of the world, told as an answer of a function.
+abbrev pub told : {T : Type 0} → Result T WorldFault → Result T OperationFault
+told (Ok v) = Ok v
+told (Err (world.Raise e)) = Err (Raise e)
+told (Err world.Memory) = Err Memory
+
+-- For private clauses: a test of the world and a right, before a change.
+abbrev pub permitted : {T : Type 0} → Result T WorldFault → Bool → Result T OperationFault
+permitted (Ok v) allowed = if allowed then Ok v else Err (Raise Permission)
+permitted (Err (world.Raise e)) allowed = Err (Raise e)
+permitted (Err world.Memory) allowed = Err Memory
+
+-- For private clauses: an answer of the world's change, as that of a function.
+abbrev pub changed : {T : Type 0} → Result T WorldFault → Result Value OperationFault
+changed (Ok v) = Ok (Int (pos 0))
+changed (Err (world.Raise e)) = Err (Raise e)
+changed (Err world.Memory) = Err Memory

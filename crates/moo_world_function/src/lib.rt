@@ -1,0 +1,18 @@
+//! The built-in functions that look at the world or change it, but call no verb.
+#![tactic(auto)]
+
+mod allowed;
+mod call;
+mod forms;
+mod giving;
+mod made;
+mod objects;
+mod properties;
+mod refusing;
+#[cfg(test)]
+mod tests;
+mod verb_changes;
+mod verbs;
+
+pub use call::call_world;
+pub use refusing::refusal;

@@ -1,0 +1,65 @@
+//! Answers of functions.
+ghost use Rattle.std.specs.Prelude.{◌≡◌};
+ghost use Rattle.moo_value.specs.Tree.{list_of};
+ghost use Rattle.moo_value.specs.View.{tree, trees};
+ghost use Rattle.moo_operation.specs.Answer.{limited};
+ghost use Rattle.moo_text_function.specs.Answers.{Gives};
+ghost use Rattle.moo_world.specs.NamedProperties.{truth};
+ghost use Rattle.moo_world_function.specs.Answers.{told, permitted, changed};
+
+use moo_operation::{OperationFault, list};
+use moo_value::{ErrorCode, Value};
+use moo_world::WorldFault;
+use std::alloc::Global;
+
+pub const TYPE_MISMATCH: OperationFault = OperationFault::Raise(ErrorCode::TypeMismatch);
+
+pub const INVALID_ARGUMENT: OperationFault = OperationFault::Raise(ErrorCode::InvalidArgument);
+
+pub const PERMISSION: OperationFault = OperationFault::Raise(ErrorCode::Permission);
+
+pub const VERB_NOT_FOUND: OperationFault = OperationFault::Raise(ErrorCode::VerbNotFound);
+
+/// The list of these values, or E_QUOTA past its limits.
+pub fn listed(alloc: Global, values: Vec<Value>) -> Result<Value, OperationFault>
+    ensures { Gives result (limited (list_of (trees values.items))) }
+{
+    list(alloc, values)
+}
+
+/// 1 or 0.
+pub fn truth(test: bool) -> Value
+    ensures { tree result ≡ truth test }
+{
+    Value::Int(i32::from(test))
+}
+
+/// An answer of the world, as one of a function.
+pub fn told<T: Drop>(answer: Result<T, WorldFault>) -> Result<T, OperationFault>
+    ensures { result ≡ told answer }
+{
+    match answer {
+        Ok(value) => Ok(value),
+        Err(WorldFault::Raise(error)) => Err(OperationFault::Raise(error)),
+        Err(WorldFault::Memory) => Err(OperationFault::Memory),
+    }
+}
+
+/// What a test of a change came to, then the right to it.
+pub fn permitted(tested: Result<(), WorldFault>, is_allowed: bool) -> Result<(), OperationFault>
+    ensures { result ≡ permitted tested is_allowed }
+{
+    told(tested)?;
+    if is_allowed { Ok(()) } else { Err(PERMISSION) }
+}
+
+/// 0 once the world was changed.
+pub fn changed<T: Drop>(made: Result<T, WorldFault>) -> Result<Value, OperationFault>
+    ensures { result ≡ changed made }
+{
+    match made {
+        Ok(_) => Ok(Value::Int(0)),
+        Err(WorldFault::Raise(error)) => Err(OperationFault::Raise(error)),
+        Err(WorldFault::Memory) => Err(OperationFault::Memory),
+    }
+}

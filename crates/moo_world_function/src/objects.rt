@@ -1,0 +1,152 @@
+//! Functions on objects and their parents.
+ghost use Rattle.std.specs.Prelude.{◌≡◌, ◌<◌, ◌∷◌, [], IfOk, map, pos, All};
+ghost use Rattle.moo_value.specs.Tree.{object};
+ghost use Rattle.moo_value.specs.View.{tree, trees};
+ghost use Rattle.moo_text_function.specs.Answers.{Gives};
+ghost use Rattle.moo_table.specs.World.{most};
+ghost use Rattle.moo_world_function.specs.Objects.{valid, parent, children, max_object, listed_players, is_player, reparented, change_parent};
+ghost use Rattle.moo_world_function.specs.Answers.{Does};
+
+use crate::allowed::may_reparent;
+use crate::made::{INVALID_ARGUMENT, TYPE_MISMATCH, changed, listed, permitted, truth};
+use moo_operation::OperationFault;
+use moo_value::Value;
+use moo_world::World;
+use std::alloc::{AllocError, Global};
+
+/// `valid`: whether a number is that of an object.
+pub fn valid(args: &[Value], world: &World) -> Result<Value, OperationFault>
+    ensures { Gives result (valid world.now (trees args.now)) }
+{
+    match args {
+        [Value::Obj(o)] => Ok(truth(world.valid(*o))),
+        _ => Err(TYPE_MISMATCH),
+    }
+}
+
+/// `parent`: the parent of an object, #-1 for none.
+pub fn parent(args: &[Value], world: &World) -> Result<Value, OperationFault>
+    ensures { Gives result (parent world.now (trees args.now)) }
+{
+    match args {
+        [Value::Obj(o)] => match world.parent(*o) {
+            Some(up) => Ok(Value::Obj(up)),
+            None => Err(INVALID_ARGUMENT),
+        },
+        _ => Err(TYPE_MISMATCH),
+    }
+}
+
+/// `children`: the children of an object, the newest last.
+pub fn children(alloc: Global, args: &[Value], world: &World) -> Result<Value, OperationFault>
+    ensures { Gives result (children world.now (trees args.now)) }
+{
+    match args {
+        [Value::Obj(o)] => children_of(alloc, *o, world),
+        _ => Err(TYPE_MISMATCH),
+    }
+}
+
+fn children_of(alloc: Global, o: i32, world: &World) -> Result<Value, OperationFault>
+    ensures { Gives result (children world.now (object o ∷ [])) }
+{
+    let Some(below) = world.children(o) else {
+        return Err(INVALID_ARGUMENT);
+    };
+    match numbered(alloc, below) {
+        Ok(values) => listed(alloc, values),
+        Err(AllocError) => Err(OperationFault::Memory),
+    }
+}
+
+fn numbered(alloc: Global, numbers: &[usize]) -> Result<Vec<Value>, AllocError>
+    requires { All (λ y. y < most) numbers.now }
+    ensures { IfOk result (λ v. trees v.items ≡ map (λ y. object (pos y)) numbers.now) }
+{
+    let mut values = Vec::new(alloc);
+    for number in numbers {
+        values.push(Value::Obj(*number as i32))?;
+    }
+    Ok(values)
+}
+
+/// `max_object`: the highest number that was given out, #-1 for none.
+pub fn max_object(args: &[Value], world: &World) -> Result<Value, OperationFault>
+    ensures { Gives result (max_object world.now (trees args.now)) }
+{
+    match args {
+        [] => Ok(Value::Obj(world.max_object())),
+        _ => Err(TYPE_MISMATCH),
+    }
+}
+
+/// `players`: the players, in order.
+pub fn players(alloc: Global, args: &[Value], world: &World) -> Result<Value, OperationFault>
+    ensures { Gives result (listed_players world.now (trees args.now)) }
+{
+    match args {
+        [] => players_of(alloc, world),
+        _ => Err(TYPE_MISMATCH),
+    }
+}
+
+fn players_of(alloc: Global, world: &World) -> Result<Value, OperationFault>
+    ensures { Gives result (listed_players world.now []) }
+{
+    match objects(alloc, world.players()) {
+        Ok(values) => listed(alloc, values),
+        Err(AllocError) => Err(OperationFault::Memory),
+    }
+}
+
+fn objects(alloc: Global, numbers: &[i32]) -> Result<Vec<Value>, AllocError>
+    ensures { IfOk result (λ v. trees v.items ≡ map (λ o. object o) numbers.now) }
+{
+    let mut values = Vec::new(alloc);
+    for number in numbers {
+        values.push(Value::Obj(*number))?;
+    }
+    Ok(values)
+}
+
+/// `is_player`: whether an object is a player.
+pub fn is_player(args: &[Value], world: &World) -> Result<Value, OperationFault>
+    ensures { Gives result (is_player world.now (trees args.now)) }
+{
+    match args {
+        [Value::Obj(o)] => match world.object(*o) {
+            Some(object) => Ok(truth(object.flags().player)),
+            None => Err(INVALID_ARGUMENT),
+        },
+        _ => Err(TYPE_MISMATCH),
+    }
+}
+
+/// `chparent`: changes the parent of an object.
+pub fn change_parent(
+    alloc: Global,
+    args: &[Value],
+    world: &mut World,
+    programmer: i32,
+) -> Result<Value, OperationFault>
+    ensures { Does result world.old world.new (change_parent world.old programmer (trees args.now)) }
+{
+    match args {
+        [Value::Obj(o), Value::Obj(to)] => reparent(alloc, *o, *to, world, programmer),
+        _ => Err(TYPE_MISMATCH),
+    }
+}
+
+fn reparent(
+    alloc: Global,
+    o: i32,
+    to: i32,
+    world: &mut World,
+    programmer: i32,
+) -> Result<Value, OperationFault>
+    ensures { Does result world.old world.new (reparented world.old programmer o to) }
+{
+    let is_allowed = may_reparent(o, to, world, programmer);
+    permitted(world.try_chparent(alloc, o, to), is_allowed)?;
+    changed(world.chparent(alloc, o, to))
+}

@@ -1,0 +1,244 @@
+//! Functions on properties.
+ghost use Rattle.std.specs.Prelude.{◌≡◌, ◌∷◌, [], IfOk, None, Some, map};
+ghost use Rattle.std.specs.Option.{option_map};
+ghost use Rattle.moo_object.specs.Cells.{Cell};
+ghost use Rattle.moo_world.specs.Numbered.{cell_numbered};
+ghost use Rattle.moo_world_function.specs.Order.{asked};
+ghost use Rattle.moo_value.specs.Compare.{folded};
+ghost use Rattle.moo_value.specs.Tree.{object, string, list_of};
+ghost use Rattle.moo_operation.specs.Answer.{limited};
+ghost use Rattle.moo_world_text.specs.Permissions.{prop_perms_text};
+ghost use Rattle.moo_value.specs.View.{tree, trees};
+ghost use Rattle.moo_text_function.specs.Answers.{Gives};
+ghost use Rattle.moo_world.specs.Calls.{number_of, Answers, Tests};
+ghost use Rattle.moo_world.specs.EditCalls.{clear_property_raises};
+ghost use Rattle.moo_world.specs.PropertyCalls.{delete_property_raises, info_raises};
+ghost use Rattle.moo_world_function.specs.Answers.{Does};
+ghost use Rattle.moo_world_function.specs.Properties.{properties, unless_built_in, info_told, property_info, clearness, is_clear_property, cleared_named, clear_property, without_named, delete_property};
+
+use crate::made::{
+    INVALID_ARGUMENT, PERMISSION, TYPE_MISMATCH, changed, listed, permitted, told, truth,
+};
+use moo_object::built_in;
+use moo_operation::OperationFault;
+use moo_rights::Rights;
+use moo_value::{ErrorCode, MooStr, Value};
+use moo_world::{PropPerms, World, WorldFault};
+use moo_world_text::prop_perms_text;
+use std::alloc::{AllocError, Global};
+
+const NOT_FOUND: WorldFault = WorldFault::Raise(ErrorCode::PropertyNotFound);
+
+/// `properties`: the names of an object's own properties.
+pub fn properties(
+    alloc: Global,
+    args: &[Value],
+    world: &World,
+    programmer: i32,
+) -> Result<Value, OperationFault>
+    ensures { Gives result (properties world.now programmer (trees args.now)) }
+{
+    match args {
+        [Value::Obj(o)] => properties_of(alloc, *o, world, programmer),
+        _ => Err(TYPE_MISMATCH),
+    }
+}
+
+fn properties_of(
+    alloc: Global,
+    o: i32,
+    world: &World,
+    programmer: i32,
+) -> Result<Value, OperationFault>
+    ensures { Gives result (properties world.now programmer (object o ∷ [])) }
+{
+    let Some(object) = world.object(o) else {
+        return Err(INVALID_ARGUMENT);
+    };
+    if !Rights::may_read_object(world, programmer, o) {
+        return Err(PERMISSION);
+    }
+    match strings(alloc, object.defined()) {
+        Ok(names) => listed(alloc, names),
+        Err(AllocError) => Err(OperationFault::Memory),
+    }
+}
+
+fn strings(alloc: Global, names: &[MooStr]) -> Result<Vec<Value>, AllocError>
+    ensures { IfOk result (λ v. trees v.items ≡ map (λ name. string name) names.now) }
+{
+    let mut values = Vec::new(alloc);
+    for name in names {
+        values.push(Value::Str(name.try_clone()?))?;
+    }
+    Ok(values)
+}
+
+/// `property_info`: `{owner, perms}`.
+pub fn property_info(
+    alloc: Global,
+    args: &[Value],
+    world: &World,
+    programmer: i32,
+) -> Result<Value, OperationFault>
+    ensures { Gives result (property_info world.now programmer (trees args.now)) }
+{
+    match args {
+        [Value::Obj(o), Value::Str(name)] => info_of(alloc, *o, name, world, programmer),
+        _ => Err(TYPE_MISMATCH),
+    }
+}
+
+#[tactic(auto, unfolding(crate::specs::Properties::info_told))]
+fn info_of(
+    alloc: Global,
+    o: i32,
+    name: &MooStr,
+    world: &World,
+    programmer: i32,
+) -> Result<Value, OperationFault>
+    ensures { Gives result (info_told world.now programmer o name.now) }
+{
+    let name = name.as_bytes();
+    let is_allowed = Rights::may_read_property(world, programmer, o, name);
+    match info_named(o, name, world) {
+        Ok(info) => asked_info(alloc, info, is_allowed),
+        Err(WorldFault::Raise(error)) => Err(OperationFault::Raise(error)),
+        Err(WorldFault::Memory) => Err(OperationFault::Memory),
+    }
+}
+
+fn info_named(o: i32, name: &[u8], world: &World) -> Result<(i32, PropPerms), WorldFault>
+    ensures { Answers result (unless_built_in name.now (info_raises world.now (number_of world.now.objects o) (folded name.now)))
+        (λ info. option_map (λ (c : Cell). (c.owner, c.perms)) (cell_numbered world.now o name.now) ≡ Some info) }
+{
+    if built_in(name).is_some() {
+        return Err(NOT_FOUND);
+    }
+    world.property_info(o, name)
+}
+
+fn asked_info(
+    alloc: Global,
+    info: (i32, PropPerms),
+    is_allowed: bool,
+) -> Result<Value, OperationFault>
+    ensures { Gives result (asked None is_allowed (limited (list_of (object info.0 ∷ string (prop_perms_text info.1) ∷ [])))) }
+{
+    if !is_allowed {
+        return Err(PERMISSION);
+    }
+    info_value(alloc, info.0, info.1)
+}
+
+fn info_value(alloc: Global, owner: i32, perms: PropPerms) -> Result<Value, OperationFault>
+    ensures { Gives result (limited (list_of (object owner ∷ string (prop_perms_text perms) ∷ []))) }
+{
+    let Ok(letters) = prop_perms_text(alloc, perms) else {
+        return Err(OperationFault::Memory);
+    };
+    match Vec::from_array(alloc, [Value::Obj(owner), Value::Str(letters)]) {
+        Ok(values) => listed(alloc, values),
+        Err(_) => Err(OperationFault::Memory),
+    }
+}
+
+/// `is_clear_property`: whether a property has no value of its own on an object.
+pub fn is_clear_property(
+    args: &[Value],
+    world: &World,
+    programmer: i32,
+) -> Result<Value, OperationFault>
+    ensures { Gives result (is_clear_property world.now programmer (trees args.now)) }
+{
+    match args {
+        [Value::Obj(o), Value::Str(name)] => is_clear(*o, name, world, programmer),
+        _ => Err(TYPE_MISMATCH),
+    }
+}
+
+#[tactic(auto, unfolding(crate::specs::Properties::clearness))]
+fn is_clear(o: i32, name: &MooStr, world: &World, programmer: i32) -> Result<Value, OperationFault>
+    ensures { Gives result (clearness world.now programmer o name.now) }
+{
+    let name = name.as_bytes();
+    if built_in(name).is_some() {
+        return Err(OperationFault::Raise(ErrorCode::PropertyNotFound));
+    }
+    let clear = told(world.is_clear(o, name))?;
+    if !Rights::may_read_property(world, programmer, o, name) {
+        return Err(PERMISSION);
+    }
+    Ok(truth(clear))
+}
+
+/// `clear_property`: takes away the value that an object has for a property that it inherits.
+pub fn clear_property(
+    args: &[Value],
+    world: &mut World,
+    programmer: i32,
+) -> Result<Value, OperationFault>
+    ensures { Does result world.old world.new (clear_property world.old programmer (trees args.now)) }
+{
+    match args {
+        [Value::Obj(o), Value::Str(name)] => clear(*o, name, world, programmer),
+        _ => Err(TYPE_MISMATCH),
+    }
+}
+
+fn clear(o: i32, name: &MooStr, world: &mut World, programmer: i32) -> Result<Value, OperationFault>
+    ensures { Does result world.old world.new (cleared_named world.old programmer o name.now) }
+{
+    let name = name.as_bytes();
+    let is_allowed = Rights::may_write_property(world, programmer, o, name);
+    permitted(test_clear(o, name, world), is_allowed)?;
+    changed(world.clear_property(o, name))
+}
+
+fn test_clear(o: i32, name: &[u8], world: &World) -> Result<(), WorldFault>
+    ensures { Tests result (unless_built_in name.now (clear_property_raises world.now (number_of world.now.objects o) (folded name.now))) }
+{
+    if built_in(name).is_some() {
+        return Err(NOT_FOUND);
+    }
+    world.try_clear_property(o, name)
+}
+
+/// `delete_property`: takes away a property that an object defines.
+pub fn delete_property(
+    alloc: Global,
+    args: &[Value],
+    world: &mut World,
+    programmer: i32,
+) -> Result<Value, OperationFault>
+    ensures { Does result world.old world.new (delete_property world.old programmer (trees args.now)) }
+{
+    match args {
+        [Value::Obj(o), Value::Str(name)] => delete(alloc, *o, name, world, programmer),
+        _ => Err(TYPE_MISMATCH),
+    }
+}
+
+fn delete(
+    alloc: Global,
+    o: i32,
+    name: &MooStr,
+    world: &mut World,
+    programmer: i32,
+) -> Result<Value, OperationFault>
+    ensures { Does result world.old world.new (without_named world.old programmer o name.now) }
+{
+    let name = name.as_bytes();
+    let is_allowed = Rights::may_write_object(world, programmer, o);
+    permitted(test_delete(o, name, world), is_allowed)?;
+    changed(world.delete_property(alloc, o, name))
+}
+
+fn test_delete(o: i32, name: &[u8], world: &World) -> Result<(), WorldFault>
+    ensures { Tests result (unless_built_in name.now (delete_property_raises world.now (number_of world.now.objects o) (folded name.now))) }
+{
+    if built_in(name).is_some() {
+        return Err(NOT_FOUND);
+    }
+    world.try_delete_property(o, name)
+}

@@ -1,0 +1,181 @@
+//! Functions that add, change and take away verbs.
+ghost use Rattle.std.specs.Prelude.{◌≡◌, ◌∷◌, []};
+ghost use Rattle.moo_value.specs.Tree.{object};
+ghost use Rattle.moo_value.specs.View.{tree, trees};
+ghost use Rattle.moo_world_function.specs.Answers.{Does};
+ghost use Rattle.moo_world_function.specs.Order.{given};
+ghost use Rattle.moo_world_function.specs.Forms.{given_verb, given_args};
+ghost use Rattle.moo_world_function.specs.Verbs.{without_chosen, deleted, delete_verb, with_chosen_info, info_given, set_verb_info, with_chosen_args, args_given, set_verb_args, with_new_verb, add_verb};
+
+use crate::allowed::{may_add, may_change_verb};
+use crate::forms::{GivenVerb, given_args, given_verb};
+use crate::made::{TYPE_MISMATCH, VERB_NOT_FOUND, changed, permitted};
+use crate::verbs::chosen;
+use moo_operation::OperationFault;
+use moo_rights::Rights;
+use moo_value::Value;
+use moo_world::{VerbArgs, World};
+
+/// `delete_verb`: takes a verb away.
+pub fn delete_verb(
+    args: &[Value],
+    world: &mut World,
+    programmer: i32,
+) -> Result<Value, OperationFault>
+    ensures { Does result world.old world.new (delete_verb world.old programmer (trees args.now)) }
+{
+    match args {
+        [Value::Obj(o), choice] => delete_chosen(*o, choice, world, programmer),
+        _ => Err(TYPE_MISMATCH),
+    }
+}
+
+#[tactic(auto, unfolding(crate::specs::Verbs::deleted))]
+fn delete_chosen(
+    o: i32,
+    choice: &Value,
+    world: &mut World,
+    programmer: i32,
+) -> Result<Value, OperationFault>
+    ensures { Does result world.old world.new (deleted world.old programmer o (tree choice.now)) }
+{
+    match chosen(o, choice, world) {
+        Some(index) => delete_at(o, index, world, programmer),
+        None => Err(VERB_NOT_FOUND),
+    }
+}
+
+fn delete_at(
+    o: i32,
+    index: usize,
+    world: &mut World,
+    programmer: i32,
+) -> Result<Value, OperationFault>
+    ensures { Does result world.old world.new (without_chosen world.old programmer o index) }
+{
+    let is_allowed = Rights::may_write_object(world, programmer, o);
+    permitted(world.try_verb(o, index), is_allowed)?;
+    changed(world.delete_verb(o, index))
+}
+
+/// `set_verb_info`: gives a verb another owner, other permissions and other names.
+pub fn set_verb_info(
+    args: &[Value],
+    world: &mut World,
+    programmer: i32,
+) -> Result<Value, OperationFault>
+    ensures { Does result world.old world.new (set_verb_info world.old programmer (trees args.now)) }
+{
+    match args {
+        [Value::Obj(o), choice, info] => {
+            let given = given_verb(info)?;
+            set_info(*o, choice, given, world, programmer)
+        }
+        _ => Err(TYPE_MISMATCH),
+    }
+}
+
+#[tactic(auto, unfolding(crate::specs::Verbs::info_given))]
+fn set_info(
+    o: i32,
+    choice: &Value,
+    given: GivenVerb,
+    world: &mut World,
+    programmer: i32,
+) -> Result<Value, OperationFault>
+    ensures { Does result world.old world.new (info_given world.old programmer o (tree choice.now) given) }
+{
+    match chosen(o, choice, world) {
+        Some(index) => set_info_at(o, index, given, world, programmer),
+        None => Err(VERB_NOT_FOUND),
+    }
+}
+
+fn set_info_at(
+    o: i32,
+    index: usize,
+    given: GivenVerb,
+    world: &mut World,
+    programmer: i32,
+) -> Result<Value, OperationFault>
+    ensures { Does result world.old world.new (with_chosen_info world.old programmer o given index) }
+{
+    let is_allowed = may_change_verb(o, index, given.owner, world, programmer);
+    permitted(world.try_set_verb_info(o, index, &given.names), is_allowed)?;
+    changed(world.set_verb_info(o, index, given.names, given.owner, given.perms))
+}
+
+/// `set_verb_args`: gives a verb other specifiers.
+pub fn set_verb_args(
+    args: &[Value],
+    world: &mut World,
+    programmer: i32,
+) -> Result<Value, OperationFault>
+    ensures { Does result world.old world.new (set_verb_args world.old programmer (trees args.now)) }
+{
+    match args {
+        [Value::Obj(o), choice, specifiers] => {
+            let given = given_args(specifiers)?;
+            set_args(*o, choice, given, world, programmer)
+        }
+        _ => Err(TYPE_MISMATCH),
+    }
+}
+
+#[tactic(auto, unfolding(crate::specs::Verbs::args_given))]
+fn set_args(
+    o: i32,
+    choice: &Value,
+    given: VerbArgs,
+    world: &mut World,
+    programmer: i32,
+) -> Result<Value, OperationFault>
+    ensures { Does result world.old world.new (args_given world.old programmer o (tree choice.now) given) }
+{
+    match chosen(o, choice, world) {
+        Some(index) => set_args_at(o, index, given, world, programmer),
+        None => Err(VERB_NOT_FOUND),
+    }
+}
+
+fn set_args_at(
+    o: i32,
+    index: usize,
+    given: VerbArgs,
+    world: &mut World,
+    programmer: i32,
+) -> Result<Value, OperationFault>
+    ensures { Does result world.old world.new (with_chosen_args world.old programmer o given index) }
+{
+    let is_allowed = Rights::may_write_verb(world, programmer, o, index);
+    permitted(world.try_verb(o, index), is_allowed)?;
+    changed(world.set_verb_args(o, index, given))
+}
+
+/// `add_verb`: adds a verb without a program behind the others.
+pub fn add_verb(args: &[Value], world: &mut World, programmer: i32) -> Result<Value, OperationFault>
+    ensures { Does result world.old world.new (add_verb world.old programmer (trees args.now)) }
+{
+    match args {
+        [Value::Obj(o), info, specifiers] => {
+            let given = given_verb(info)?;
+            let args = given_args(specifiers)?;
+            put_verb(*o, given, args, world, programmer)
+        }
+        _ => Err(TYPE_MISMATCH),
+    }
+}
+
+fn put_verb(
+    o: i32,
+    given: GivenVerb,
+    args: VerbArgs,
+    world: &mut World,
+    programmer: i32,
+) -> Result<Value, OperationFault>
+    ensures { Does result world.old world.new (with_new_verb world.old programmer o given args) }
+{
+    let is_allowed = may_add(o, given.owner, world, programmer);
+    permitted(world.try_add_verb(o, &given.names), is_allowed)?;
+    changed(world.add_verb(o, given.names, given.owner, given.perms, args))
+}

@@ -48,50 +48,6 @@ fn properties_made(rt: HostRuntime) -> Result<(), Fail> {
 }
 
 #[test]
-fn info_of_properties(rt: HostRuntime) -> Result<(), Fail> {
-    let alloc = rt.alloc();
-    let mut world = world(alloc)?;
-    let (get, set) = (Function::PropertyInfo, Function::SetPropertyInfo);
-    let (size, one, named) = (Arg::Text("size"), Arg::Int(1), Arg::Text("name"));
-    let (open, bad, other) = (Arg::Info(3, "rc"), Arg::Info(3, "q"), Arg::Info(4, ""));
-    let (new, taken) = (Arg::Names(3, "w", "width"), Arg::Names(3, "", "owner"));
-    let (width, texts) = (Arg::Text("WIDTH"), Arg::Texts("", "", ""));
-    let calls: [(i32, Function, &[Arg], &str); 24] = [
-        (
-            3,
-            Function::AddProperty,
-            &[Arg::Obj(1), size, one, open],
-            "0",
-        ),
-        (4, get, &[Arg::Obj(9)], "E_ARGS"),
-        (4, get, &[Arg::Obj(9), one], "E_TYPE"),
-        (4, get, &[Arg::Obj(9), size], "E_INVARG"),
-        (4, get, &[Arg::Obj(1), named], "E_PROPNF"),
-        (4, get, &[Arg::Obj(1), size], "{#3, \"rc\"}"),
-        (4, get, &[Arg::Obj(4), size], "{#4, \"rc\"}"),
-        (4, set, &[Arg::Obj(1), size], "E_ARGS"),
-        (4, set, &[Arg::Obj(9), size, texts], "E_TYPE"),
-        (4, set, &[Arg::Obj(9), size, bad], "E_INVARG"),
-        (4, set, &[Arg::Obj(1), named, bad], "E_INVARG"),
-        (4, set, &[Arg::Obj(1), named, open], "E_PROPNF"),
-        (4, set, &[Arg::Obj(2), size, new], "E_INVARG"),
-        (4, set, &[Arg::Obj(1), size, taken], "E_INVARG"),
-        (4, set, &[Arg::Obj(1), size, open], "E_PERM"),
-        (4, set, &[Arg::Obj(4), size, open], "E_PERM"),
-        (4, set, &[Arg::Obj(4), size, other], "0"),
-        (9, get, &[Arg::Obj(4), size], "E_PERM"),
-        (3, get, &[Arg::Obj(4), size], "{#4, \"\"}"),
-        (3, set, &[Arg::Obj(1), size, new], "0"),
-        (3, get, &[Arg::Obj(1), size], "E_PROPNF"),
-        (3, get, &[Arg::Obj(1), width], "{#3, \"w\"}"),
-        (3, get, &[Arg::Obj(2), width], "{#3, \"rc\"}"),
-        (3, Function::Properties, &[Arg::Obj(1)], "{\"width\"}"),
-    ];
-    assert_eq!(rt; first_wrong(alloc, &mut world, &calls)?, None);
-    Ok(())
-}
-
-#[test]
 fn clear_properties(rt: HostRuntime) -> Result<(), Fail> {
     let alloc = rt.alloc();
     let mut world = world(alloc)?;

@@ -4,51 +4,6 @@ use moo_function::Function;
 use std::test::Fail;
 
 #[test]
-fn verbs_made(rt: HostRuntime) -> Result<(), Fail> {
-    let alloc = rt.alloc();
-    let mut world = world(alloc)?;
-    let (add, delete) = (Function::AddVerb, Function::DeleteVerb);
-    let (mine, his) = (Arg::Names(4, "xd", "l*ook at"), Arg::Names(3, "", "x"));
-    let (bad, empty) = (Arg::Names(4, "rc", "x"), Arg::Names(4, "", " "));
-    let (args, wrong) = (
-        Arg::Texts("this", "On", "any"),
-        Arg::Texts("this", "of", "any"),
-    );
-    let (one, two) = (Arg::Int(1), Arg::Int(2));
-    let (start, whole) = (Arg::Text("lo"), Arg::Text("LO"));
-    let calls: [(i32, Function, &[Arg], &str); 26] = [
-        (4, add, &[Arg::Obj(9), mine], "E_ARGS"),
-        (4, add, &[Arg::Obj(9), args, args], "E_TYPE"),
-        (4, add, &[Arg::Obj(9), bad, args], "E_INVARG"),
-        (4, add, &[Arg::Obj(1), bad, args], "E_INVARG"),
-        (4, add, &[Arg::Obj(1), mine, wrong], "E_INVARG"),
-        (4, add, &[Arg::Obj(1), empty, args], "E_INVARG"),
-        (4, add, &[Arg::Obj(1), mine, args], "E_PERM"),
-        (4, add, &[Arg::Obj(4), his, args], "E_PERM"),
-        (4, add, &[Arg::Obj(4), mine, args], "0"),
-        (3, add, &[Arg::Obj(4), his, args], "0"),
-        (9, Function::Verbs, &[], "E_ARGS"),
-        (9, Function::Verbs, &[one], "E_TYPE"),
-        (9, Function::Verbs, &[Arg::Obj(9)], "E_INVARG"),
-        (9, Function::Verbs, &[Arg::Obj(4)], "E_PERM"),
-        (4, Function::Verbs, &[Arg::Obj(4)], "{\"l*ook at\", \"x\"}"),
-        (9, delete, &[Arg::Obj(4)], "E_ARGS"),
-        (9, delete, &[Arg::Obj(9), Arg::Obj(1)], "E_TYPE"),
-        (9, delete, &[Arg::Obj(9), one], "E_INVARG"),
-        (9, delete, &[Arg::Obj(4), Arg::Int(3)], "E_VERBNF"),
-        (9, delete, &[Arg::Obj(4), Arg::Int(0)], "E_VERBNF"),
-        (9, delete, &[Arg::Obj(4), start], "E_PERM"),
-        (4, delete, &[Arg::Obj(4), whole], "0"),
-        (4, Function::Verbs, &[Arg::Obj(4)], "{\"x\"}"),
-        (4, delete, &[Arg::Obj(4), two], "E_VERBNF"),
-        (4, delete, &[Arg::Obj(4), one], "0"),
-        (4, Function::Verbs, &[Arg::Obj(4)], "{}"),
-    ];
-    assert_eq!(rt; first_wrong(alloc, &mut world, &calls)?, None);
-    Ok(())
-}
-
-#[test]
 fn verbs_changed(rt: HostRuntime) -> Result<(), Fail> {
     let alloc = rt.alloc();
     let mut world = world(alloc)?;

@@ -9,8 +9,6 @@ mod made;
 mod objects;
 mod properties;
 mod refusing;
-#[cfg(test)]
-mod tests;
 mod verb_changes;
 mod verbs;
 

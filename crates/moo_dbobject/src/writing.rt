@@ -10,7 +10,8 @@ use moo_dbvalue::{put_count, put_line, put_number, put_value};
 use moo_value::MooStr;
 use std::alloc::AllocError;
 
-fn put_numbers(out: &mut Vec<u8>, numbers: &[i32]) -> Result<(), AllocError>
+/// Appends the lines of numbers with signs.
+pub fn put_numbers(out: &mut Vec<u8>, numbers: &[i32]) -> Result<(), AllocError>
     ensures { OnOk result (out.new.items ≡ out.old.items ++ unlines (map signed_decimal numbers.now)) }
 {
     for number in numbers {
@@ -47,7 +48,8 @@ fn put_verbs(out: &mut Vec<u8>, verbs: &[VerbRecord]) -> Result<(), AllocError>
     Ok(())
 }
 
-fn put_names(out: &mut Vec<u8>, names: &[MooStr]) -> Result<(), AllocError>
+/// Appends names, each a line.
+pub fn put_names(out: &mut Vec<u8>, names: &[MooStr]) -> Result<(), AllocError>
     ensures { OnOk result (out.new.items ≡ out.old.items ++ unlines names.now) }
 {
     for name in names {

@@ -30,6 +30,14 @@ grown : (old mid new : List ℕ) (a b c : List Line) → c ≡ a ++ b → mid �
 grown old mid new a b c whole so_far more =
     (appends_then old mid new a b (record { is = so_far }) (record { is = more })).is ∙ ap (λ (ls : List Line). old ++ unlines ls) (sym whole)
 
+-- ---- the lines of a source
+
+pub source_more : (source : List Line) (i : ℕ) (line : Line) (old mid new : List ℕ) → i < length source → line ≡ get_or source i line
+    → mid ≡ old ++ unlines (take i source) → new ≡ mid ++ unlines (line ∷ []) → new ≡ old ++ unlines (take (i + 1) source)
+source_more source i line old mid new lt is so_far more =
+    let whole : take (i + 1) source ≡ take i source ++ line ∷ [] = take_more source i line lt ∙ ap (λ (l : Line). take i source ++ l ∷ []) (sym is) in
+    grown old mid new (take i source) (line ∷ []) (take (i + 1) source) whole so_far more
+
 -- ---- objects
 
 abbrev pub entry_of : Option ObjectRecord → Option Object

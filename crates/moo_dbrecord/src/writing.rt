@@ -1,12 +1,15 @@
 //! Writing the lines of whole texts, part by part.
 ghost use Rattle.std.specs.Prelude.{◌≡◌, ◌++◌, ◌∷◌, [], map, length, codes, OnOk};
 ghost use Rattle.std.specs.Fmt.{signed_decimal};
+ghost use Rattle.std.specs.List.{All};
+ghost use Rattle.moo_value.specs.Size.{IsString};
 ghost use Rattle.moo_dbvalue.specs.Lines.{unlines, count_line};
 ghost use Rattle.moo_dbrecord.specs.Programs.{program_line, program_lines};
 ghost use Rattle.moo_dbrecord.specs.Texts.{header_line, live_line, recycled_line, link_of, link_line, connections_lines, tasks_lines};
 
 use crate::dump::{Connection, Form};
 use itoa::Buffer;
+use moo_dbobject::put_numbers;
 use moo_dbvalue::{put_count, put_line, put_number};
 use moo_value::MooStr;
 use std::alloc::AllocError;
@@ -35,15 +38,6 @@ pub fn put_header(out: &mut Vec<u8>, version: u32) -> Result<(), AllocError>
         version as usize,
         b" **",
     )
-}
-
-fn put_numbers(out: &mut Vec<u8>, numbers: &[i32]) -> Result<(), AllocError>
-    ensures { OnOk result (out.new.items ≡ out.old.items ++ unlines (map signed_decimal numbers.now)) }
-{
-    for number in numbers {
-        put_number(out, *number)?;
-    }
-    Ok(())
 }
 
 /// Appends the number of players and the players.
@@ -84,7 +78,8 @@ fn put_program_line(out: &mut Vec<u8>, object: usize, verb: usize) -> Result<(),
 }
 
 fn put_source_lines(out: &mut Vec<u8>, source: &[MooStr]) -> Result<(), AllocError>
-    ensures { OnOk result (out.new.items ≡ out.old.items ++ unlines source.now) }
+    ensures strings { OnOk result (All IsString source.now) }
+    ensures lines { OnOk result (out.new.items ≡ out.old.items ++ unlines source.now) }
 {
     for line in source {
         put_line(out, line.as_bytes())?;
@@ -99,7 +94,9 @@ pub fn put_program(
     verb: usize,
     source: &[MooStr],
 ) -> Result<(), AllocError>
-    ensures { OnOk result (out.new.items ≡ out.old.items ++ unlines (program_lines (record { object = object; verb = verb; source = source.now }))) }
+    // Each line that was written is a string.
+    ensures strings { OnOk result (All IsString source.now) }
+    ensures lines { OnOk result (out.new.items ≡ out.old.items ++ unlines (program_lines (record { object = object; verb = verb; source = source.now }))) }
 {
     put_program_line(out, object, verb)?;
     put_source_lines(out, source)?;

@@ -12,9 +12,31 @@ ghost use Rattle.moo_world.specs.Calls.{number_of};
 
 use crate::World;
 use crate::named::place_number;
+use moo_forest::Forest;
 use moo_object::Object;
 
 impl World {
+    /// The objects by their numbers, none where a number is not valid.
+    pub fn objects(&self) -> &[Option<Object>]
+        ensures { result.now ≡ self.now.objects }
+    {
+        &self.objects
+    }
+
+    /// The tree of parents.
+    pub fn inheritance(&self) -> &Forest
+        ensures { result.now ≡ self.now.inheritance }
+    {
+        &self.inheritance
+    }
+
+    /// The tree of places.
+    pub fn containment(&self) -> &Forest
+        ensures { result.now ≡ self.now.containment }
+    {
+        &self.containment
+    }
+
     /// A valid object by its number: its name, owner, flags, verbs and cells, and the names of the
     /// properties that it defines itself, as they are spelled.
     pub fn object(&self, o: i32) -> Option<&Object>

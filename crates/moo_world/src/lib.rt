@@ -18,6 +18,7 @@ mod players;
 mod programs;
 mod properties;
 mod property_info;
+mod ranges;
 mod recycling;
 mod restoring;
 mod setting;

@@ -1,10 +1,20 @@
-//! Worked examples of the world's calls, what each raises, who may do what, and worlds as they were
-//! where memory is short. Tests alone: they stand in a crate of their own, so that the world's own
-//! crate is proved once.
+//! Worked examples of the world's calls and of the built-in functions over it, what each raises, who may do what, and
+//! worlds as they were where memory is short. Tests alone, as rows of text: they stand in a crate of their own, so that the
+//! crates that they are about are proved once.
 #![tactic(auto)]
 
 #[cfg(test)]
-mod inherited;
+mod args;
+#[cfg(test)]
+mod built_ins;
+#[cfg(test)]
+mod calls;
+#[cfg(test)]
+mod functions;
+#[cfg(test)]
+mod limits;
+#[cfg(test)]
+mod looks;
 #[cfg(test)]
 mod memory;
 #[cfg(test)]
@@ -14,6 +24,8 @@ mod rights;
 #[cfg(test)]
 mod same;
 #[cfg(test)]
-mod support;
+mod script;
 #[cfg(test)]
 mod worked;
+#[cfg(test)]
+mod worlds;

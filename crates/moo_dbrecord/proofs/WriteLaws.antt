@@ -20,13 +20,13 @@ use Rattle.moo_dbrecord.proofs.DumpLines.{objects_lines_push}
 
 -- ---- one more of a list
 
-mapped_more : {X Y : Type 0} (f : X → Y) (xs : List X) (i : ℕ) (x : X) → i < length xs → x ≡ get_or xs i x → map f (take (i + 1) xs) ≡ map f (take i xs) ++ f x ∷ []
+pub mapped_more : {X Y : Type 0} (f : X → Y) (xs : List X) (i : ℕ) (x : X) → i < length xs → x ≡ get_or xs i x → map f (take (i + 1) xs) ≡ map f (take i xs) ++ f x ∷ []
 mapped_more f xs i x lt is = ap (map f) (take_more xs i x lt) ∙ map-append f (take i xs) (get_or xs i x ∷ []) ∙ ap (λ y. map f (take i xs) ++ f y ∷ []) (sym is)
 
-so_many : {X Y : Type 0} (f : X → Y) (xs : List X) (i : ℕ) → i < length xs → length (map f (take i xs)) ≡ i
+pub so_many : {X Y : Type 0} (f : X → Y) (xs : List X) (i : ℕ) → i < length xs → length (map f (take i xs)) ≡ i
 so_many f xs i lt = length-map (take i xs) f ∙ length-take-le i xs (omega arith)
 
-grown : (old mid new : List ℕ) (a b c : List Line) → c ≡ a ++ b → mid ≡ old ++ unlines a → new ≡ mid ++ unlines b → new ≡ old ++ unlines c
+pub grown : (old mid new : List ℕ) (a b c : List Line) → c ≡ a ++ b → mid ≡ old ++ unlines a → new ≡ mid ++ unlines b → new ≡ old ++ unlines c
 grown old mid new a b c whole so_far more =
     (appends_then old mid new a b (record { is = so_far }) (record { is = more })).is ∙ ap (λ (ls : List Line). old ++ unlines ls) (sym whole)
 
@@ -55,19 +55,19 @@ entries_more os i o old mid new lt is so_far more =
 
 -- ---- programs
 
-row_programs_push : (o v : ℕ) (row : Row) (p : Option (List Line)) → row_programs o v (row ++ p ∷ []) ≡ row_programs o v row ++ verb_programs o (v + length row) p
+pub row_programs_push : (o v : ℕ) (row : Row) (p : Option (List Line)) → row_programs o v (row ++ p ∷ []) ≡ row_programs o v row ++ verb_programs o (v + length row) p
 row_programs_push o v [] p = append-nil (verb_programs o v p) ∙ ap (λ (n : ℕ). verb_programs o n p) (sym (add-zero v))
 row_programs_push o v (q ∷ row) p =
     ap (λ (ps : List Program). verb_programs o v q ++ ps) (row_programs_push o (v + 1) row p ∙ ap (λ (n : ℕ). row_programs o (v + 1) row ++ verb_programs o n p) (omega arith))
     ∙ sym (append_assoc (verb_programs o v q) (row_programs o (v + 1) row) (verb_programs o (v + suc (length row)) p))
 
-table_programs_push : (o : ℕ) (table : Table) (row : Row) → table_programs o (table ++ row ∷ []) ≡ table_programs o table ++ row_programs (o + length table) 0 row
+pub table_programs_push : (o : ℕ) (table : Table) (row : Row) → table_programs o (table ++ row ∷ []) ≡ table_programs o table ++ row_programs (o + length table) 0 row
 table_programs_push o [] row = append-nil (row_programs o 0 row) ∙ ap (λ (n : ℕ). row_programs n 0 row) (sym (add-zero o))
 table_programs_push o (r ∷ table) row =
     ap (λ (ps : List Program). row_programs o 0 r ++ ps) (table_programs_push (o + 1) table row ∙ ap (λ (n : ℕ). table_programs (o + 1) table ++ row_programs n 0 row) (omega arith))
     ∙ sym (append_assoc (row_programs o 0 r) (table_programs (o + 1) table) (row_programs (o + suc (length table)) 0 row))
 
-abbrev programs_lines : List Program → List Line
+abbrev pub programs_lines : List Program → List Line
 programs_lines ps = flat_map program_lines ps
 
 pub row_more : (o : ℕ) (row : List (Option (Vec Line))) (i : ℕ) (p : Option (Vec Line)) (old mid new : List ℕ) → i < length row → p ≡ get_or row i p
@@ -98,7 +98,7 @@ abbrev programs_of : Option (List Line) → ℕ
 programs_of None = 0
 programs_of (Some s) = 1
 
-one_or_none : (o v : ℕ) (p : Option (List Line)) → length (verb_programs o v p) ≡ programs_of p
+pub one_or_none : (o v : ℕ) (p : Option (List Line)) → length (verb_programs o v p) ≡ programs_of p
 one_or_none o v None = refl
 one_or_none o v (Some s) = refl
 

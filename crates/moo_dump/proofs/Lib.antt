@@ -1,0 +1,4 @@
+pub mod Behinds
+pub mod Rows
+pub mod Counts
+pub mod Whole

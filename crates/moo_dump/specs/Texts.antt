@@ -1,0 +1,47 @@
+-- The text of a world, as a database is written.
+use Rattle.std.specs.Prelude.{ℕ, ℤ, pos, List, Option, Some, map, option_map}
+use Rattle.std.specs.Option.{unwrap_or}
+use Rattle.moo_program.specs.Tree.{Block}
+use Rattle.moo_program.specs.Listing.{listing}
+use Rattle.moo_object.specs.Objects.{Object}
+use Rattle.moo_table.specs.World.{World, nothing}
+use Rattle.moo_dbvalue.specs.Lines.{Line, unlines}
+use Rattle.moo_dbrecord.specs.Programs.{Row, Table}
+use Rattle.moo_dbrecord.specs.Texts.{Text, Link}
+use Rattle.moo_dbrecord.specs.Writing.{canonical_lines}
+use Rattle.moo_dbrecord.specs.declared.dump.Form.TheVariants as form
+use Rattle.moo_restore.specs.Says.{program_of}
+use Rattle.moo_restore.specs.Recorded.{records_of}
+
+-- a program is written as its full listing
+abbrev pub source_of : Option Block → Option (List Line)
+source_of program = option_map listing program
+
+abbrev pub row_of : List (Option Block) → Row
+row_of programs = map source_of programs
+
+-- the programs of what stands at a number
+abbrev pub row_at : Option Object → Row
+row_at o = row_of (map program_of (unwrap_or o nothing).verbs)
+
+abbrev pub table_of : List (List (Option Block)) → Table
+table_of rows = map row_of rows
+
+-- who is connected, with the listener 0
+abbrev pub link_to : ℤ → Link
+link_to who = record { who = who; listener = Some (pos 0) }
+
+-- what is written of a world, and of those who are connected
+abbrev pub text_of_world : World → List ℤ → Text
+text_of_world w connected = record {
+  version = 4;
+  players = (records_of w).players;
+  objects = (records_of w).objects;
+  programs = table_of (records_of w).programs;
+  form = form.WithListeners;
+  links = map link_to connected;
+}
+
+-- the bytes of a world, and of those who are connected
+abbrev pub canonical_bytes : World → List ℤ → List ℕ
+canonical_bytes w connected = unlines (canonical_lines (text_of_world w connected))

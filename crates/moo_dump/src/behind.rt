@@ -1,0 +1,38 @@
+//! What stands right behind each number in the lists of a tree.
+
+ghost use Rattle.std.specs.Prelude.{◌≡◌, ◌<◌, ℕ, length, IfOk, None, slice_index_or};
+ghost use Rattle.std.specs.List.{All};
+ghost use Rattle.moo_dump.specs.Behind.{next_or, AreNexts};
+
+use moo_forest::Forest;
+use std::alloc::{AllocError, Global};
+
+/// For each number of a tree what stands right behind it among those right below the same.
+pub(crate) fn nexts(alloc: Global, tree: &Forest) -> Result<Vec<Option<usize>>, AllocError>
+    ensures { IfOk result (λ next. AreNexts tree.now next.items) }
+{
+    let mut next = vec![in alloc; None; tree.len()]?;
+    put_nexts(tree, &mut next);
+    Ok(next)
+}
+
+fn put_nexts(tree: &Forest, next: &mut [Option<usize>])
+    requires len { length next.old ≡ length tree.now }
+    requires clear { (y : ℕ) → slice_index_or next.old y None ≡ None }
+    ensures { AreNexts tree.now next.new }
+{
+    tree.is_forest();
+    for x in 0..tree.len() {
+        put_behind(tree.below(x), next);
+    }
+}
+
+// Puts down for each number of a list what stands right behind it.
+fn put_behind(list: &[usize], next: &mut [Option<usize>])
+    requires { All (λ y. y < length next.old) list.now }
+    ensures { (y : ℕ) → slice_index_or next.new y None ≡ next_or list.now (slice_index_or next.old y None) y }
+{
+    for i in (0..list.len()).rev() {
+        next[list[i]] = list.get(i + 1).copied();
+    }
+}

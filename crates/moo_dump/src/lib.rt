@@ -1,0 +1,10 @@
+//! The text of a world, as a database is written.
+#![tactic(auto)]
+
+mod behind;
+mod link;
+mod object;
+mod program;
+mod world;
+
+pub use world::write_world;

@@ -1,0 +1,90 @@
+//! Writing a whole world.
+
+ghost use Rattle.std.specs.Prelude.{◌≡◌, ◌++◌, ◌∷◌, [], pos, length, map, FitsSigned, IfOk, OnOk};
+ghost use Rattle.std.specs.List.{All};
+ghost use Rattle.std.specs.Int.{w32};
+ghost use Rattle.std.specs.Fmt.{signed_decimal};
+ghost use Rattle.moo_table.specs.World.{programs_in};
+ghost use Rattle.moo_dbvalue.specs.Lines.{unlines, count_line};
+ghost use Rattle.moo_dbrecord.specs.Texts.{link_of, header_line, tasks_lines, connections_lines};
+ghost use Rattle.moo_dbrecord.specs.Writing.{canonical_lines};
+ghost use Rattle.moo_dbrecord.specs.declared.dump.Form.TheVariants.{WithListeners};
+ghost use Rattle.moo_dump.specs.Held.{IsHeld};
+ghost use Rattle.moo_dump.specs.Texts.{link_to, text_of_world, canonical_bytes};
+
+use crate::object::put_entries;
+use crate::program::put_programs;
+use moo_dbrecord::{Connection, Form, put_connections, put_header, put_players, put_tasks};
+use moo_dbvalue::{put_count, put_number};
+use moo_table::verbs::all_programs;
+use moo_world::World;
+use std::alloc::{AllocError, Global};
+
+/// The version of the format that is written.
+const VERSION: u32 = 4;
+
+// The lines up to the number of the players.
+fn put_heading(out: &mut Vec<u8>, world: &World) -> Result<(), AllocError>
+    ensures { OnOk result (out.new.items ≡ out.old.items ++ unlines (header_line 4 ∷ count_line (length world.now.objects) ∷ count_line (programs_in world.now.objects) ∷ signed_decimal (pos 0) ∷ [])) }
+{
+    world.is_well_formed();
+    put_header(out, VERSION)?;
+    put_count(out, world.objects().len())?;
+    put_count(out, all_programs(world.objects()))?;
+    put_number(out, 0)?;
+    Ok(())
+}
+
+fn connections(alloc: Global, connected: &[i32]) -> Result<Vec<Connection>, AllocError>
+    ensures links { IfOk result (λ links. map link_of links.items ≡ map link_to connected.now) }
+    ensures held { IfOk result (λ _. All (FitsSigned w32) connected.now) }
+{
+    let mut links = Vec::new(alloc);
+    for who in connected {
+        links.push(Connection {
+            who: *who,
+            listener: Some(0),
+        })?;
+    }
+    Ok(links)
+}
+
+// The lines behind the programs.
+fn put_back(alloc: Global, out: &mut Vec<u8>, connected: &[i32]) -> Result<(), AllocError>
+    ensures lines { OnOk result (out.new.items ≡ out.old.items ++ unlines (tasks_lines (connections_lines WithListeners (map link_to connected.now)))) }
+    ensures held { OnOk result (All (FitsSigned w32) connected.now) }
+{
+    let links = connections(alloc, connected)?;
+    put_tasks(out)?;
+    put_connections(out, Form::WithListeners, &links)?;
+    Ok(())
+}
+
+fn put_world(
+    alloc: Global,
+    out: &mut Vec<u8>,
+    world: &World,
+    connected: &[i32],
+) -> Result<(), AllocError>
+    ensures lines { OnOk result (out.new.items ≡ out.old.items ++ unlines (canonical_lines (text_of_world world.now connected.now))) }
+    ensures held { OnOk result (IsHeld world.now connected.now) }
+{
+    put_heading(out, world)?;
+    put_players(out, world.players())?;
+    put_entries(alloc, out, world)?;
+    put_programs(alloc, out, world.objects())?;
+    put_back(alloc, out, connected)?;
+    Ok(())
+}
+
+/// The text of a world, with the numbers of those who are connected. One listing is held at a time.
+pub fn write_world(alloc: Global, world: &World, connected: &[i32]) -> Result<Vec<u8>, AllocError>
+    // The bytes are those of the world.
+    ensures bytes { IfOk result (λ bytes. bytes.items ≡ canonical_bytes world.now connected.now) }
+    // What is written has numbers of 32 bits and programs within their limits.
+    ensures held { IfOk result (λ _. IsHeld world.now connected.now) }
+{
+    let mut out = Vec::new(alloc);
+    put_world(alloc, &mut out, world, connected)?;
+    Ok(out)
+}

@@ -45,20 +45,20 @@ one_chain links z (y ∷ ys) (v ∷ zs) p q =
     let rest = one_chain links (link_of links y).next ys zs p.1 (subst (λ k. IsChain links (link_of links k).next zs) same q.1) in
     ap (λ l. y ∷ l) rest ∙ ap (λ k. k ∷ zs) (sym same)
 
-count_parts : (y : ℕ) (xs ys : List ℕ) → count_by (eqb y) (xs ++ ys) ≡ count_by (eqb y) xs + count_by (eqb y) ys
+pub count_parts : (y : ℕ) (xs ys : List ℕ) → count_by (eqb y) (xs ++ ys) ≡ count_by (eqb y) xs + count_by (eqb y) ys
 count_parts y xs ys = sum_by-append (λ k. cond (eqb y k) 1 0) xs ys
 
-count_one : (y : ℕ) → count_by (eqb y) (y ∷ []) ≡ 1
+pub count_one : (y : ℕ) → count_by (eqb y) (y ∷ []) ≡ 1
 count_one y = let same = eq-eqb y y refl in rw same refl
 
-above_then : (u : Option ℕ) (x : ℕ) → 0 < times_below u x → u ≡ Some x
+pub above_then : (u : Option ℕ) (x : ℕ) → 0 < times_below u x → u ≡ Some x
 above_then None x h = absurd (omega arith)
 above_then (Some up) x h = ⊎_elim
     (λ e. ap (λ k. Some k) (sym (eqb-true x up e)))
     (λ e. absurd (let none : times_below (Some up) x ≡ 0 = (rw e refl) in omega (arith, none)))
     (cases_Bool (eqb x up))
 
-once_at_most : (u : Option ℕ) (x : ℕ) → times_below u x ≤ 1
+pub once_at_most : (u : Option ℕ) (x : ℕ) → times_below u x ≤ 1
 once_at_most None x = omega arith
 once_at_most (Some up) x = ⊎_elim (λ e. rw e (omega arith)) (λ e. rw e (omega arith)) (cases_Bool (eqb x up))
 

@@ -9,3 +9,7 @@ pub mod Joined
 pub mod Bits
 pub mod Writing
 pub mod Making
+pub mod Touring
+pub mod Passing
+pub mod Naming
+pub mod Counting

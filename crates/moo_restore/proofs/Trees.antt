@@ -23,7 +23,7 @@ placed_number links (pos y) some = over (link_at links y) refl some
 placed_number links (negsuc zero) some = refl
 placed_number links (negsuc (suc n)) none = absurd none
 
-numbered_within : (links : List (Option Link)) (z : ℤ) (y : ℕ) → numbered links z ≡ Some y → y < length links
+pub numbered_within : (links : List (Option Link)) (z : ℤ) (y : ℕ) → numbered links z ≡ Some y → y < length links
 numbered_within links (negsuc n) y e = absurd cc
 numbered_within links (pos k) y e = over (link_at links k) refl e
   where

@@ -6,3 +6,5 @@ pub mod Says
 pub mod Faults
 pub mod Recorded
 pub mod Made
+pub mod Tours
+pub mod Names

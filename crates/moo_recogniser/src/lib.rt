@@ -4,11 +4,15 @@
 
 #[cfg(test)]
 mod listings;
+#[cfg(test)]
+mod nesting;
 mod recogniser;
 pub mod rules;
 #[cfg(test)]
 mod statement_rules;
 #[cfg(test)]
 mod tests;
+#[cfg(test)]
+mod texts;
 
 pub use recogniser::Recogniser;

@@ -1,65 +1,160 @@
-// Texts, and the full listings of their programs.
-use moo_syntax::{Names, parse};
-use moo_unparse::list_full;
+// Texts, and the listings of their programs or what is told of them.
+use crate::texts::{
+    BAD_TARGETS, EXPRESSIONS, FAULTS, FORMS, GROUPS, INDENTED, STATEMENTS, UNEXPECTED,
+};
+use moo_program::Program;
+use moo_syntax::{Names, SyntaxFault, parse};
+use moo_unparse::{list_full, list_full_indented, list_short};
 use moo_value::MooStr;
 use std::alloc::Global;
 use std::test::Fail;
 
-// The lines of the full listing of the text, each with an end.
-fn listing(alloc: Global, text: &str) -> Result<Vec<u8>, Fail> {
+// The program of the text.
+fn program(alloc: Global, text: &str, names: Names) -> Result<Result<Program, SyntaxFault>, Fail> {
     let mut lines = Vec::new(alloc);
-    lines.push(MooStr::try_from_bytes(alloc, text.as_bytes())?)?;
-    let Ok(program) = parse(alloc, &lines, Names::Any) else {
-        return Err(Fail::from("no program"));
-    };
-    let Ok(listed) = list_full(alloc, &program) else {
-        return Err(Fail::from("no listing"));
-    };
+    for line in text.lines() {
+        lines.push(MooStr::try_from_bytes(alloc, line.as_bytes())?)?;
+    }
+    Ok(parse(alloc, &lines, names))
+}
+
+// The lines, each with an end.
+fn shown(alloc: Global, lines: &[MooStr]) -> Result<Vec<u8>, Fail> {
     let mut shown = Vec::new(alloc);
-    for line in &listed {
+    for line in lines {
         shown.extend_from_slice(line.as_bytes())?;
         shown.push(b'\n')?;
     }
     Ok(shown)
 }
 
-#[test]
-fn lists_what_was_parsed(rt: HostRuntime) -> Result<(), Fail> {
-    for (text, expected) in [
-        ("", ""),
-        (";;return;", "return;\n"),
-        ("return a-b-(c-d)*2;", "return (a - b) - ((c - d) * 2);\n"),
-        ("return -a^b;", "return (-a) ^ b;\n"),
-        (
-            "return #0:foo(@l,1)+(1).x;",
-            "return $foo(@l, 1) + (1).x;\n",
-        ),
-        (
-            "return a.(\"b c\")+a.(\"b\");",
-            "return a.(\"b c\") + a.b;\n",
-        ),
-        (
-            "if(a)b;elseif(c)else d;endif",
-            "if (a)\nb;\nelseif (c)\nelse\nd;\nendif\n",
-        ),
-        (
-            "try a;except e(E_DIV,E_PERM)b;except(any)endtry",
-            "try\na;\nexcept e (E_DIV, E_PERM)\nb;\nexcept (ANY)\nendtry\n",
-        ),
-        (
-            "TRY #2.name=\"X\";while(1)endwhile;finally #2.name=\"Y\";endtry",
-            "try\n#2.name = \"X\";\nwhile (1)\nendwhile\nfinally\n#2.name = \"Y\";\nendtry\n",
-        ),
-        (
-            "for x in[1..$n]break X;endfor for y in({})while w(y)continue W;endwhile endfor",
-            "for x in [1..$n]\nbreak X;\nendfor\nfor y in ({})\nwhile w (y)\ncontinue W;\nendwhile\nendfor\n",
-        ),
-    ] {
-        assert_eq!(rt;
-            listing(rt.alloc(), text)?.as_slice(),
-            expected.as_bytes(),
-            "{text}"
-        );
+/// The full listing of the text's program, or what a player is told.
+pub fn told(alloc: Global, text: &str, names: Names) -> Result<Vec<u8>, Fail> {
+    match program(alloc, text, names)? {
+        Ok(program) => shown(alloc, &list_full(alloc, &program)?),
+        Err(fault) => Ok(fault.text(alloc)?),
     }
+}
+
+// Each text of the rows, between two others, is told as what stands beside it, between two others.
+fn are_told(
+    alloc: Global,
+    names: Names,
+    rows: &[[&'static str; 2]],
+    around: [&str; 2],
+    around_told: [&str; 2],
+) -> Result<(), Fail> {
+    for row in rows {
+        let text = format!(in alloc; "{}{}{}", around[0], row[0], around[1])?;
+        let expected = format!(in alloc; "{}{}{}", around_told[0], row[1], around_told[1])?;
+        if told(alloc, text.as_str(), names)?.as_slice() != expected.as_bytes() {
+            return Err(Fail::from(text));
+        }
+    }
+    Ok(())
+}
+
+#[test]
+fn operators_group(rt: HostRuntime) -> Result<(), Fail> {
+    let returned = ["return ", ";"];
+    are_told(
+        rt.alloc(),
+        Names::Known,
+        &GROUPS,
+        returned,
+        ["return ", ";\n"],
+    )
+}
+
+#[test]
+fn expressions_are_read(rt: HostRuntime) -> Result<(), Fail> {
+    let returned = ["return ", ";"];
+    are_told(rt.alloc(), Names::Any, &FORMS, returned, ["return ", ";\n"])
+}
+
+#[test]
+fn statements_are_read(rt: HostRuntime) -> Result<(), Fail> {
+    are_told(rt.alloc(), Names::Any, &STATEMENTS, ["", ""], ["", ""])
+}
+
+#[test]
+fn targets_are_refused(rt: HostRuntime) -> Result<(), Fail> {
+    let returned = ["return ", ";"];
+    let fault = ["Line ", ":  Illegal assignment target"];
+    are_told(rt.alloc(), Names::Any, &BAD_TARGETS, returned, fault)
+}
+
+#[test]
+fn expressions_are_refused(rt: HostRuntime) -> Result<(), Fail> {
+    let returned = ["return ", ";"];
+    let fault = ["Line ", ":  Parse error"];
+    are_told(rt.alloc(), Names::Any, &UNEXPECTED, returned, fault)
+}
+
+#[test]
+fn faults_are_told(rt: HostRuntime) -> Result<(), Fail> {
+    are_told(rt.alloc(), Names::Known, &FAULTS, ["", ""], ["", ""])
+}
+
+// What a listing of the text should be: `left` is full, `right` is short, with blanks in both.
+fn are_listed(alloc: Global, text: &str, full: &str, short: &str) -> Result<(), Fail> {
+    let Ok(program) = program(alloc, text, Names::Any)? else {
+        return Err(Fail::from("no program"));
+    };
+    let listing = shown(alloc, &list_full_indented(alloc, &program)?)?;
+    if listing.as_slice() != full.as_bytes() {
+        return Err(Fail::from(listing));
+    }
+    let listing = shown(alloc, &list_short(alloc, &program, true)?)?;
+    if listing.as_slice() != short.as_bytes() {
+        return Err(Fail::from(listing));
+    }
+    Ok(())
+}
+
+#[test]
+fn expressions_are_listed(rt: HostRuntime) -> Result<(), Fail> {
+    let alloc = rt.alloc();
+    for row in &EXPRESSIONS {
+        let text = format!(in alloc; "{};", row[0])?;
+        let full = format!(in alloc; "{};\n", row[1])?;
+        let short = format!(in alloc; "{};\n", row[2])?;
+        are_listed(alloc, text.as_str(), full.as_str(), short.as_str())?;
+    }
+    Ok(())
+}
+
+#[test]
+fn statements_are_indented(rt: HostRuntime) -> Result<(), Fail> {
+    let alloc = rt.alloc();
+    for row in &INDENTED {
+        are_listed(alloc, row[0], row[1], row[1])?;
+    }
+    Ok(())
+}
+
+#[test]
+fn a_short_listing_has_no_blanks(rt: HostRuntime) -> Result<(), Fail> {
+    let alloc = rt.alloc();
+    let Ok(program) = program(alloc, "while (1) -(-x); endwhile", Names::Any)? else {
+        return Err(Fail::from("no program"));
+    };
+    let listing = shown(alloc, &list_short(alloc, &program, false)?)?;
+    assert_eq!(rt;
+        listing.as_slice(),
+        b"while (1)\n--x;\nendwhile\n".as_slice()
+    );
+    Ok(())
+}
+
+#[test]
+fn variables_have_slots(rt: HostRuntime) -> Result<(), Fail> {
+    let alloc = rt.alloc();
+    let text = "for X in (y) x = Y; z; foo(x.n); endfor";
+    let Ok(program) = program(alloc, text, Names::Any)? else {
+        return Err(Fail::from("no program"));
+    };
+    let slots = shown(alloc, program.slots())?;
+    assert_eq!(rt; slots.as_slice(), b"x\ny\nz\n".as_slice());
     Ok(())
 }

@@ -15,14 +15,14 @@ use Rattle.moo_grammar.specs.Grammar.{Sort, label}
 use Rattle.moo_grammar.specs.Machine.{Reading, give, Reads, gives, misses, by_form, by_rule, Fails, refuses, forbids, sees_fails, misses_fails, next_passes}
 use Rattle.moo_grammar.specs.Predictive.{grammar, expect, loop_at, behind_jump}
 use Rattle.moo_grammar.specs.Depth.{Deep}
-use Rattle.moo_syntax.specs.declared.cursor.Cursor.{Cursor}
-use Rattle.moo_syntax.specs.declared.fault.Fault.{Fault}
-use Rattle.moo_syntax.specs.declared.fault.Fault.TheVariants.{TooDeep, Memory}
-use Rattle.moo_syntax.specs.Cursor.{left, Takes, Stays}
-use Rattle.moo_syntax.specs.Programs.{is_jump, IsJump, at_name}
-use Rattle.moo_syntax.specs.Outcome.{HasNotJumped}
+use Rattle.moo_expression.specs.declared.cursor.Cursor.{Cursor}
+use Rattle.moo_expression.specs.declared.fault.Fault.{Fault}
+use Rattle.moo_expression.specs.declared.fault.Fault.TheVariants.{TooDeep, Memory}
+use Rattle.moo_expression.specs.Cursor.{left, Takes, Stays}
+use Rattle.moo_expression.specs.Places.{is_jump, IsJump, at_name}
+use Rattle.moo_syntax.specs.Statements.{HasNotJumped}
 use Rattle.moo_syntax.proofs.Blocks.{statement_height_positive}
-use Rattle.moo_syntax.proofs.Steps.{took, took_fails, stayed, stayed_fails}
+use Rattle.moo_expression.proofs.Steps.{took, took_fails, stayed, stayed_fails}
 
 -- a label that was read, or none
 pub label_reads : (old new : Cursor) (found : Option (List ℕ)) → MatchOption found (Stays (λ x. is_some (name_at x)) old new) (λ s. Takes (Name s) old new) → (g : Rules) → Reads (grammar g) Sort.label_name (grammar g label) (left old) found (left new)

@@ -1,5 +1,3 @@
-pub mod Steps
-pub mod Options
 pub mod Blocks
 pub mod Jumps
 pub mod TextLengths

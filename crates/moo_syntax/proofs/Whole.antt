@@ -11,14 +11,15 @@ use Rattle.moo_program.specs.Limits.{AllFit, most_nodes, most_brackets}
 use Rattle.moo_program.specs.Listing.{listing}
 use Rattle.moo_grammar.specs.declared.names.Names.{Names}
 use Rattle.moo_grammar.specs.Rules.{Rules, Admits, loose, strict}
-use Rattle.moo_syntax.specs.declared.fault.Fault.{Fault}
-use Rattle.moo_syntax.specs.declared.fault.Fault.TheVariants.{Unexpected, BadTarget, UnknownFunction, BadLoopName, TooDeep, Memory}
-use Rattle.moo_syntax.specs.declared.cursor.Cursor.{Cursor}
-use Rattle.moo_syntax.specs.Cursor.{left}
-use Rattle.moo_syntax.specs.Outcome.{ToldBy, why, HasFailed}
+use Rattle.moo_expression.specs.declared.fault.Fault.{Fault}
+use Rattle.moo_expression.specs.declared.fault.Fault.TheVariants.{Unexpected, BadTarget, UnknownFunction, BadLoopName, TooDeep, Memory}
+use Rattle.moo_expression.specs.declared.cursor.Cursor.{Cursor}
+use Rattle.moo_expression.specs.Cursor.{left}
+use Rattle.moo_expression.specs.Outcome.{ToldBy, why, HasFailed}
 use Rattle.moo_syntax.specs.Stops.{Passes, StopsBy, ExceedLimits}
 use Rattle.moo_grammar.specs.Tokens.{words, is_sign, is_bad}
-use Rattle.moo_syntax.specs.Programs.{SameUpTo, NoProgram, BeginsProgram, with_targets, with_functions, with_loops, is_jump, IsJump, at_keyword, at_name, IsCalled, IsBadToken, IsTooDeep, line_of}
+use Rattle.moo_syntax.specs.Programs.{SameUpTo, NoProgram, BeginsProgram, with_targets, with_functions, with_loops, IsBadToken, IsTooDeep, line_of}
+use Rattle.moo_expression.specs.Places.{is_jump, IsJump, at_keyword, at_name, IsCalled}
 use Rattle.moo_grammar.specs.Brackets.{open_behind, most_open_behind, most_open}
 use Rattle.moo_grammar.specs.Depth.{Deep}
 use Rattle.moo_token.specs.declared.sign.Sign.TheVariants as sign

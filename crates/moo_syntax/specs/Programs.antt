@@ -1,10 +1,9 @@
 -- The program of a text, and what a fault says of the text.
-use Rattle.std.specs.Prelude.{ℕ, suc, ◌+◌, List, [], ◌∷◌, ◌++◌, ◌≡◌, ◌≤◌, ◌<◌, ◌⊎◌, ◌||◌, Bool, true, false, length, take, drop}
+use Rattle.std.specs.Prelude.{ℕ, suc, List, [], ◌∷◌, ◌++◌, ◌≡◌, ◌≤◌, ◌<◌, ◌⊎◌, true, false, length, take, drop}
 use Rattle.std.specs.List.{sum_by}
-use Rattle.moo_token.specs.declared.sign.Sign.TheVariants.{LeftParen, Assign}
-use Rattle.moo_token.specs.declared.keyword.Keyword.TheVariants.{Break, Continue}
+use Rattle.moo_token.specs.declared.sign.Sign.TheVariants.{Assign}
 use Rattle.moo_token.specs.declared.token.Token.{Token}
-use Rattle.moo_token.specs.declared.token.Token.TheVariants.{Name, Sign, Bad}
+use Rattle.moo_token.specs.declared.token.Token.TheVariants.{Bad}
 use Rattle.moo_token.specs.declared.token.Spot.{Spot}
 use Rattle.moo_token.specs.Lexing.{IsTokens, IsReading, HasNoTokens}
 use Rattle.moo_program.specs.Tree.{Block}
@@ -13,7 +12,8 @@ use Rattle.moo_program.specs.Listing.{listing}
 use Rattle.moo_grammar.specs.declared.names.Names.{Names}
 use Rattle.moo_syntax.specs.declared.syntax_fault.SyntaxFaultKind.{SyntaxFaultKind}
 use Rattle.moo_syntax.specs.declared.syntax_fault.SyntaxFaultKind.TheVariants.{BadToken, Unexpected, BadTarget, UnknownFunction, BadLoopName, TooDeep, Memory}
-use Rattle.moo_grammar.specs.Tokens.{words, is_sign, is_keyword, is_bad}
+use Rattle.moo_expression.specs.Places.{IsCalled, IsJump}
+use Rattle.moo_grammar.specs.Tokens.{words, is_sign, is_bad}
 use Rattle.moo_grammar.specs.Rules.{Rules, loose, may_call}
 use Rattle.moo_grammar.specs.Machine.{next_passes}
 use Rattle.moo_grammar.specs.Brackets.{most_open}
@@ -94,13 +94,6 @@ pub record IsBadTarget (lines : List (List ℕ)) (n : ℕ) : Type 0 where
   pub none : NoProgram with_targets (words spots) at
   pub begins : BeginsProgram loose (words spots) at
 
--- the name stands before the place, and a parenthesis at it
-pub record IsCalled (spots : List Spot) (at : ℕ) (name : List ℕ) : Type 0 where
-  pub before : ℕ
-  pub place : at ≡ before + 1
-  pub rest : List Token
-  pub called : words (drop before spots) ≡ Name name ∷ Sign LeftParen ∷ rest
-
 -- The name stands on line n with a parenthesis behind it, and may not be called. No program of which such names alone are asked
 -- begins with the tokens up to the parenthesis, but one of which nothing is asked does.
 pub record IsUnknownFunction (names : Names) (lines : List (List ℕ)) (n : ℕ) (name : List ℕ) : Type 0 where
@@ -112,15 +105,6 @@ pub record IsUnknownFunction (names : Names) (lines : List (List ℕ)) (n : ℕ)
   pub line : n ≡ line_of lines (drop call.before spots)
   pub none : NoProgram (with_functions names) (words spots) at
   pub begins : BeginsProgram loose (words spots) at
-
--- whether the token is `break` or `continue`
-abbrev pub is_jump : Token → Bool
-is_jump x = is_keyword Break x || is_keyword Continue x
-
--- a `break` or a `continue` stands at the place, or the name that stands behind one
-pub data IsJump (spots : List Spot) : ℕ → Type 0 where
-  at_keyword : {at : ℕ} → next_passes is_jump (words (drop at spots)) ≡ true → IsJump spots at
-  at_name : (before : ℕ) {x : Token} {name : List ℕ} {rest : List Token} → is_jump x ≡ true → words (drop before spots) ≡ x ∷ Name name ∷ rest → IsJump spots (before + 1)
 
 -- A jump, or its name, stands on line n. No program of which loops round its jumps alone are asked begins with the tokens up to it,
 -- but one of which nothing is asked does.

@@ -10,9 +10,10 @@ use Rattle.moo_grammar.specs.Rules.{loose, may_call}
 use Rattle.moo_grammar.specs.Tokens.{words, is_sign, is_bad}
 use Rattle.moo_grammar.specs.Grammar.{IsProgram}
 use Rattle.moo_grammar.specs.Machine.{next_passes}
-use Rattle.moo_syntax.specs.declared.fault.Fault.{Fault}
-use Rattle.moo_syntax.specs.declared.fault.Fault.TheVariants.{Unexpected, BadTarget, UnknownFunction, BadLoopName, TooDeep, Memory}
-use Rattle.moo_syntax.specs.Programs.{IsWithin, IsCalled, NoProgram, BeginsProgram, with_targets, with_functions, with_loops, IsJump, IsOutside, HasLongLine}
+use Rattle.moo_expression.specs.declared.fault.Fault.{Fault}
+use Rattle.moo_expression.specs.declared.fault.Fault.TheVariants.{Unexpected, BadTarget, UnknownFunction, BadLoopName, TooDeep, Memory}
+use Rattle.moo_syntax.specs.Programs.{IsWithin, NoProgram, BeginsProgram, with_targets, with_functions, with_loops, IsOutside, HasLongLine}
+use Rattle.moo_expression.specs.Places.{IsCalled, IsJump}
 
 -- no program within the limits has these tokens: they are many, or there is a long line
 pub record ExceedLimits (names : Names) (ts : List Token) : Type 0 where

@@ -6,14 +6,13 @@ ghost use Rattle.moo_grammar.specs.Machine.{next_passes};
 ghost use Rattle.std.specs.List.{list_any};
 ghost use Rattle.moo_grammar.specs.Rules.{has_loop, is_named};
 ghost use Rattle.moo_grammar.specs.Tokens.{is_keyword};
-ghost use Rattle.moo_syntax.specs.Cursor.{left};
-ghost use Rattle.moo_syntax.specs.Programs.{is_jump};
-ghost use Rattle.moo_syntax.specs.Outcome.{Moves, IsStranger, Jumps, HasNotJumped};
-ghost use Rattle.moo_syntax.specs.declared.fault.Fault.TheVariants.{BadLoopName, Memory};
+ghost use Rattle.moo_expression.specs.Cursor.{left};
+ghost use Rattle.moo_expression.specs.Places.{is_jump};
+ghost use Rattle.moo_expression.specs.Outcome.{Moves};
+ghost use Rattle.moo_syntax.specs.Statements.{IsStranger, Jumps, HasNotJumped};
+ghost use Rattle.moo_expression.specs.declared.fault.Fault.TheVariants.{BadLoopName, Memory};
 
-use crate::cursor::Cursor;
-use crate::fault::Fault;
-use crate::make::below;
+use moo_expression::{Cursor, Fault, below};
 use moo_token::{Keyword, Sign, Token};
 use moo_value::MooStr;
 

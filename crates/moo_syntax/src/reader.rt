@@ -2,14 +2,14 @@
 ghost use Rattle.std.specs.Prelude.{◌≡◌, ◌≤◌, ◌+◌, length, drop, ℕ, List, IfOk, IfErr, MatchOption};
 ghost use Rattle.moo_token.specs.Lexing.{IsReading};
 ghost use Rattle.moo_grammar.specs.Tokens.{words};
-ghost use Rattle.moo_syntax.specs.Programs.{IsParsed, Blames, IsCalled, line_of};
+ghost use Rattle.moo_syntax.specs.Programs.{IsParsed, Blames, line_of};
+ghost use Rattle.moo_expression.specs.Places.{IsCalled};
 ghost use Rattle.moo_syntax.specs.Stops.{StopsBy, IsStuckAt, CallsUnknown, IsWhole};
 
 use crate::brackets::bracket_too_many;
-use crate::cursor::Cursor;
-use crate::fault::Fault;
 use crate::statement::statements;
 use crate::syntax_fault::{SyntaxFault, SyntaxFaultKind};
+use moo_expression::{Cursor, Fault};
 use moo_grammar::Names;
 use moo_program::{MOST_NODES, Program, fit_lines};
 use moo_token::{Sign, Spot, tokens};

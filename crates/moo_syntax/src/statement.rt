@@ -5,16 +5,11 @@ ghost use Rattle.moo_program.specs.View.{root, block, arms_of, handlers_of, stat
 ghost use Rattle.moo_grammar.specs.Grammar as grammar;
 ghost use Rattle.moo_grammar.specs.Grammar.{stmt};
 ghost use Rattle.moo_grammar.specs.Predictive as choices;
-ghost use Rattle.moo_syntax.specs.Outcome.{Moves, IsRead, IsReadBy, HasFailed, HasFailedBy, IsHandler, behind_range, performing};
+ghost use Rattle.moo_expression.specs.Outcome.{Moves, IsRead, IsReadBy, HasFailed, HasFailedBy};
+ghost use Rattle.moo_syntax.specs.Statements.{IsHandler, behind_range, performing};
 
-use crate::cursor::Cursor;
-use crate::expression::expression;
-use crate::fault::Fault;
 use crate::jump::{jump, name_copy};
-use crate::make::below;
-use crate::node::Node;
-use crate::place::Place;
-use crate::primary::codes;
+use moo_expression::{Cursor, Fault, Node, Place, below, codes, expression};
 use moo_grammar::Names;
 use moo_program::{Arm, Handler, Stmt};
 use moo_token::{Keyword, Sign};

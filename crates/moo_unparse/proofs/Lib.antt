@@ -12,6 +12,5 @@ pub mod Read
 pub mod ReadLines
 pub mod Refusals
 pub mod Scatters
-pub mod Sizes
 pub mod Sound
 pub mod Texts

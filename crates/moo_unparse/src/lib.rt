@@ -11,8 +11,6 @@ mod line;
 mod listing;
 mod literal;
 mod operator;
-#[cfg(test)]
-mod tests;
 
 pub use fault::{ListFault, Memory};
 pub use listing::{list_full, list_full_indented, list_short};

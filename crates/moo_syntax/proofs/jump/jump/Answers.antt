@@ -5,9 +5,9 @@ use Rattle.moo_grammar.specs.Tokens.{is_keyword}
 use Rattle.moo_grammar.specs.Machine.{sees_fails, next_passes}
 use Rattle.moo_grammar.specs.Predictive.{behind_jump}
 use Rattle.moo_grammar.proofs.Kept.{refused_fails}
-use Rattle.moo_syntax.specs.Programs.{at_keyword}
+use Rattle.moo_expression.specs.Places.{at_keyword}
 use Rattle.moo_syntax.proofs.Jumps.{label_at, empty_list, loop_jumps, no_loop_jumps, some_loops, jump_name, jump_memory, jump_too_deep, jump_ends, jump_unended, jump_refused}
-use Rattle.moo_syntax.proofs.Steps.{admitted, admitted_fails, passed}
+use Rattle.moo_expression.proofs.Steps.{admitted, admitted_fails, passed}
 use Rattle.moo_syntax.proofs.jump.jump.Goals as goal
 
 pub returns-then-is_empty-clause-failed : goal.returns-then-is_empty-clause-failed

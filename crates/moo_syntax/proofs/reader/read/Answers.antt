@@ -7,7 +7,7 @@ use Rattle.moo_grammar.specs.Machine.{Reads}
 use Rattle.moo_grammar.specs.Predictive.{grammar}
 use Rattle.moo_grammar.proofs.Admitted.{loose_admits}
 use Rattle.moo_grammar.proofs.Derived.{derived}
-use Rattle.moo_syntax.proofs.Steps.{admits_itself}
+use Rattle.moo_expression.proofs.Steps.{admits_itself}
 use Rattle.moo_syntax.proofs.Passing.{program_passes}
 use Rattle.moo_syntax.proofs.Whole.{stop_of, refused_before, nothing_left, exceed_by_lines, exceed_by_brackets}
 use Rattle.moo_syntax.proofs.reader.read.Goals as goal

@@ -13,11 +13,12 @@ use Rattle.moo_grammar.specs.Machine.{gives, sees, misses, reads, refuses, sees_
 use Rattle.moo_grammar.specs.Predictive.{grammar, behind_if, behind_for, behind_while, behind_return, behind_try}
 use Rattle.moo_grammar.specs.Tokens.{name_at}
 use Rattle.moo_grammar.proofs.Depths.{sees_deep, misses_deep, then_deep, phrase_deep, meets_deep}
-use Rattle.moo_syntax.specs.Cursor.{left, Takes, Stays}
-use Rattle.moo_syntax.specs.Outcome.{IsReadBy, HasFailedBy, behind_range, performing}
+use Rattle.moo_expression.specs.Cursor.{left, Takes, Stays}
+use Rattle.moo_expression.specs.Outcome.{IsReadBy, HasFailedBy}
+use Rattle.moo_syntax.specs.Statements.{behind_range, performing}
 use Rattle.moo_syntax.proofs.Blocks.{before_nothing, before_push, block_height_push, statement_height_positive, arms_before_nothing, arms_before_push, arms_push, arms_height_push, handlers_before_push, handlers_push, with_handler_height, handlers_height_push}
 use Rattle.moo_syntax.proofs.Jumps.{label_reads, label_at, no_statement_room, break_jumps, continue_jumps}
-use Rattle.moo_syntax.proofs.Steps.{took, took_fails, took_deep, stayed, stayed_fails, stayed_deep, admits_itself, told_admits, passed, refused, no_memory, too_high, if_ok, if_err, none_of}
+use Rattle.moo_expression.proofs.Steps.{took, took_fails, took_deep, stayed, stayed_fails, stayed_deep, admits_itself, told_admits, passed, refused, no_memory, too_high, if_ok, if_err, none_of}
 use Rattle.moo_syntax.proofs.statement.+statements.Goals as goal
 
 pub statements-loop-alloc-init : goal.statements-loop-alloc-init

@@ -3,8 +3,9 @@ use Rattle.std.proofs.Common.{◌+◌, ◌-◌, ◌*◌, ◌≤◌, ◌≡◌, l
 use Rattle.moo_program.specs.Limits.{block_height, arms_height, handlers_height}
 use Rattle.moo_program.specs.View.{block, arms_of, handlers_of}
 use Rattle.moo_grammar.specs.Grammar.{statements, arms, handlers}
-use Rattle.moo_syntax.specs.Cursor.{left}
-use Rattle.moo_syntax.specs.Outcome.{Moves, GoesOn, before, arms_before, handlers_before}
+use Rattle.moo_expression.specs.Cursor.{left}
+use Rattle.moo_expression.specs.Outcome.{Moves, GoesOn}
+use Rattle.moo_syntax.specs.Statements.{before, arms_before, handlers_before}
 use Rattle.moo_syntax.proofs.statement.+statements.Given as goal
 
 abbrev pub decreases-arms : goal.decreases-arms

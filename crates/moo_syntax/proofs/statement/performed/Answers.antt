@@ -4,7 +4,7 @@ use Rattle.moo_grammar.specs.Rules.{strict}
 use Rattle.moo_grammar.specs.Machine.{gives, reads, refuses, phrase_fails, then_fails}
 use Rattle.moo_grammar.specs.Predictive.{grammar}
 use Rattle.moo_grammar.proofs.Depths.{then_deep, phrase_deep, meets_deep}
-use Rattle.moo_syntax.proofs.Steps.{took, took_deep, stayed_fails, admits_itself, passed, refused, too_high}
+use Rattle.moo_expression.proofs.Steps.{took, took_deep, stayed_fails, admits_itself, passed, refused, too_high}
 use Rattle.moo_syntax.proofs.statement.performed.Goals as goal
 
 pub returns-in_err-value-clause-failed : goal.returns-in_err-value-clause-failed

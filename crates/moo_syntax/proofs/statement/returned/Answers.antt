@@ -4,7 +4,7 @@ use Rattle.moo_grammar.specs.Machine.{gives, reads, refuses, phrase_fails, then_
 use Rattle.moo_grammar.specs.Predictive.{grammar}
 use Rattle.moo_grammar.proofs.Depths.{phrase_deep}
 use Rattle.moo_syntax.proofs.Jumps.{no_statement_room}
-use Rattle.moo_syntax.proofs.Steps.{took, stayed, stayed_fails, stayed_deep, passed, refused, too_high}
+use Rattle.moo_expression.proofs.Steps.{took, stayed, stayed_fails, stayed_deep, passed, refused, too_high}
 use Rattle.moo_syntax.proofs.statement.returned.Goals as goal
 
 pub returns-in_err-room_below-clause-failed : goal.returns-in_err-room_below-clause-failed

@@ -1,0 +1,108 @@
+-- Each call leaves fewer tokens to read, or goes to a tighter level of the grammar.
+use Rattle.std.proofs.Common.{ℕ, ◌+◌, ◌-◌, ◌*◌, ◌≤◌, length}
+use Rattle.moo_program.specs.View.{root, in_front}
+use Rattle.moo_grammar.specs.declared.level.Level.{Level}
+use Rattle.moo_grammar.specs.declared.level.Level.TheVariants.{Logic, Relation, Sum, Product}
+use Rattle.moo_expression.specs.Cursor.{left}
+use Rattle.moo_grammar.specs.Grammar.{chain, more, members}
+use Rattle.moo_expression.specs.Outcome.{Moves, GoesOn}
+use Rattle.moo_expression.proofs.+parser.Given as goal
+
+abbrev pub level_rank : Level → ℕ
+level_rank Logic = 3
+level_rank Relation = 2
+level_rank Sum = 1
+level_rank Product = 0
+
+abbrev pub decreases-members::arguments : goal.decreases-members::arguments
+decreases-members::arguments l = 40 * (length l.tokens.now.spots.now - l.tokens.now.at) + 29
+
+abbrev pub decreases-postfix::behind_bracket : goal.decreases-postfix::behind_bracket
+decreases-postfix::behind_bracket l = 40 * (length l.tokens.now.spots.now - l.tokens.now.at) + 30
+
+abbrev pub decreases-postfix::behind_colon : goal.decreases-postfix::behind_colon
+decreases-postfix::behind_colon l = 40 * (length l.tokens.now.spots.now - l.tokens.now.at) + 30
+
+abbrev pub decreases-primary::behind_dollar : goal.decreases-primary::behind_dollar
+decreases-primary::behind_dollar l = 40 * (length l.tokens.now.spots.now - l.tokens.now.at) + 31
+
+abbrev pub decreases-postfix::behind_dot : goal.decreases-postfix::behind_dot
+decreases-postfix::behind_dot l = 40 * (length l.tokens.now.spots.now - l.tokens.now.at) + 30
+
+abbrev pub decreases-members::behind_question : goal.decreases-members::behind_question
+decreases-members::behind_question l = 40 * (length l.tokens.now.spots.now - l.tokens.now.at) + 30
+
+abbrev pub decreases-primary::braced : goal.decreases-primary::braced
+decreases-primary::braced l = 40 * (length l.tokens.now.spots.now - l.tokens.now.at) + 9
+
+abbrev pub decreases-primary::codes : goal.decreases-primary::codes
+decreases-primary::codes l = 40 * (length l.tokens.now.spots.now - l.tokens.now.at) + 30
+
+abbrev pub decreases-levels::conditional : goal.decreases-levels::conditional
+decreases-levels::conditional l = 40 * (length l.tokens.now.spots.now - l.tokens.now.at) + 25
+
+abbrev pub decreases-primary::dollar : goal.decreases-primary::dollar
+decreases-primary::dollar l = 40 * (length l.tokens.now.spots.now - l.tokens.now.at) + 8
+
+abbrev pub decreases-levels::expression : goal.decreases-levels::expression
+decreases-levels::expression l = 40 * (length l.tokens.now.spots.now - l.tokens.now.at) + 26
+
+abbrev pub decreases-primary::guarded : goal.decreases-primary::guarded
+decreases-primary::guarded l = 40 * (length l.tokens.now.spots.now - l.tokens.now.at) + 7
+
+abbrev pub decreases-members::member : goal.decreases-members::member
+decreases-members::member l = 40 * (length l.tokens.now.spots.now - l.tokens.now.at) + 27
+
+abbrev pub decreases-postfix::member_name : goal.decreases-postfix::member_name
+decreases-postfix::member_name l = 40 * (length l.tokens.now.spots.now - l.tokens.now.at) + 29
+
+abbrev pub decreases-members::members : goal.decreases-members::members
+decreases-members::members l = 40 * (length l.tokens.now.spots.now - l.tokens.now.at) + 28
+
+abbrev pub decreases-primary::named : goal.decreases-primary::named
+decreases-primary::named l = 40 * (length l.tokens.now.spots.now - l.tokens.now.at) + 31
+
+abbrev pub decreases-postfix::postfix : goal.decreases-postfix::postfix
+decreases-postfix::postfix l = 40 * (length l.tokens.now.spots.now - l.tokens.now.at) + 11
+
+abbrev pub decreases-levels::power : goal.decreases-levels::power
+decreases-levels::power l = 40 * (length l.tokens.now.spots.now - l.tokens.now.at) + 14
+
+abbrev pub decreases-primary::primary : goal.decreases-primary::primary
+decreases-primary::primary l = 40 * (length l.tokens.now.spots.now - l.tokens.now.at) + 10
+
+abbrev pub decreases-postfix::suffixes : goal.decreases-postfix::suffixes
+decreases-postfix::suffixes l = 40 * (length l.tokens.now.spots.now - l.tokens.now.at) + 6
+
+abbrev pub decreases-levels::unary : goal.decreases-levels::unary
+decreases-levels::unary l = 40 * (length l.tokens.now.spots.now - l.tokens.now.at) + 13
+
+abbrev pub decreases-levels::unsigned : goal.decreases-levels::unsigned
+decreases-levels::unsigned l = 40 * (length l.tokens.now.spots.now - l.tokens.now.at) + 12
+
+abbrev pub decreases-levels::chain : goal.decreases-levels::chain
+decreases-levels::chain l = 40 * (length l.tokens.now.spots.now - l.tokens.now.at) + (2 * level_rank l.level + 16)
+
+abbrev pub decreases-levels::operand : goal.decreases-levels::operand
+decreases-levels::operand l = 40 * (length l.tokens.now.spots.now - l.tokens.now.at) + (2 * level_rank l.level + 15)
+
+abbrev pub invariant-levels::chain-loop-operator : goal.invariant-levels::chain-loop-operator
+invariant-levels::chain-loop-operator l = record {
+  moves : Moves l.fn.tokens l.tokens;
+  goes_on : GoesOn l.place.names (chain l.place.inside l.level) (more l.place.inside l.level (root l.front.tree)) (λ e. e) (left l.fn.tokens) (left l.tokens);
+  fits : l.front.height ≤ l.room;
+  tokens : l.fn.tokens.at + l.front.height ≤ l.tokens.at;
+}
+
+abbrev pub decreases-levels::chain-loop-operator : goal.decreases-levels::chain-loop-operator
+decreases-levels::chain-loop-operator l = length l.tokens.spots.now - l.tokens.at
+
+abbrev pub invariant-members::members-loop-found : goal.invariant-members::members-loop-found
+invariant-members::members-loop-found l = record {
+  moves : Moves l.fn.tokens l.tokens;
+  goes_on : GoesOn l.place.names (members l.place.inside l.optional) (members l.place.inside l.optional) (in_front l.found.items.items) (left l.fn.tokens) (left l.tokens);
+  tokens : l.fn.tokens.at + l.found.height ≤ l.tokens.at;
+}
+
+abbrev pub decreases-members::members-loop-found : goal.decreases-members::members-loop-found
+decreases-members::members-loop-found l = length l.tokens.spots.now - l.tokens.at

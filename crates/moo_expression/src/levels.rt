@@ -1,0 +1,159 @@
+//! A parser of expressions by recursive descent: a function for each level of the grammar.
+ghost use Rattle.std.specs.Prelude.{◌≡◌, false, IfOk, IfErr};
+ghost use Rattle.moo_token.specs.declared.sign.Sign.TheVariants.{Minus};
+ghost use Rattle.moo_program.specs.Limits.{height};
+ghost use Rattle.moo_program.specs.View.{root};
+ghost use Rattle.moo_grammar.specs.Tokens.{is_sign};
+ghost use Rattle.moo_grammar.specs.Grammar.{expression, conditional, chain, operand, power, unary, postfix};
+ghost use Rattle.moo_grammar.specs.Machine.{next_passes};
+ghost use Rattle.moo_expression.specs.Cursor.{left};
+ghost use Rattle.moo_expression.specs.Outcome.{Moves, IsRead, HasFailed};
+
+use crate::cursor::Cursor;
+use crate::fault::Fault;
+use crate::make::{below, join, negate_times, node_over};
+use crate::node::Node;
+use crate::place::Place;
+use crate::postfix::postfix;
+use crate::rules::expect_target;
+use moo_grammar::Level;
+use moo_program::Expr;
+use moo_program::operator::{BinaryOperator, UnaryOperator};
+use moo_token::Sign;
+use std::alloc::Global;
+
+#[cycle(parser)]
+pub fn expression(
+    alloc: Global,
+    tokens: &mut Cursor,
+    place: Place,
+    room: u32,
+) -> Result<Node, Fault>
+    ensures moves { Moves tokens.old tokens.new }
+    ensures read { IfOk result (λ n. IsRead place.names (expression place.inside) room tokens.old tokens.new (root n.tree)) }
+    ensures failed { IfErr result (λ f. HasFailed place.names (expression place.inside) room tokens.old tokens.new f) }
+{
+    let target = conditional(alloc, tokens, place, room)?;
+    if !tokens.is_at(Sign::Assign) {
+        return Ok(target);
+    }
+    expect_target(&target.tree)?;
+    tokens.expect(Sign::Assign)?;
+    let value = expression(alloc, tokens, place, below(room)?)?;
+    let height = target.height.max(value.height);
+    node_over(alloc, Expr::Assign(target.tree, value.tree), height, room)
+}
+
+#[cycle(parser)]
+fn conditional(alloc: Global, tokens: &mut Cursor, place: Place, room: u32) -> Result<Node, Fault>
+    ensures moves { Moves tokens.old tokens.new }
+    ensures read { IfOk result (λ n. IsRead place.names (conditional place.inside) room tokens.old tokens.new (root n.tree)) }
+    ensures failed { IfErr result (λ f. HasFailed place.names (conditional place.inside) room tokens.old tokens.new f) }
+{
+    let test = chain(alloc, tokens, Level::Logic, place, room)?;
+    if !tokens.take(Sign::Question) {
+        return Ok(test);
+    }
+    let room_below = below(room)?;
+    let yes = expression(alloc, tokens, place, room_below)?;
+    tokens.expect(Sign::Pipe)?;
+    let no = conditional(alloc, tokens, place, room_below)?;
+    let height = test.height.max(yes.height).max(no.height);
+    node_over(
+        alloc,
+        Expr::Conditional(test.tree, yes.tree, no.tree),
+        height,
+        room,
+    )
+}
+
+#[cycle(parser)]
+fn chain(
+    alloc: Global,
+    tokens: &mut Cursor,
+    level: Level,
+    place: Place,
+    room: u32,
+) -> Result<Node, Fault>
+    ensures moves { Moves tokens.old tokens.new }
+    ensures read { IfOk result (λ n. IsRead place.names (chain place.inside level) room tokens.old tokens.new (root n.tree)) }
+    ensures failed { IfErr result (λ f. HasFailed place.names (chain place.inside level) room tokens.old tokens.new f) }
+{
+    let mut front = operand(alloc, tokens, level, place, room)?;
+    while let Some(operator) = tokens.take_operator(level) {
+        let next = operand(alloc, tokens, level, place, room)?;
+        front = join(alloc, operator, front, next, room)?;
+    }
+    Ok(front)
+}
+
+#[cycle(parser)]
+fn operand(
+    alloc: Global,
+    tokens: &mut Cursor,
+    level: Level,
+    place: Place,
+    room: u32,
+) -> Result<Node, Fault>
+    ensures moves { Moves tokens.old tokens.new }
+    ensures read { IfOk result (λ n. IsRead place.names (operand place.inside level) room tokens.old tokens.new (root n.tree)) }
+    ensures failed { IfErr result (λ f. HasFailed place.names (operand place.inside level) room tokens.old tokens.new f) }
+{
+    match level {
+        Level::Logic => chain(alloc, tokens, Level::Relation, place, room),
+        Level::Relation => chain(alloc, tokens, Level::Sum, place, room),
+        Level::Sum => chain(alloc, tokens, Level::Product, place, room),
+        Level::Product => power(alloc, tokens, place, room),
+    }
+}
+
+#[cycle(parser)]
+fn power(alloc: Global, tokens: &mut Cursor, place: Place, room: u32) -> Result<Node, Fault>
+    ensures moves { Moves tokens.old tokens.new }
+    ensures read { IfOk result (λ n. IsRead place.names (power place.inside) room tokens.old tokens.new (root n.tree)) }
+    ensures failed { IfErr result (λ f. HasFailed place.names (power place.inside) room tokens.old tokens.new f) }
+{
+    let base = unary(alloc, tokens, place, room)?;
+    if !tokens.take(Sign::Caret) {
+        return Ok(base);
+    }
+    let exponent = power(alloc, tokens, place, below(room)?)?;
+    let height = base.height.max(exponent.height);
+    node_over(
+        alloc,
+        Expr::Binary(BinaryOperator::Power, base.tree, exponent.tree),
+        height,
+        room,
+    )
+}
+
+#[cycle(parser)]
+fn unary(alloc: Global, tokens: &mut Cursor, place: Place, room: u32) -> Result<Node, Fault>
+    ensures moves { Moves tokens.old tokens.new }
+    ensures read { IfOk result (λ n. IsRead place.names (unary place.inside) room tokens.old tokens.new (root n.tree)) }
+    ensures failed { IfErr result (λ f. HasFailed place.names (unary place.inside) room tokens.old tokens.new f) }
+{
+    let minuses = tokens.take_minuses();
+    let operand = unsigned(alloc, tokens, place, room)?;
+    negate_times(alloc, minuses, operand, room)
+}
+
+#[cycle(parser)]
+fn unsigned(alloc: Global, tokens: &mut Cursor, place: Place, room: u32) -> Result<Node, Fault>
+    requires { next_passes (is_sign Minus) (left tokens.old) ≡ false }
+    ensures moves { Moves tokens.old tokens.new }
+    ensures read { IfOk result (λ n. IsRead place.names (unary place.inside) room tokens.old tokens.new (root n.tree)) }
+    ensures failed { IfErr result (λ f. HasFailed place.names (unary place.inside) room tokens.old tokens.new f) }
+{
+    if tokens.take(Sign::Bang) {
+        let operand = unary(alloc, tokens, place, below(room)?)?;
+        let height = operand.height;
+        return node_over(
+            alloc,
+            Expr::Unary(UnaryOperator::Not, operand.tree),
+            height,
+            room,
+        );
+    }
+    postfix(alloc, tokens, place, room)
+}

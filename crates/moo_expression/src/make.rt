@@ -1,0 +1,110 @@
+//! Nodes over nodes, within the room that there is.
+ghost use Rattle.std.specs.Prelude.{◌≡◌, ◌+◌, ◌≤◌, MatchResult};
+ghost use Rattle.moo_program.specs.Limits.{height as height_of};
+ghost use Rattle.moo_program.specs.Tree as tree;
+ghost use Rattle.moo_program.specs.View.{root, tree as tree_of};
+ghost use Rattle.moo_expression.specs.declared.fault.Fault.TheVariants.{Memory, TooDeep};
+ghost use Rattle.moo_grammar.specs.Grammar.{negated, joined};
+ghost use Rattle.moo_expression.specs.Height.{IsMade};
+ghost use Rattle.moo_grammar.specs.Minuses.{negations};
+
+use crate::fault::Fault;
+use crate::node::Node;
+use moo_grammar::Operator;
+use moo_program::operator::UnaryOperator;
+use moo_program::{Expr, Literal};
+use std::alloc::Global;
+
+/// How many nodes may stand below a node, where so many may stand from it on.
+pub fn below(room: u32) -> Result<u32, Fault>
+    ensures { MatchResult result (λ r. r + 1 ≡ room) (λ f. (f ≡ TooDeep) × (room ≡ 0)) }
+{
+    room.checked_sub(1).ok_or(Fault::TooDeep)
+}
+
+/// A node over others, of which the highest has this height.
+pub fn node_over(alloc: Global, tree: Expr, below: u32, room: u32) -> Result<Node, Fault>
+    requires { height_of (tree_of tree) ≡ below + 1 }
+    ensures { IsMade (tree_of tree) room result }
+{
+    if below >= room {
+        return Err(Fault::TooDeep);
+    }
+    let tree = Box::new(alloc, tree)?;
+    Ok(Node {
+        tree,
+        height: below + 1,
+    })
+}
+
+/// A constant.
+pub fn constant(alloc: Global, literal: Literal) -> Result<Node, Fault>
+    ensures { MatchResult result (λ n. root n.tree ≡ tree.literal literal) (λ f. f ≡ Memory) }
+{
+    let tree = Box::new(alloc, Expr::Literal(literal))?;
+    Ok(Node { tree, height: 1 })
+}
+
+/// The operator between the two operands.
+pub fn join(
+    alloc: Global,
+    operator: Operator,
+    left: Node,
+    right: Node,
+    room: u32,
+) -> Result<Node, Fault>
+    ensures { IsMade (joined operator (root left.tree) (root right.tree)) room result }
+{
+    let below = left.height.max(right.height);
+    match operator {
+        Operator::Binary(operator) => {
+            node_over(
+                alloc,
+                Expr::Binary(operator, left.tree, right.tree),
+                below,
+                room,
+            )
+        }
+        Operator::Logic(operator) => {
+            node_over(
+                alloc,
+                Expr::Logic(operator, left.tree, right.tree),
+                below,
+                room,
+            )
+        }
+    }
+}
+
+/// A minus before the operand: one before an integer literal is part of the literal.
+fn negate(alloc: Global, operand: Node, room: u32) -> Result<Node, Fault>
+    ensures { IsMade (negated (root operand.tree)) room result }
+{
+    if let Expr::Literal(Literal::Integer(number)) = &*operand.tree {
+        return node_over(
+            alloc,
+            Expr::Literal(Literal::Integer(number.wrapping_neg())),
+            0,
+            room,
+        );
+    }
+    let below = operand.height;
+    node_over(
+        alloc,
+        Expr::Unary(UnaryOperator::Negate, operand.tree),
+        below,
+        room,
+    )
+}
+
+/// So many minuses before the operand.
+pub fn negate_times(alloc: Global, minuses: usize, operand: Node, room: u32) -> Result<Node, Fault>
+    requires { operand.height ≤ room }
+    ensures { IsMade (negations minuses (root operand.tree)) room result }
+{
+    let mut operand = operand;
+    for _ in 0..minuses {
+        operand = negate(alloc, operand, room)?;
+    }
+    Ok(operand)
+}

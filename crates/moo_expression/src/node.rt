@@ -1,0 +1,82 @@
+//! Trees, each with the most nodes on a path of it.
+ghost use Rattle.std.specs.Prelude.{◌≡◌, ◌∷◌, ◌++◌, [], max, IfErr, OnOk};
+ghost use Rattle.moo_program.specs.Limits.{height as height_of, items_height, codes_height};
+ghost use Rattle.moo_program.specs.View.{root, items_of, codes_of};
+ghost use Rattle.moo_grammar.specs.Grammar.{has_optional};
+ghost use Rattle.moo_expression.specs.declared.fault.Fault.TheVariants.{Memory};
+ghost use Rattle.moo_grammar.specs.Items.{item_height};
+ghost use Rattle.moo_expression.specs.Items.{optional_with};
+
+use crate::fault::Fault;
+use moo_program::{Codes, Expr, Item};
+use std::alloc::Global;
+
+/// An expression, and the most nodes on a path of it.
+#[derive(Drop)]
+pub struct Node {
+    pub tree: Box<Expr>,
+    pub height: u32,
+    ghost in_step: { height ≡ height_of (root tree) },
+}
+
+/// An item of a list, and the most nodes on a path of it.
+#[derive(Drop)]
+pub struct Member {
+    pub item: Item,
+    pub height: u32,
+    ghost in_step: { height ≡ item_height item },
+}
+
+/// The items of a list, the most nodes on a path of one, and whether there is a `?` piece among them.
+#[derive(Drop)]
+pub struct Members {
+    pub items: Vec<Item>,
+    pub height: u32,
+    pub optional: bool,
+    ghost in_step: { height ≡ items_height (items_of items.items) },
+    ghost told: { optional ≡ has_optional (items_of items.items) },
+}
+
+/// The errors of a catch, and the most nodes on a path of one.
+#[derive(Drop)]
+pub struct Caught {
+    pub codes: Codes,
+    pub height: u32,
+    ghost in_step: { height ≡ codes_height (codes_of codes) },
+}
+
+impl Members {
+    /// No items.
+    pub fn new(alloc: Global) -> Members
+        ensures { result.items.items ≡ [] }
+    {
+        Members {
+            items: Vec::new(alloc),
+            height: 0,
+            optional: false,
+        }
+    }
+
+    /// Puts the item behind the others.
+    pub fn push(&mut self, member: Member) -> Result<(), Fault>
+        ensures items { OnOk result (self.new.items.items ≡ self.old.items.items ++ member.item ∷ []) }
+        ensures height { OnOk result (self.new.height ≡ max self.old.height member.height) }
+        ensures err { IfErr result (λ f. f ≡ Memory) }
+    {
+        let optional = optional_with(self.optional, &member.item);
+        self.items.push(member.item)?;
+        self.height = self.height.max(member.height);
+        self.optional = optional;
+        Ok(())
+    }
+}
+
+/// Whether there is a `?` piece among the items, with one item more.
+fn optional_with(optional: bool, item: &Item) -> bool
+    ensures { result ≡ optional_with optional item.now }
+{
+    match item {
+        Item::Element(_) | Item::Splice(_) => optional,
+        Item::Optional(_, _) => true,
+    }
+}

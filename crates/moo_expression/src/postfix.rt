@@ -1,0 +1,154 @@
+//! A parser of what stands behind a base: properties, verb calls and indices.
+ghost use Rattle.std.specs.Prelude.{◌≤◌, false, IfOk, IfErr};
+ghost use Rattle.moo_program.specs.Limits.{height};
+ghost use Rattle.moo_program.specs.View.{root};
+ghost use Rattle.moo_grammar.specs.Grammar.{expression, postfix, suffixes, primary, arguments, members, expr, items};
+ghost use Rattle.moo_grammar.specs.Predictive.{grammar, behind_dot, behind_colon, behind_bracket};
+ghost use Rattle.moo_expression.specs.Outcome.{Moves, IsRead, IsReadBy, HasFailed, HasFailedBy, IsNamed, IsUnnamed};
+
+use crate::cursor::Cursor;
+use crate::fault::Fault;
+use crate::levels::expression;
+use crate::make::{below, constant, node_over};
+use crate::members::arguments;
+use crate::node::Node;
+use crate::place::Place;
+use crate::primary::primary;
+use moo_program::{Expr, Literal};
+use moo_token::Sign;
+use std::alloc::Global;
+
+#[cycle(parser)]
+pub fn postfix(alloc: Global, tokens: &mut Cursor, place: Place, room: u32) -> Result<Node, Fault>
+    ensures moves { Moves tokens.old tokens.new }
+    ensures read { IfOk result (λ n. IsRead place.names (postfix place.inside) room tokens.old tokens.new (root n.tree)) }
+    ensures failed { IfErr result (λ f. HasFailed place.names (postfix place.inside) room tokens.old tokens.new f) }
+{
+    let base = primary(alloc, tokens, place, room)?;
+    suffixes(alloc, tokens, base, place, room)
+}
+
+#[cycle(parser)]
+fn suffixes(
+    alloc: Global,
+    tokens: &mut Cursor,
+    base: Node,
+    place: Place,
+    room: u32,
+) -> Result<Node, Fault>
+    requires { base.height ≤ room }
+    ensures moves { Moves tokens.old tokens.new }
+    ensures read { IfOk result (λ n. IsReadBy place.names expr (λ g. grammar g (suffixes place.inside (root base.tree))) room (height (root base.tree)) tokens.old tokens.new (root n.tree)) }
+    ensures failed { IfErr result (λ f. HasFailedBy place.names expr (λ g. grammar g (suffixes place.inside (root base.tree))) room (height (root base.tree)) tokens.old tokens.new f) }
+{
+    if tokens.take(Sign::Dot) {
+        return behind_dot(alloc, tokens, base, place, room);
+    }
+    if tokens.take(Sign::Colon) {
+        return behind_colon(alloc, tokens, base, place, room);
+    }
+    if tokens.take(Sign::LeftBracket) {
+        return behind_bracket(alloc, tokens, base, place, room);
+    }
+    Ok(base)
+}
+
+#[cycle(parser)]
+fn behind_dot(
+    alloc: Global,
+    tokens: &mut Cursor,
+    base: Node,
+    place: Place,
+    room: u32,
+) -> Result<Node, Fault>
+    requires { base.height ≤ room }
+    ensures moves { Moves tokens.old tokens.new }
+    ensures read { IfOk result (λ n. IsReadBy place.names expr (λ g. behind_dot place.inside (root base.tree)) room (height (root base.tree)) tokens.old tokens.new (root n.tree)) }
+    ensures failed { IfErr result (λ f. HasFailedBy place.names expr (λ g. behind_dot place.inside (root base.tree)) room (height (root base.tree)) tokens.old tokens.new f) }
+{
+    let room_below = below(room)?;
+    let name = member_name(alloc, tokens, place, room_below)?;
+    let height = base.height.max(name.height);
+    let base = node_over(alloc, Expr::Property(base.tree, name.tree), height, room)?;
+    suffixes(alloc, tokens, base, place, room)
+}
+
+#[cycle(parser)]
+fn behind_colon(
+    alloc: Global,
+    tokens: &mut Cursor,
+    base: Node,
+    place: Place,
+    room: u32,
+) -> Result<Node, Fault>
+    requires { base.height ≤ room }
+    ensures moves { Moves tokens.old tokens.new }
+    ensures read { IfOk result (λ n. IsReadBy place.names expr (λ g. behind_colon place.inside (root base.tree)) room (height (root base.tree)) tokens.old tokens.new (root n.tree)) }
+    ensures failed { IfErr result (λ f. HasFailedBy place.names expr (λ g. behind_colon place.inside (root base.tree)) room (height (root base.tree)) tokens.old tokens.new f) }
+{
+    let room_below = below(room)?;
+    let name = member_name(alloc, tokens, place, room_below)?;
+    tokens.expect(Sign::LeftParen)?;
+    let members = arguments(alloc, tokens, place, false, room_below)?;
+    tokens.expect(Sign::RightParen)?;
+    let height = base.height.max(name.height).max(members.height);
+    let base = node_over(
+        alloc,
+        Expr::VerbCall(base.tree, name.tree, members.items),
+        height,
+        room,
+    )?;
+    suffixes(alloc, tokens, base, place, room)
+}
+
+#[cycle(parser)]
+fn member_name(alloc: Global, tokens: &mut Cursor, place: Place, room: u32) -> Result<Node, Fault>
+    ensures moves { Moves tokens.old tokens.new }
+    ensures read { IfOk result (λ n. IsNamed place.names place.inside tokens.old tokens.new (root n.tree)) }
+    ensures failed { IfErr result (λ f. IsUnnamed place.names place.inside room tokens.old tokens.new f) }
+{
+    if let Some(name) = tokens.take_name()? {
+        return constant(alloc, Literal::Str(name));
+    }
+    tokens.expect(Sign::LeftParen)?;
+    let name = expression(alloc, tokens, place, room)?;
+    tokens.expect(Sign::RightParen)?;
+    Ok(name)
+}
+
+#[cycle(parser)]
+fn behind_bracket(
+    alloc: Global,
+    tokens: &mut Cursor,
+    base: Node,
+    place: Place,
+    room: u32,
+) -> Result<Node, Fault>
+    requires { base.height ≤ room }
+    ensures moves { Moves tokens.old tokens.new }
+    ensures read { IfOk result (λ n. IsReadBy place.names expr (λ g. behind_bracket place.inside (root base.tree)) room (height (root base.tree)) tokens.old tokens.new (root n.tree)) }
+    ensures failed { IfErr result (λ f. HasFailedBy place.names expr (λ g. behind_bracket place.inside (root base.tree)) room (height (root base.tree)) tokens.old tokens.new f) }
+{
+    let room_below = below(room)?;
+    let index = Place {
+        inside: true,
+        names: place.names,
+    };
+    let low = expression(alloc, tokens, index, room_below)?;
+    if tokens.take(Sign::DotDot) {
+        let high = expression(alloc, tokens, index, room_below)?;
+        tokens.expect(Sign::RightBracket)?;
+        let height = base.height.max(low.height).max(high.height);
+        let base = node_over(
+            alloc,
+            Expr::Range(base.tree, low.tree, high.tree),
+            height,
+            room,
+        )?;
+        return suffixes(alloc, tokens, base, place, room);
+    }
+    tokens.expect(Sign::RightBracket)?;
+    let height = base.height.max(low.height);
+    let base = node_over(alloc, Expr::Index(base.tree, low.tree), height, room)?;
+    suffixes(alloc, tokens, base, place, room)
+}

@@ -1,0 +1,33 @@
+//! The rules that a program keeps beside its forms.
+ghost use Rattle.std.specs.Prelude.{◌≡◌, true, false, MatchResult};
+ghost use Rattle.moo_program.specs.Target.{is_target};
+ghost use Rattle.moo_program.specs.View.{tree};
+ghost use Rattle.moo_grammar.specs.Rules.{may_call};
+ghost use Rattle.moo_expression.specs.declared.fault.Fault.TheVariants.{BadTarget, UnknownFunction};
+
+use crate::fault::Fault;
+use moo_grammar::Names;
+use moo_program::{Expr, is_target};
+use moo_value::MooStr;
+
+/// What stands before `=` has to be a target.
+pub fn expect_target(target: &Expr) -> Result<(), Fault>
+    ensures { MatchResult result (λ _. is_target (tree target.now) ≡ true) (λ f. (f ≡ BadTarget) × (is_target (tree target.now) ≡ false)) }
+{
+    if is_target(target) {
+        Ok(())
+    } else {
+        Err(Fault::BadTarget)
+    }
+}
+
+/// The name of a function has to be one that may be called.
+pub fn expect_callable(names: Names, name: &MooStr) -> Result<(), Fault>
+    ensures { MatchResult result (λ _. may_call names name.now ≡ true) (λ f. (f ≡ UnknownFunction) × (may_call names name.now ≡ false)) }
+{
+    if names.may_call(name.as_bytes()) {
+        Ok(())
+    } else {
+        Err(Fault::UnknownFunction)
+    }
+}

@@ -1,15 +1,9 @@
--- What properties of objects and built-in functions give.
+-- What properties of objects give.
 use Rattle.std.specs.Prelude.{ℕ, ℤ, List, Option, None, Some, Result, Ok, Err, if◌then◌else◌}
 use Rattle.moo_value.specs.declared.error_code.ErrorCode.{ErrorCode}
-use Rattle.moo_value.specs.declared.error_code.ErrorCode.TheVariants.{TypeMismatch, PropertyNotFound, Permission, InvalidArgument}
+use Rattle.moo_value.specs.declared.error_code.ErrorCode.TheVariants.{TypeMismatch, PropertyNotFound, Permission}
 use Rattle.moo_value.specs.Tree.{Tree, object, string}
 use Rattle.moo_value.specs.Compare.{folded}
-use Rattle.moo_function.specs.declared.function.Function.{Function}
-use Rattle.moo_function.specs.Table.{row}
-use Rattle.moo_function.specs.Names.{function_of}
-use Rattle.moo_function.specs.Check.{mismatch}
-use Rattle.moo_function.specs.Hand.{is_at_hand}
-use Rattle.moo_builtin.specs.Calls.{plain_answer}
 use Rattle.moo_table.specs.World.{World}
 use Rattle.moo_world.specs.Calls.{number_of}
 use Rattle.moo_world.specs.NamedProperties.{get_raises, value_got}
@@ -44,22 +38,3 @@ abbrev pub write_property : World → ℤ → Tree → Tree → Tree → Result 
 write_property w programmer (object o) (string name) v =
     unless_raised (set_raises w (number_of w.objects o) (folded name) v) (allowed_world w programmer o name v)
 write_property w programmer _ _ v = Err TypeMismatch
-
--- what a function gives for arguments of a right count and right types, if it looks at them alone
-abbrev pub given_by : Option (Result Tree ErrorCode) → Result Tree ErrorCode
-given_by None = Err InvalidArgument
-given_by (Some r) = r
-
--- a wrong count or a wrong type of the arguments comes first
-abbrev pub checked : Option ErrorCode → Option (Result Tree ErrorCode) → Result Tree ErrorCode
-checked (Some code) r = Err code
-checked None r = given_by r
-
--- a call of a function that looks at its arguments alone; others, and names of none, are not to be called here
-abbrev pub called_function : Option Function → List Tree → Result Tree ErrorCode
-called_function None vs = Err InvalidArgument
-called_function (Some f) vs = if is_at_hand f then checked (mismatch (row f) vs) (plain_answer f 0 vs) else Err InvalidArgument
-
--- a call of a built-in function by its name, in any case
-abbrev pub call_function : List ℕ → List Tree → Result Tree ErrorCode
-call_function name vs = called_function (function_of name) vs

@@ -6,7 +6,7 @@ mod object;
 mod target;
 
 pub use entering::{Called, MOST_FRAMES, enter_verb};
-pub use object::{call_function, read_property, write_property};
+pub use object::{read_property, write_property};
 pub use target::{
     Path, Places, Root, Spot, Step, Target, as_property, push_step, rebuilt, root_alone,
     set_variable, taken_apart,

@@ -1,16 +1,14 @@
-//! Properties of objects, and built-in functions.
+//! Properties of objects.
 ghost use Rattle.std.specs.Prelude.{◌≡◌, IfErr};
-ghost use Rattle.moo_value.specs.View.{tree, trees};
+ghost use Rattle.moo_value.specs.View.{tree};
 ghost use Rattle.moo_access.specs.Fault.{failed};
-ghost use Rattle.moo_access.specs.Calls.{read_property, write_property, call_function};
+ghost use Rattle.moo_access.specs.Calls.{read_property, write_property};
 ghost use Rattle.moo_outcome.specs.Outcome.{answers};
 ghost use Rattle.moo_outcome.specs.Seen.{seen_answer, seen_by, IsKnownFailure};
 
-use moo_builtin::plain_answer;
-use moo_function::Function;
 use moo_outcome::{Failure, Stop};
 use moo_rights::Rights;
-use moo_value::{ErrorCode, MooStr, Value};
+use moo_value::{ErrorCode, Value};
 use moo_world::{World, WorldFault};
 use std::alloc::Global;
 
@@ -63,26 +61,5 @@ fn failed(fault: WorldFault) -> Failure
     match fault {
         WorldFault::Raise(code) => Failure::Fails(code),
         WorldFault::Memory => Failure::Stops(Stop::Memory),
-    }
-}
-
-/// What a call of a built-in function gives. Those that look at their arguments alone can be called.
-pub fn call_function(alloc: Global, name: &MooStr, args: Vec<Value>) -> Result<Value, Failure>
-    ensures { IsKnownFailure result → answers (call_function name.now (trees args.items)) ≡ seen_answer result }
-{
-    let mut args = args;
-    let refused = Err(Failure::Fails(ErrorCode::InvalidArgument));
-    let Some(function) = Function::from_name(name.as_bytes()) else {
-        return refused;
-    };
-    if !function.is_at_hand() {
-        return refused;
-    }
-    if let Some(error) = function.mismatch(&args) {
-        return Err(Failure::Fails(error));
-    }
-    match plain_answer(alloc, function, &mut args, 0) {
-        Some(answer) => Ok(answer?),
-        None => refused,
     }
 }

@@ -114,7 +114,7 @@ mutual
       let q : x ≡ y = cc in
       let h = one_block d (subst (λ z. RunsAll z.context z.context.frame.program (begun z s) p t) (sym q) d') in
       (sym g ∙ ap answered h.0 ∙ g', sym l ∙ ap (left s) h.1 ∙ l')
-  one_applied (call_is f) (call_is f') = (sym f ∙ f', refl)
+  one_applied (call_is f) (call_is f') = let q = sym f ∙ f' in (ap (λ p. p.0) q, ap (λ p. p.1) q)
   one_applied (assign_is d) (assign_is d') = one_assigned d d'
   one_applied (catch_passes d f g) (catch_passes d' f' g') = let h = one_result d d' in (sym g ∙ ap passes h.0 ∙ g', h.1)
   one_applied (catch_passes {codes = codes} {vs = vs} d f g) (catch_gives d' f') = let h = one_result d d' in let q = sym f ∙ ap (caught codes vs) h.0 in cc

@@ -24,7 +24,8 @@ use Rattle.moo_outcome.specs.Leading.{after_turn, no_turn, runs_finally, after_f
 use Rattle.moo_outcome.specs.Handling.{Guarded, guarded, guarded_before, chosen, told_as}
 use Rattle.moo_outcome.specs.Scatter.{dealt, given, LeftOut, missing}
 use Rattle.moo_access.specs.State.{State, ticked, bound, trace}
-use Rattle.moo_access.specs.Calls.{read_property, write_property, call_function}
+use Rattle.moo_access.specs.Calls.{read_property, write_property}
+use Rattle.moo_call.specs.Calls.{call_function}
 use Rattle.moo_access.specs.Entering.{Entered, entered_verb}
 use Rattle.moo_access.specs.Target.{Root, named, owned, scattered, Step, Path, root_of, spots, root_parts, root_from, held, rebuilt}
 use Rattle.moo_outcome.specs.Outcome.{Raise, Stop, raised, out_of_ticks, Failure, fails, stops, Flow, next, returned, broken, continued, or_error, answers, passes, settled, raised_by, goes_out, goes_next, goes_on}
@@ -123,9 +124,9 @@ mutual
     verb_runs : {c : Context} {s s' s'' : State} {a b : Expr} {items : Items} {x y : Tree} {vs : List Tree} {e : Entered} {o : Result Flow Stop} {r : Result Tree Failure} →
         answers (entered_verb s.world c s.variables s.programmer x y vs) ≡ Ok e → RunsAll e.context e.context.frame.program (begun e s) o s' → left s s' ≡ s'' → answered o ≡ r →
         Applies c (verb_call a b items) (x ∷ y ∷ vs) [] s r s''
-    call_is : {c : Context} {s : State} {name : List ℕ} {items : Items} {vs : List Tree} {r : Result Tree Failure} →
-        answers (call_function name vs) ≡ r →
-        Applies c (call name items) vs [] s r s
+    call_is : {c : Context} {s s' : State} {name : List ℕ} {items : Items} {vs : List Tree} {r : Result Tree Failure} →
+        call_function c.frame c.callers name vs s ≡ (r, s') →
+        Applies c (call name items) vs [] s r s'
     assign_is : {c : Context} {s s' : State} {t e : Expr} {r : Result Tree Failure} →
         Assigns c t e s r s' →
         Applies c (assign t e) [] [] s r s'

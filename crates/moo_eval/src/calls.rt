@@ -9,7 +9,8 @@ ghost use Rattle.moo_eval.specs.Operands.{answered};
 ghost use Rattle.moo_eval.specs.Seen.{state_of};
 
 use crate::interpreter::Task;
-use moo_access::{Called, call_function, enter_verb, read_property};
+use moo_access::{Called, enter_verb, read_property};
+use moo_call::call_function;
 use moo_outcome::{Activation, CallStack, Failure, Flow, Stop, caught};
 use moo_program::{Codes, Expr, Item};
 use moo_value::{MooStr, Value};
@@ -76,7 +77,15 @@ impl Task {
         ensures ticks { self.new.ticks_left ≤ self.old.ticks_left }
     {
         let args = self.evaluate_all(world, active, stack, indexed, items)?;
-        call_function(self.alloc(), name, args)
+        call_function(
+            self.alloc(),
+            world,
+            active,
+            stack,
+            self.ticks_left(),
+            name,
+            args,
+        )
     }
 
     // The codes come first. An error that they name is the value, or what `other` gives in its place.

@@ -74,6 +74,13 @@ impl Task {
         self.alloc
     }
 
+    /// How many ticks are left.
+    pub(crate) fn ticks_left(&self) -> u32
+        ensures { result ≡ self.now.ticks_left }
+    {
+        self.ticks_left
+    }
+
     #[cycle(evaluation)]
     fn compute(
         &mut self,

@@ -32,7 +32,7 @@ pub fn run_typed(
 }
 
 /// The frame of a program that is typed in.
-pub(crate) fn typed_frame(
+pub fn typed_frame(
     alloc: Global,
     program: Program,
     programmer: i32,

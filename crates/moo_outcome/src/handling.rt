@@ -119,8 +119,8 @@ fn push_entry(alloc: Global, values: &mut Vec<Value>, entry: &TraceEntry) -> Res
     Ok(())
 }
 
-// The frames of a trace, the one that raised first.
-fn frame_lists(alloc: Global, trace: &[TraceEntry]) -> Result<Vec<Value>, Failure>
+/// The frames of a trace, the first one first.
+pub fn frame_lists(alloc: Global, trace: &[TraceEntry]) -> Result<Vec<Value>, Failure>
     ensures { IsKnownFailure result → answers (frame_lists trace.now) ≡ seen_answers result }
 {
     let mut values = Vec::new(alloc);

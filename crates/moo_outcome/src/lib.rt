@@ -15,7 +15,9 @@ mod variables;
 pub use access::{literal_value, measure, push, read_variable, splice};
 pub use catching::{caught, settle_codes};
 pub use frame::{Activation, CallStack, Frame, TraceEntry, TraceFrame};
-pub use handling::{Guarded, HandlerParts, chosen, handler_parts, push_guarded, set_caught};
+pub use handling::{
+    Guarded, HandlerParts, chosen, frame_lists, handler_parts, push_guarded, set_caught,
+};
 pub use leading::{Span, after_finally, after_turn, copied_name, no_turn, runs_finally};
 pub use outcome::{Failure, Flow, Raise, Stop, raised, settle};
 pub use scatter::{LeftOut, dealt, missing, set_shares};

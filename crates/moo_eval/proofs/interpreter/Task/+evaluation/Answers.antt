@@ -231,7 +231,7 @@ call-returns-in_err-args-clause-meaning t c =
 
 pub call-returns-clause-meaning : goal.call-returns-clause-meaning
 call-returns-clause-meaning t c =
-    λ k. applies (c.in_ok-args.ensures.meaning tt) no_more (call_is (c.call_function.ensures k))
+    λ k. applies (c.in_ok-args.ensures.meaning tt) no_more (call_is (rw c.ticks_left.ensures at (c.call_function.ensures k)))
 
 pub property-returns-in_err-base-clause-meaning : goal.property-returns-in_err-base-clause-meaning
 property-returns-in_err-base-clause-meaning t c =

@@ -1,0 +1,57 @@
+-- What a call of a built-in function gives in a task, and what it changes.
+use Rattle.std.specs.Prelude.{ℕ, Bool, List, Option, None, Some, Result, Ok, Err}
+use Rattle.moo_value.specs.declared.error_code.ErrorCode.{ErrorCode}
+use Rattle.moo_value.specs.declared.error_code.ErrorCode.TheVariants.{InvalidArgument}
+use Rattle.moo_value.specs.Tree.{Tree, object}
+use Rattle.moo_function.specs.declared.function.Function.{Function}
+use Rattle.moo_function.specs.declared.function.Function.TheVariants as function
+use Rattle.moo_function.specs.Table.{row}
+use Rattle.moo_function.specs.Names.{function_of}
+use Rattle.moo_function.specs.Check.{mismatch}
+use Rattle.moo_builtin.specs.Calls.{Raised, answer}
+use Rattle.moo_table.specs.World.{World}
+use Rattle.moo_world_function.specs.Calls.{world_call}
+use Rattle.moo_outcome.specs.declared.frame.Frame.{Frame}
+use Rattle.moo_outcome.specs.declared.frame.TraceEntry.{TraceEntry}
+use Rattle.moo_outcome.specs.Handling.{frame_lists, listed}
+use Rattle.moo_outcome.specs.Outcome.{Failure, fails, answers}
+use Rattle.moo_outcome.specs.State.{entries}
+use Rattle.moo_access.specs.State.{State}
+use Rattle.moo_call.specs.Tasks.{Reply, shown_ticks, nearest_programmer, set_task_perms, raised_here}
+
+-- what a function over values gives; others are not to be called yet
+abbrev pub valued : Bool → List TraceEntry → Option (Result Tree Raised) → Result Tree Failure
+valued d trace None = Err (fails InvalidArgument)
+valued d trace (Some (Ok v)) = Ok v
+valued d trace (Some (Err r)) = raised_here d trace r
+
+-- What a function does that is not one over the world, for arguments that fit its row: it looks at the task or at its
+-- arguments alone. A task has no clock.
+abbrev pub task_reply : Function → Frame → List TraceEntry → List Tree → State → Reply
+task_reply function.TicksLeft running callers args s = (Ok (shown_ticks s.ticks), s)
+task_reply function.Callers running callers args s = (answers (listed (frame_lists callers)), s)
+task_reply function.CallerPermissions running callers args s = (Ok (object (nearest_programmer callers)), s)
+task_reply function.SetTaskPermissions running callers args s = set_task_perms args s
+task_reply function.Time running callers args s = (Err (fails InvalidArgument), s)
+task_reply f running callers args s = (valued running.d (entries running s.programmer callers) (answer f 0 args), s)
+
+-- a wrong count or a wrong type of the arguments comes first
+abbrev pub unless_refused : State → Option ErrorCode → Reply → Reply
+unless_refused s None reply = reply
+unless_refused s (Some code) reply = (Err (fails code), s)
+
+-- what a function over the world does, with the world that it leaves; other functions reply in another way
+abbrev pub over_world : State → Option (Result (Tree × World) ErrorCode) → Reply → Reply
+over_world s None reply = reply
+over_world s (Some (Ok p)) reply = (Ok p.0, record s { world = p.1 })
+over_world s (Some (Err code)) reply = (Err (fails code), s)
+
+-- a call of a function of the table; other names raise E_INVARG
+abbrev pub called : Option Function → Frame → List TraceEntry → List Tree → State → Reply
+called None running callers args s = (Err (fails InvalidArgument), s)
+called (Some f) running callers args s =
+    over_world s (world_call f s.world s.programmer args) (unless_refused s (mismatch (row f) args) (task_reply f running callers args s))
+
+-- a call of a built-in function by its name, in any case, from a running frame and those below it
+abbrev pub call_function : Frame → List TraceEntry → List ℕ → List Tree → State → Reply
+call_function running callers name args s = called (function_of name) running callers args s

@@ -1,0 +1,72 @@
+//! A call of a built-in function by its name.
+ghost use Rattle.std.specs.Prelude.{◌≡◌, Some};
+ghost use Rattle.moo_value.specs.View.{trees};
+ghost use Rattle.moo_function.specs.Table.{row};
+ghost use Rattle.moo_function.specs.Check.{mismatch};
+ghost use Rattle.moo_outcome.specs.Seen.{seen_answer, IsKnownFailure};
+ghost use Rattle.moo_call.specs.Calls.{unless_refused, task_reply, called, call_function};
+ghost use Rattle.moo_call.specs.Seen.{state_at};
+
+use crate::task::task_reply;
+use moo_function::Function;
+use moo_outcome::{Activation, CallStack, Failure};
+use moo_value::{ErrorCode, MooStr, Value};
+use moo_world::World;
+use moo_world_function::call_world;
+use std::alloc::Global;
+
+/// Calls a built-in function by its name, letters folded, for the running frame and its programmer: one over the
+/// world, one that looks at the task, of which so many ticks are left, or one over values. A wrong number of arguments
+/// raises E_ARGS, then one of a wrong type E_TYPE, then comes what the function itself looks at. Names of no function,
+/// and functions that can't be called yet, raise E_INVARG.
+pub fn call_function(
+    alloc: Global,
+    world: &mut World,
+    active: &mut Activation,
+    stack: &CallStack,
+    ticks: u32,
+    name: &MooStr,
+    args: Vec<Value>,
+) -> Result<Value, Failure>
+    ensures { IsKnownFailure result → call_function stack.now.running stack.now.callers.items name.now (trees args.items) (state_at ticks world.old active.old) ≡ (seen_answer result, state_at ticks world.new active.new) }
+{
+    match Function::from_name(name.as_bytes()) {
+        Some(function) => called(alloc, world, active, stack, ticks, function, args),
+        None => Err(Failure::Fails(ErrorCode::InvalidArgument)),
+    }
+}
+
+fn called(
+    alloc: Global,
+    world: &mut World,
+    active: &mut Activation,
+    stack: &CallStack,
+    ticks: u32,
+    function: Function,
+    args: Vec<Value>,
+) -> Result<Value, Failure>
+    ensures { IsKnownFailure result → called (Some function) stack.now.running stack.now.callers.items (trees args.items) (state_at ticks world.old active.old) ≡ (seen_answer result, state_at ticks world.new active.new) }
+{
+    match call_world(alloc, function, &args, world, active.programmer) {
+        Some(answer) => Ok(answer?),
+        None => unless_refused(alloc, world, active, stack, ticks, function, args),
+    }
+}
+
+// A call of a function that is not one over the world.
+fn unless_refused(
+    alloc: Global,
+    world: &World,
+    active: &mut Activation,
+    stack: &CallStack,
+    ticks: u32,
+    function: Function,
+    args: Vec<Value>,
+) -> Result<Value, Failure>
+    ensures { IsKnownFailure result → unless_refused (state_at ticks world.now active.old) (mismatch (row function) (trees args.items)) (task_reply function stack.now.running stack.now.callers.items (trees args.items) (state_at ticks world.now active.old)) ≡ (seen_answer result, state_at ticks world.now active.new) }
+{
+    match function.mismatch(&args) {
+        Some(error) => Err(Failure::Fails(error)),
+        None => task_reply(alloc, world, active, stack, ticks, function, args),
+    }
+}

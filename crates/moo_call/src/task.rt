@@ -1,0 +1,131 @@
+//! Functions that look at the running task, and those over values.
+ghost use Rattle.std.specs.Prelude.{◌≡◌, ℕ, None};
+ghost use Rattle.moo_value.specs.View.{tree, trees};
+ghost use Rattle.moo_builtin.specs.Calls.{answer};
+ghost use Rattle.moo_outcome.specs.Handling.{frame_lists, listed};
+ghost use Rattle.moo_outcome.specs.Outcome.{answers};
+ghost use Rattle.moo_outcome.specs.Seen.{trace_of, seen_answer, IsKnownFailure};
+ghost use Rattle.moo_call.specs.Tasks.{shown_ticks, nearest_programmer, set_task_perms, raised_here};
+ghost use Rattle.moo_call.specs.Calls.{valued, task_reply};
+ghost use Rattle.moo_call.specs.Seen.{state_at};
+
+use moo_builtin::{Outcome, answer};
+use moo_function::Function;
+use moo_operation as operation;
+use moo_outcome::{Activation, CallStack, Failure, Raise, Stop, TraceEntry, frame_lists};
+use moo_rights::Rights;
+use moo_value::{ErrorCode, MooStr, Value};
+use moo_world::World;
+use std::alloc::Global;
+
+/// What a function gives that is not one over the world, for arguments that fit its row of the table. Of these
+/// `set_task_perms` alone changes something: the programmer of the running frame.
+pub(crate) fn task_reply(
+    alloc: Global,
+    world: &World,
+    active: &mut Activation,
+    stack: &CallStack,
+    ticks: u32,
+    function: Function,
+    args: Vec<Value>,
+) -> Result<Value, Failure>
+    ensures { IsKnownFailure result → task_reply function stack.now.running stack.now.callers.items (trees args.items) (state_at ticks world.now active.old) ≡ (seen_answer result, state_at ticks world.now active.new) }
+{
+    match function {
+        Function::TicksLeft => Ok(shown_ticks(ticks)),
+        Function::Callers => callers(alloc, stack),
+        Function::CallerPermissions => Ok(Value::Obj(nearest_programmer(&stack.callers))),
+        Function::SetTaskPermissions => set_task_perms(world, active, &args),
+        Function::Time => Err(Failure::Fails(ErrorCode::InvalidArgument)),
+        _ => valued(alloc, stack, active, function, args),
+    }
+}
+
+// How many ticks are left.
+fn shown_ticks(ticks: u32) -> Value
+    ensures { tree result ≡ shown_ticks ticks }
+{
+    if ticks <= i32::MAX as u32 {
+        Value::Int(ticks as i32)
+    } else {
+        Value::Int(i32::MAX)
+    }
+}
+
+// The frames that the running one was called from.
+fn callers(alloc: Global, stack: &CallStack) -> Result<Value, Failure>
+    ensures { IsKnownFailure result → answers (listed (frame_lists stack.now.callers.items)) ≡ seen_answer result }
+{
+    let frames = frame_lists(alloc, &stack.callers)?;
+    Ok(operation::list(alloc, frames)?)
+}
+
+// The programmer of the frame that called the running one.
+fn nearest_programmer(callers: &[TraceEntry]) -> i32
+    ensures { result ≡ nearest_programmer callers.now }
+{
+    for entry in callers {
+        if let TraceEntry::Verb(frame) = entry {
+            return frame.programmer;
+        }
+    }
+    -1
+}
+
+// Gives the running frame another programmer, where it runs for this one or for a wizard.
+fn set_task_perms(world: &World, active: &mut Activation, args: &[Value]) -> Result<Value, Failure>
+    ensures { (ticks : ℕ) → set_task_perms (trees args.now) (state_at ticks world.now active.old) ≡ (seen_answer result, state_at ticks world.now active.new) }
+{
+    let [Value::Obj(programmer)] = args else {
+        return Err(Failure::Fails(ErrorCode::TypeMismatch));
+    };
+    if !Rights::controls(world, active.programmer, *programmer) {
+        return Err(Failure::Fails(ErrorCode::Permission));
+    }
+    active.programmer = *programmer;
+    Ok(Value::Int(0))
+}
+
+// What a function over values gives.
+fn valued(
+    alloc: Global,
+    stack: &CallStack,
+    active: &Activation,
+    function: Function,
+    args: Vec<Value>,
+) -> Result<Value, Failure>
+    ensures { IsKnownFailure result → valued stack.now.running.d (trace_of stack.now active.now) (answer function 0 (trees args.items)) ≡ seen_answer result }
+{
+    let mut args = args;
+    match answer(alloc, function, &mut args, 0) {
+        Some(Outcome::Value(value)) => Ok(value),
+        Some(Outcome::Raise(code, message, value)) => {
+            raised_here(alloc, stack, active, code, message, value)
+        }
+        Some(Outcome::Memory) => Err(Failure::Stops(Stop::Memory)),
+        None => Err(Failure::Fails(ErrorCode::InvalidArgument)),
+    }
+}
+
+// Raises an error where the call stands. Without the d bit it is the value of the call.
+fn raised_here(
+    alloc: Global,
+    stack: &CallStack,
+    active: &Activation,
+    code: ErrorCode,
+    message: MooStr,
+    value: Value,
+) -> Result<Value, Failure>
+    ensures { IsKnownFailure result → raised_here stack.now.running.d (trace_of stack.now active.now) (record { code = code; message = message; value = tree value }) ≡ seen_answer result }
+{
+    if !stack.running.d {
+        return Ok(Value::Err(code));
+    }
+    let trace = stack.trace(alloc, active)?;
+    Err(Failure::Stops(Stop::Raised(Raise {
+        code,
+        message,
+        value,
+        trace,
+    })))
+}

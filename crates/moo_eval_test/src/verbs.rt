@@ -1,0 +1,59 @@
+//! Tasks over a world: calls of verbs, frames and what is told of them, and what a task leaves.
+
+use crate::support::happens;
+use std::test::Fail;
+
+const CALLS: &str = r#"f*oo := x = 2; return {this, caller, player, verb, args, x};
+z := ;
+x = 1; return {#2:fo(1, "a"), x}; --> {{#2, #1, #3, "fo", {1, "a"}, 2}, 1}
+return #2:z(); --> 0
+return #7:z(); --> #1:t:  Invalid indirection
+n := return 1;
+return set_verb_info(#1, "n", {#3, "rd", "n"}); --> 0
+return #2:n(); --> #1:t:  Verb not found
+w := #2.name = "W";
+return set_verb_info(#1, "w", {#4, "rxd", "w"}); --> 0
+return #2:w(); --> #1:w (this == #2):  Permission denied / ... called from #1:t
+try #2:w(); except e (E_PERM) return e[1]; endtry --> E_PERM
+h := try this:w(); except e (ANY) return length(e[4]); endtry
+return #2:h(); --> 2
+v := return {#2.name = "V", #2.size, parent(#9), valid(1), callers(1), raise(E_DIV)};
+return set_verb_info(#1, "v", {#4, "rx", "v"}); --> 0
+return #2:v(); --> {E_PERM, E_PROPNF, E_INVARG, E_TYPE, E_ARGS, E_DIV}
+c := return this:c();
+try #2:c(); except e (E_MAXREC) return length(e[4]); endtry --> 50"#;
+
+const CHANGES: &str = r#"#2.name = "N"; return {#2.name, #2.owner}; --> {"N", #3}
+l := while (1) endwhile
+try #2:l(); finally #2.name = "L"; endtry --> #1:l (this == #2):  Task ran out of ticks / ... called from #1:t
+return #2.name; --> "N"
+try return 1; finally #2.name = "F"; endtry --> 1
+return #2.name; --> "F"
+#2.name = "G"; 1 / 0; --> #1:t:  Division by zero
+return #2.name; --> "G"
+try #2.name = "X"; while (1) endwhile finally #2.name = "Y"; endtry --> #1:t:  Task ran out of ticks
+return #2.name; --> "X""#;
+
+const FRAMES: &str = r#"return {callers(), caller_perms(), ticks_left() < 100000}; --> {{}, #-1, 1}
+p := return {callers(), caller_perms()};
+return #2:p(); --> {{{#1, "t", #3, #1, #3}}, #3}
+q := return this:p();
+return #2:q(); --> {{{#2, "q", #3, #1, #3}, {#1, "t", #3, #1, #3}}, #3}
+s := return {set_task_perms(#4), caller_perms(), this:p()};
+return #2:s(); --> {0, #3, {{{#2, "s", #4, #1, #3}, {#1, "t", #3, #1, #3}}, #4}}
+set_task_perms(#4); #2.name = "P"; --> #1:t:  Permission denied
+return {set_task_perms(#4), set_task_perms(#4), `set_task_perms(#3) ! ANY'}; --> {0, 0, E_PERM}
+return {set_task_perms(#77), `set_task_perms(#3) ! ANY'}; --> {0, E_PERM}
+return {`set_task_perms() ! ANY', `set_task_perms(3) ! ANY', `callers(1) ! ANY', `caller_perms(1) ! ANY', `ticks_left(1) ! ANY'}; --> {E_ARGS, E_TYPE, E_ARGS, E_ARGS, E_ARGS}
+raise(E_PERM); --> #1:t:  Permission denied
+raise(E_PERM, "mine"); --> #1:t:  mine
+try raise(E_PERM, "mine", {7}); except e (ANY) return e; endtry --> {E_PERM, "mine", {7}, {{#1, "t", #3, #1, #3}}}
+return {`raise(E_RANGE, "x") ! E_RANGE', `raise() ! ANY', `raise(7) ! ANY', `raise(E_DIV, 7) ! ANY'}; --> {E_RANGE, E_ARGS, E_TYPE, E_TYPE}"#;
+
+#[test]
+fn verbs_run_in_frames_of_their_own(rt: HostRuntime) -> Result<(), Fail> {
+    let alloc = rt.alloc();
+    happens(alloc, CALLS)?;
+    happens(alloc, CHANGES)?;
+    happens(alloc, FRAMES)
+}

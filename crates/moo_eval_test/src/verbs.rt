@@ -34,6 +34,19 @@ return #2.name; --> "G"
 try #2.name = "X"; while (1) endwhile finally #2.name = "Y"; endtry --> #1:t:  Task ran out of ticks
 return #2.name; --> "X""#;
 
+const PROPERTIES: &str = r#"return {add_property(#1, "hidden", 7, {#3, ""}), add_property(#1, "shown", 8, {#3, "r"})}; --> {0, 0}
+set_task_perms(#4); return {`(1).hidden ! ANY', `#9.hidden ! ANY', `#2.absent ! ANY', `#2.hidden ! ANY', #2.SHOWN, #2.location}; --> {E_TYPE, E_INVIND, E_PROPNF, E_PERM, 8, #-1}
+set_task_perms(#4); return {`#2.absent = 1 ! ANY', `#2.name = 1 ! ANY', `#2.owner = #2 ! ANY', `#2.location = 1 ! ANY', `#2.shown = 1 ! ANY'}; --> {E_PROPNF, E_TYPE, E_PERM, E_PERM, E_PERM}
+return {#2.hidden, #2.shown = 9, `#2.location = #1 ! ANY', #2.shown, #1.shown}; --> {7, 9, E_PERM, 9, 8}"#;
+
+const ENTERED: &str = r#"do*ing done := return {verb, argstr, player, caller, dobj};
+closed := return 1;
+return {set_verb_info(#1, "closed", {#3, "rd", "closed"}), add_verb(#2, {#3, "r", "do"}, {"none", "none", "none"})}; --> {0, 0}
+return {`(2):do() ! ANY', `#9:do() ! ANY', `#2:closed() ! ANY', `#2:(1)() ! ANY', `#2:doi(1 / 0) ! ANY'}; --> {E_TYPE, E_INVIND, E_VERBNF, E_TYPE, E_DIV}
+argstr = 5; player = #2; return #2:Do(); --> {"Do", 5, #2, #1, #-1}
+player = 7; return #2:done(); --> {"done", "", #3, #1, #-1}
+set_task_perms(#4); player = #2; return #2:doin(); --> {"doin", "", #3, #1, #-1}"#;
+
 const FRAMES: &str = r#"return {callers(), caller_perms(), ticks_left() < 100000}; --> {{}, #-1, 1}
 p := return {callers(), caller_perms()};
 return #2:p(); --> {{{#1, "t", #3, #1, #3}}, #3}
@@ -55,5 +68,7 @@ fn verbs_run_in_frames_of_their_own(rt: HostRuntime) -> Result<(), Fail> {
     let alloc = rt.alloc();
     happens(alloc, CALLS)?;
     happens(alloc, CHANGES)?;
+    happens(alloc, PROPERTIES)?;
+    happens(alloc, ENTERED)?;
     happens(alloc, FRAMES)
 }

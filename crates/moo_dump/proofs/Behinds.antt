@@ -41,8 +41,8 @@ below_low tree f x k d low = ⊎_elim
     (cases_lt (get_or (below_of tree x) k d) (length tree))
 
 -- a number that has one below it is a number of the tree
-above_low : (tree : List Links) → IsForest tree → (y up : ℕ) → above_of tree y ≡ Some up → up < length tree
-above_low tree f y up above = ⊎_elim
+pub above_inside : (tree : List Links) → IsForest tree → (y up : ℕ) → above_of tree y ≡ Some up → up < length tree
+above_inside tree f y up above = ⊎_elim
     (λ inside. inside)
     (λ past.
     let count = f.exact up y in
@@ -113,7 +113,7 @@ next_all tree f n y all = over (above_of tree y) refl
     over : (up : Option ℕ) → above_of tree y ≡ up → next_until tree n up y ≡ next_below tree up y
     over None above = refl
     over (Some up) above =
-        let inside = above_low tree f y up above in
+        let inside = above_inside tree f y up above in
         let low = lt-ltb up n (omega (arith, inside, all)) in
         rw low refl
 

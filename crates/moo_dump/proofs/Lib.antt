@@ -2,3 +2,9 @@ pub mod Behinds
 pub mod Rows
 pub mod Counts
 pub mod Whole
+pub mod Values
+pub mod Dots
+pub mod Links
+pub mod Objects
+pub mod Written
+pub mod Sources

@@ -2,9 +2,12 @@
 #![tactic(auto)]
 
 mod behind;
+pub mod laws;
 mod link;
 mod object;
 mod program;
+#[cfg(test)]
+mod tests;
 mod world;
 
 pub use world::write_world;

@@ -5,9 +5,9 @@ ghost use Rattle.std.specs.List.{All};
 ghost use Rattle.std.specs.Int.{w32};
 ghost use Rattle.std.specs.Fmt.{signed_decimal};
 ghost use Rattle.moo_table.specs.World.{programs_in};
-ghost use Rattle.moo_dbvalue.specs.Lines.{unlines, count_line};
+ghost use Rattle.moo_dbvalue.specs.Lines.{Sizes, IsCountOf, unlines, count_line};
 ghost use Rattle.moo_dbrecord.specs.Texts.{link_of, header_line, tasks_lines, connections_lines};
-ghost use Rattle.moo_dbrecord.specs.Writing.{canonical_lines};
+ghost use Rattle.moo_dbrecord.specs.Writing.{canonical_lines, IsWritable};
 ghost use Rattle.moo_dbrecord.specs.declared.dump.Form.TheVariants.{WithListeners};
 ghost use Rattle.moo_dump.specs.Held.{IsHeld};
 ghost use Rattle.moo_dump.specs.Texts.{link_to, text_of_world, canonical_bytes};
@@ -81,9 +81,13 @@ fn put_world(
 pub fn write_world(alloc: Global, world: &World, connected: &[i32]) -> Result<Vec<u8>, AllocError>
     // The bytes are those of the world.
     ensures bytes { IfOk result (λ bytes. bytes.items ≡ canonical_bytes world.now connected.now) }
-    // What is written has numbers of 32 bits and programs within their limits.
+    // What is written may stand in a database text, within the limits on sizes too, where not too many are connected.
+    ensures writable { IfOk result (λ _. (s : Sizes) → IsCountOf s (length connected.now) → IsWritable s (text_of_world world.now connected.now)) }
+    // Each program is within its limits, and the lines of its listing are strings.
     ensures held { IfOk result (λ _. IsHeld world.now connected.now) }
 {
+    world.is_well_formed();
+    world.numbers_fit();
     let mut out = Vec::new(alloc);
     put_world(alloc, &mut out, world, connected)?;
     Ok(out)

@@ -102,6 +102,10 @@ tostr(1, "x", #2, E_DIV, {1}) --> "1x#2Division by zero{list}"
 {strsub("aAa", "a", "b"), strsub("aAa", "a", "b", 1)} --> {"bbb", "bAb"}
 {index("foobar", "O"), rindex("ab", ""), listinsert({1, 2}, 3, 9)} --> {2, 3, {1, 2, 3}}
 {setremove({1, "A", "a"}, "a"), is_member("a", {"A", "a"}), setadd({1}, 2)} --> {{1, "a"}, 2, {1, 2}}
+{ticks_left(), valid(#0)} --> {99997, 0}
+ticks_left() --> 99998
+notify(#1, "x") --> Invalid argument
+notify("x", 1) --> Type mismatch
 length() --> Incorrect number of arguments
 {`length(1) ! ANY', `length() ! ANY'} --> {E_TYPE, E_ARGS}"##;
 

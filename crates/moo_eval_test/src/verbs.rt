@@ -34,7 +34,8 @@ return #2.name; --> "G"
 try #2.name = "X"; while (1) endwhile finally #2.name = "Y"; endtry --> #1:t:  Task ran out of ticks
 return #2.name; --> "X""#;
 
-const PROPERTIES: &str = r#"return {add_property(#1, "hidden", 7, {#3, ""}), add_property(#1, "shown", 8, {#3, "r"})}; --> {0, 0}
+const PROPERTIES: &str =
+    r#"return {add_property(#1, "hidden", 7, {#3, ""}), add_property(#1, "shown", 8, {#3, "r"})}; --> {0, 0}
 set_task_perms(#4); return {`(1).hidden ! ANY', `#9.hidden ! ANY', `#2.absent ! ANY', `#2.hidden ! ANY', #2.SHOWN, #2.location}; --> {E_TYPE, E_INVIND, E_PROPNF, E_PERM, 8, #-1}
 set_task_perms(#4); return {`#2.absent = 1 ! ANY', `#2.name = 1 ! ANY', `#2.owner = #2 ! ANY', `#2.location = 1 ! ANY', `#2.shown = 1 ! ANY'}; --> {E_PROPNF, E_TYPE, E_PERM, E_PERM, E_PERM}
 return {#2.hidden, #2.shown = 9, `#2.location = #1 ! ANY', #2.shown, #1.shown}; --> {7, 9, E_PERM, 9, 8}"#;

@@ -3,4 +3,3 @@ pub mod Table
 pub mod Names
 pub mod Check
 pub mod Laws
-pub mod Hand

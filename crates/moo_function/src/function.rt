@@ -2,7 +2,6 @@
 ghost use Rattle.std.specs.Prelude.{◌≡◌};
 ghost use Rattle.moo_function.specs.Table.{all_functions, function_name, row};
 ghost use Rattle.moo_function.specs.Names.{function_of, is_called};
-ghost use Rattle.moo_function.specs.Hand.{is_at_hand};
 ghost use Rattle.moo_function.specs.Check.{seen};
 
 /// A built-in function (the manual's chapter on built-in functions).
@@ -162,40 +161,6 @@ impl Function {
             .iter()
             .copied()
             .find(|function| is_called(*function, name))
-    }
-}
-
-impl Function {
-    /// Whether it looks at its arguments alone, so that it can be called where there is no world and no clock.
-    pub fn is_at_hand(self) -> bool
-        ensures { result ≡ is_at_hand self }
-    {
-        match self {
-            Function::TypeOf
-            | Function::Length
-            | Function::ToText
-            | Function::ToLiteral
-            | Function::ToInteger
-            | Function::ToNumber
-            | Function::ToObject
-            | Function::Equal
-            | Function::Compare
-            | Function::Minimum
-            | Function::Maximum
-            | Function::Absolute
-            | Function::Index
-            | Function::LastIndex
-            | Function::Substitute
-            | Function::ListAppend
-            | Function::ListInsert
-            | Function::ListSet
-            | Function::ListDelete
-            | Function::SetAdd
-            | Function::SetRemove
-            | Function::IsMember
-            | Function::ServerVersion => true,
-            _ => false,
-        }
     }
 }
 

@@ -1,9 +1,8 @@
 -- What a grammar asks for beside its forms.
-use Rattle.std.specs.Prelude.{ℕ, List, [], ◌∷◌, ◌≡◌, Bool, true, false, not, ◌||◌, Option, Some, None}
+use Rattle.std.specs.Prelude.{ℕ, List, [], ◌∷◌, ◌≡◌, Bool, true, false, not, ◌||◌, Option, Some, None, is_some}
 use Rattle.std.specs.List.{list_any}
 use Rattle.std.specs.Str.{str_eq_ignore_ascii_case}
 use Rattle.moo_function.specs.Names.{function_of}
-use Rattle.moo_function.specs.Hand.{is_known}
 use Rattle.moo_program.specs.Tree.{Expr}
 use Rattle.moo_program.specs.Target.{is_target}
 use Rattle.moo_grammar.specs.declared.names.Names.{Names}
@@ -21,10 +20,10 @@ pub record Rules : Type 0 where
 abbrev pub loose : Rules
 loose = record { targets = false; functions = λ _. true; loops = false }
 
--- the names that a program may call: all, or those of the functions that look at their arguments alone
+-- the names that a program may call: all, or those of the built-in functions
 abbrev pub may_call : Names → List ℕ → Bool
 may_call Any name = true
-may_call Known name = is_known (function_of name)
+may_call Known name = is_some (function_of name)
 
 -- whether the expression may stand before `=`
 abbrev pub may_assign : Rules → Expr → Bool

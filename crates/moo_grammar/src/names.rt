@@ -9,7 +9,7 @@ use moo_function::Function;
 pub enum Names {
     /// Every name.
     Any,
-    /// The names, in any case, of the built-in functions that look at their arguments alone.
+    /// The names, in any case, of the built-in functions.
     Known,
 }
 
@@ -20,10 +20,7 @@ impl Names {
     {
         match self {
             Names::Any => true,
-            Names::Known => match Function::from_name(name) {
-                Some(function) => function.is_at_hand(),
-                None => false,
-            },
+            Names::Known => Function::from_name(name).is_some(),
         }
     }
 }

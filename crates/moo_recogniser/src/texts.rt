@@ -210,7 +210,10 @@ pub static FAULTS: [[&str; 2]; 44] = [
     ],
     ["1 = foo(1);", "Line 1:  Illegal assignment target"],
     ["\nFoo(1) = 2;", "Line 2:  Unknown built-in function: Foo"],
-    ["notify(1);", "Line 1:  Unknown built-in function: notify"],
+    [
+        "notify(1); notified(1);",
+        "Line 1:  Unknown built-in function: notified",
+    ],
     [
         "return 1 + foo\n(1);",
         "Line 1:  Unknown built-in function: foo",

@@ -11,9 +11,9 @@ ghost use Rattle.moo_access.specs.SeenCalled.{entered_of, found_of};
 ghost use Rattle.moo_outcome.specs.Outcome.{answers};
 ghost use Rattle.moo_outcome.specs.Seen.{context_of, variables_of, failure_of, seen_by, IsKnownFailure, HadMemoryIn};
 
+use moo_grammar::Program;
 use moo_object::{Need, Verb};
 use moo_outcome::{Activation, CallStack, Failure, Frame, Stop, TraceEntry, Variables};
-use moo_program::Program;
 use moo_rights::Rights;
 use moo_value::{ErrorCode, ListFault, MooList, MooStr, Value};
 use moo_world::{VerbAt, World};
@@ -176,7 +176,7 @@ fn program_of(alloc: Global, verb: &Verb) -> Result<Program, AllocError>
 {
     match &verb.program {
         Some(program) => program.try_clone(),
-        None => Program::try_new(alloc, Vec::new(alloc)),
+        None => Program::empty(alloc),
     }
 }
 

@@ -11,7 +11,7 @@ ghost use Rattle.moo_dump.specs.Held.{IsHeldBlock, IsHeldProgram, HoldsProgram, 
 ghost use Rattle.moo_dump.specs.Texts.{source_of, row_of, row_at};
 
 use moo_dbrecord::put_program;
-use moo_program::Program;
+use moo_grammar::Program;
 use moo_table::verbs::verbs_of;
 use moo_unparse::list_full;
 use moo_world::{Object, Verb};

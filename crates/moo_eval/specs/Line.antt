@@ -6,7 +6,8 @@ use Rattle.moo_program.specs.Tree.{Block}
 use Rattle.moo_grammar.specs.declared.names.Names.TheVariants.{Known}
 use Rattle.moo_syntax.specs.declared.syntax_fault.SyntaxFault.{SyntaxFault}
 use Rattle.moo_syntax.specs.declared.syntax_fault.SyntaxFaultKind.TheVariants.{Memory}
-use Rattle.moo_syntax.specs.Programs.{IsParsed, Blames}
+use Rattle.moo_grammar.specs.Texts.{IsParsed}
+use Rattle.moo_syntax.specs.Programs.{Blames}
 use Rattle.moo_syntax.specs.FaultText.{fault_text}
 use Rattle.moo_table.specs.World.{World}
 use Rattle.moo_eval.specs.Task.{End, TaskEnds}

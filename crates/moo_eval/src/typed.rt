@@ -5,8 +5,8 @@ ghost use Rattle.moo_eval.specs.Ends.{texts};
 ghost use Rattle.moo_eval.specs.Typed.{typed_frame, shown};
 
 use crate::task::{Ended, run_task};
+use moo_grammar::Program;
 use moo_outcome::Frame;
-use moo_program::Program;
 use moo_value::{MooList, MooStr};
 use moo_world::World;
 use std::alloc::{AllocError, Global};

@@ -1,8 +1,8 @@
 //! What the tests share: rows of programs, and the world that they run over.
 
 use moo_eval::{Ended, eval_line, run_task, typed_frame};
+use moo_grammar::Program;
 use moo_outcome::Frame;
-use moo_program::Program;
 use moo_syntax::{Names, parse};
 use moo_value::{MooStr, Value};
 use moo_world::{ObjectSpecifier, PrepositionSpecifier, VerbArgs, VerbPerms, World, WorldFault};

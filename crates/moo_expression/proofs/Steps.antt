@@ -13,9 +13,9 @@ use Rattle.moo_grammar.specs.declared.names.Names.{Names}
 use Rattle.moo_grammar.specs.Rules.{Rules, Admits, strict}
 use Rattle.moo_grammar.specs.Minuses.{minuses, negations}
 use Rattle.moo_grammar.specs.Depth.{Deep}
-use Rattle.moo_grammar.specs.Tokens.{is_sign}
+use Rattle.moo_grammar.specs.Tokens.{is_sign, next_passes}
 use Rattle.moo_grammar.specs.Grammar.{Sort, Of, Kind, unary, members, sort}
-use Rattle.moo_grammar.specs.Machine.{Reading, refuse, peek, take, phrase, Reads, gives, takes, sees, misses, reads, Why, by_form, Fails, refuses, takes_fails, sees_fails, misses_fails, phrase_fails, next_passes}
+use Rattle.moo_grammar.specs.Machine.{Reading, refuse, peek, take, phrase, Reads, gives, takes, sees, misses, reads, Why, by_form, Fails, refuses, takes_fails, sees_fails, misses_fails, phrase_fails}
 use Rattle.moo_grammar.specs.Predictive.{grammar, allowed, after_member, if_optional, behind_brace}
 use Rattle.moo_grammar.specs.Size.{size}
 use Rattle.moo_grammar.proofs.Complete.{allowed_reads}

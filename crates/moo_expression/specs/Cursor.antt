@@ -7,8 +7,7 @@ use Rattle.moo_expression.specs.declared.cursor.Cursor.{Cursor}
 use Rattle.moo_grammar.specs.declared.level.Level.{Level}
 use Rattle.moo_grammar.specs.declared.level.Operator.{Operator}
 use Rattle.moo_grammar.specs.Minuses.{minuses}
-use Rattle.moo_grammar.specs.Machine.{next_passes}
-use Rattle.moo_grammar.specs.Tokens.{words, is_sign, operator_at, literal_at}
+use Rattle.moo_grammar.specs.Tokens.{next_passes, words, is_sign, operator_at, literal_at}
 
 abbrev pub left : Cursor → List Token
 left c = words (drop c.at c.spots.now)

@@ -9,12 +9,12 @@ use Rattle.moo_program.specs.View.{with_item}
 use Rattle.moo_grammar.specs.declared.names.Names.{Names}
 use Rattle.moo_grammar.specs.Rules.{Rules, Admits, strict, may_call}
 use Rattle.moo_grammar.specs.Grammar.{Sort, Of, Kind, sort, expression, members, text}
-use Rattle.moo_grammar.specs.Machine.{Reading, phrase, Reads, Why, by_form, by_rule, Fails, next_passes}
+use Rattle.moo_grammar.specs.Machine.{Reading, phrase, Reads, Why, by_form, by_rule, Fails}
+use Rattle.moo_grammar.specs.Tokens.{next_passes, is_sign}
 use Rattle.moo_grammar.specs.Predictive.{grammar, if_name, expect, after_member, behind_question}
 use Rattle.moo_grammar.specs.Items.{item_height}
 use Rattle.moo_grammar.specs.Size.{size}
 use Rattle.moo_grammar.specs.Depth.{Deep}
-use Rattle.moo_grammar.specs.Tokens.{is_sign}
 use Rattle.moo_expression.specs.declared.cursor.Cursor.{Cursor}
 use Rattle.moo_expression.specs.declared.fault.Fault.{Fault}
 use Rattle.moo_expression.specs.declared.fault.Fault.TheVariants.{Unexpected, BadTarget, UnknownFunction, BadLoopName, TooDeep, Memory}

@@ -5,8 +5,7 @@ use Rattle.moo_token.specs.declared.keyword.Keyword.TheVariants.{Break, Continue
 use Rattle.moo_token.specs.declared.token.Token.{Token}
 use Rattle.moo_token.specs.declared.token.Token.TheVariants.{Name, Sign}
 use Rattle.moo_token.specs.declared.token.Spot.{Spot}
-use Rattle.moo_grammar.specs.Tokens.{words, is_keyword}
-use Rattle.moo_grammar.specs.Machine.{next_passes}
+use Rattle.moo_grammar.specs.Tokens.{words, is_keyword, next_passes}
 
 -- the name stands before the place, and a parenthesis at it
 pub record IsCalled (spots : List Spot) (at : ℕ) (name : List ℕ) : Type 0 where

@@ -1,5 +1,5 @@
 //! A place among tokens.
-ghost use Rattle.moo_grammar.specs.Tokens.{begins_statement};
+ghost use Rattle.moo_grammar.specs.Predictive.{begins_statement};
 ghost use Rattle.std.specs.Prelude.{◌≡◌, ℕ, ◌+◌, ◌≤◌, ◌<◌, ◌∷◌, Bool, true, false, drop, length};
 
 use crate::fault::Fault;
@@ -18,8 +18,8 @@ pub struct Cursor<'a> {
 
 impl Cursor<'_> {
     ghost use Rattle.std.specs.Prelude.{IsTrue, IfOk, MatchBool, MatchOption, MatchResult, OnErr, is_some};
-    ghost use Rattle.moo_grammar.specs.Tokens.{words, is_sign, is_keyword, literal_at, name_at, operator_at, is_closer, is_bad, begins_statement};
-    ghost use Rattle.moo_grammar.specs.Machine.{next_passes};
+    ghost use Rattle.moo_grammar.specs.Tokens.{words, is_sign, is_keyword, literal_at, name_at, operator_at, is_bad, next_passes};
+    ghost use Rattle.moo_grammar.specs.Predictive.{is_closer, begins_statement};
     ghost use Rattle.moo_expression.specs.Cursor.{left, Takes, TakesLiteral, TakesOperator, TakesMinuses, Stays, StaysUnless};
     ghost use Rattle.moo_expression.specs.declared.fault.Fault.TheVariants.{Memory, Unexpected};
 

@@ -3,9 +3,8 @@ ghost use Rattle.std.specs.Prelude.{◌≡◌, false, IfOk, IfErr};
 ghost use Rattle.moo_token.specs.declared.sign.Sign.TheVariants.{Minus};
 ghost use Rattle.moo_program.specs.Limits.{height};
 ghost use Rattle.moo_program.specs.View.{root};
-ghost use Rattle.moo_grammar.specs.Tokens.{is_sign};
+ghost use Rattle.moo_grammar.specs.Tokens.{is_sign, next_passes};
 ghost use Rattle.moo_grammar.specs.Grammar.{expression, conditional, chain, operand, power, unary, postfix};
-ghost use Rattle.moo_grammar.specs.Machine.{next_passes};
 ghost use Rattle.moo_expression.specs.Cursor.{left};
 ghost use Rattle.moo_expression.specs.Outcome.{Moves, IsRead, HasFailed};
 

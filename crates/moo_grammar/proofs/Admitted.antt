@@ -4,9 +4,11 @@ use Rattle.moo_token.specs.declared.token.Token.{Token}
 use Rattle.moo_program.specs.Tree.{Expr, Block}
 use Rattle.moo_program.specs.Target.{is_target}
 use Rattle.moo_grammar.specs.declared.names.Names.{Names}
+use Rattle.moo_grammar.specs.declared.names.Names.TheVariants.{Any}
 use Rattle.moo_grammar.specs.Rules.{Rules, Admits, loose, strict, may_assign, has_loop, may_jump}
 use Rattle.moo_grammar.specs.Grammar
 use Rattle.moo_grammar.specs.Grammar.{Of, Kind, Derives, sort, IsProgram, IsProgramBy}
+use Rattle.moo_grammar.specs.Texts.{IsProgramOf}
 
 by_rule : (b c t : Bool) → (b ≡ true → c ≡ true) → (not c || t) ≡ true → (not b || t) ≡ true
 by_rule false c t k e = refl
@@ -98,3 +100,9 @@ loose_admits h = record { targets = λ e. absurd cc; functions = λ s e. refl; l
 
 pub strict_is_loose : (names : Names) (ts : List Token) (b : Block) → IsProgram names ts b → IsProgramBy loose ts b
 strict_is_loose names ts b d = admitted (loose_admits (strict names)) d
+
+any_admits : (names : Names) → Admits (strict Any) (strict names)
+any_admits names = record { targets = λ e. e; functions = λ s e. refl; loops = λ e. e }
+
+pub program_under_any_names : (names : Names) (lines : List (List ℕ)) (b : Block) → IsProgramOf names lines b → IsProgramOf Any lines b
+program_under_any_names names lines b p = record { spots = p.spots; tokens = p.tokens; program = admitted (any_admits names) p.program }

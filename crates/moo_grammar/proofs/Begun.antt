@@ -16,7 +16,8 @@ use Rattle.moo_grammar.specs.Agree.{Agree, here, next}
 use Rattle.moo_grammar.specs.Rules.{Rules, loose, may_assign, may_jump}
 use Rattle.moo_grammar.specs.Grammar
 use Rattle.moo_grammar.specs.Grammar.{Sort, Of, Kind, Derives, IsProgramBy, sort, joined, negated, text, system_object, has_optional, statements, block}
-use Rattle.moo_grammar.specs.Machine.{Reading, give, Fails, by_rule, forbids, takes_fails, sees_fails, misses_fails, phrase_fails, then_fails, next_passes}
+use Rattle.moo_grammar.specs.Machine.{Reading, give, Fails, by_rule, forbids, takes_fails, sees_fails, misses_fails, phrase_fails, then_fails}
+use Rattle.moo_grammar.specs.Tokens.{next_passes}
 use Rattle.moo_grammar.specs.Predictive.{grammar, mark, behind_brace, expect, loop_at, jump}
 use Rattle.moo_grammar.proofs.MachineLemmas.{agree_next, reads_before}
 use Rattle.moo_grammar.proofs.Leads.{Fact}

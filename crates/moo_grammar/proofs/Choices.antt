@@ -11,12 +11,12 @@ use Rattle.moo_token.specs.declared.token.Token.TheVariants as token
 use Rattle.moo_grammar.specs.declared.level.Level.{Level}
 use Rattle.moo_grammar.specs.declared.level.Level.TheVariants.{Logic, Relation, Sum, Product}
 use Rattle.moo_grammar.specs.declared.level.Operator.{Operator}
-use Rattle.moo_grammar.specs.Tokens.{is_sign, sign_operator, is_keyword, operator_at, literal_at, name_at, is_closer, begins_expression, begins_statement}
+use Rattle.moo_grammar.specs.Tokens.{is_sign, sign_operator, is_keyword, operator_at, literal_at, name_at, next_passes}
+use Rattle.moo_grammar.specs.Predictive.{is_closer, begins_expression, begins_statement}
 use Rattle.moo_grammar.specs.Rules.{Rules, has_loop, may_jump}
 use Rattle.moo_grammar.specs.Grammar
 use Rattle.moo_grammar.specs.Grammar.{Sort, Of, Kind, Derives, sort}
 use Rattle.moo_program.specs.Tree.{Expr, Arms}
-use Rattle.moo_grammar.specs.Machine.{next_passes}
 
 -- How loose a phrase is that the token can continue, where it stands behind it.
 abbrev pub looseness : Sign → ℕ

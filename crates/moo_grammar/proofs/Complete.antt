@@ -6,9 +6,9 @@ use Rattle.moo_token.specs.declared.token.Token.{Token}
 use Rattle.moo_grammar.specs.Rules.{Rules}
 use Rattle.moo_grammar.specs.Grammar
 use Rattle.moo_grammar.specs.Grammar.{Sort, Of, Kind, Derives, sort, has_optional}
-use Rattle.moo_grammar.specs.Tokens.{is_sign}
+use Rattle.moo_grammar.specs.Tokens.{is_sign, next_passes}
 use Rattle.moo_program.specs.Tree.{Expr, Items}
-use Rattle.moo_grammar.specs.Machine.{Reading, next_passes, Reads, gives, takes, sees, misses, reads}
+use Rattle.moo_grammar.specs.Machine.{Reading, Reads, gives, takes, sees, misses, reads}
 use Rattle.moo_grammar.specs.Predictive.{grammar, allowed, if_optional, behind_brace}
 use Rattle.moo_grammar.proofs.Choices.{Follows, first, no_sign, no_operator, no_name, closer_is_loose, primary_is_unsigned, expression_is_no_splice, expression_is_no_optional, expression_is_no_end, member_is_no_closer, more_follows, suffix_follows, expression_is_no_keyword, at_paren, end_if, end_try, at_except, arms_end, may_jump_out}
 

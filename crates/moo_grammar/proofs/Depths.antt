@@ -6,11 +6,11 @@ use Rattle.moo_program.specs.Tree.{Expr, Items}
 use Rattle.moo_grammar.specs.declared.level.Level.TheVariants.{Logic, Relation, Sum, Product}
 use Rattle.moo_program.specs.declared.operator.BinaryOperator.TheVariants.{Power}
 use Rattle.moo_grammar.specs.declared.level.Operator.TheVariants as operator
-use Rattle.moo_grammar.specs.Tokens.{operator_at, name_at}
+use Rattle.moo_grammar.specs.Tokens.{operator_at, name_at, next_passes}
 use Rattle.moo_grammar.specs.Rules.{Rules, may_assign, may_jump}
 use Rattle.moo_grammar.specs.Minuses.{minuses}
 use Rattle.moo_grammar.specs.Grammar.{Sort, Of, Kind, expression, conditional, chain, more, operand, power, unary, postfix, suffixes, primary, arguments, members, codes, statement, statements, arms, handlers, label, in_parens, sort, has_optional}
-use Rattle.moo_grammar.specs.Machine.{Reading, give, refuse, forbid, take, peek, phrase, Reads, gives, takes, sees, misses, reads, next_passes}
+use Rattle.moo_grammar.specs.Machine.{Reading, give, refuse, forbid, take, peek, phrase, Reads, gives, takes, sees, misses, reads}
 use Rattle.moo_grammar.specs.Predictive.{grammar, mark, allowed, if_optional, behind_brace}
 use Rattle.moo_grammar.specs.Size.{size}
 use Rattle.moo_grammar.specs.Depth.{Deep}

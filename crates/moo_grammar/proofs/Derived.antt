@@ -9,10 +9,10 @@ use Rattle.moo_token.specs.declared.token.Token.TheVariants.{Sign}
 use Rattle.moo_program.specs.Tree.{Expr, Stmt, length_mark, breaks, continues}
 use Rattle.moo_grammar.specs.declared.level.Level.TheVariants.{Logic, Relation, Sum, Product}
 use Rattle.moo_grammar.specs.Rules.{Rules, may_assign, may_jump}
-use Rattle.moo_grammar.specs.Tokens.{is_sign}
+use Rattle.moo_grammar.specs.Tokens.{is_sign, next_passes}
 use Rattle.moo_grammar.specs.Grammar
 use Rattle.moo_grammar.specs.Grammar.{Sort, Of, Kind, Derives, sort, has_optional}
-use Rattle.moo_grammar.specs.Machine.{Reading, give, Reads, gives, takes, sees, misses, reads, next_passes}
+use Rattle.moo_grammar.specs.Machine.{Reading, give, Reads, gives, takes, sees, misses, reads}
 use Rattle.moo_grammar.specs.Predictive.{grammar, mark, behind_brace, expect, expect_keyword, loop_at, jump}
 use Rattle.moo_grammar.proofs.Leads.{Fact, Leads, Lead, sign_is, gives_lead, refuses_lead, forbids_lead, phrase_lead, peek_lead, taken_lead, sign_lead, expect_lead, keyword_taken_lead, keyword_lead, allowed_lead, name_lead, option_lead}
 

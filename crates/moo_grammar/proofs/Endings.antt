@@ -6,10 +6,10 @@ use Rattle.moo_token.specs.declared.keyword.Keyword.{Keyword}
 use Rattle.moo_token.specs.declared.token.Token.{Token}
 use Rattle.moo_token.specs.declared.token.Token.TheVariants as token
 use Rattle.moo_program.specs.Tree as tree
-use Rattle.moo_grammar.specs.Tokens.{is_sign, is_keyword, name_at}
+use Rattle.moo_grammar.specs.Tokens.{is_sign, is_keyword, name_at, next_passes}
 use Rattle.moo_grammar.specs.Rules.{loose}
 use Rattle.moo_grammar.specs.Grammar.{Sort, Of, Kind, Derives, sort, expression, conditional, chain, more, operand, power, unary, postfix, suffixes, primary, arguments, members, codes, statement, statements, arms, handlers, label, in_parens}
-use Rattle.moo_grammar.specs.Machine.{Reading, give, refuse, forbid, take, peek, phrase, next_passes}
+use Rattle.moo_grammar.specs.Machine.{Reading, give, refuse, forbid, take, peek, phrase}
 use Rattle.moo_grammar.specs.Predictive.{allowed, if_sign, expect, if_keyword, expect_keyword, if_name}
 use Rattle.moo_grammar.proofs.Leads.{Fact, sign_is, keyword_is}
 

@@ -8,9 +8,9 @@ use Rattle.moo_token.specs.declared.keyword.Keyword.{Keyword}
 use Rattle.moo_token.specs.declared.token.Token.{Token}
 use Rattle.moo_token.specs.declared.token.Token.TheVariants as token
 use Rattle.moo_grammar.specs.Rules.{Rules}
-use Rattle.moo_grammar.specs.Tokens.{is_sign, is_keyword, name_at}
+use Rattle.moo_grammar.specs.Tokens.{is_sign, is_keyword, name_at, next_passes}
 use Rattle.moo_grammar.specs.Grammar.{Sort, Of, Kind, Derives, sort}
-use Rattle.moo_grammar.specs.Machine.{Reading, give, refuse, forbid, take, peek, phrase, next_passes}
+use Rattle.moo_grammar.specs.Machine.{Reading, give, refuse, forbid, take, peek, phrase}
 use Rattle.moo_grammar.specs.Predictive.{allowed, if_sign, expect, if_keyword, if_name}
 
 -- a fact of tokens, a tree of them, and the tokens that are left

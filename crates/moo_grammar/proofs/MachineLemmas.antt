@@ -2,7 +2,8 @@
 use Rattle.std.proofs.Common.{◌≤◌, List, [], ◌∷◌, ◌≡◌, refl, sym, ◌∙◌, subst, Bool, length, arith}
 use Rattle.moo_token.specs.declared.token.Token.{Token}
 use Rattle.moo_grammar.specs.Grammar.{Sort, Of, Kind, sort}
-use Rattle.moo_grammar.specs.Machine.{Reading, next_passes, Reads, gives, takes, sees, misses, reads, Why, Fails, refuses, forbids, takes_fails, sees_fails, misses_fails, phrase_fails, then_fails}
+use Rattle.moo_grammar.specs.Machine.{Reading, Reads, gives, takes, sees, misses, reads, Why, Fails, refuses, forbids, takes_fails, sees_fails, misses_fails, phrase_fails, then_fails}
+use Rattle.moo_grammar.specs.Tokens.{next_passes}
 use Rattle.moo_grammar.specs.Agree.{Agree, at_end, here, next}
 
 -- r is an end of ts

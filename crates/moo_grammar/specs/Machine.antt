@@ -1,7 +1,8 @@
 -- How a predictive parser reads: at each place it takes a token that passes a test, or reads a phrase, or gives up.
-use Rattle.std.specs.Prelude.{List, [], ◌∷◌, ◌≡◌, Bool, true, false}
+use Rattle.std.specs.Prelude.{List, ◌∷◌, ◌≡◌, Bool, true, false}
 use Rattle.moo_token.specs.declared.token.Token.{Token}
 use Rattle.moo_grammar.specs.Grammar.{Sort, Of, Kind, sort}
+use Rattle.moo_grammar.specs.Tokens.{next_passes}
 
 pub data Reading : Sort → Type 0 where
   -- the tree is complete
@@ -20,10 +21,6 @@ pub data Reading : Sort → Type 0 where
 pub data Why : Type 0 where
   by_form : Why
   by_rule : Why
-
-abbrev pub next_passes : (Token → Bool) → List Token → Bool
-next_passes f [] = false
-next_passes f (x ∷ ts) = f x
 
 module _ (grammar : (k : Kind) → Reading (sort k)) where
   -- the reading comes to its end with this tree, and leaves r

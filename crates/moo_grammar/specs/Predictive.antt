@@ -1,5 +1,5 @@
 -- The choices of a predictive parser for the grammar.
-use Rattle.std.specs.Prelude.{ℕ, List, [], ◌∷◌, Bool, true, false, Option, Some, None, pos, is_some, unwrap_or, if◌then◌else◌}
+use Rattle.std.specs.Prelude.{ℕ, List, [], ◌∷◌, Bool, true, false, Option, Some, None, pos, is_some, unwrap_or, if◌then◌else◌, ◌||◌}
 use Rattle.moo_token.specs.declared.sign.Sign.{Sign}
 use Rattle.moo_token.specs.declared.sign.Sign.TheVariants.{LeftParen, RightParen, LeftBrace, RightBrace, LeftBracket, RightBracket, Comma, Dot, DotDot, Colon, Semicolon, Question, Pipe, Assign, Arrow, Backquote, Quote, Bang, Dollar, At, Minus, Caret}
 use Rattle.moo_token.specs.declared.keyword.Keyword.{Keyword}
@@ -16,10 +16,41 @@ use Rattle.moo_grammar.specs.declared.level.Level.{Level}
 use Rattle.moo_grammar.specs.declared.level.Level.TheVariants.{Logic, Relation, Sum, Product}
 use Rattle.moo_grammar.specs.declared.level.Operator.{Operator}
 use Rattle.moo_grammar.specs.declared.level.Operator.TheVariants as operator
-use Rattle.moo_grammar.specs.Tokens.{is_sign, is_keyword, operator_at, literal_at, name_at, is_closer, begins_statement}
+use Rattle.moo_grammar.specs.Tokens.{is_sign, is_keyword, operator_at, literal_at, name_at}
 use Rattle.moo_grammar.specs.Grammar.{Sort, Kind, expression, conditional, chain, more, operand, power, unary, postfix, suffixes, primary, arguments, members, codes, statement, statements, arms, handlers, label, in_parens, sort, negated, joined, text, system_object, has_optional}
 use Rattle.moo_grammar.specs.Rules.{Rules, may_assign, may_jump}
 use Rattle.moo_grammar.specs.Machine.{Reading, give, refuse, forbid, take, peek, phrase}
+
+-- whether the token ends arguments or the items of braces
+abbrev pub is_closer : Token → Bool
+is_closer x = is_sign RightParen x || is_sign RightBrace x
+
+-- whether an expression begins with the token
+abbrev pub begins_expression : Token → Bool
+begins_expression (token.Sign Bang) = true
+begins_expression (token.Sign Minus) = true
+begins_expression (token.Sign Dollar) = true
+begins_expression (token.Sign LeftParen) = true
+begins_expression (token.Sign LeftBrace) = true
+begins_expression (token.Sign Backquote) = true
+begins_expression (token.Integer n) = true
+begins_expression (token.Object n) = true
+begins_expression (token.Error e) = true
+begins_expression (token.Str s) = true
+begins_expression (token.Name s) = true
+begins_expression _ = false
+
+-- whether a statement begins with the token, or is it
+abbrev pub begins_statement : Token → Bool
+begins_statement (token.Sign Semicolon) = true
+begins_statement (token.Keyword If) = true
+begins_statement (token.Keyword For) = true
+begins_statement (token.Keyword While) = true
+begins_statement (token.Keyword Break) = true
+begins_statement (token.Keyword Continue) = true
+begins_statement (token.Keyword Return) = true
+begins_statement (token.Keyword Try) = true
+begins_statement x = begins_expression x
 
 -- takes the next token where it passes the test
 abbrev pub test : {s : Sort} → (Token → Bool) → (Token → Reading s) → Reading s → Reading s

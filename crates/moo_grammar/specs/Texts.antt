@@ -1,9 +1,13 @@
 -- The program of a text.
-use Rattle.std.specs.Prelude.{ℕ, List}
+use Rattle.std.specs.Prelude.{ℕ, List, ◌≤◌}
+use Rattle.moo_token.specs.declared.token.Token.{Token}
 use Rattle.moo_token.specs.declared.token.Spot.{Spot}
 use Rattle.moo_token.specs.Lexing.{IsTokens}
 use Rattle.moo_program.specs.Tree.{Block}
+use Rattle.moo_program.specs.Limits.{IsWithinLimits, most_brackets}
 use Rattle.moo_grammar.specs.declared.names.Names.{Names}
+use Rattle.moo_grammar.specs.declared.names.Names.TheVariants.{Any}
+use Rattle.moo_grammar.specs.Brackets.{most_open}
 use Rattle.moo_grammar.specs.Tokens.{words}
 use Rattle.moo_grammar.specs.Grammar.{IsProgram}
 
@@ -12,3 +16,20 @@ pub record IsProgramOf (names : Names) (lines : List (List ℕ)) (b : Block) : T
   pub spots : List Spot
   pub tokens : IsTokens lines spots
   pub program : IsProgram names (words spots) b
+
+-- some text is the program, whatever it calls
+pub record HasText (b : Block) : Type 0 where
+  pub lines : List (List ℕ)
+  pub program : IsProgramOf Any lines b
+
+-- the program, and the brackets of its source, are within the limits
+pub record IsWithin (ts : List Token) (b : Block) : Type 0 where
+  pub brackets : most_open ts ≤ most_brackets
+  pub program : IsWithinLimits b
+
+-- the text is the program, within the limits
+pub record IsParsed (names : Names) (lines : List (List ℕ)) (b : Block) : Type 0 where
+  pub spots : List Spot
+  pub tokens : IsTokens lines spots
+  pub program : IsProgram names (words spots) b
+  pub limits : IsWithin (words spots) b

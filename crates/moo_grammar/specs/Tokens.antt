@@ -1,12 +1,12 @@
 -- What a token is in the grammar.
-use Rattle.std.specs.Prelude.{ℕ, List, Bool, true, false, Option, Some, None, map, ◌||◌}
+use Rattle.std.specs.Prelude.{ℕ, List, [], ◌∷◌, Bool, true, false, Option, Some, None, map}
 use denote.Enum.Bare.{sameb}
 use Rattle.moo_token.specs.contracts.sign.Sign as sign
 use Rattle.moo_token.specs.declared.sign.Sign.{Sign}
-use Rattle.moo_token.specs.declared.sign.Sign.TheVariants.{LeftParen, RightParen, LeftBrace, RightBrace, Backquote, Semicolon, Bang, Dollar, OrOr, AndAnd, Equal, NotEqual, Less, LessEqual, Greater, GreaterEqual, Plus, Minus, Star, Slash, Percent}
+use Rattle.moo_token.specs.declared.sign.Sign.TheVariants.{OrOr, AndAnd, Equal, NotEqual, Less, LessEqual, Greater, GreaterEqual, Plus, Minus, Star, Slash, Percent}
 use Rattle.moo_token.specs.contracts.keyword.Keyword as keyword
 use Rattle.moo_token.specs.declared.keyword.Keyword.{Keyword}
-use Rattle.moo_token.specs.declared.keyword.Keyword.TheVariants.{In, If, For, While, Break, Continue, Return, Try}
+use Rattle.moo_token.specs.declared.keyword.Keyword.TheVariants.{In}
 use Rattle.moo_token.specs.declared.token.Token.{Token}
 use Rattle.moo_token.specs.declared.token.Token.TheVariants as token
 use Rattle.moo_token.specs.declared.token.Spot.{Spot}
@@ -69,38 +69,12 @@ operator_at l (token.Sign s) = sign_operator l s
 operator_at Relation (token.Keyword In) = Some (operator.Binary binary.In)
 operator_at _ _ = None
 
--- whether the token ends arguments or the items of braces
-abbrev pub is_closer : Token → Bool
-is_closer x = is_sign RightParen x || is_sign RightBrace x
-
 -- whether no token stands there
 abbrev pub is_bad : Token → Bool
 is_bad token.Bad = true
 is_bad _ = false
 
--- whether an expression begins with the token
-abbrev pub begins_expression : Token → Bool
-begins_expression (token.Sign Bang) = true
-begins_expression (token.Sign Minus) = true
-begins_expression (token.Sign Dollar) = true
-begins_expression (token.Sign LeftParen) = true
-begins_expression (token.Sign LeftBrace) = true
-begins_expression (token.Sign Backquote) = true
-begins_expression (token.Integer n) = true
-begins_expression (token.Object n) = true
-begins_expression (token.Error e) = true
-begins_expression (token.Str s) = true
-begins_expression (token.Name s) = true
-begins_expression _ = false
-
--- whether a statement begins with the token, or is it
-abbrev pub begins_statement : Token → Bool
-begins_statement (token.Sign Semicolon) = true
-begins_statement (token.Keyword If) = true
-begins_statement (token.Keyword For) = true
-begins_statement (token.Keyword While) = true
-begins_statement (token.Keyword Break) = true
-begins_statement (token.Keyword Continue) = true
-begins_statement (token.Keyword Return) = true
-begins_statement (token.Keyword Try) = true
-begins_statement x = begins_expression x
+-- whether a token comes next, and passes the test
+abbrev pub next_passes : (Token → Bool) → List Token → Bool
+next_passes f [] = false
+next_passes f (x ∷ ts) = f x

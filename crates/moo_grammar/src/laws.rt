@@ -3,6 +3,7 @@ ghost use Rattle.std.specs.Prelude.{◌≡◌, ℕ, List};
 ghost use Rattle.moo_token.specs.declared.token.Token.{Token};
 ghost use Rattle.moo_program.specs.Tree.{Block};
 ghost use Rattle.moo_grammar.specs.declared.names.Names.{Names};
+ghost use Rattle.moo_grammar.specs.declared.names.Names.TheVariants.{Any};
 ghost use Rattle.moo_grammar.specs.Rules.{Rules, Admits, loose};
 ghost use Rattle.moo_grammar.specs.Grammar.{IsProgram, IsProgramBy};
 ghost use Rattle.moo_grammar.specs.Texts.{IsProgramOf};
@@ -20,6 +21,11 @@ pub fn admitted_programs()
 /// A program keeps to the forms alone, whichever names it may call.
 pub fn programs_are_loose()
     ensures { (names : Names) (ts : List Token) (b : Block) → IsProgram names ts b → IsProgramBy loose ts b }
+{}
+
+/// The program of a text is its program under any names too.
+pub fn programs_under_any_names()
+    ensures { (names : Names) (lines : List (List ℕ)) (b : Block) → IsProgramOf names lines b → IsProgramOf Any lines b }
 {}
 
 /// A text is at most one program.

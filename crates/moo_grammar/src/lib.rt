@@ -4,6 +4,8 @@
 pub mod laws;
 mod level;
 mod names;
+mod program;
 
 pub use level::{Level, Operator, operator_at};
 pub use names::Names;
+pub use program::Program;

@@ -16,7 +16,7 @@ use crate::name::{defines_name, forget_name, position_of_name, put_name};
 use crate::row::{Row, cell_with_key_of, renamed_cell};
 use crate::verb::{Need, Verb, VerbPerms, change_args, change_info, change_program};
 use crate::verb_args::VerbArgs;
-use moo_program::Program;
+use moo_grammar::Program;
 use moo_value::{MooStr, Value};
 use std::alloc::{AllocError, Global};
 use std::marker::Model;

@@ -3,7 +3,7 @@ use crate::{
     BuiltInProperty, Flags, Need, Object, ObjectSpecifier, PrepositionSpecifier, PropCell,
     PropPerms, Verb, VerbArgs, VerbPerms, built_in, cell_named, fits, fits_names, has_word,
 };
-use moo_program::Program;
+use moo_grammar::Program;
 use moo_value::{MooStr, Value};
 use std::alloc::Global;
 use std::test::Fail;
@@ -211,7 +211,7 @@ fn changes_a_verb(rt: HostRuntime) -> Result<(), Fail> {
     object.add_verb(verb(alloc, b"get", PLAIN)?)?;
     assert_eq!(rt; object.verbs().len(), 1);
     object.set_verb_info(0, name(alloc, b"take")?, 4, PLAIN);
-    object.set_program(0, Some(Program::try_new(alloc, Vec::new(alloc))?));
+    object.set_program(0, Some(Program::empty(alloc)?));
     let changed = object.verb(0).ok_or("no verb")?.try_clone()?;
     assert_eq!(rt; changed.names.as_bytes(), b"take".as_slice());
     assert_eq!(rt; changed.owner, 4);

@@ -4,7 +4,7 @@ ghost use Rattle.moo_outcome.specs.State.{trace_frame};
 ghost use Rattle.moo_outcome.specs.Seen.{trace_of};
 
 use crate::variables::Variables;
-use moo_program::Program;
+use moo_grammar::Program;
 use moo_value::{MooList, MooStr};
 use std::alloc::{AllocError, Global};
 

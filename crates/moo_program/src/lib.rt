@@ -5,7 +5,6 @@ mod length;
 mod limits;
 mod lines;
 pub mod operator;
-mod program;
 pub mod shape;
 mod slots;
 mod target;
@@ -14,6 +13,6 @@ mod variables;
 
 pub use limits::{MOST_BRACKETS, MOST_NODES};
 pub use lines::fit_lines;
-pub use program::Program;
+pub use slots::variable_names;
 pub use target::is_target;
 pub use tree::{Arm, Codes, Expr, Handler, Item, Literal, Stmt};

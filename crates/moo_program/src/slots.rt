@@ -11,7 +11,7 @@ use std::alloc::{AllocError, Global};
 use std::collections::BTreeMap;
 
 /// The names of the variables, letters folded, each once, in the order in which they stand first.
-pub(crate) fn variable_names(alloc: Global, statements: &[Stmt]) -> Result<Vec<MooStr>, AllocError>
+pub fn variable_names(alloc: Global, statements: &[Stmt]) -> Result<Vec<MooStr>, AllocError>
     ensures { IfOk result (λ names. names.items ≡ slots (block statements.now)) }
 {
     let mut names = Vec::new(alloc);

@@ -2,7 +2,7 @@
 use crate::texts::{
     BAD_TARGETS, EXPRESSIONS, FAULTS, FORMS, GROUPS, INDENTED, STATEMENTS, UNEXPECTED,
 };
-use moo_program::Program;
+use moo_grammar::Program;
 use moo_syntax::{Names, SyntaxFault, parse};
 use moo_unparse::{list_full, list_full_indented, list_short};
 use moo_value::MooStr;

@@ -10,9 +10,9 @@ use Rattle.moo_token.specs.declared.token.Token.TheVariants.{Name}
 use Rattle.moo_program.specs.Tree.{Stmt}
 use Rattle.moo_grammar.specs.declared.names.Names.{Names}
 use Rattle.moo_grammar.specs.Rules.{Rules, has_loop, may_jump}
-use Rattle.moo_grammar.specs.Tokens.{is_sign, is_keyword, name_at}
+use Rattle.moo_grammar.specs.Tokens.{is_sign, is_keyword, name_at, next_passes}
 use Rattle.moo_grammar.specs.Grammar.{Sort, label}
-use Rattle.moo_grammar.specs.Machine.{Reading, give, Reads, gives, misses, by_form, by_rule, Fails, refuses, forbids, sees_fails, misses_fails, next_passes}
+use Rattle.moo_grammar.specs.Machine.{Reading, give, Reads, gives, misses, by_form, by_rule, Fails, refuses, forbids, sees_fails, misses_fails}
 use Rattle.moo_grammar.specs.Predictive.{grammar, expect, loop_at, behind_jump}
 use Rattle.moo_grammar.specs.Depth.{Deep}
 use Rattle.moo_expression.specs.declared.cursor.Cursor.{Cursor}

@@ -17,14 +17,14 @@ use Rattle.moo_expression.specs.declared.cursor.Cursor.{Cursor}
 use Rattle.moo_expression.specs.Cursor.{left}
 use Rattle.moo_expression.specs.Outcome.{ToldBy, why, HasFailed}
 use Rattle.moo_syntax.specs.Stops.{Passes, StopsBy, ExceedLimits}
-use Rattle.moo_grammar.specs.Tokens.{words, is_sign, is_bad}
+use Rattle.moo_grammar.specs.Tokens.{words, is_sign, is_bad, next_passes}
 use Rattle.moo_syntax.specs.Programs.{SameUpTo, NoProgram, BeginsProgram, with_targets, with_functions, with_loops, IsBadToken, IsTooDeep, line_of}
 use Rattle.moo_expression.specs.Places.{is_jump, IsJump, at_keyword, at_name, IsCalled}
 use Rattle.moo_grammar.specs.Brackets.{open_behind, most_open_behind, most_open}
 use Rattle.moo_grammar.specs.Depth.{Deep}
 use Rattle.moo_token.specs.declared.sign.Sign.TheVariants as sign
 use Rattle.moo_grammar.specs.Grammar.{IsProgram, IsProgramBy, statements, block}
-use Rattle.moo_grammar.specs.Machine.{Reads, Why, by_rule, Fails, next_passes}
+use Rattle.moo_grammar.specs.Machine.{Reads, Why, by_rule, Fails}
 use Rattle.moo_grammar.specs.Predictive.{grammar}
 use Rattle.moo_grammar.specs.Agree.{Agree, at_end, here, next}
 use Rattle.moo_grammar.proofs.MachineLemmas.{whole, reads_once, reads_again, fails_again}
@@ -151,13 +151,13 @@ jump_next : (spots : List Spot) (at : ℕ) → IsJump spots at → HasNext (word
 jump_next spots at (at_keyword h) = next_of is_jump (words (drop at spots)) h
 jump_next spots at (at_name before h e) = next_behind before spots e
 
-targets_admit : (names : Names) → Admits with_targets (strict names)
+pub targets_admit : (names : Names) → Admits with_targets (strict names)
 targets_admit names = record { targets = λ e. refl; functions = λ s e. refl; loops = λ e. absurd cc }
 
-loops_admit : (names : Names) → Admits with_loops (strict names)
+pub loops_admit : (names : Names) → Admits with_loops (strict names)
 loops_admit names = record { targets = λ e. absurd cc; functions = λ s e. refl; loops = λ e. refl }
 
-functions_admit : (names : Names) → Admits (with_functions names) (strict names)
+pub functions_admit : (names : Names) → Admits (with_functions names) (strict names)
 functions_admit names = record { targets = λ e. absurd cc; functions = λ s e. e; loops = λ e. absurd cc }
 
 module _ (names : Names) (spots : List Spot) (old new : Cursor) (from : left old ≡ words spots) (same : new.spots.now ≡ spots) where

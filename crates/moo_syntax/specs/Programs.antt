@@ -1,35 +1,22 @@
--- The program of a text, and what a fault says of the text.
+-- What a fault says of the text.
 use Rattle.std.specs.Prelude.{ℕ, suc, List, [], ◌∷◌, ◌++◌, ◌≡◌, ◌≤◌, ◌<◌, ◌⊎◌, true, false, length, take, drop}
 use Rattle.std.specs.List.{sum_by}
 use Rattle.moo_token.specs.declared.sign.Sign.TheVariants.{Assign}
 use Rattle.moo_token.specs.declared.token.Token.{Token}
 use Rattle.moo_token.specs.declared.token.Token.TheVariants.{Bad}
 use Rattle.moo_token.specs.declared.token.Spot.{Spot}
-use Rattle.moo_token.specs.Lexing.{IsTokens, IsReading, HasNoTokens}
+use Rattle.moo_token.specs.Lexing.{IsReading, HasNoTokens}
 use Rattle.moo_program.specs.Tree.{Block}
-use Rattle.moo_program.specs.Limits.{IsWithinLimits, AllFit, most_nodes, most_brackets}
+use Rattle.moo_program.specs.Limits.{AllFit, most_nodes}
 use Rattle.moo_program.specs.Listing.{listing}
 use Rattle.moo_grammar.specs.declared.names.Names.{Names}
 use Rattle.moo_syntax.specs.declared.syntax_fault.SyntaxFaultKind.{SyntaxFaultKind}
 use Rattle.moo_syntax.specs.declared.syntax_fault.SyntaxFaultKind.TheVariants.{BadToken, Unexpected, BadTarget, UnknownFunction, BadLoopName, TooDeep, Memory}
 use Rattle.moo_expression.specs.Places.{IsCalled, IsJump}
-use Rattle.moo_grammar.specs.Tokens.{words, is_sign, is_bad}
+use Rattle.moo_grammar.specs.Tokens.{words, is_sign, is_bad, next_passes}
 use Rattle.moo_grammar.specs.Rules.{Rules, loose, may_call}
-use Rattle.moo_grammar.specs.Machine.{next_passes}
-use Rattle.moo_grammar.specs.Brackets.{most_open}
 use Rattle.moo_grammar.specs.Grammar.{IsProgram, IsProgramBy}
-
--- the program, and the brackets of its source, are within the limits
-pub record IsWithin (ts : List Token) (b : Block) : Type 0 where
-  pub brackets : most_open ts ≤ most_brackets
-  pub program : IsWithinLimits b
-
--- the text is the program, within the limits
-pub record IsParsed (names : Names) (lines : List (List ℕ)) (b : Block) : Type 0 where
-  pub spots : List Spot
-  pub tokens : IsTokens lines spots
-  pub program : IsProgram names (words spots) b
-  pub limits : IsWithin (words spots) b
+use Rattle.moo_grammar.specs.Texts.{IsWithin}
 
 -- The lists begin alike, up to and with the token at n. The end of a list counts as a token.
 abbrev pub SameUpTo : ℕ → List Token → List Token → Type 0

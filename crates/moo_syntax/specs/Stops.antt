@@ -7,12 +7,12 @@ use Rattle.moo_program.specs.Tree.{Block}
 use Rattle.moo_program.specs.Limits.{most_nodes}
 use Rattle.moo_grammar.specs.declared.names.Names.{Names}
 use Rattle.moo_grammar.specs.Rules.{loose, may_call}
-use Rattle.moo_grammar.specs.Tokens.{words, is_sign, is_bad}
+use Rattle.moo_grammar.specs.Tokens.{words, is_sign, is_bad, next_passes}
 use Rattle.moo_grammar.specs.Grammar.{IsProgram}
-use Rattle.moo_grammar.specs.Machine.{next_passes}
+use Rattle.moo_grammar.specs.Texts.{IsWithin}
 use Rattle.moo_expression.specs.declared.fault.Fault.{Fault}
 use Rattle.moo_expression.specs.declared.fault.Fault.TheVariants.{Unexpected, BadTarget, UnknownFunction, BadLoopName, TooDeep, Memory}
-use Rattle.moo_syntax.specs.Programs.{IsWithin, NoProgram, BeginsProgram, with_targets, with_functions, with_loops, IsOutside, HasLongLine}
+use Rattle.moo_syntax.specs.Programs.{NoProgram, BeginsProgram, with_targets, with_functions, with_loops, IsOutside, HasLongLine}
 use Rattle.moo_expression.specs.Places.{IsCalled, IsJump}
 
 -- no program within the limits has these tokens: they are many, or there is a long line

@@ -2,10 +2,9 @@
 ghost use Rattle.std.specs.Prelude.{◌≡◌, ◌∷◌, ℕ, List, true, reverse, Some, IfOk, IfErr, MatchResult};
 ghost use Rattle.moo_token.specs.declared.token.Token.{Token};
 ghost use Rattle.moo_grammar.specs.declared.names.Names.{Names};
-ghost use Rattle.moo_grammar.specs.Machine.{next_passes};
+ghost use Rattle.moo_grammar.specs.Tokens.{next_passes, is_keyword};
 ghost use Rattle.std.specs.List.{list_any};
 ghost use Rattle.moo_grammar.specs.Rules.{has_loop, is_named};
-ghost use Rattle.moo_grammar.specs.Tokens.{is_keyword};
 ghost use Rattle.moo_expression.specs.Cursor.{left};
 ghost use Rattle.moo_expression.specs.Places.{is_jump};
 ghost use Rattle.moo_expression.specs.Outcome.{Moves};

@@ -2,7 +2,9 @@
 ghost use Rattle.std.specs.Prelude.{◌≡◌, ◌≤◌, ◌+◌, length, drop, ℕ, List, IfOk, IfErr, MatchOption};
 ghost use Rattle.moo_token.specs.Lexing.{IsReading};
 ghost use Rattle.moo_grammar.specs.Tokens.{words};
-ghost use Rattle.moo_syntax.specs.Programs.{IsParsed, Blames, line_of};
+ghost use Rattle.moo_program.specs.View.{block};
+ghost use Rattle.moo_grammar.specs.Texts.{IsParsed};
+ghost use Rattle.moo_syntax.specs.Programs.{Blames, line_of};
 ghost use Rattle.moo_expression.specs.Places.{IsCalled};
 ghost use Rattle.moo_syntax.specs.Stops.{StopsBy, IsStuckAt, CallsUnknown, IsWhole};
 
@@ -10,8 +12,8 @@ use crate::brackets::bracket_too_many;
 use crate::statement::statements;
 use crate::syntax_fault::{SyntaxFault, SyntaxFaultKind};
 use moo_expression::{Cursor, Fault};
-use moo_grammar::Names;
-use moo_program::{MOST_NODES, Program, fit_lines};
+use moo_grammar::{Names, Program};
+use moo_program::{MOST_NODES, Stmt, fit_lines};
 use moo_token::{Sign, Spot, tokens};
 use moo_value::MooStr;
 use std::alloc::Global;
@@ -27,9 +29,16 @@ pub fn parse(alloc: Global, lines: &[MooStr], names: Names) -> Result<Program, S
             kind: SyntaxFaultKind::Memory,
         });
     };
-    match read(alloc, &spots, names) {
+    let statements = match read(alloc, &spots, names) {
+        Ok(statements) => statements,
+        Err(stop) => return Err(blame(lines, &spots, stop, names)),
+    };
+    match Program::try_new(alloc, statements) {
         Ok(program) => Ok(program),
-        Err(stop) => Err(blame(lines, &spots, stop, names)),
+        Err(_) => Err(SyntaxFault {
+            line: lines.len(),
+            kind: SyntaxFaultKind::Memory,
+        }),
     }
 }
 
@@ -40,9 +49,9 @@ struct Stop {
     fault: Fault,
 }
 
-/// The program of these tokens.
-fn read(alloc: Global, spots: &[Spot], names: Names) -> Result<Program, Stop>
-    ensures program { IfOk result (λ p. IsWhole names (words spots.now) p) }
+/// The statements of these tokens.
+fn read(alloc: Global, spots: &[Spot], names: Names) -> Result<Vec<Stmt>, Stop>
+    ensures program { IfOk result (λ found. IsWhole names (words spots.now) (block found.items)) }
     ensures stopped { IfErr result (λ s. StopsBy names spots.now s.at s.fault) }
 {
     if let Some(at) = bracket_too_many(spots) {
@@ -71,13 +80,7 @@ fn read(alloc: Global, spots: &[Spot], names: Names) -> Result<Program, Stop>
             fault: Fault::TooDeep,
         });
     }
-    match Program::try_new(alloc, found) {
-        Ok(program) => Ok(program),
-        Err(_) => Err(Stop {
-            at: tokens.at,
-            fault: Fault::Memory,
-        }),
-    }
+    Ok(found)
 }
 
 /// What the place where the parser stopped says of the text.

@@ -7,8 +7,8 @@ ghost use Rattle.moo_table.specs.World.{nothing, most, programs_of, programs_in}
 ghost use Rattle.moo_table.specs.Verbs.{has_program};
 ghost use Rattle.moo_table.specs.Changes.{with_verb, without_verb, with_changed_verb};
 
+use moo_grammar::Program;
 use moo_object::{Object, Verb, VerbArgs, VerbPerms};
-use moo_program::Program;
 use moo_value::MooStr;
 use std::alloc::AllocError;
 

@@ -9,7 +9,8 @@ use crate::block::write_block;
 use crate::fault::{ListFault, Memory};
 use crate::form::{Form, Parentheses};
 use crate::line::Line;
-use moo_program::{Program, Stmt};
+use moo_grammar::Program;
+use moo_program::Stmt;
 use moo_value::MooStr;
 use std::alloc::Global;
 

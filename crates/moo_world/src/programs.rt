@@ -10,7 +10,7 @@ ghost use Rattle.moo_world.specs.VerbCalls.{program_raises, world_with_object};
 
 use crate::World;
 use crate::fault::WorldFault;
-use moo_program::Program;
+use moo_grammar::Program;
 use moo_table::MOST;
 use moo_table::verbs::{has_program, set_program_in};
 use moo_value::ErrorCode;

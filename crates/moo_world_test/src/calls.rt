@@ -2,7 +2,7 @@
 use crate::args::{Args, string};
 use crate::looks::look;
 use crate::rights::rights;
-use moo_program::Program;
+use moo_grammar::Program;
 use moo_value::{ErrorCode, Value};
 use moo_world::{ObjectSpecifier, PrepositionSpecifier, VerbArgs, World, WorldFault};
 use std::alloc::Global;
@@ -179,7 +179,7 @@ fn set_verb_info(world: &mut World, alloc: Global, args: &Args) -> Result<(), Wo
 
 /// A program without statements.
 pub fn no_statements(alloc: Global) -> Result<Program, WorldFault> {
-    Ok(Program::try_new(alloc, Vec::new(alloc))?)
+    Ok(Program::empty(alloc)?)
 }
 
 fn set_program(world: &mut World, alloc: Global, args: &Args) -> Result<(), WorldFault> {

@@ -2,7 +2,7 @@
 use crate::args::{NO_VERB_PERMS, string};
 use crate::calls::{NO_COMMAND, no_statements};
 use crate::script::first_wrong;
-use moo_program::Program;
+use moo_grammar::Program;
 use moo_world::{MOST, World, WorldFault};
 use std::alloc::Global;
 use std::test::Fail;

@@ -15,9 +15,9 @@ use Rattle.moo_program.proofs.Rows.{row_of, row_items}
 use Rattle.moo_grammar.specs.declared.level.Level.TheVariants.{Relation, Sum, Product}
 use Rattle.moo_grammar.specs.Rules.{strict, may_assign}
 use Rattle.moo_grammar.specs.Grammar.{Sort, joined, expression, conditional, operand, chain, power, unary, postfix, suffixes, primary, arguments, members, has_optional}
-use Rattle.moo_grammar.specs.Machine.{give, take, phrase, gives, sees, misses, reads, refuses, sees_fails, misses_fails, phrase_fails, then_fails, next_passes}
+use Rattle.moo_grammar.specs.Machine.{give, take, phrase, gives, sees, misses, reads, refuses, sees_fails, misses_fails, phrase_fails, then_fails}
+use Rattle.moo_grammar.specs.Tokens.{next_passes, is_sign, name_at, literal_at}
 use Rattle.moo_grammar.specs.Predictive.{grammar, expect, after_member, behind_dot, behind_colon, verb_arguments, behind_bracket, named, braced, dollar, behind_dollar, guarded, behind_question}
-use Rattle.moo_grammar.specs.Tokens.{is_sign, name_at, literal_at}
 use Rattle.moo_grammar.specs.Minuses.{negations}
 use Rattle.moo_grammar.proofs.Kept.{target_may_be_assigned, no_target, name_may_be_called, refused_fails}
 use Rattle.moo_grammar.proofs.Heights.{height_positive, joined_height, negations_lower}

@@ -1,6 +1,7 @@
 use Rattle.std.proofs.Common.{negsuc, [], ◌∷◌, ap, ◌∙◌, refl, subst}
 use Rattle.moo_grammar.specs.declared.names.Names.TheVariants.{Known}
-use Rattle.moo_syntax.specs.Programs.{IsParsed, Blames}
+use Rattle.moo_grammar.specs.Texts.{IsParsed}
+use Rattle.moo_syntax.specs.Programs.{Blames}
 use Rattle.moo_eval.specs.Line.{refused, runs}
 use Rattle.moo_eval.specs.Task.{TaskEnds}
 use Rattle.moo_eval.specs.Typed.{typed_frame}

@@ -1,8 +1,8 @@
 use Rattle.std.proofs.Common.{rules, refl, sym, subst, ◌∙◌, ◌≡◌, [], length, false, true, None, reverse, arith}
 use Rattle.std.proofs.lemmas.Result.{err_from_is_err_and}
 use Rattle.moo_grammar.specs.Rules.{has_loop}
-use Rattle.moo_grammar.specs.Tokens.{is_keyword}
-use Rattle.moo_grammar.specs.Machine.{sees_fails, next_passes}
+use Rattle.moo_grammar.specs.Tokens.{is_keyword, next_passes}
+use Rattle.moo_grammar.specs.Machine.{sees_fails}
 use Rattle.moo_grammar.specs.Predictive.{behind_jump}
 use Rattle.moo_grammar.proofs.Kept.{refused_fails}
 use Rattle.moo_expression.specs.Places.{at_keyword}

@@ -1,12 +1,13 @@
-use Rattle.moo_syntax.proofs.Sound.{all_tokens}
+use Rattle.moo_program.specs.View.{block}
+use Rattle.moo_syntax.proofs.Sound.{parsed, has_text}
 use Rattle.moo_syntax.proofs.reader.parse.Goals as goal
 
-pub returns-in-Ok-read-clause-program : goal.returns-in-Ok-read-clause-program
-returns-in-Ok-read-clause-program c =
-    let read = rw c.deref.ensures.value at c.in-Ok-read.ensures.program in
-    record {
-      spots = c.in-Ok.spots.items;
-      tokens = all_tokens c.args.names c.args.lines.now c.in-Ok.spots.items c.in-Ok-read.program c.in-Ok.ensures read.program;
-      program = read.program;
-      limits = read.limits;
-    }
+pub try_new-requires-clause-text : goal.try_new-requires-clause-text
+try_new-requires-clause-text c =
+    let whole = rw c.deref.ensures.value at c.in-Ok-read.ensures.program in
+    has_text c.args.names c.args.lines.now c.in-Ok.spots.items (block c.in-Ok-read.statements.items) c.in-Ok.ensures whole
+
+pub returns-in-Ok-try_new-clause-program : goal.returns-in-Ok-try_new-clause-program
+returns-in-Ok-try_new-clause-program c =
+    let whole = rw c.deref.ensures.value at c.in-Ok-read.ensures.program in
+    rw c.in-Ok-try_new.ensures (parsed c.args.names c.args.lines.now c.in-Ok.spots.items (block c.in-Ok-read.statements.items) c.in-Ok.ensures whole)

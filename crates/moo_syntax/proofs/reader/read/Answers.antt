@@ -37,12 +37,12 @@ returns-then-not-fit_lines-clause-stopped c =
 pub returns-in-Some-clause-stopped : goal.returns-in-Some-clause-stopped
 returns-in-Some-clause-stopped c = exceed_by_brackets c.args.names (words c.args.spots.now) c.in-Some.ensures.1
 
-pub returns-in-Ok-try_new-clause-program : goal.returns-in-Ok-try_new-clause-program
-returns-in-Ok-try_new-clause-program c =
+pub returns-clause-program : goal.returns-clause-program
+returns-clause-program c =
     let names = c.args.names in
     let spots = c.args.spots.now in
     let n = c.statements.new.tokens.at in
     let tree = tree_of c.in-Ok.found.items in
     let read = subst (λ v. Reads (grammar (strict names)) block (grammar (strict names) (statements [])) (words spots) tree (words (drop n v))) c.in-Ok.ensures.moves.spots ((rw c.new.ensures.items at c.in-Ok.ensures.read).reads (strict names) (admits_itself names)) in
     let whole : IsProgram names (words spots) tree = derived (subst (λ v. Reads (grammar (strict names)) block (grammar (strict names) (statements [])) (words spots) tree v) (nothing_left n spots c.if-tokens-spots.false) read) in
-    rw c.in-Ok-try_new.ensures (record { program = whole; limits = search rules })
+    record { program = whole; limits = search rules }

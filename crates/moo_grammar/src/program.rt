@@ -1,17 +1,18 @@
 //! Programs.
 ghost use Rattle.std.specs.Prelude.{◌≡◌, IfOk};
+ghost use Rattle.moo_program.specs.Tree.{no_statement};
 ghost use Rattle.moo_program.specs.View.{block};
 ghost use Rattle.moo_program.specs.Limits.{IsWithinLimits};
 ghost use Rattle.moo_program.specs.Slots.{slots};
+ghost use Rattle.moo_grammar.specs.Texts.{HasText};
 
-use crate::slots::variable_names;
-use crate::tree::Stmt;
+use moo_program::{Stmt, variable_names};
 use moo_value::MooStr;
 use std::alloc::{AllocError, Global};
 use std::marker::Model;
 use std::rc::Rc;
 
-/// A program within the limits, which doesn't change. A clone shares its statements.
+/// A program of some text, within the limits, which doesn't change. A clone shares its statements.
 #[derive(Drop)]
 pub struct Program {
     statements: Rc<Vec<Stmt>>,
@@ -26,6 +27,7 @@ impl Model for Program {
     ghost use Rattle.std.specs.Prelude.{◌≡◌};
     ghost use Rattle.moo_program.specs.Limits.{IsWithinLimits};
     ghost use Rattle.moo_program.specs.Slots.{slots};
+    ghost use Rattle.moo_grammar.specs.Texts.{HasText};
 
     ghost Value = { Block };
 
@@ -33,19 +35,27 @@ impl Model for Program {
 
     ghost view = { λ p. block p.statements.value.items };
 
-    ghost invariant = { λ p. IsWithinLimits (block p.statements.value.items) × (p.names.value.items ≡ slots (block p.statements.value.items)) };
+    ghost invariant = { λ p. IsWithinLimits (block p.statements.value.items) × HasText (block p.statements.value.items) × (p.names.value.items ≡ slots (block p.statements.value.items)) };
 }
 
 impl Program {
-    /// The program of these statements, which the caller has found to be within the limits.
+    /// The program of these statements, which the caller has read from a text and found to be within the limits.
     pub fn try_new(alloc: Global, statements: Vec<Stmt>) -> Result<Program, AllocError>
-        requires { IsWithinLimits (block statements.items) }
+        requires limits { IsWithinLimits (block statements.items) }
+        requires text { HasText (block statements.items) }
         ensures { IfOk result (λ p. p ≡ block statements.items) }
     {
         let names = variable_names(alloc, &statements)?;
         let statements = Rc::new(alloc, statements)?;
         let names = Rc::new(alloc, names)?;
         Ok(Program { statements, names })
+    }
+
+    /// The program of no lines.
+    pub fn empty(alloc: Global) -> Result<Program, AllocError>
+        ensures { IfOk result (λ p. p ≡ no_statement) }
+    {
+        Program::try_new(alloc, Vec::new(alloc))
     }
 
     /// The same program, with its statements shared.
@@ -61,6 +71,7 @@ impl Program {
     pub fn statements(&self) -> &[Stmt]
         ensures statements { block result.now ≡ self.now }
         ensures limits { IsWithinLimits self.now }
+        ensures text { HasText self.now }
     {
         self.statements.as_slice()
     }

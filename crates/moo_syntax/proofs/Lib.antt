@@ -4,3 +4,4 @@ pub mod TextLengths
 pub mod Passing
 pub mod Whole
 pub mod Sound
+pub mod Blamed

@@ -3,6 +3,7 @@
 
 mod brackets;
 mod jump;
+pub mod laws;
 mod reader;
 mod statement;
 mod syntax_fault;

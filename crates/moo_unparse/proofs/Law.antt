@@ -1,19 +1,14 @@
--- A listing of the program of a text is a text of that program, with few enough brackets.
-use Rattle.std.proofs.Common.{ℕ, List, [], ◌≡◌, ◌≤◌, refl, subst, false, arith}
-use Rattle.moo_token.specs.declared.token.Spot.{Spot}
-use Rattle.moo_token.proofs.Readings.{one_token_list}
+-- A listing of the program of a text is a text of that program, within the limits.
+use Rattle.std.proofs.Common.{ℕ, List, [], ◌≡◌, refl, subst, false, arith}
 use Rattle.moo_program.specs.Tree.{Block}
-use Rattle.moo_program.specs.Limits.{IsWithinLimits, most_brackets}
+use Rattle.moo_program.specs.Limits.{IsWithinLimits}
 use Rattle.moo_program.specs.Listing.{listing}
 use Rattle.moo_grammar.specs.declared.names.Names.{Names}
-use Rattle.moo_grammar.specs.Brackets.{most_open}
 use Rattle.moo_grammar.specs.Rules.{strict}
-use Rattle.moo_grammar.specs.Texts.{IsProgramOf}
-use Rattle.moo_grammar.specs.Tokens.{words}
+use Rattle.moo_grammar.specs.Texts.{IsProgramOf, IsParsed}
 use Rattle.moo_grammar.proofs.Unique.{one_program_of_text}
 use Rattle.moo_unparse.specs.declared.form.Parentheses.TheVariants.{All}
 use Rattle.moo_unparse.specs.declared.form.Form.{Form}
-use Rattle.moo_unparse.specs.Brackets.{OpensFew}
 use Rattle.moo_unparse.specs.Listings.{listing_in}
 use Rattle.moo_unparse.proofs.Full.{full_is_a_form}
 use Rattle.moo_unparse.proofs.Good.{good_program}
@@ -36,12 +31,16 @@ listing_is_program names lines b p = subst (λ (v : List (List ℕ)). IsProgramO
 pub listing_is_no_other : (names : Names) (lines : List (List ℕ)) (b c : Block) → IsProgramOf names lines b → IsProgramOf names (listing b) c → c ≡ b
 listing_is_no_other names lines b c p q = one_program_of_text names (listing b) c b q (listing_is_program names lines b p)
 
-pub form_opens_few : (f : Form) (names : Names) (lines : List (List ℕ)) (b : Block) → IsProgramOf names lines b → IsWithinLimits b → OpensFew (listing_in f b)
-form_opens_few f names lines b p h spots t =
+pub form_is_parsed : (f : Form) (names : Names) (lines : List (List ℕ)) (b : Block) → IsProgramOf names lines b → IsWithinLimits b → IsParsed names (listing_in f b) b
+form_is_parsed f names lines b p h =
     let g = good_program {p = f.parentheses} {g = strict names} refl p.program (tokens_sound lines p.spots p.tokens) in
     let r = read_block f b g.sound 0 in
-    let one = one_token_list (listing_in f b) r.spots spots r.lexes t in
-    subst (λ (v : List Spot). most_open (words v) ≤ most_brackets) one (rw r.same (omega (arith, open_by_height f.parentheses b, h.nodes)))
+    record {
+      spots = r.spots;
+      tokens = r.lexes;
+      program = rw r.same (g.statements []);
+      limits = record { brackets = rw r.same (omega (arith, open_by_height f.parentheses b, h.nodes)); program = h };
+    }
 
-pub listing_opens_few : (names : Names) (lines : List (List ℕ)) (b : Block) → IsProgramOf names lines b → IsWithinLimits b → OpensFew (listing b)
-listing_opens_few names lines b p h = subst OpensFew (full_is_a_form b) (form_opens_few (record { parentheses = All; indent = false }) names lines b p h)
+pub listing_is_parsed : (names : Names) (lines : List (List ℕ)) (b : Block) → IsProgramOf names lines b → IsWithinLimits b → IsParsed names (listing b) b
+listing_is_parsed names lines b p h = subst (λ (v : List (List ℕ)). IsParsed names v b) (full_is_a_form b) (form_is_parsed (record { parentheses = All; indent = false }) names lines b p h)

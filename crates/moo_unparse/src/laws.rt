@@ -4,8 +4,8 @@ ghost use Rattle.moo_program.specs.Tree.{Block};
 ghost use Rattle.moo_program.specs.Limits.{IsWithinLimits};
 ghost use Rattle.moo_program.specs.Listing.{listing};
 ghost use Rattle.moo_grammar.specs.declared.names.Names.{Names};
-ghost use Rattle.moo_grammar.specs.Texts.{IsProgramOf};
-ghost use Rattle.moo_unparse.specs.Brackets.{OpensFew};
+ghost use Rattle.moo_grammar.specs.declared.names.Names.TheVariants.{Any};
+ghost use Rattle.moo_grammar.specs.Texts.{IsProgramOf, IsParsed, HasText};
 ghost use Rattle.moo_unparse.specs.Listings.{indented_listing, short_listing};
 
 /// The full listing of the program of a text is a text of that program, and of no other.
@@ -26,9 +26,15 @@ pub fn short_listing_has_its_program()
     ensures no_other { (names : Names) (lines : List (List ℕ)) (indent : Bool) (b c : Block) → IsProgramOf names lines b → IsProgramOf names (short_listing indent b) c → c ≡ b }
 {}
 
-/// Where the program is within the limits, so are the brackets of each of these listings.
+/// Where the program is within the limits, each of these listings is a text of it that is within the limits too. `parse` takes it,
+/// where its lines fit strings: those of the full listing do.
 pub fn listing_is_within_limits()
-    ensures full { (names : Names) (lines : List (List ℕ)) (b : Block) → IsProgramOf names lines b → IsWithinLimits b → OpensFew (listing b) }
-    ensures indented { (names : Names) (lines : List (List ℕ)) (b : Block) → IsProgramOf names lines b → IsWithinLimits b → OpensFew (indented_listing b) }
-    ensures short { (names : Names) (lines : List (List ℕ)) (indent : Bool) (b : Block) → IsProgramOf names lines b → IsWithinLimits b → OpensFew (short_listing indent b) }
+    ensures full { (names : Names) (lines : List (List ℕ)) (b : Block) → IsProgramOf names lines b → IsWithinLimits b → IsParsed names (listing b) b }
+    ensures indented { (names : Names) (lines : List (List ℕ)) (b : Block) → IsProgramOf names lines b → IsWithinLimits b → IsParsed names (indented_listing b) b }
+    ensures short { (names : Names) (lines : List (List ℕ)) (indent : Bool) (b : Block) → IsProgramOf names lines b → IsWithinLimits b → IsParsed names (short_listing indent b) b }
+{}
+
+/// The full listing of every program within the limits that some text has is a text of it within the limits.
+pub fn programs_have_listings()
+    ensures { (b : Block) → HasText b → IsWithinLimits b → IsParsed Any (listing b) b }
 {}

@@ -1,0 +1,18 @@
+//! What holds of every text and of the fault that it is told.
+ghost use Rattle.std.specs.Prelude.{◌≢◌, ℕ, List};
+ghost use Rattle.moo_program.specs.Tree.{Block};
+ghost use Rattle.moo_grammar.specs.declared.names.Names.{Names};
+ghost use Rattle.moo_grammar.specs.Texts.{IsProgramOf, IsParsed};
+ghost use Rattle.moo_syntax.specs.declared.syntax_fault.SyntaxFaultKind.{SyntaxFaultKind};
+ghost use Rattle.moo_syntax.specs.declared.syntax_fault.SyntaxFaultKind.TheVariants.{TooDeep, Memory};
+ghost use Rattle.moo_syntax.specs.Programs.{Blames};
+
+/// The text of a program within the limits is told no fault but want of memory.
+pub fn programs_are_not_blamed()
+    ensures { (names : Names) (lines : List (List ℕ)) (n : ℕ) (k : SyntaxFaultKind) (b : Block) → Blames names lines n k → k ≢ Memory → IsParsed names lines b → ⊥ }
+{}
+
+/// A text that is told a fault, but for limits and want of memory, is no program.
+pub fn blamed_texts_are_no_programs()
+    ensures { (names : Names) (lines : List (List ℕ)) (n : ℕ) (k : SyntaxFaultKind) (b : Block) → Blames names lines n k → k ≢ TooDeep → k ≢ Memory → IsProgramOf names lines b → ⊥ }
+{}

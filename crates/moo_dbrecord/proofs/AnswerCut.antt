@@ -28,7 +28,7 @@ line_cut s line =
     then_cut (told (s.lines + 1) (dump_step limited x s.progress line)) (told (s.lines + 1) (dump_step unlimited x s.progress line)) next next
     (told_cut (s.lines + 1) (dump_step limited x s.progress line) (dump_step unlimited x s.progress line) (dump_cut x s.progress line)) (λ p. inl refl)
 
-taken_cut : (s : Taken) (bs : List ℕ) → IsCut (taken_on limited s bs) (taken_on unlimited s bs)
+pub taken_cut : (s : Taken) (bs : List ℕ) → IsCut (taken_on limited s bs) (taken_on unlimited s bs)
 unfolding taken_on
 taken_cut s [] = inl refl
 taken_cut s (b ∷ bs) = decide (eqb b 10) (λ t. taken_cut t bs)

@@ -1,7 +1,7 @@
 -- A text that was read is spelled by its bytes.
 use Rattle.std.proofs.Common.{◌≡◌, ℕ, pos, ◌+◌, Bool, true, false, cond, eqb, ltb, List, [], ◌∷◌, ◌++◌, length, Result, Ok, Err, refl, sym, ap, subst, ◌∙◌, append_assoc, arith}
 use Rattle.std.proofs.lemmas.Bool.{eqb-true, ltb-true}
-use Rattle.std.proofs.lemmas.List.{append-nil}
+use Rattle.std.proofs.lemmas.List.{append-nil, length-append}
 use Rattle.std.proofs.lemmas.List.Elements.{All-nil}
 use Rattle.moo_value.specs.Tree.{IsTextByte}
 use Rattle.moo_dbvalue.specs.declared.fault.LineFault.{LineFault}
@@ -32,8 +32,9 @@ pub record IsTaken (s : Taken) (bytes : List ℕ) : Type 0 where
   pub slack : Slack
   pub is : IsProgress s.progress slack
   pub whole : bytes ≡ unlines (progress_read s.progress.section s.progress slack) ++ s.rest
+  pub count : s.lines ≡ length (progress_read s.progress.section s.progress slack)
 
-line_found : (z : Sizes) (s t : Taken) (bytes : List ℕ) → IsTaken s bytes → line_ended z s s.rest ≡ Ok t → IsTaken t (bytes ++ 10 ∷ [])
+pub line_found : (z : Sizes) (s t : Taken) (bytes : List ℕ) → IsTaken s bytes → line_ended z s s.rest ≡ Ok t → IsTaken t (bytes ++ 10 ∷ [])
 unfolding line_ended
 line_found z s t bytes h e =
     let k = h.slack in
@@ -47,9 +48,14 @@ line_found z s t bytes h e =
       is = a.1.is;
       whole = ap (λ (bs : List ℕ). bs ++ 10 ∷ []) h.whole ∙ append_assoc (unlines front) s.rest (10 ∷ [])
           ∙ sym (flat_map_push (λ (l : Line). l ++ 10 ∷ []) front s.rest) ∙ ap unlines (sym a.1.read) ∙ sym (append-nil (unlines (progress_read b.0.section b.0 a.0)));
+      count =
+          let longer : length (progress_read b.0.section b.0 a.0) ≡ length (front ++ s.rest ∷ []) = ap length a.1.read in
+          let split = length-append front (s.rest ∷ []) in
+          let so_far = h.count in
+          omega arith;
     })
 
-taken_found : (z : Sizes) (bs : List ℕ) (s t : Taken) (bytes : List ℕ) → IsTaken s bytes → taken_on z s bs ≡ Ok t → IsTaken t (bytes ++ bs)
+pub taken_found : (z : Sizes) (bs : List ℕ) (s t : Taken) (bytes : List ℕ) → IsTaken s bytes → taken_on z s bs ≡ Ok t → IsTaken t (bytes ++ bs)
 unfolding taken_on
 taken_found z [] s t bytes h e = let ok : Taken → Result Taken Told = λ x. Ok x in let f : ok s ≡ ok t = e in let same : s ≡ t = cc in
     subst (λ (u : Taken). IsTaken u (bytes ++ [])) same (subst (IsTaken s) (sym (append-nil bytes)) h)
@@ -66,6 +72,7 @@ taken_found z (b ∷ bs) s t bytes h e =
           slack = h.slack;
           is = h.is;
           whole = ap (λ (k : List ℕ). k ++ b ∷ []) h.whole ∙ append_assoc (unlines (progress_read s.progress.section s.progress h.slack)) s.rest (b ∷ []);
+          count = h.count;
         }) f
 
 ended_found : (s : Section) (p : Progress) (k : Slack) (t : Text) → HasFields p.text k → Keeps s p k → end_of s p.text ≡ Ok t → IsWritten unlimited t k × (progress_read s p k ≡ text_lines t k)
@@ -117,8 +124,8 @@ start_is = record {
   keeps = (record { objects_count = omega arith; programs_count = omega arith; objects = refl; table = refl; programs = refl; draft = refl; source = refl; last = record { form = refl; links = refl } }, refl);
 }
 
-begins : IsTaken begin []
-begins = record { slack = no_slack; is = start_is; whole = refl }
+pub begins : IsTaken begin []
+begins = record { slack = no_slack; is = start_is; whole = refl; count = refl }
 
 pub answer_found : (z : Sizes) (bytes : List ℕ) (t : Text) → answer_to z bytes ≡ Ok t → Spells bytes t
 unfolding answer_to finished ended

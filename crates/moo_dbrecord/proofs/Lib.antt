@@ -17,3 +17,4 @@ pub mod ReadLaws
 pub mod Canonical
 pub mod CanonicalText
 pub mod WriteLaws
+pub mod Sources

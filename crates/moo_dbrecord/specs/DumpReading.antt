@@ -40,6 +40,25 @@ progress_of r = record {
   source = r.source.items;
 }
 
+-- the verb whose program's lines are being read
+abbrev pub verb_read : Section → Progress → Option (ℕ × ℕ)
+verb_read section.Source p = Some (p.object, p.verb)
+verb_read section.Header p = None
+verb_read section.ObjectCount p = None
+verb_read section.ProgramCount p = None
+verb_read section.Unused p = None
+verb_read section.PlayerCount p = None
+verb_read section.Player p = None
+verb_read section.Head p = None
+verb_read section.Object p = None
+verb_read section.ProgramHead p = None
+verb_read section.Clocks p = None
+verb_read section.Queued p = None
+verb_read section.Suspended p = None
+verb_read section.ConnectionCount p = None
+verb_read section.Connection p = None
+verb_read section.End p = None
+
 -- n programs, objects, players or connections are still to come
 abbrev pub after_programs : Progress → Text → ℕ → Progress
 after_programs p t zero = record p { section = section.Clocks; text = t }

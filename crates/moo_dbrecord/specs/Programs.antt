@@ -1,5 +1,5 @@
 -- The programs of verbs, by object and verb.
-use Rattle.std.specs.Prelude.{◌≡◌, ◌≢◌, ◌<◌, ◌^◌, ℕ, zero, suc, Bool, true, false, List, [], ◌∷◌, ◌++◌, map, codes, Option, Some, None, option_map}
+use Rattle.std.specs.Prelude.{◌≡◌, ◌≢◌, ◌<◌, ◌^◌, ℕ, zero, suc, Bool, true, false, List, [], ◌∷◌, ◌++◌, map, slice_index_or, codes, Option, Some, None, option_map}
 use Rattle.std.specs.List.{AllByRecursion}
 use Rattle.std.specs.Global.{Vec}
 use Rattle.moo_dbvalue.specs.Lines.{Line, Sizes, IsStringOf, count_line}
@@ -11,6 +11,10 @@ Row = List (Option (List Line))
 
 abbrev pub Table : Type 0
 Table = List Row
+
+-- what stands for verb v of object o
+abbrev pub entry_at : {A : Type 0} → List (List (Option A)) → ℕ → ℕ → Option A
+entry_at table o v = slice_index_or (slice_index_or table o []) v None
 
 abbrev pub source_of : Option (Vec Line) → Option (List Line)
 source_of s = option_map (λ v. v.items) s

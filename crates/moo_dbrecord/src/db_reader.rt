@@ -1,15 +1,17 @@
 //! A text that comes in pieces.
-ghost use Rattle.std.specs.Prelude.{◌≡◌, ℕ, ◌++◌, List, [], Ok, OnOk, IfErr, IfOk, IsErrOf, MatchOption};
+ghost use Rattle.std.specs.Prelude.{◌≡◌, ℕ, ◌++◌, List, [], Ok, Some, None, OnOk, IfErr, IfOk, IsErrOf, MatchOption};
 ghost use Rattle.moo_dbvalue.specs.Lines.{Gives, limited};
 ghost use Rattle.moo_dbrecord.specs.Texts.{Text, Spells, SpellsWithin, text_of};
 ghost use Rattle.moo_dbrecord.specs.declared.db_reader.RecordFault.{RecordFault};
-ghost use Rattle.moo_dbrecord.specs.DumpReading.{progress_of, dump_step};
+ghost use Rattle.moo_dbrecord.specs.DumpReading.{progress_of, verb_read, dump_step};
+ghost use Rattle.moo_dbrecord.specs.Programs.{entry_at};
 ghost use Rattle.moo_dbrecord.specs.Answer.{Answers, HasTaken, IsGoing, HasFailed, StandWithoutLimits, taken_of, taken_on, line_ended, finished, answer_to, HasNoEnd, BeginsWithLine, IsOfLine, IsOfSize, IsReadOrTooLarge, front_lines};
 
 use crate::dump::Dump;
 use crate::dump_reader::DumpReader;
 use memchr::memchr;
 use moo_dbvalue::{LineFault, Refusal};
+use moo_value::MooStr;
 use std::alloc::Global;
 use thiserror::Error;
 
@@ -42,7 +44,8 @@ impl DbReader {
     /// A reader before the first byte.
     #[tactic(auto, unfolding(crate::specs::Answer::taken_on))]
     pub fn new(alloc: Global) -> DbReader
-        ensures { HasTaken result [] }
+        ensures taken { HasTaken result [] }
+        ensures going { IsGoing result }
     {
         DbReader {
             lines: 0,
@@ -50,6 +53,28 @@ impl DbReader {
             rest: Vec::new(alloc),
             failed: None,
         }
+    }
+
+    /// How many lines have ended.
+    pub fn lines(&self) -> u64
+        ensures { result ≡ (taken_of self.now).lines }
+    {
+        self.lines
+    }
+
+    /// The verb whose program's lines are being read.
+    pub fn verb(&self) -> Option<(u32, u32)>
+        ensures { let p = (taken_of self.now).progress in result ≡ verb_read p.section p }
+    {
+        self.reader.verb()
+    }
+
+    /// The lines of a verb's program, if all of it has come.
+    pub fn source(&self, object: u32, verb: u32) -> Option<&[MooStr]>
+        ensures { let table = (taken_of self.now).progress.text.programs in
+            MatchOption result (entry_at table object verb ≡ None) (λ s. entry_at table object verb ≡ Some s.now) }
+    {
+        self.reader.source(object, verb)
     }
 
     /// Ends the line that the bytes end.

@@ -1,11 +1,11 @@
 //! A whole text, read a line at a time.
-ghost use Rattle.std.specs.Prelude.{◌≡◌, ◌∷◌, ◌++◌, [], List, map, length, codes, option_map, Ok, OnOk, Some, None};
+ghost use Rattle.std.specs.Prelude.{◌≡◌, ◌∷◌, ◌++◌, [], List, map, length, codes, option_map, Ok, OnOk, Some, None, MatchOption};
 ghost use Rattle.moo_dbvalue.specs.Lines.{Gives, limited};
 ghost use Rattle.moo_dbobject.specs.Objects.{object_of};
 ghost use Rattle.moo_dbobject.specs.ObjectReading.{draft_of};
-ghost use Rattle.moo_dbrecord.specs.Programs.{table_of, with_source};
+ghost use Rattle.moo_dbrecord.specs.Programs.{table_of, entry_at, with_source};
 ghost use Rattle.moo_dbrecord.specs.Texts.{text_of, link_of};
-ghost use Rattle.moo_dbrecord.specs.DumpReading.{progress_of, with_object, after_programs, after_objects, after_players, after_connections, after_source, dump_step, ended, start};
+ghost use Rattle.moo_dbrecord.specs.DumpReading.{progress_of, verb_read, with_object, after_programs, after_objects, after_players, after_connections, after_source, dump_step, ended, start};
 ghost use Rattle.moo_dbrecord.specs.Answer.{unended};
 
 use crate::dump::{Dump, Form};
@@ -13,9 +13,10 @@ use crate::heading::{
     clocks, connection, connection_count, head, program_head, queued_tasks, suspended_tasks,
     version,
 };
-use crate::program_table::{Source, no_programs, put_source};
+use crate::program_table::{Source, no_programs, put_source, source_at};
 use moo_dbobject::{ObjectReader, ObjectRecord};
 use moo_dbvalue::{LineFault, Refusal, bounded_count, number, text};
+use moo_value::MooStr;
 use std::alloc::{AllocError, Global};
 use std::mem;
 
@@ -90,6 +91,24 @@ impl DumpReader {
             Section::End => LineFault::TrailingBytes,
             _ => LineFault::Truncated,
         }
+    }
+
+    /// The verb whose program's lines are being read.
+    pub(crate) fn verb(&self) -> Option<(u32, u32)>
+        ensures { result ≡ verb_read self.now.section (progress_of self.now) }
+    {
+        match self.section {
+            Section::Source => Some((self.program_object, self.program_verb)),
+            _ => None,
+        }
+    }
+
+    /// The lines of a verb's program, if all of it has come.
+    pub(crate) fn source(&self, object: u32, verb: u32) -> Option<&[MooStr]>
+        ensures { let table = (progress_of self.now).text.programs in
+            MatchOption result (entry_at table object verb ≡ None) (λ s. entry_at table object verb ≡ Some s.now) }
+    {
+        source_at(&self.dump.programs, object as usize, verb as usize)
     }
 
     fn expect_programs(&mut self, left: u32)

@@ -1,7 +1,7 @@
 //! The programs of verbs, by object and verb.
-ghost use Rattle.std.specs.Prelude.{◌≡◌, map, OnOk, IfOk};
+ghost use Rattle.std.specs.Prelude.{◌≡◌, map, slice_index_or, Some, None, OnOk, IfOk, MatchOption};
 ghost use Rattle.moo_dbobject.specs.Objects.{object_of};
-ghost use Rattle.moo_dbrecord.specs.Programs.{source_of, row_of, table_of, blank_row, is_open_in, is_open, with_source_in, with_source};
+ghost use Rattle.moo_dbrecord.specs.Programs.{entry_at, source_of, row_of, table_of, blank_row, is_open_in, is_open, with_source_in, with_source};
 
 use moo_dbobject::ObjectRecord;
 use moo_value::MooStr;
@@ -41,6 +41,29 @@ pub(crate) fn is_open(table: &[Vec<Option<Source>>], object: usize, verb: usize)
         return false;
     }
     is_open_in(&table[object], verb)
+}
+
+fn source_in(row: &[Option<Source>], verb: usize) -> Option<&[MooStr]>
+    ensures { MatchOption result (slice_index_or (map source_of row.now) verb None ≡ None) (λ s. slice_index_or (map source_of row.now) verb None ≡ Some s.now) }
+{
+    match row.get(verb) {
+        Some(Some(source)) => Some(source.as_slice()),
+        _ => None,
+    }
+}
+
+/// The lines of a verb's program, if it has one.
+pub(crate) fn source_at(
+    table: &[Vec<Option<Source>>],
+    object: usize,
+    verb: usize,
+) -> Option<&[MooStr]>
+    ensures { MatchOption result (entry_at (map row_of table.now) object verb ≡ None) (λ s. entry_at (map row_of table.now) object verb ≡ Some s.now) }
+{
+    match table.get(object) {
+        Some(row) => source_in(row, verb),
+        None => None,
+    }
 }
 
 fn put_source_in(row: &mut Vec<Option<Source>>, verb: usize, source: Source)

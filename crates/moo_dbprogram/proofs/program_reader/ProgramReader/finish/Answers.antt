@@ -1,0 +1,12 @@
+use Rattle.std.proofs.Common.{sym, subst}
+use Rattle.moo_dbprogram.specs.Reading.{IsRead}
+use Rattle.moo_dbprogram.proofs.Refused.{refused_whole, read_failed, read_well, read_says}
+use Rattle.moo_dbprogram.proofs.program_reader.ProgramReader.finish.Goals as goal
+
+pub returns-in-Some-clause-answer : goal.returns-in-Some-clause-answer
+returns-in-Some-clause-answer c = λ bytes h. refused_whole bytes c.in-Some.fault (read_failed c.args.self c.in-Some.fault bytes c.in-Some.is h)
+
+pub returns-clause-answer : goal.returns-clause-answer
+returns-clause-answer c = λ bytes h.
+    let behind = read_well c.args.self bytes c.in_default.is h in
+    subst (IsRead bytes) (sym c.with_programs.ensures) (read_says c.args.self bytes c.in_ok-dump.dump behind (c.in_ok-dump.ensures.answer bytes behind.taken))

@@ -1,0 +1,77 @@
+-- What is told of bytes that are refused.
+use Rattle.std.specs.Prelude.{◌≡◌, ◌≢◌, ℕ, suc, List, ◌++◌, Option, Some, None, ◌⊎◌, length}
+use Rattle.moo_grammar.specs.declared.names.Names.TheVariants.{Any}
+use Rattle.moo_syntax.specs.declared.syntax_fault.SyntaxFaultKind.{SyntaxFaultKind}
+use Rattle.moo_syntax.specs.declared.syntax_fault.SyntaxFaultKind.TheVariants as syntax
+use Rattle.moo_syntax.specs.Programs.{Blames}
+use Rattle.moo_dbvalue.specs.Lines.{Line, unlines}
+use Rattle.moo_dbvalue.specs.declared.fault.LineFault.{LineFault}
+use Rattle.moo_dbvalue.specs.declared.fault.LineFault.TheVariants.{Truncated, TooLarge}
+use Rattle.moo_dbrecord.specs.Programs.{entry_at, program_lines}
+use Rattle.moo_dbrecord.specs.Texts.{Text, Spells}
+use Rattle.moo_dbrecord.specs.Faults.{kind_of}
+use Rattle.moo_dbrecord.specs.declared.fault.DbFaultKind.{DbFaultKind}
+use Rattle.moo_dbrecord.specs.declared.fault.DbFaultKind.TheVariants as kind
+use Rattle.moo_dbrecord.specs.declared.fault.ProgramFault.{ProgramFault}
+use Rattle.moo_dbrecord.specs.declared.fault.ProgramFaultKind.{ProgramFaultKind}
+use Rattle.moo_dbrecord.specs.declared.fault.ProgramFaultKind.TheVariants as program
+
+-- how a fault of a source is told, but for want of memory
+abbrev pub told_kind : SyntaxFaultKind → Option ProgramFaultKind
+told_kind syntax.BadToken = Some program.BadToken
+told_kind syntax.Unexpected = Some program.Unexpected
+told_kind syntax.BadTarget = Some program.BadTarget
+told_kind syntax.BadLoopName = Some program.BadLoopName
+told_kind (syntax.UnknownFunction name) = Some program.UnknownFunction
+told_kind syntax.TooDeep = Some program.TooDeep
+told_kind syntax.Memory = None
+
+abbrev pub source_kind_of : ℕ → ℕ → ℕ → Option ProgramFaultKind → DbFaultKind
+source_kind_of o v line None = kind.Memory
+source_kind_of o v line (Some k) = kind.Program o v (record { line = line; kind = k })
+
+-- what is told of a verb whose source has a fault of this kind on this line
+abbrev pub source_kind : ℕ → ℕ → ℕ → SyntaxFaultKind → DbFaultKind
+source_kind o v line k = source_kind_of o v line (told_kind k)
+
+-- the fault that is told says this of the source
+pub record IsBlamed (source : List Line) (f : ProgramFault) : Type 0 where
+  pub kind : SyntaxFaultKind
+  pub told : told_kind kind ≡ Some f.kind
+  pub blames : Blames Any source f.line kind
+
+-- these lines, and then those of a program up to its dot
+abbrev pub through_program : List Line → ℕ → ℕ → List Line → List ℕ
+through_program before o v source = unlines (before ++ program_lines (record { object = o; verb = v; source = source }))
+
+-- The bytes have the program of verb v of object o, with this first line and this source.
+pub record HasProgramAt (bytes : List ℕ) (line o v : ℕ) (source : List Line) : Type 0 where
+  pub before : List Line
+  pub after : List ℕ
+  pub number : line ≡ suc (length before)
+  pub whole : bytes ≡ through_program before o v source ++ after
+  -- each text that begins so has it
+  pub there : (more : List ℕ) (t : Text) → Spells (through_program before o v source ++ more) t → entry_at t.programs o v ≡ Some source
+
+-- the program of this verb, on whose first line the fault is told, is none for this reason
+pub record IsProgramFault (bytes : List ℕ) (line o v : ℕ) (f : ProgramFault) : Type 0 where
+  pub source : List Line
+  pub place : HasProgramAt bytes line o v source
+  pub blamed : IsBlamed source f
+
+-- ---- kinds of faults
+
+-- a fault of a line that stands there, whatever the limits on sizes are
+abbrev pub IsOfLine : DbFaultKind → Type 0
+IsOfLine k = (f : LineFault) × (k ≡ kind_of f) × (f ≢ Truncated) × (f ≢ TooLarge)
+
+-- a program past the limits on nesting
+pub record IsTooDeep (k : DbFaultKind) : Type 0 where
+  pub object : ℕ
+  pub verb : ℕ
+  pub line : ℕ
+  pub is : k ≡ kind.Program object verb (record { line = line; kind = program.TooDeep })
+
+-- want of memory, or what is past a limit
+abbrev pub IsOfLimits : DbFaultKind → Type 0
+IsOfLimits k = (k ≡ kind.Memory) ⊎ (k ≡ kind.TooLarge) ⊎ IsTooDeep k

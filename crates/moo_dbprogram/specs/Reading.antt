@@ -1,0 +1,96 @@
+-- What a reader has taken between two pieces, and what it answers.
+use Rattle.std.specs.Prelude.{◌≡◌, ℕ, ◌-◌, List, [], ◌∷◌, ◌++◌, length, Option, Some, None, Result, Ok, Err, ◌⊎◌, MatchOption}
+use Rattle.moo_grammar.specs.declared.names.Names.TheVariants.{Any}
+use Rattle.moo_syntax.specs.declared.syntax_fault.SyntaxFaultKind.{SyntaxFaultKind}
+use Rattle.moo_syntax.specs.Programs.{Blames}
+use Rattle.moo_dbvalue.specs.Lines.{Line, limited}
+use Rattle.moo_dbrecord.specs.Programs.{Table}
+use Rattle.moo_dbrecord.specs.Texts.{Text}
+use Rattle.moo_dbrecord.specs.DumpReading.{verb_read}
+use Rattle.moo_dbrecord.specs.Answer.{Told, Stops, HasTaken, IsGoing, HasNoEnd, taken_of, taken_on, begin, answer_to}
+use Rattle.moo_dbrecord.specs.Faults.{fault_of}
+use Rattle.moo_dbrecord.specs.declared.db_reader.RecordFault.{RecordFault}
+use Rattle.moo_dbrecord.specs.declared.db_reader.DbReader.{DbReader}
+use Rattle.moo_dbrecord.specs.declared.fault.DbFault.{DbFault}
+use Rattle.moo_dbrecord.specs.declared.fault.DbFaultKind.TheVariants as kind
+use Rattle.moo_dbrecord.specs.declared.fault.ProgramFault.{ProgramFault}
+use Rattle.moo_dbprogram.specs.Says.{AreParsedAs, programs_of, Says}
+use Rattle.moo_dbprogram.specs.Faults.{source_kind, IsProgramFault}
+use Rattle.moo_dbprogram.specs.declared.database.Database.{Database}
+use Rattle.moo_dbprogram.specs.declared.program_reader.ProgramReader.{ProgramReader}
+
+-- a line with its end
+pub record IsWholeLine (bytes : List ℕ) : Type 0 where
+  pub line : Line
+  pub is : bytes ≡ line ++ 10 ∷ []
+  pub clean : HasNoEnd line
+
+-- The bytes are taken, and each source among them that has its dot has its program.
+pub record IsBehind (r : ProgramReader) (bytes : List ℕ) : Type 0 where
+  pub going : IsGoing r.records
+  pub taken : HasTaken r.records bytes
+  pub parsed : AreParsedAs (taken_of r.records).progress.text.programs (programs_of r.programs)
+
+-- the fault is that of the records, whose answer this is
+pub record IsRecordFault {A : Type 0} (answer : Result A Told) (e : DbFault) : Type 0 where
+  pub fault : RecordFault
+  pub told : e ≡ fault_of fault
+  pub stops : Stops fault answer
+
+-- the fault is that of a program which ends in the bytes
+pub record IsToldProgram (bytes : List ℕ) (e : DbFault) : Type 0 where
+  pub object : ℕ
+  pub verb : ℕ
+  pub fault : ProgramFault
+  pub told : e.kind ≡ kind.Program object verb fault
+  pub is : IsProgramFault bytes e.line object verb fault
+
+-- why the bytes, of which the records answer this, are refused
+abbrev pub IsRefused : {A : Type 0} → List ℕ → Result A Told → DbFault → Type 0
+IsRefused bytes answer e = (e.kind ≡ kind.Memory) ⊎ IsRecordFault answer e ⊎ IsToldProgram bytes e
+
+-- The reader has taken these bytes, in whatever pieces, or has refused them.
+abbrev pub HasRead : ProgramReader → List ℕ → Type 0
+HasRead r bytes = MatchOption r.failed (IsBehind r bytes) (IsRefused bytes (taken_on limited begin bytes))
+
+-- No fault has come yet.
+abbrev pub IsWell : ProgramReader → Type 0
+IsWell r = r.failed ≡ None
+
+-- This fault has come.
+abbrev pub HasRefused : ProgramReader → DbFault → Type 0
+HasRefused r e = r.failed ≡ Some e
+
+-- the records of the bytes are read, and say what is kept
+pub record IsRead (bytes : List ℕ) (d : Database) : Type 0 where
+  pub text : Text
+  pub records : answer_to limited bytes ≡ Ok text
+  pub says : Says text d
+
+-- what is answered of the whole bytes
+abbrev pub Answers : Result Database DbFault → List ℕ → Type 0
+Answers (Ok d) bytes = IsRead bytes d
+Answers (Err e) bytes = IsRefused bytes (answer_to limited bytes) e
+
+-- the verb whose program ended, of the verbs whose programs were being read before a line and behind it
+abbrev pub ended_between : Option (ℕ × ℕ) → Option (ℕ × ℕ) → Option (ℕ × ℕ)
+ended_between verb None = verb
+ended_between verb (Some other) = None
+
+-- the verb whose program is being read
+abbrev pub verb_at : DbReader → Option (ℕ × ℕ)
+verb_at r = verb_read (taken_of r).progress.section (taken_of r).progress
+
+abbrev pub sources_at : DbReader → Table
+sources_at r = (taken_of r).progress.text.programs
+
+-- the fault of a source of a verb, behind so many lines
+pub record IsSourceFault (lines o v : ℕ) (source : List Line) (e : DbFault) : Type 0 where
+  pub line : e.line ≡ lines - length source - 1
+  pub at : ℕ
+  pub fault : SyntaxFaultKind
+  pub kind : e.kind ≡ source_kind o v at fault
+  pub blames : Blames Any source at fault
+
+abbrev pub IsSourceRefused : ℕ → ℕ → ℕ → List Line → DbFault → Type 0
+IsSourceRefused lines o v source e = (e.kind ≡ kind.Memory) ⊎ IsSourceFault lines o v source e

@@ -1,0 +1,17 @@
+//! What is kept of a database text.
+
+use moo_dbobject::ObjectRecord;
+use moo_dbrecord::Connection;
+use moo_program::Program;
+
+/// A database text as its lines give it, each program as a tree.
+#[derive(Drop)]
+pub struct Database {
+    pub players: Vec<i32>,
+    /// By number, `None` for a recycled one.
+    pub objects: Vec<Option<ObjectRecord>>,
+    /// By object and verb, `None` for a verb without a program. A verb past the end of its row, and
+    /// each of an object past the last row, has none.
+    pub programs: Vec<Vec<Option<Program>>>,
+    pub connections: Vec<Connection>,
+}

@@ -1,0 +1,25 @@
+//! What follows from the definitions.
+ghost use Rattle.std.specs.Prelude.{◌≢◌, ◌++◌, ℕ, List};
+ghost use Rattle.moo_program.specs.Tree.{Block};
+ghost use Rattle.moo_dbrecord.specs.Texts.{Text, Spells};
+ghost use Rattle.moo_dbrecord.specs.declared.fault.ProgramFault.{ProgramFault};
+ghost use Rattle.moo_dbrecord.specs.declared.fault.ProgramFaultKind.TheVariants.{TooDeep};
+ghost use Rattle.moo_grammar.specs.declared.names.Names.TheVariants.{Any};
+ghost use Rattle.moo_grammar.specs.Texts.{IsProgramOf};
+ghost use Rattle.moo_syntax.specs.Programs.{IsParsed};
+ghost use Rattle.moo_dbvalue.specs.Lines.{Line};
+ghost use Rattle.moo_dbprogram.specs.Says.{HasPrograms};
+ghost use Rattle.moo_dbprogram.specs.Faults.{IsBlamed, IsProgramFault, through_program};
+
+/// A source that is blamed has no program within the limits, and none at all unless it is too deep.
+pub fn what_is_blamed_is_no_program()
+    ensures program { (source : List Line) (f : ProgramFault) (b : Block) → IsBlamed source f → f.kind ≢ TooDeep → ¬ (IsProgramOf Any source b) }
+    ensures within { (source : List Line) (f : ProgramFault) (b : Block) → IsBlamed source f → ¬ (IsParsed Any source b) }
+{}
+
+/// Where a program's fault is told, too deep ones aside, no text whose sources are programs begins
+/// with the bytes up to the dot that ends this one.
+pub fn no_text_goes_on_from_a_program()
+    ensures { (bytes : List ℕ) (line o v : ℕ) (f : ProgramFault) (h : IsProgramFault bytes line o v f) → f.kind ≢ TooDeep
+        → (more : List ℕ) (t : Text) → Spells (through_program h.place.before o v h.source ++ more) t → ¬ (HasPrograms t) }
+{}

@@ -1,0 +1,13 @@
+//! A whole database text with its programs as trees, read in pieces.
+#![tactic(auto)]
+
+mod database;
+mod fault;
+pub mod laws;
+mod program_reader;
+mod program_rows;
+#[cfg(test)]
+mod tests;
+
+pub use database::Database;
+pub use program_reader::{ProgramReader, read_programs};

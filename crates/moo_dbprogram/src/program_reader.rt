@@ -1,0 +1,227 @@
+//! A text that comes in pieces, and the programs in it.
+ghost use Rattle.std.specs.Prelude.{◌≡◌, ◌++◌, ◌≤◌, ℕ, List, [], Some, take, length, OnOk, IfErr, IfOk, IsErrOf, MatchOption, MatchResult};
+ghost use Rattle.moo_dbvalue.specs.Lines.{Line, limited};
+ghost use Rattle.moo_dbrecord.specs.Programs.{entry_at};
+ghost use Rattle.moo_dbrecord.specs.Texts.{Text, Spells, SpellsWithin};
+ghost use Rattle.moo_dbrecord.specs.Answer.{HasTaken, IsGoing, HasFailed, HasNoEnd, taken_of, taken_on, begin, front_lines, StandWithoutLimits};
+ghost use Rattle.moo_dbrecord.specs.declared.fault.ProgramFault.{ProgramFault};
+ghost use Rattle.moo_dbrecord.specs.declared.fault.DbFault.{DbFault};
+ghost use Rattle.moo_dbprogram.specs.Says.{IsParsedAs, programs_of, Says, HasPrograms, HasProgramsWithin};
+ghost use Rattle.moo_dbprogram.specs.Faults.{IsProgramFault, IsOfLine, IsOfLimits};
+ghost use Rattle.moo_dbprogram.specs.Reading.{IsWholeLine, IsBehind, IsRefused, HasRead, IsWell, HasRefused, Answers, ended_between, verb_at, sources_at, IsSourceRefused};
+
+use crate::database::Database;
+use crate::fault::kind_of_source;
+use crate::program_rows::put_program;
+use memchr::memchr;
+use moo_dbrecord::{DbFault, DbFaultKind, DbReader, Dump, RecordFault};
+use moo_program::Program;
+use moo_syntax::{Names, parse};
+use std::alloc::Global;
+
+/// How many bytes the first line has, with its end.
+fn first_line(bytes: &[u8]) -> Option<usize>
+    ensures { MatchOption result (HasNoEnd bytes.now) (λ n. (n ≤ length bytes.now) × IsWholeLine (take n bytes.now)) }
+{
+    let at = memchr(b'\n', bytes)?;
+    Some(at + 1)
+}
+
+/// Takes a line with its end, and tells the verb whose program it ends.
+fn take_line(
+    alloc: Global,
+    records: &mut DbReader,
+    line: &[u8],
+) -> Result<Option<(u32, u32)>, RecordFault>
+    ensures taken { (bytes : List ℕ) → HasTaken records.old bytes → HasTaken records.new (bytes ++ line.now) }
+    ensures ok { OnOk result (IsGoing records.new) }
+    ensures failed { IfErr result (HasFailed records.new) }
+    ensures ended { IfOk result (λ verb. verb ≡ ended_between (verb_at records.old) (verb_at records.new)) }
+{
+    let verb = records.verb();
+    records.feed(alloc, line)?;
+    match records.verb() {
+        Some(_) => Ok(None),
+        None => Ok(verb),
+    }
+}
+
+/// The program of a verb's source.
+fn program_of(
+    alloc: Global,
+    records: &DbReader,
+    object: u32,
+    verb: u32,
+) -> Result<Option<Program>, DbFault>
+    ensures parsed { IfOk result (λ program. IsParsedAs (entry_at (sources_at records.now) object verb) program) }
+    ensures refused { IfErr result (λ e. (source : List Line) → entry_at (sources_at records.now) object verb ≡ Some source → IsSourceRefused (taken_of records.now).lines object verb source e) }
+{
+    let Some(source) = records.source(object, verb) else {
+        return Ok(None);
+    };
+    match parse(alloc, source, Names::Any) {
+        Ok(program) => Ok(Some(program)),
+        Err(fault) => {
+            let lines = records.lines();
+            Err(DbFault {
+                line: lines.saturating_sub(source.len() as u64).saturating_sub(1),
+                kind: kind_of_source(object, verb, &fault),
+            })
+        }
+    }
+}
+
+/// The same, with these programs for its sources.
+fn with_programs(dump: Dump, programs: Vec<Vec<Option<Program>>>) -> Database
+    ensures { result ≡ record { players = dump.players; objects = dump.objects; programs = programs; connections = dump.connections } }
+{
+    Database {
+        players: dump.players,
+        objects: dump.objects,
+        programs,
+        connections: dump.connections,
+    }
+}
+
+/// Reads a text in pieces, and parses each program at the dot that ends it. After a fault each call
+/// answers that fault.
+#[derive(Drop)]
+pub struct ProgramReader {
+    records: DbReader,
+    programs: Vec<Vec<Option<Program>>>,
+    failed: Option<DbFault>,
+}
+
+impl ProgramReader {
+    /// A reader before the first byte.
+    pub fn new(alloc: Global) -> ProgramReader
+        ensures { HasRead result [] }
+    {
+        ProgramReader {
+            records: DbReader::new(alloc),
+            programs: Vec::new(alloc),
+            failed: None,
+        }
+    }
+
+    /// Parses and keeps the program of a verb, whose dot has come.
+    fn keep(&mut self, alloc: Global, object: u32, verb: u32) -> Result<(), DbFault>
+        ensures there { OnOk result ((source : List Line) → entry_at (sources_at self.old.records) object verb ≡ Some source → IsParsedAs (Some source) (entry_at (programs_of self.new.programs) object verb)) }
+        ensures others { OnOk result ((o v : ℕ) → (o ≡ object → v ≡ verb → ⊥) → entry_at (programs_of self.new.programs) o v ≡ entry_at (programs_of self.old.programs) o v) }
+        ensures refused { IfErr result (λ e. (source : List Line) → entry_at (sources_at self.old.records) object verb ≡ Some source → IsSourceRefused (taken_of self.old.records).lines object verb source e) }
+        ensures same { (self.new.records ≡ self.old.records) × (self.new.failed ≡ self.old.failed) }
+    {
+        let Some(program) = program_of(alloc, &self.records, object, verb)? else {
+            return Ok(());
+        };
+        match put_program(
+            alloc,
+            &mut self.programs,
+            object as usize,
+            verb as usize,
+            program,
+        ) {
+            Ok(()) => Ok(()),
+            Err(_) => Err(DbFault {
+                line: self.records.lines(),
+                kind: DbFaultKind::Memory,
+            }),
+        }
+    }
+
+    /// Takes a line with its end.
+    fn line(&mut self, alloc: Global, line: &[u8]) -> Result<(), DbFault>
+        requires { IsWholeLine line.now }
+        ensures goes { (bytes : List ℕ) → IsBehind self.old bytes → OnOk result (IsBehind self.new (bytes ++ line.now)) }
+        ensures stops { (bytes : List ℕ) → IsBehind self.old bytes → IfErr result (IsRefused (bytes ++ line.now) (taken_on limited begin (bytes ++ line.now))) }
+        ensures same { self.new.failed ≡ self.old.failed }
+    {
+        match take_line(alloc, &mut self.records, line)? {
+            Some((object, verb)) => self.keep(alloc, object, verb),
+            None => Ok(()),
+        }
+    }
+
+    /// Takes a part of a line, without its end.
+    fn part(&mut self, alloc: Global, part: &[u8]) -> Result<(), DbFault>
+        requires { HasNoEnd part.now }
+        ensures goes { (bytes : List ℕ) → IsBehind self.old bytes → OnOk result (IsBehind self.new (bytes ++ part.now)) }
+        ensures stops { (bytes : List ℕ) → IsBehind self.old bytes → IfErr result (IsRefused (bytes ++ part.now) (taken_on limited begin (bytes ++ part.now))) }
+        ensures same { self.new.failed ≡ self.old.failed }
+    {
+        self.records.feed(alloc, part)?;
+        Ok(())
+    }
+
+    fn take(&mut self, alloc: Global, piece: &[u8]) -> Result<(), DbFault>
+        ensures goes { (bytes : List ℕ) → IsBehind self.old bytes → OnOk result (IsBehind self.new (bytes ++ piece.now)) }
+        ensures stops { (bytes : List ℕ) → IsBehind self.old bytes → IfErr result (IsRefused (bytes ++ piece.now) (taken_on limited begin (bytes ++ piece.now))) }
+        ensures same { self.new.failed ≡ self.old.failed }
+    {
+        let mut more = piece;
+        while let Some(size) = first_line(more) {
+            self.line(alloc, &more[..size])?;
+            more = &more[size..];
+        }
+        self.part(alloc, more)
+    }
+
+    /// Takes the next piece of the text.
+    pub fn feed(&mut self, alloc: Global, piece: &[u8]) -> Result<(), DbFault>
+        ensures taken { (bytes : List ℕ) → HasRead self.old bytes → HasRead self.new (bytes ++ piece.now) }
+        ensures ok { OnOk result (IsWell self.new) }
+        ensures failed { IfErr result (HasRefused self.new) }
+        ensures again { (e : DbFault) → HasRefused self.old e → IsErrOf result e }
+    {
+        if let Some(fault) = self.failed {
+            return Err(fault);
+        }
+        let taken = self.take(alloc, piece);
+        if let Err(fault) = taken {
+            self.failed = Some(fault);
+        }
+        taken
+    }
+
+    /// What is kept of the whole text, once all of it has been fed.
+    pub fn finish(self) -> Result<Database, DbFault>
+        ensures answer { (bytes : List ℕ) → HasRead self bytes → Answers result bytes }
+        ensures again { (e : DbFault) → HasRefused self e → IsErrOf result e }
+    {
+        if let Some(fault) = self.failed {
+            return Err(fault);
+        }
+        let dump = self.records.finish()?;
+        Ok(with_programs(dump, self.programs))
+    }
+}
+
+fn read_all(alloc: Global, bytes: &[u8]) -> Result<Database, DbFault>
+    ensures { Answers result bytes.now }
+{
+    let mut reader = ProgramReader::new(alloc);
+    reader.feed(alloc, bytes)?;
+    reader.finish()
+}
+
+/// What the bytes of a whole text say line by line, with its programs.
+pub fn read_programs(alloc: Global, bytes: &[u8]) -> Result<Database, DbFault>
+    // What is read is spelled so.
+    ensures found { IfOk result (λ d. (t : Text) × (Spells bytes.now t × Says t d)) }
+    // What is spelled so, each source a program, is read, unless memory ends it or it is past a limit.
+    ensures only { (t : Text) → Spells bytes.now t → HasPrograms t → MatchResult result (Says t) (λ e. IsOfLimits e.kind) }
+    // What is within the limits is read, unless memory ends it.
+    ensures within { (t : Text) → SpellsWithin bytes.now t → HasProgramsWithin t → MatchResult result (Says t) (λ e. e.kind ≡ DbFaultKind.Memory) }
+    // No text begins with the lines up to the one that is told.
+    ensures place { IfErr result (λ e. IsOfLine e.kind → (more : List ℕ) (t : Text) → ¬ (Spells (front_lines e.line bytes.now ++ more) t)) }
+    // Where a program is told, the bytes have it there, and its source is none.
+    ensures program { IfErr result (λ e. (object verb : ℕ) (fault : ProgramFault) → e.kind ≡ DbFaultKind.Program object verb fault → IsProgramFault bytes.now e.line object verb fault) }
+    // Where a size is told, no text within the limits begins with the lines up to it.
+    ensures size { IfErr result (λ e. e.kind ≡ DbFaultKind.TooLarge → (more : List ℕ) (t : Text) → ¬ (SpellsWithin (front_lines e.line bytes.now ++ more) t)) }
+    // A size is told only of a line that can stand there but for its size.
+    ensures large { IfErr result (λ e. e.kind ≡ DbFaultKind.TooLarge → StandWithoutLimits e.line bytes.now) }
+    // The answer of a reader that is fed the same bytes in any pieces.
+    ensures exact { Answers result bytes.now }
+{
+    read_all(alloc, bytes)
+}

@@ -3,8 +3,7 @@ use Rattle.std.specs.Prelude.{◌≡◌, ℕ, List, Option, Some, None, map, opt
 use Rattle.std.specs.Global.{Vec}
 use Rattle.moo_program.specs.Tree.{Block}
 use Rattle.moo_grammar.specs.declared.names.Names.TheVariants.{Any}
-use Rattle.moo_grammar.specs.Texts.{IsProgramOf}
-use Rattle.moo_syntax.specs.Programs.{IsParsed}
+use Rattle.moo_grammar.specs.Texts.{IsProgramOf, IsParsed}
 use Rattle.moo_dbvalue.specs.Lines.{Line}
 use Rattle.moo_dbobject.specs.Objects.{object_of}
 use Rattle.moo_dbrecord.specs.Programs.{Table, entry_at}

@@ -2,7 +2,7 @@
 
 use moo_dbobject::ObjectRecord;
 use moo_dbrecord::Connection;
-use moo_program::Program;
+use moo_grammar::Program;
 
 /// A database text as its lines give it, each program as a tree.
 #[derive(Drop)]

@@ -15,7 +15,7 @@ use crate::fault::kind_of_source;
 use crate::program_rows::put_program;
 use memchr::memchr;
 use moo_dbrecord::{DbFault, DbFaultKind, DbReader, Dump, RecordFault};
-use moo_program::Program;
+use moo_grammar::Program;
 use moo_syntax::{Names, parse};
 use std::alloc::Global;
 

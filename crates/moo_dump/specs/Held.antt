@@ -1,4 +1,4 @@
--- What the types of programs and numbers keep.
+-- What the types of programs and numbers keep: a program is one of the grammar, within its limits.
 use Rattle.std.specs.Prelude.{ℤ, List, Option, Some, None, FitsSigned}
 use Rattle.std.specs.Int.{w32}
 use Rattle.std.specs.List.{All}
@@ -7,12 +7,14 @@ use Rattle.moo_value.specs.Size.{IsString}
 use Rattle.moo_program.specs.Tree.{Block}
 use Rattle.moo_program.specs.Limits.{IsWithinLimits}
 use Rattle.moo_program.specs.Listing.{listing}
+use Rattle.moo_grammar.specs.Texts.{HasText}
 use Rattle.moo_object.specs.Objects.{Object}
 use Rattle.moo_object.specs.declared.verb.Verb.{Verb}
 use Rattle.moo_table.specs.World.{World, nothing}
 
--- a program is within its limits, and the lines of its listing are strings
+-- a program of some text, within its limits, the lines of whose listing are strings
 pub record IsHeldBlock (b : Block) : Type 0 where
+  pub text : HasText b
   pub limits : IsWithinLimits b
   pub strings : All IsString (listing b)
 

@@ -83,7 +83,7 @@ pub fn write_world(alloc: Global, world: &World, connected: &[i32]) -> Result<Ve
     ensures bytes { IfOk result (λ bytes. bytes.items ≡ canonical_bytes world.now connected.now) }
     // What is written may stand in a database text, within the limits on sizes too, where not too many are connected.
     ensures writable { IfOk result (λ _. (s : Sizes) → IsCountOf s (length connected.now) → IsWritable s (text_of_world world.now connected.now)) }
-    // Each program is within its limits, and the lines of its listing are strings.
+    // Each program is one of some text, within its limits, and the lines of its listing are strings.
     ensures held { IfOk result (λ _. IsHeld world.now connected.now) }
 {
     world.is_well_formed();

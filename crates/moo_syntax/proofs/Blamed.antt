@@ -1,5 +1,5 @@
 -- A text that is told a fault is no program.
-use Rattle.std.proofs.Common.{ℕ, List, ◌≡◌, ◌≢◌, refl, sym, subst}
+use Rattle.std.proofs.Common.{ℕ, List, ◌≡◌, ◌≢◌, refl, subst}
 use Rattle.moo_token.specs.declared.token.Token.{Token}
 use Rattle.moo_token.specs.declared.token.Spot.{Spot}
 use Rattle.moo_token.specs.Lexing.{IsTokens, IsReading, complete}

@@ -2,6 +2,10 @@ pub mod Blocks
 pub mod Jumps
 pub mod TextLengths
 pub mod Passing
+pub mod Words
 pub mod Whole
 pub mod Sound
 pub mod Blamed
+pub mod Walks
+pub mod AllWalks
+pub mod Told

@@ -34,6 +34,8 @@ use Rattle.moo_grammar.proofs.Begun.{program_begun}
 use Rattle.moo_grammar.proofs.Admitted.{loose_admits}
 use Rattle.moo_syntax.proofs.TextLengths.{tokens_within}
 use Rattle.moo_syntax.proofs.Passing.{failure_passes}
+use Rattle.moo_syntax.proofs.Words.{words_drop, words_length}
+use Rattle.moo_syntax.proofs.Told.{told_target, told_call, told_jump}
 
 -- where the reading gives up, no tokens that agree up to the place are a program
 no_program : {g : Rules} {w : Why} {ts at us : List Token} {b : Block} → Fails (grammar g) w block (grammar g (statements [])) ts at → Agree at ts us → IsProgramBy g us b → ⊥
@@ -63,15 +65,6 @@ agree_of_take zero (x ∷ ts) (y ∷ us) h e = here_at ts us (cc)
 agree_of_take (suc n) [] us h e = absurd (omega arith)
 agree_of_take (suc n) (x ∷ ts) [] h e = absurd cc
 agree_of_take (suc n) (x ∷ ts) (y ∷ us) h e = next_at (cc) (agree_of_take n ts us (omega arith) (cc))
-
-words_drop : (n : ℕ) (ss : List Spot) → words (drop n ss) ≡ drop n (words ss)
-words_drop zero ss = refl
-words_drop (suc n) [] = refl
-words_drop (suc n) (x ∷ ss) = words_drop n ss
-
-pub words_length : (ss : List Spot) → length (words ss) ≡ length ss
-words_length [] = refl
-words_length (x ∷ ss) = ap suc (words_length ss)
 
 agree_at : (n : ℕ) (ss : List Spot) (us : List Token) → n ≤ length ss → SameUpTo n (words ss) us → Agree (words (drop n ss)) (words ss) us
 agree_at n ss us h e = rw words_drop (agree_of_take n (words ss) us (omega (arith, words_length ss)) e)
@@ -164,6 +157,9 @@ module _ (names : Names) (spots : List Spot) (old new : Cursor) (from : left old
   to : left new ≡ words (drop new.at spots)
   to = ap (λ v. words (drop new.at v)) same
 
+  reached : new.at ≤ length spots
+  reached = subst (λ v. new.at ≤ length v) same new.in_range
+
   failed_at : (f : Fault) (g : Rules) → HasFailed names (statements []) most_nodes old new f → ToldBy f names g → Fails (grammar g) (why f) block (grammar g (statements [])) (words spots) (words (drop new.at spots))
   failed_at f g w b = subst (λ v. Fails (grammar g) (why f) block (grammar g (statements [])) (words spots) v) to (subst (λ v. Fails (grammar g) (why f) block (grammar g (statements [])) v (left new)) from (w.fails g b))
 
@@ -179,7 +175,7 @@ module _ (names : Names) (spots : List Spot) (old new : Cursor) (from : left old
     passes = subst (λ v. Passes (words spots) v) to (subst (λ v. Passes v (left new)) from (failure_passes loose (w.fails loose (loose_admits (strict names)))));
   }
   stop_of BadTarget z w = record {
-    assigns = subst (λ v. next_passes (is_sign sign.Assign) v ≡ true) to w.stands;
+    assigned = told_target spots new.at reached (subst (λ v. next_passes (is_sign sign.Assign) v ≡ true) to w.stands) (failed_at BadTarget with_targets w (targets_admit names, refl));
     none = told_at BadTarget with_targets w (targets_admit names, refl);
     begins = begins_at with_targets new.at spots (next_of (is_sign sign.Assign) _ (subst (λ v. next_passes (is_sign sign.Assign) v ≡ true) to w.stands)) (failed_at BadTarget with_targets w (targets_admit names, refl));
   }
@@ -187,11 +183,12 @@ module _ (names : Names) (spots : List Spot) (old new : Cursor) (from : left old
     name = w.stands.0;
     unknown = w.stands.1;
     call = subst (λ v. IsCalled v new.at w.stands.0) same w.stands.2;
+    free = told_call spots new.at reached names w.stands.0 (subst (λ v. IsCalled v new.at w.stands.0) same w.stands.2) (failed_at UnknownFunction (with_functions names) w (functions_admit names, λ s e. e));
     none = told_at UnknownFunction (with_functions names) w (functions_admit names, λ s e. e);
     begins = begins_at (with_functions names) new.at spots (called_next spots new.at (subst (λ v. IsCalled v new.at w.stands.0) same w.stands.2)) (failed_at UnknownFunction (with_functions names) w (functions_admit names, λ s e. e));
   }
   stop_of BadLoopName z w = record {
-    jumps = subst (λ v. IsJump v new.at) same w.stands;
+    jumps = told_jump spots new.at reached (failed_at BadLoopName with_loops w (loops_admit names, refl));
     none = told_at BadLoopName with_loops w (loops_admit names, refl);
     begins = begins_at with_loops new.at spots (jump_next spots new.at (subst (λ v. IsJump v new.at) same w.stands)) (failed_at BadLoopName with_loops w (loops_admit names, refl));
   }

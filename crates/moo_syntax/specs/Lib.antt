@@ -1,3 +1,4 @@
+pub mod Ground
 pub mod Programs
 pub mod FaultText
 pub mod Statements

@@ -1,22 +1,24 @@
 -- What a fault says of the text.
-use Rattle.std.specs.Prelude.{ℕ, suc, List, [], ◌∷◌, ◌++◌, ◌≡◌, ◌≤◌, ◌<◌, ◌⊎◌, true, false, length, take, drop}
+use Rattle.std.specs.Prelude.{ℕ, suc, List, [], ◌∷◌, ◌++◌, ◌≡◌, ◌≤◌, ◌<◌, ◌⊎◌, ◌+◌, Bool, true, false, Some, None, length, take, drop}
 use Rattle.std.specs.List.{sum_by}
 use Rattle.moo_token.specs.declared.sign.Sign.TheVariants.{Assign}
 use Rattle.moo_token.specs.declared.token.Token.{Token}
-use Rattle.moo_token.specs.declared.token.Token.TheVariants.{Bad}
+use Rattle.moo_token.specs.declared.token.Token.TheVariants.{Bad, Name}
 use Rattle.moo_token.specs.declared.token.Spot.{Spot}
 use Rattle.moo_token.specs.Lexing.{IsReading, HasNoTokens}
-use Rattle.moo_program.specs.Tree.{Block}
+use Rattle.moo_program.specs.Tree.{Expr, Block}
+use Rattle.moo_program.specs.Target.{is_target}
 use Rattle.moo_program.specs.Limits.{AllFit, most_nodes}
 use Rattle.moo_program.specs.Listing.{listing}
 use Rattle.moo_grammar.specs.declared.names.Names.{Names}
+use Rattle.moo_grammar.specs.Tokens.{words, is_sign, is_bad, next_passes}
+use Rattle.moo_grammar.specs.Rules.{Rules, loose, may_call, has_loop}
+use Rattle.moo_grammar.specs.Grammar.{Derives, conditional, IsProgram, IsProgramBy}
+use Rattle.moo_grammar.specs.Texts.{IsWithin}
+use Rattle.moo_expression.specs.Places.{IsCalled, is_jump}
 use Rattle.moo_syntax.specs.declared.syntax_fault.SyntaxFaultKind.{SyntaxFaultKind}
 use Rattle.moo_syntax.specs.declared.syntax_fault.SyntaxFaultKind.TheVariants.{BadToken, Unexpected, BadTarget, UnknownFunction, BadLoopName, TooDeep, Memory}
-use Rattle.moo_expression.specs.Places.{IsCalled, IsJump}
-use Rattle.moo_grammar.specs.Tokens.{words, is_sign, is_bad, next_passes}
-use Rattle.moo_grammar.specs.Rules.{Rules, loose, may_call}
-use Rattle.moo_grammar.specs.Grammar.{IsProgram, IsProgramBy}
-use Rattle.moo_grammar.specs.Texts.{IsWithin}
+use Rattle.moo_syntax.specs.Ground.{of_value, ground_at}
 
 -- The lists begin alike, up to and with the token at n. The end of a list counts as a token.
 abbrev pub SameUpTo : ℕ → List Token → List Token → Type 0
@@ -70,37 +72,53 @@ pub record IsUnexpected (lines : List (List ℕ)) (n : ℕ) : Type 0 where
   pub none : NoProgram loose (words spots) at
   pub sound : AreSound (take (suc at) (words spots))
 
--- An `=` stands on line n. No program of which targets alone are asked begins with the tokens up to it, but one of which
--- nothing is asked does.
+-- an expression begins before the place, and ends at an `=` that stands there, and it is no target
+pub record AssignsNoTarget (spots : List Spot) (at : ℕ) : Type 0 where
+  pub before : ℕ
+  pub free : (ground_at spots before).naming ≡ of_value
+  pub inside : Bool
+  pub value : Expr
+  pub read : Derives loose (conditional inside) (words (drop before spots)) value (words (drop at spots))
+  pub assigns : next_passes (is_sign Assign) (words (drop at spots)) ≡ true
+  pub no_target : is_target value ≡ false
+
+-- An `=` stands on line n, behind an expression that is no target. No program of which targets alone are asked begins with the
+-- tokens up to it, but one of which nothing is asked does.
 pub record IsBadTarget (lines : List (List ℕ)) (n : ℕ) : Type 0 where
   pub spots : List Spot
   pub reading : IsReading lines spots
   pub at : ℕ
   pub line : n ≡ line_of lines (drop at spots)
-  pub assigns : next_passes (is_sign Assign) (words (drop at spots)) ≡ true
+  pub assigned : AssignsNoTarget spots at
   pub none : NoProgram with_targets (words spots) at
   pub begins : BeginsProgram loose (words spots) at
 
--- The name stands on line n with a parenthesis behind it, and may not be called. No program of which such names alone are asked
+-- The name stands on line n where an expression begins, with a parenthesis behind it, and may not be called. No program of which such names alone are asked
 -- begins with the tokens up to the parenthesis, but one of which nothing is asked does.
 pub record IsUnknownFunction (names : Names) (lines : List (List ℕ)) (n : ℕ) (name : List ℕ) : Type 0 where
   pub spots : List Spot
   pub reading : IsReading lines spots
   pub at : ℕ
   pub call : IsCalled spots at name
+  pub free : (ground_at spots call.before).naming ≡ of_value
   pub unknown : may_call names name ≡ false
   pub line : n ≡ line_of lines (drop call.before spots)
   pub none : NoProgram (with_functions names) (words spots) at
   pub begins : BeginsProgram loose (words spots) at
 
--- A jump, or its name, stands on line n. No program of which loops round its jumps alone are asked begins with the tokens up to it,
+-- a `break` or a `continue` outside all loops stands at the place, or behind one the name of none of the loops round it
+pub data IsBadJump (spots : List Spot) : ℕ → Type 0 where
+  outside_loops : {at : ℕ} → next_passes is_jump (words (drop at spots)) ≡ true → has_loop (ground_at spots at).loops None ≡ false → IsBadJump spots at
+  of_no_loop : (before : ℕ) {x : Token} {name : List ℕ} {rest : List Token} → is_jump x ≡ true → words (drop before spots) ≡ x ∷ Name name ∷ rest → has_loop (ground_at spots (before + 1)).loops (Some name) ≡ false → IsBadJump spots (before + 1)
+
+-- Such a jump, or its name, stands on line n. No program of which loops round its jumps alone are asked begins with the tokens up to it,
 -- but one of which nothing is asked does.
 pub record IsBadLoopName (lines : List (List ℕ)) (n : ℕ) : Type 0 where
   pub spots : List Spot
   pub reading : IsReading lines spots
   pub at : ℕ
   pub line : n ≡ line_of lines (drop at spots)
-  pub jumps : IsJump spots at
+  pub jumps : IsBadJump spots at
   pub none : NoProgram with_loops (words spots) at
   pub begins : BeginsProgram loose (words spots) at
 

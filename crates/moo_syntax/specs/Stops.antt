@@ -1,19 +1,19 @@
 -- What the parser knows of the tokens where it stops.
-use Rattle.std.specs.Prelude.{ℕ, List, ◌∷◌, ◌≡◌, ◌<◌, ◌⊎◌, true, false, drop, length}
-use Rattle.moo_token.specs.declared.sign.Sign.TheVariants.{Assign}
+use Rattle.std.specs.Prelude.{ℕ, List, ◌∷◌, ◌≡◌, ◌<◌, ◌⊎◌, false, drop, length}
 use Rattle.moo_token.specs.declared.token.Token.{Token}
 use Rattle.moo_token.specs.declared.token.Spot.{Spot}
 use Rattle.moo_program.specs.Tree.{Block}
 use Rattle.moo_program.specs.Limits.{most_nodes}
 use Rattle.moo_grammar.specs.declared.names.Names.{Names}
 use Rattle.moo_grammar.specs.Rules.{loose, may_call}
-use Rattle.moo_grammar.specs.Tokens.{words, is_sign, is_bad, next_passes}
+use Rattle.moo_grammar.specs.Tokens.{words, is_bad}
 use Rattle.moo_grammar.specs.Grammar.{IsProgram}
 use Rattle.moo_grammar.specs.Texts.{IsWithin}
 use Rattle.moo_expression.specs.declared.fault.Fault.{Fault}
 use Rattle.moo_expression.specs.declared.fault.Fault.TheVariants.{Unexpected, BadTarget, UnknownFunction, BadLoopName, TooDeep, Memory}
-use Rattle.moo_syntax.specs.Programs.{NoProgram, BeginsProgram, with_targets, with_functions, with_loops, IsOutside, HasLongLine}
-use Rattle.moo_expression.specs.Places.{IsCalled, IsJump}
+use Rattle.moo_syntax.specs.Programs.{AssignsNoTarget, IsBadJump, NoProgram, BeginsProgram, with_targets, with_functions, with_loops, IsOutside, HasLongLine}
+use Rattle.moo_expression.specs.Places.{IsCalled}
+use Rattle.moo_syntax.specs.Ground.{of_value, ground_at}
 
 -- no program within the limits has these tokens: they are many, or there is a long line
 pub record ExceedLimits (names : Names) (ts : List Token) : Type 0 where
@@ -32,7 +32,7 @@ pub record IsStuckAt (spots : List Spot) (at : ℕ) : Type 0 where
 
 -- no target stands before the `=` at the place
 pub record HasBadTarget (spots : List Spot) (at : ℕ) : Type 0 where
-  pub assigns : next_passes (is_sign Assign) (words (drop at spots)) ≡ true
+  pub assigned : AssignsNoTarget spots at
   pub none : NoProgram with_targets (words spots) at
   pub begins : BeginsProgram loose (words spots) at
 
@@ -41,12 +41,13 @@ pub record CallsUnknown (names : Names) (spots : List Spot) (at : ℕ) : Type 0 
   pub name : List ℕ
   pub unknown : may_call names name ≡ false
   pub call : IsCalled spots at name
+  pub free : (ground_at spots call.before).naming ≡ of_value
   pub none : NoProgram (with_functions names) (words spots) at
   pub begins : BeginsProgram loose (words spots) at
 
 -- the jump at the place, or the name there, has no loop round it
 pub record HasBadJump (spots : List Spot) (at : ℕ) : Type 0 where
-  pub jumps : IsJump spots at
+  pub jumps : IsBadJump spots at
   pub none : NoProgram with_loops (words spots) at
   pub begins : BeginsProgram loose (words spots) at
 

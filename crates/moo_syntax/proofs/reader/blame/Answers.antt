@@ -9,7 +9,7 @@ returns-in-BadTarget c =
       reading = c.requires.reading;
       at = c.args.stop.at;
       line = c.line_at-line.ensures;
-      assigns = stopped.assigns;
+      assigned = stopped.assigned;
       none = stopped.none;
       begins = stopped.begins;
     }

@@ -1,0 +1,2 @@
+-- The canonical text of a saved world.
+pub mod Canonical

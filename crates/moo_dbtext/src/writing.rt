@@ -1,0 +1,24 @@
+//! Writing a saved world.
+
+ghost use Rattle.std.specs.Prelude.{◌≡◌, length, IfOk};
+ghost use Rattle.moo_dbvalue.specs.Lines.{IsCountOf, limited, unlimited};
+ghost use Rattle.moo_saved.specs.Saved.{saved_of, SpellsSaved, SpellsSavedWithin};
+ghost use Rattle.moo_dbtext.specs.Canonical.{canonical};
+
+use moo_dump::write_world;
+use moo_saved::Saved;
+use std::alloc::{AllocError, Global};
+
+/// The database text of a saved world.
+pub fn write_db(alloc: Global, saved: &Saved) -> Result<Vec<u8>, AllocError>
+    // It is the canonical text.
+    ensures canonical { IfOk result (λ bytes. bytes.items ≡ canonical (saved_of saved.now)) }
+    // It spells the saved world, unless the number of those who are connected has more than 32 bits.
+    ensures spelled { IfOk result (λ bytes. IsCountOf unlimited (length saved.now.connected.items) → SpellsSaved bytes.items (saved_of saved.now)) }
+    // It is within the limits on sizes, where not too many are connected.
+    ensures within { IfOk result (λ bytes. IsCountOf limited (length saved.now.connected.items) → SpellsSavedWithin bytes.items (saved_of saved.now)) }
+{
+    saved.world.is_well_formed();
+    let bytes = write_world(alloc, &saved.world, &saved.connected)?;
+    Ok(bytes)
+}

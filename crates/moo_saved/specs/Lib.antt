@@ -1,0 +1,2 @@
+-- A saved world, and the bytes that spell it.
+pub mod Saved

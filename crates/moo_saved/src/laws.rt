@@ -1,0 +1,9 @@
+//! What follows from the definitions.
+
+ghost use Rattle.std.specs.Prelude.{◌≡◌, ℕ, List};
+ghost use Rattle.moo_saved.specs.Saved.{Saved, SpellsSaved};
+
+/// Bytes spell one saved world at most.
+pub fn bytes_spell_one_saved_world()
+    ensures { (bytes : List ℕ) (s u : Saved) → SpellsSaved bytes s → SpellsSaved bytes u → s ≡ u }
+{}

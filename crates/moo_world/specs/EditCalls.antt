@@ -10,7 +10,7 @@ use Rattle.moo_object.specs.declared.built_in_property.BuiltInProperty.TheVarian
 use Rattle.moo_table.specs.World.{World}
 use Rattle.moo_table.specs.Changes.{with_object}
 use Rattle.moo_table.specs.Properties.{definition_named}
-use Rattle.moo_world.specs.PropertyCalls.{plain_raises}
+use Rattle.moo_world.specs.PropertyCalls.{plain_raises, unless_built_in}
 use Rattle.moo_world.specs.VerbCalls.{world_with_object}
 use Rattle.moo_table.specs.Edits.{with_named, with_clear}
 
@@ -60,7 +60,7 @@ clear_definition_raises x (Some k) = if k.0 == x then Some InvalidArgument else 
 
 abbrev pub clear_property_raises : World → Option ℕ → List ℕ → Option ErrorCode
 clear_property_raises w None name = Some InvalidArgument
-clear_property_raises w (Some x) name = clear_definition_raises x (definition_named w x name)
+clear_property_raises w (Some x) name = unless_built_in name (clear_definition_raises x (definition_named w x name))
 
 -- the world once an object's cell for a definition is clear
 abbrev pub after_clear : World → ℕ → Option Key → World

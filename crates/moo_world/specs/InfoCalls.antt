@@ -11,6 +11,7 @@ use Rattle.moo_table.specs.World.{World}
 use Rattle.moo_table.specs.Changes.{with_object}
 use Rattle.moo_table.specs.Properties.{definition_named, is_taken}
 use Rattle.moo_table.specs.Edits.{with_cell_info}
+use Rattle.moo_world.specs.PropertyCalls.{unless_built_in}
 use Rattle.moo_table.specs.Renames.{after_rename}
 
 abbrev pub taken_raises : World → ℕ → List ℕ → Option ErrorCode
@@ -34,7 +35,7 @@ info_change_raises w x (Some spelling) (Some k) = rename_raises w x k (folded sp
 
 abbrev pub set_info_raises : World → Option ℕ → List ℕ → Option (List ℕ) → Option ErrorCode
 set_info_raises w None name spelling = Some InvalidArgument
-set_info_raises w (Some x) name spelling = info_change_raises w x spelling (definition_named w x name)
+set_info_raises w (Some x) name spelling = unless_built_in name (info_change_raises w x spelling (definition_named w x name))
 
 -- the world once the object's cell has another owner and other permissions, and the definition another name, if one is given
 abbrev pub after_info : World → ℕ → ℤ → PropPerms → Option (List ℕ) → Option Key → World

@@ -3,7 +3,7 @@ use Rattle.std.specs.Prelude.{ℕ, ℤ, List, Option, Some, None, if◌then◌el
 use Rattle.std.specs.List.{list_any}
 use Rattle.moo_value.specs.Tree.{Tree}
 use Rattle.moo_value.specs.declared.error_code.ErrorCode.{ErrorCode}
-use Rattle.moo_value.specs.declared.error_code.ErrorCode.TheVariants.{InvalidArgument, InvalidIndirection, PropertyNotFound, Quota}
+use Rattle.moo_value.specs.declared.error_code.ErrorCode.TheVariants.{InvalidArgument, PropertyNotFound, Quota}
 use Rattle.moo_object.specs.Names.{same_name}
 use Rattle.moo_object.specs.Cells.{own_cell}
 use Rattle.moo_object.specs.BuiltIn.{built_in_of}
@@ -16,6 +16,10 @@ use Rattle.moo_table.specs.Properties.{definition_named, is_taken, is_full}
 -- what looking a property up raises, where no built-in one has the name
 abbrev pub plain_raises : World → ℕ → List ℕ → Option ErrorCode
 plain_raises w x name = if is_some (definition_named w x name) then None else Some PropertyNotFound
+
+-- what a call on a property raises: a built-in one has no definition, and hides one of its name that a file gives
+abbrev pub unless_built_in : List ℕ → Option ErrorCode → Option ErrorCode
+unless_built_in name raises = if is_some (built_in_of name) then Some PropertyNotFound else raises
 
 -- what one more definition raises, on a valid object
 abbrev pub define_raises : World → ℕ → List ℕ → Option ErrorCode
@@ -33,17 +37,13 @@ abbrev pub world_define : World → Option ℕ → List ℕ → Tree → ℤ →
 world_define w None name v owner perms = w
 world_define w (Some x) name v owner perms = after_define w x name (own_cell x (folded name) v owner perms)
 
-abbrev pub set_value_raises : World → Option ℕ → List ℕ → Option ErrorCode
-set_value_raises w None name = Some InvalidIndirection
-set_value_raises w (Some x) name = plain_raises w x name
-
 -- what taking a definition away raises: the object itself has to have it
 abbrev pub undefine_raises : World → ℕ → List ℕ → Option ErrorCode
 undefine_raises w x name = if list_any (λ n. same_name name (folded n)) (thing_of w.objects x).defined then None else Some PropertyNotFound
 
 abbrev pub delete_property_raises : World → Option ℕ → List ℕ → Option ErrorCode
 delete_property_raises w None name = Some InvalidArgument
-delete_property_raises w (Some x) name = undefine_raises w x name
+delete_property_raises w (Some x) name = unless_built_in name (undefine_raises w x name)
 
 abbrev pub world_undefine : World → Option ℕ → List ℕ → World
 world_undefine w None name = w
@@ -52,4 +52,4 @@ world_undefine w (Some x) name = after_undefine w x name
 -- what looking at the owner and permissions of a property raises, and whether it is clear
 abbrev pub info_raises : World → Option ℕ → List ℕ → Option ErrorCode
 info_raises w None name = Some InvalidArgument
-info_raises w (Some x) name = plain_raises w x name
+info_raises w (Some x) name = unless_built_in name (plain_raises w x name)

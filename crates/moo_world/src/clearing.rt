@@ -9,6 +9,7 @@ ghost use Rattle.moo_world.specs.Calls.{Answers, Changes, Tests, number_of, Take
 
 use crate::World;
 use crate::fault::WorldFault;
+use moo_object::built_in;
 use moo_table::editing::clear_in;
 use moo_table::properties::definer_in;
 use moo_value::ErrorCode;
@@ -20,6 +21,9 @@ impl World {
         ensures memory { TakesNoMemory result }
     {
         match self.number(o) {
+            Some(_) if built_in(name).is_some() => {
+                Err(WorldFault::Raise(ErrorCode::PropertyNotFound))
+            }
             Some(x) => {
                 let _definer = self.test_inherited(x, name)?;
                 Ok(())
@@ -35,6 +39,9 @@ impl World {
         ensures memory { TakesNoMemory result }
     {
         match self.number(o) {
+            Some(_) if built_in(name).is_some() => {
+                Err(WorldFault::Raise(ErrorCode::PropertyNotFound))
+            }
             Some(x) => self.clear_value(x, name),
             None => Err(WorldFault::Raise(ErrorCode::InvalidArgument)),
         }

@@ -9,17 +9,21 @@ ghost use Rattle.moo_world.specs.Calls.{Changes, Tests, number_of, TakesNoMemory
 
 use crate::World;
 use crate::fault::WorldFault;
+use moo_object::built_in;
 use moo_table::deleting::{defines_in, forget_in, lose_along};
 use moo_value::ErrorCode;
 use std::alloc::Global;
 
 impl World {
-    /// What taking a property away raises.
+    /// What taking a property away raises: none of a built-in name is there.
     pub fn try_delete_property(&self, o: i32, name: &[u8]) -> Result<(), WorldFault>
         ensures raises { Tests result (delete_property_raises self.now (number_of self.now.objects o) (folded name.now)) }
         ensures memory { TakesNoMemory result }
     {
         match self.number(o) {
+            Some(_) if built_in(name).is_some() => {
+                Err(WorldFault::Raise(ErrorCode::PropertyNotFound))
+            }
             Some(x) => self.test_own_property(x, name),
             None => Err(WorldFault::Raise(ErrorCode::InvalidArgument)),
         }
@@ -31,6 +35,9 @@ impl World {
             Changes result self.old self.new (delete_property_raises self.old x (folded name.now)) (world_undefine self.old x (folded name.now)) }
     {
         match self.number(o) {
+            Some(_) if built_in(name).is_some() => {
+                Err(WorldFault::Raise(ErrorCode::PropertyNotFound))
+            }
             Some(x) => self.undefine(alloc, x, name),
             None => Err(WorldFault::Raise(ErrorCode::InvalidArgument)),
         }

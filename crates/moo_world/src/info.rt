@@ -11,7 +11,7 @@ ghost use Rattle.moo_world.specs.Calls.{Answers, number_of, TakesNoMemory};
 
 use crate::World;
 use crate::fault::WorldFault;
-use moo_object::{PropCell, PropPerms};
+use moo_object::{PropCell, PropPerms, built_in};
 use moo_table::properties::cell_in;
 use moo_value::ErrorCode;
 
@@ -41,6 +41,9 @@ impl World {
         ensures memory { TakesNoMemory result }
     {
         match self.number(o) {
+            Some(_) if built_in(name).is_some() => {
+                Err(WorldFault::Raise(ErrorCode::PropertyNotFound))
+            }
             Some(x) => self.cell_of(x, name),
             None => Err(WorldFault::Raise(ErrorCode::InvalidArgument)),
         }

@@ -7,9 +7,8 @@ ghost use Rattle.moo_value.specs.View.{tree};
 ghost use Rattle.moo_object.specs.Cells.{Cell};
 ghost use Rattle.moo_table.specs.World.{object_of, thing_of};
 ghost use Rattle.moo_table.specs.Changes.{with_object, with_value_of};
-ghost use Rattle.moo_world.specs.VerbCalls.{world_with_object};
 ghost use Rattle.moo_table.specs.Properties.{read};
-ghost use Rattle.moo_world.specs.PropertyCalls.{plain_raises, set_value_raises};
+ghost use Rattle.moo_world.specs.PropertyCalls.{plain_raises};
 ghost use Rattle.moo_world.specs.Calls.{Changes, Tests, number_of, TakesNoMemory};
 ghost use Rattle.std.specs.Borrow.{Bor};
 
@@ -46,17 +45,6 @@ impl World {
         Some(cells_in(&self.objects[x]))
     }
 
-    /// What giving a property that is not built in a value raises.
-    pub fn try_set_property_value(&self, o: i32, name: &[u8]) -> Result<(), WorldFault>
-        ensures raises { Tests result (set_value_raises self.now (number_of self.now.objects o) (folded name.now)) }
-        ensures memory { TakesNoMemory result }
-    {
-        match self.number(o) {
-            Some(x) => self.test_defined(x, name),
-            None => Err(WorldFault::Raise(ErrorCode::InvalidIndirection)),
-        }
-    }
-
     pub(crate) fn test_defined(&self, x: usize, name: &[u8]) -> Result<(), WorldFault>
         requires { IsSome (object_of self.now.objects x) }
         ensures raises { Tests result (plain_raises self.now x (folded name.now)) }
@@ -66,23 +54,6 @@ impl World {
             return Err(WorldFault::Raise(ErrorCode::PropertyNotFound));
         }
         Ok(())
-    }
-
-    /// Gives the object's own cell of a property that is not built in a value.
-    pub fn set_property_value(
-        &mut self,
-        o: i32,
-        name: &[u8],
-        value: Value,
-    ) -> Result<(), WorldFault>
-        ensures world { let x = number_of self.old.objects o in
-            Changes result self.old self.new (set_value_raises self.old x (folded name.now)) (world_with_object self.old x (with_value_of (folded name.now) (tree value))) }
-        ensures memory { TakesNoMemory result }
-    {
-        match self.number(o) {
-            Some(x) => self.set_value(x, name, value),
-            None => Err(WorldFault::Raise(ErrorCode::InvalidIndirection)),
-        }
     }
 
     pub(crate) fn set_value(

@@ -35,6 +35,9 @@ impl World {
         ensures { Tests result (set_info_raises self.now (number_of self.now.objects o) (folded name.now) (option_copied new_name.entry)) }
     {
         match self.number(o) {
+            Some(_) if built_in(name).is_some() => {
+                Err(WorldFault::Raise(ErrorCode::PropertyNotFound))
+            }
             Some(x) => {
                 let _definer = self.test_info(alloc, x, name, new_name)?;
                 Ok(())
@@ -58,6 +61,9 @@ impl World {
             Changes result self.old self.new (set_info_raises self.old x (folded name.now) new_name) (world_set_info self.old x (folded name.now) owner perms new_name) }
     {
         match self.number(o) {
+            Some(_) if built_in(name).is_some() => {
+                Err(WorldFault::Raise(ErrorCode::PropertyNotFound))
+            }
             Some(x) => self.change_info(alloc, x, name, owner, perms, new_name),
             None => Err(WorldFault::Raise(ErrorCode::InvalidArgument)),
         }

@@ -27,15 +27,15 @@ refused_as (Err world.Memory) raises allowed e w after tests is =
     let same : Memory ≡ e = cc in
     subst (λ (x : OperationFault). Does (Err x) w w (changes raises allowed after)) same refl
 
-done_as : {S T : Type 0} (tested : Result T WorldFault) (u : T) (raises plain : Option ErrorCode) (allowed : Bool) (made : Result S WorldFault) (old new after : World)
-    → Tests tested raises → permitted tested allowed ≡ Ok u → (raises ≡ None → plain ≡ None) → Changes made old new plain after
+done_as : {S T : Type 0} (tested : Result T WorldFault) (u : T) (raises : Option ErrorCode) (allowed : Bool) (made : Result S WorldFault) (old new after : World)
+    → Tests tested raises → permitted tested allowed ≡ Ok u → Changes made old new raises after
     → Does (changed made) old new (changes raises allowed after)
-done_as (Ok v) u raises plain true (Ok s) old new after tests is less made = rw (tests.0, made.1) refl
-done_as (Ok v) u raises plain true (Err (world.Raise e)) old new after tests is less made = let none : plain ≡ None = less tests.0 in let some = made.0 in absurd (cc)
-done_as (Ok v) u raises plain true (Err world.Memory) old new after tests is less made = made
-done_as (Ok v) u raises plain false made old new after tests is less changes = absurd (cc)
-done_as (Err (world.Raise c)) u raises plain allowed made old new after tests is less changes = absurd (cc)
-done_as (Err world.Memory) u raises plain allowed made old new after tests is less changes = absurd (cc)
+done_as (Ok v) u raises true (Ok s) old new after tests is made = rw (tests.0, made.1) refl
+done_as (Ok v) u raises true (Err (world.Raise e)) old new after tests is made = let none : raises ≡ None = tests.0 in let some = made.0 in absurd (cc)
+done_as (Ok v) u raises true (Err world.Memory) old new after tests is made = made
+done_as (Ok v) u raises false made old new after tests is changes = absurd (cc)
+done_as (Err (world.Raise c)) u raises allowed made old new after tests is changes = absurd (cc)
+done_as (Err world.Memory) u raises allowed made old new after tests is changes = absurd (cc)
 
 -- what isn't permitted changes nothing
 pub refused : {T : Type 0} (tested : Result T WorldFault) (raises : Option ErrorCode) (is_allowed allowed : Bool) (e : OperationFault) (w after : World)
@@ -43,24 +43,16 @@ pub refused : {T : Type 0} (tested : Result T WorldFault) (raises : Option Error
 refused tested raises is_allowed allowed e w after tests right is =
     refused_as tested raises allowed e w after tests (ap (permitted tested) (sym right) ∙ sym is)
 
--- what is permitted is done; the change itself asks for no more than the test
-pub done : {S T : Type 0} (tested : Result T WorldFault) (u : T) (raises plain : Option ErrorCode) (is_allowed allowed : Bool) (made : Result S WorldFault) (old new after : World)
-    → Tests tested raises → is_allowed ≡ allowed → Ok u ≡ permitted tested is_allowed → (raises ≡ None → plain ≡ None) → Changes made old new plain after
+-- what is permitted is done
+pub done : {S T : Type 0} (tested : Result T WorldFault) (u : T) (raises : Option ErrorCode) (is_allowed allowed : Bool) (made : Result S WorldFault) (old new after : World)
+    → Tests tested raises → is_allowed ≡ allowed → Ok u ≡ permitted tested is_allowed → Changes made old new raises after
     → Does (changed made) old new (changes raises allowed after)
-done tested u raises plain is_allowed allowed made old new after tests right is less changes =
-    done_as tested u raises plain allowed made old new after tests (ap (permitted tested) (sym right) ∙ sym is) less changes
+done tested u raises is_allowed allowed made old new after tests right is changes =
+    done_as tested u raises allowed made old new after tests (ap (permitted tested) (sym right) ∙ sym is) changes
 
 -- its answer is that of the change
 pub answered : (a b : Result Value OperationFault) (old new : World) (r : Result (Tree × World) ErrorCode) → a ≡ b → Does b old new r → Does a old new r
 answered a b old new r same does = subst (λ (x : Result Value OperationFault). Does x old new r) (sym same) does
-
-pub same : {X : Type 0} (raises : Option X) → raises ≡ None → raises ≡ None
-same raises h = h
-
--- one more raise before the others
-pub past : {X : Type 0} (b : Bool) (x : X) (plain : Option X) → (if b then Some x else plain) ≡ None → plain ≡ None
-past true x plain h = absurd (cc)
-past false x plain h = h
 
 -- an argument that gives nothing
 pub misread : {X : Type 0} (a : OperationFault) (r : Result X ErrorCode) (f : X → Result (Tree × World) ErrorCode) (w : World) → Reads (Err a) r → Does (Err a) w w (given r f)

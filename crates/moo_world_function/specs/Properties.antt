@@ -1,12 +1,11 @@
 -- What the functions on properties answer.
-use Rattle.std.specs.Prelude.{ℕ, ℤ, List, [], ◌∷◌, map, Bool, ◌&&◌, ◌||◌, not, is_some, Option, Some, None, Result, Ok, Err, if◌then◌else◌}
+use Rattle.std.specs.Prelude.{ℕ, ℤ, List, [], ◌∷◌, map, Bool, ◌&&◌, ◌||◌, not, is_some, Option, Some, None, Result, Ok, Err}
 use Rattle.std.specs.Ordering.{int_eq}
 use Rattle.moo_value.specs.declared.error_code.ErrorCode.{ErrorCode}
 use Rattle.moo_value.specs.declared.error_code.ErrorCode.TheVariants.{TypeMismatch, PropertyNotFound}
 use Rattle.moo_value.specs.Compare.{folded}
 use Rattle.moo_value.specs.Tree.{Tree, object, string, list_of}
 use Rattle.moo_operation.specs.Answer.{limited}
-use Rattle.moo_object.specs.BuiltIn.{built_in_of}
 use Rattle.moo_object.specs.Cells.{Cell}
 use Rattle.moo_table.specs.World.{World}
 use Rattle.moo_world.specs.Calls.{number_of}
@@ -27,11 +26,6 @@ abbrev pub properties : World → ℤ → List Tree → Result Tree ErrorCode
 properties w p (object o ∷ []) = of_valid (object_numbered w o) (λ thing. asked None (may_read_object w p o) (limited (list_of (map (λ name. string name) thing.defined))))
 properties w p _ = Err TypeMismatch
 
--- A built-in property has no info, is not cleared and not taken away: for a name of one there is no property. For other names
--- this is what the world's call raises.
-abbrev pub unless_built_in : List ℕ → Option ErrorCode → Option ErrorCode
-unless_built_in name raises = if is_some (built_in_of (folded name)) then Some PropertyNotFound else raises
-
 -- {owner, perms}
 abbrev pub info_of_cell : Option Cell → Result Tree ErrorCode
 info_of_cell None = Err PropertyNotFound
@@ -39,7 +33,7 @@ info_of_cell (Some c) = limited (list_of (object c.owner ∷ string (prop_perms_
 
 unfoldable pub info_told : World → ℤ → ℤ → List ℕ → Result Tree ErrorCode
 info_told w p o name =
-    asked (unless_built_in name (info_raises w (number_of w.objects o) (folded name))) (may_read_property w p o name) (info_of_cell (cell_numbered w o name))
+    asked (info_raises w (number_of w.objects o) (folded name)) (may_read_property w p o name) (info_of_cell (cell_numbered w o name))
 
 abbrev pub property_info : World → ℤ → List Tree → Result Tree ErrorCode
 property_info w p (object o ∷ string name ∷ []) = info_told w p o name
@@ -52,7 +46,7 @@ clearness_of_cell (Some c) = Ok (truth (not (is_some c.value)))
 
 unfoldable pub clearness : World → ℤ → ℤ → List ℕ → Result Tree ErrorCode
 clearness w p o name =
-    asked (unless_built_in name (info_raises w (number_of w.objects o) (folded name))) (may_read_property w p o name) (clearness_of_cell (cell_numbered w o name))
+    asked (info_raises w (number_of w.objects o) (folded name)) (may_read_property w p o name) (clearness_of_cell (cell_numbered w o name))
 
 abbrev pub is_clear_property : World → ℤ → List Tree → Result Tree ErrorCode
 is_clear_property w p (object o ∷ string name ∷ []) = clearness w p o name
@@ -61,7 +55,7 @@ is_clear_property w p _ = Err TypeMismatch
 unfoldable pub cleared_named : World → ℤ → ℤ → List ℕ → Result (Tree × World) ErrorCode
 cleared_named w p o name =
     let x = number_of w.objects o in
-    changes (unless_built_in name (clear_property_raises w x (folded name))) (may_write_property w p o name) (world_clear w x (folded name))
+    changes (clear_property_raises w x (folded name)) (may_write_property w p o name) (world_clear w x (folded name))
 
 abbrev pub clear_property : World → ℤ → List Tree → Result (Tree × World) ErrorCode
 clear_property w p (object o ∷ string name ∷ []) = cleared_named w p o name
@@ -70,7 +64,7 @@ clear_property w p _ = Err TypeMismatch
 unfoldable pub without_named : World → ℤ → ℤ → List ℕ → Result (Tree × World) ErrorCode
 without_named w p o name =
     let x = number_of w.objects o in
-    changes (unless_built_in name (delete_property_raises w x (folded name))) (may_write_object w p o) (world_undefine w x (folded name))
+    changes (delete_property_raises w x (folded name)) (may_write_object w p o) (world_undefine w x (folded name))
 
 abbrev pub delete_property : World → ℤ → List Tree → Result (Tree × World) ErrorCode
 delete_property w p (object o ∷ string name ∷ []) = without_named w p o name
@@ -84,7 +78,7 @@ may_give_cell w p (Some c) owner = int_eq c.owner owner || is_wizard w p
 unfoldable pub with_property_info : World → ℤ → ℤ → List ℕ → GivenProperty → Result (Tree × World) ErrorCode
 with_property_info w p o name g =
     let x = number_of w.objects o in
-    changes (unless_built_in name (set_info_raises w x (folded name) g.name))
+    changes (set_info_raises w x (folded name) g.name)
     (may_write_property w p o name && may_give_cell w p (cell_numbered w o name) g.owner)
     (world_set_info w x (folded name) g.owner g.perms g.name)
 

@@ -8,14 +8,13 @@ ghost use Rattle.moo_world.specs.InfoCalls.{set_info_raises};
 ghost use Rattle.moo_world_function.specs.Answers.{Does};
 ghost use Rattle.moo_world_function.specs.Order.{given};
 ghost use Rattle.moo_world_function.specs.Forms.{given_property};
-ghost use Rattle.moo_world_function.specs.Properties.{unless_built_in, with_property_info, set_property_info, with_property, add_property};
+ghost use Rattle.moo_world_function.specs.Properties.{with_property_info, set_property_info, with_property, add_property};
 
 use crate::allowed::{may_add, may_change_info};
 use crate::forms::{GivenProperty, given_property};
 use crate::made::{TYPE_MISMATCH, changed, permitted};
-use moo_object::built_in;
 use moo_operation::OperationFault;
-use moo_value::{ErrorCode, MooStr, Value};
+use moo_value::{MooStr, Value};
 use moo_world::{World, WorldFault};
 use std::alloc::Global;
 
@@ -61,11 +60,8 @@ fn test_info(
     given: &GivenProperty,
     world: &World,
 ) -> Result<(), WorldFault>
-    ensures { Tests result (unless_built_in name.now (set_info_raises world.now (number_of world.now.objects o) (folded name.now) given.now.name)) }
+    ensures { Tests result (set_info_raises world.now (number_of world.now.objects o) (folded name.now) given.now.name) }
 {
-    if built_in(name).is_some() {
-        return Err(WorldFault::Raise(ErrorCode::PropertyNotFound));
-    }
     world.try_set_property_info(alloc, o, name, given.name.as_ref())
 }
 

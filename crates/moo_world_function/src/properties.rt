@@ -1,33 +1,23 @@
 //! Functions on properties.
 ghost use Rattle.std.specs.Prelude.{◌≡◌, ◌∷◌, [], IfOk, None, Some, map};
-ghost use Rattle.std.specs.Option.{option_map};
-ghost use Rattle.moo_object.specs.Cells.{Cell};
-ghost use Rattle.moo_world.specs.Numbered.{cell_numbered};
 ghost use Rattle.moo_world_function.specs.Order.{asked};
-ghost use Rattle.moo_value.specs.Compare.{folded};
 ghost use Rattle.moo_value.specs.Tree.{object, string, list_of};
 ghost use Rattle.moo_operation.specs.Answer.{limited};
 ghost use Rattle.moo_world_text.specs.Permissions.{prop_perms_text};
 ghost use Rattle.moo_value.specs.View.{tree, trees};
 ghost use Rattle.moo_text_function.specs.Answers.{Gives};
-ghost use Rattle.moo_world.specs.Calls.{number_of, Answers, Tests};
-ghost use Rattle.moo_world.specs.EditCalls.{clear_property_raises};
-ghost use Rattle.moo_world.specs.PropertyCalls.{delete_property_raises, info_raises};
 ghost use Rattle.moo_world_function.specs.Answers.{Does};
-ghost use Rattle.moo_world_function.specs.Properties.{properties, unless_built_in, info_told, property_info, clearness, is_clear_property, cleared_named, clear_property, without_named, delete_property};
+ghost use Rattle.moo_world_function.specs.Properties.{properties, info_told, property_info, clearness, is_clear_property, cleared_named, clear_property, without_named, delete_property};
 
 use crate::made::{
     INVALID_ARGUMENT, PERMISSION, TYPE_MISMATCH, changed, listed, permitted, told, truth,
 };
-use moo_object::built_in;
 use moo_operation::OperationFault;
 use moo_rights::Rights;
-use moo_value::{ErrorCode, MooStr, Value};
+use moo_value::{MooStr, Value};
 use moo_world::{PropPerms, World, WorldFault};
 use moo_world_text::prop_perms_text;
 use std::alloc::{AllocError, Global};
-
-const NOT_FOUND: WorldFault = WorldFault::Raise(ErrorCode::PropertyNotFound);
 
 /// `properties`: the names of an object's own properties.
 pub fn properties(
@@ -101,21 +91,11 @@ fn info_of(
 {
     let name = name.as_bytes();
     let is_allowed = Rights::may_read_property(world, programmer, o, name);
-    match info_named(o, name, world) {
+    match world.property_info(o, name) {
         Ok(info) => asked_info(alloc, info, is_allowed),
         Err(WorldFault::Raise(error)) => Err(OperationFault::Raise(error)),
         Err(WorldFault::Memory) => Err(OperationFault::Memory),
     }
-}
-
-fn info_named(o: i32, name: &[u8], world: &World) -> Result<(i32, PropPerms), WorldFault>
-    ensures { Answers result (unless_built_in name.now (info_raises world.now (number_of world.now.objects o) (folded name.now)))
-        (λ info. option_map (λ (c : Cell). (c.owner, c.perms)) (cell_numbered world.now o name.now) ≡ Some info) }
-{
-    if built_in(name).is_some() {
-        return Err(NOT_FOUND);
-    }
-    world.property_info(o, name)
 }
 
 fn asked_info(
@@ -162,9 +142,6 @@ fn is_clear(o: i32, name: &MooStr, world: &World, programmer: i32) -> Result<Val
     ensures { Gives result (clearness world.now programmer o name.now) }
 {
     let name = name.as_bytes();
-    if built_in(name).is_some() {
-        return Err(OperationFault::Raise(ErrorCode::PropertyNotFound));
-    }
     let clear = told(world.is_clear(o, name))?;
     if !Rights::may_read_property(world, programmer, o, name) {
         return Err(PERMISSION);
@@ -191,17 +168,8 @@ fn clear(o: i32, name: &MooStr, world: &mut World, programmer: i32) -> Result<Va
 {
     let name = name.as_bytes();
     let is_allowed = Rights::may_write_property(world, programmer, o, name);
-    permitted(test_clear(o, name, world), is_allowed)?;
+    permitted(world.try_clear_property(o, name), is_allowed)?;
     changed(world.clear_property(o, name))
-}
-
-fn test_clear(o: i32, name: &[u8], world: &World) -> Result<(), WorldFault>
-    ensures { Tests result (unless_built_in name.now (clear_property_raises world.now (number_of world.now.objects o) (folded name.now))) }
-{
-    if built_in(name).is_some() {
-        return Err(NOT_FOUND);
-    }
-    world.try_clear_property(o, name)
 }
 
 /// `delete_property`: takes away a property that an object defines.
@@ -230,15 +198,6 @@ fn delete(
 {
     let name = name.as_bytes();
     let is_allowed = Rights::may_write_object(world, programmer, o);
-    permitted(test_delete(o, name, world), is_allowed)?;
+    permitted(world.try_delete_property(o, name), is_allowed)?;
     changed(world.delete_property(alloc, o, name))
-}
-
-fn test_delete(o: i32, name: &[u8], world: &World) -> Result<(), WorldFault>
-    ensures { Tests result (unless_built_in name.now (delete_property_raises world.now (number_of world.now.objects o) (folded name.now))) }
-{
-    if built_in(name).is_some() {
-        return Err(NOT_FOUND);
-    }
-    world.try_delete_property(o, name)
 }

@@ -2,7 +2,7 @@ use Rattle.std.proofs.Common.{w32, FitsSigned, rules}
 use Rattle.std.proofs.lemmas.Int.{to_z-of_z}
 use Rattle.std.proofs.lemmas.Result.{err_from_is_err_and}
 use Rattle.moo_world_function.specs.Properties.{with_property_info}
-use Rattle.moo_world_function.proofs.Changed.{refused, done, answered, past}
+use Rattle.moo_world_function.proofs.Changed.{refused, done, answered}
 use Rattle.moo_world_function.proofs.giving.set_info.Goals as goal
 
 pub returns-in_err-permitted : goal.returns-in_err-permitted
@@ -25,4 +25,4 @@ returns c =
     let fits : FitsSigned w32 c.args.given.owner = search rules in
     let g = to_z-of_z w32 c.args.given.owner fits in
     answered _ _ _ _ _ c.changed.ensures
-    (done _ _ _ _ _ _ _ _ _ _ (simp (o, n) at c.test_info-tested.ensures) (simp (o, p, n, g) at c.may_change_info-is_allowed.ensures) c.in_ok-permitted.ensures (past _ _ _) (simp (o, n, g) at c.set_property_info.ensures))
+    (done _ _ _ _ _ _ _ _ _ (simp (o, n) at c.test_info-tested.ensures) (simp (o, p, n, g) at c.may_change_info-is_allowed.ensures) c.in_ok-permitted.ensures (simp (o, n, g) at c.set_property_info.ensures))

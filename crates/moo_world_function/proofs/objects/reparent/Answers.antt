@@ -2,7 +2,7 @@ use Rattle.std.proofs.Common.{w32}
 use Rattle.std.proofs.lemmas.Int.{to_z-of_z}
 use Rattle.std.proofs.lemmas.Result.{err_from_is_err_and}
 use Rattle.moo_world_function.specs.Objects.{reparented}
-use Rattle.moo_world_function.proofs.Changed.{refused, done, answered, same}
+use Rattle.moo_world_function.proofs.Changed.{refused, done, answered}
 use Rattle.moo_world_function.proofs.objects.reparent.Goals as goal
 
 pub returns-in_err-permitted : goal.returns-in_err-permitted
@@ -21,4 +21,4 @@ returns c =
     let to = to_z-of_z w32 c.args.to c.ranges.to in
     let p = to_z-of_z w32 c.args.programmer c.ranges.programmer in
     answered _ _ _ _ _ c.changed.ensures
-    (done _ _ _ _ _ _ _ _ _ _ (simp (o, to) at c.try_chparent.ensures.raises) (simp (o, to, p) at c.may_reparent-is_allowed.ensures) c.in_ok-permitted.ensures (same _) (simp (o, to) at c.chparent.ensures.world))
+    (done _ _ _ _ _ _ _ _ _ (simp (o, to) at c.try_chparent.ensures.raises) (simp (o, to, p) at c.may_reparent-is_allowed.ensures) c.in_ok-permitted.ensures (simp (o, to) at c.chparent.ensures.world))

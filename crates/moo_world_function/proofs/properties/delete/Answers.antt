@@ -2,7 +2,7 @@ use Rattle.std.proofs.Common.{w32}
 use Rattle.std.proofs.lemmas.Int.{to_z-of_z}
 use Rattle.std.proofs.lemmas.Result.{err_from_is_err_and}
 use Rattle.moo_world_function.specs.Properties.{without_named}
-use Rattle.moo_world_function.proofs.Changed.{refused, done, answered, past}
+use Rattle.moo_world_function.proofs.Changed.{refused, done, answered}
 use Rattle.moo_world_function.proofs.properties.delete.Goals as goal
 
 pub returns-in_err-permitted : goal.returns-in_err-permitted
@@ -12,7 +12,7 @@ returns-in_err-permitted c =
     let n = c.as_bytes-name.ensures.value in
     let p = to_z-of_z w32 c.args.programmer c.ranges.programmer in
     let e = err_from_is_err_and c.from_residual.result c.from_residual.ensures.1 in
-    rw (e.1, e.2) (refused _ _ _ _ _ _ _ (simp (o, n) at c.test_delete.ensures) (simp (o, p) at c.may_write_object-is_allowed.ensures) c.in_err-permitted.ensures)
+    rw (e.1, e.2) (refused _ _ _ _ _ _ _ (simp (o, n) at c.try_delete_property.ensures.raises) (simp (o, p) at c.may_write_object-is_allowed.ensures) c.in_err-permitted.ensures)
 
 pub returns : goal.returns
 unfolding without_named
@@ -21,4 +21,4 @@ returns c =
     let n = c.as_bytes-name.ensures.value in
     let p = to_z-of_z w32 c.args.programmer c.ranges.programmer in
     answered _ _ _ _ _ c.changed.ensures
-    (done _ _ _ _ _ _ _ _ _ _ (simp (o, n) at c.test_delete.ensures) (simp (o, p) at c.may_write_object-is_allowed.ensures) c.in_ok-permitted.ensures (past _ _ _) (simp (o, n) at c.delete_property.ensures))
+    (done _ _ _ _ _ _ _ _ _ (simp (o, n) at c.try_delete_property.ensures.raises) (simp (o, p) at c.may_write_object-is_allowed.ensures) c.in_ok-permitted.ensures (simp (o, n) at c.delete_property.ensures))

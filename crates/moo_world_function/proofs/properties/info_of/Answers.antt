@@ -10,5 +10,5 @@ returns-in-Ok c =
     let o = to_z-of_z w32 c.args.o c.ranges.o in
     let p = to_z-of_z w32 c.args.programmer c.ranges.programmer in
     let n = c.as_bytes-name.ensures.value in
-    let told = simp (o, n) at c.in-Ok.ensures in
+    let told = simp (o, n) at c.in-Ok.ensures.info in
     info_asked _ _ _ _ _ _ (simp (o, p, n) at c.may_read_property-is_allowed.ensures) told.0 told.1 c.asked_info.ensures

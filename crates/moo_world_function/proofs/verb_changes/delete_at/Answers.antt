@@ -2,7 +2,7 @@ use Rattle.std.proofs.Common.{w32}
 use Rattle.std.proofs.lemmas.Int.{to_z-of_z}
 use Rattle.std.proofs.lemmas.Result.{err_from_is_err_and}
 use Rattle.moo_world_function.specs.Verbs.{without_chosen}
-use Rattle.moo_world_function.proofs.Changed.{refused, done, answered, same}
+use Rattle.moo_world_function.proofs.Changed.{refused, done, answered}
 use Rattle.moo_world_function.proofs.verb_changes.delete_at.Goals as goal
 
 pub returns-in_err-permitted : goal.returns-in_err-permitted
@@ -19,4 +19,4 @@ returns c =
     let o = to_z-of_z w32 c.args.o c.ranges.o in
     let p = to_z-of_z w32 c.args.programmer c.ranges.programmer in
     answered _ _ _ _ _ c.changed.ensures
-    (done _ _ _ _ _ _ _ _ _ _ (simp o at c.try_verb.ensures.raises) (simp (o, p) at c.may_write_object-is_allowed.ensures) c.in_ok-permitted.ensures (same _) (simp o at c.delete_verb.ensures.world))
+    (done _ _ _ _ _ _ _ _ _ (simp o at c.try_verb.ensures.raises) (simp (o, p) at c.may_write_object-is_allowed.ensures) c.in_ok-permitted.ensures (simp o at c.delete_verb.ensures.world))

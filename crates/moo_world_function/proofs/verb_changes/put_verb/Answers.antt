@@ -2,7 +2,7 @@ use Rattle.std.proofs.Common.{w32, FitsSigned, rules}
 use Rattle.std.proofs.lemmas.Int.{to_z-of_z}
 use Rattle.std.proofs.lemmas.Result.{err_from_is_err_and}
 use Rattle.moo_world_function.specs.Verbs.{with_new_verb}
-use Rattle.moo_world_function.proofs.Changed.{refused, done, answered, same}
+use Rattle.moo_world_function.proofs.Changed.{refused, done, answered}
 use Rattle.moo_world_function.proofs.verb_changes.put_verb.Goals as goal
 
 pub returns-in_err-permitted : goal.returns-in_err-permitted
@@ -23,4 +23,4 @@ returns c =
     let fits : FitsSigned w32 c.args.given.owner = search rules in
     let g = to_z-of_z w32 c.args.given.owner fits in
     answered _ _ _ _ _ c.changed.ensures
-    (done _ _ _ _ _ _ _ _ _ _ (simp o at c.try_add_verb.ensures.raises) (simp (o, p, g) at c.may_add-is_allowed.ensures) c.in_ok-permitted.ensures (same _) (simp (o, g) at c.add_verb.ensures.world))
+    (done _ _ _ _ _ _ _ _ _ (simp o at c.try_add_verb.ensures.raises) (simp (o, p, g) at c.may_add-is_allowed.ensures) c.in_ok-permitted.ensures (simp (o, g) at c.add_verb.ensures.world))

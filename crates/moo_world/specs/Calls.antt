@@ -32,6 +32,12 @@ TakesNoMemory (Ok v) = ⊤
 TakesNoMemory (Err (Raise e)) = ⊤
 TakesNoMemory (Err Memory) = ⊥
 
+-- a call that looks at these raises before it takes memory: where memory is short, none of them was due
+abbrev pub RaisesFirst : {T : Type 0} → Result T WorldFault → Option ErrorCode → Type 0
+RaisesFirst (Ok v) raises = ⊤
+RaisesFirst (Err (Raise e)) raises = ⊤
+RaisesFirst (Err Memory) raises = raises ≡ None
+
 -- the number of a valid object
 abbrev pub number_of : List (Option Object) → ℤ → Option ℕ
 number_of objects (pos n) = if is_some (object_of objects n) then Some n else None
@@ -73,6 +79,12 @@ abbrev pub chparent_raises : World → Option ℕ → Option (Option ℕ) → Op
 chparent_raises w None p = Some InvalidArgument
 chparent_raises w (Some x) None = Some InvalidArgument
 chparent_raises w (Some x) (Some p) = parent_raises w x p
+
+-- those of its raises that are looked at before memory is taken
+abbrev pub numbers_raise : World → Option ℕ → Option (Option ℕ) → Option ErrorCode
+numbers_raise w None p = Some InvalidArgument
+numbers_raise w (Some x) None = Some InvalidArgument
+numbers_raise w (Some x) (Some p) = if would_loop w.inheritance x p then Some RecursiveMove else None
 
 abbrev pub world_chparent : World → Option ℕ → Option (Option ℕ) → World
 world_chparent w None p = w

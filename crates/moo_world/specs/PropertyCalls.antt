@@ -32,6 +32,11 @@ abbrev pub add_property_raises : World → Option ℕ → List ℕ → Option Er
 add_property_raises w None name = Some InvalidArgument
 add_property_raises w (Some x) name = if is_some (built_in_of name) then Some InvalidArgument else define_raises w x name
 
+-- those of its raises that are looked at before memory is taken
+abbrev pub name_raises : Option ℕ → List ℕ → Option ErrorCode
+name_raises None name = Some InvalidArgument
+name_raises (Some x) name = if is_some (built_in_of name) then Some InvalidArgument else None
+
 -- the world once a valid object has one more property
 abbrev pub world_define : World → Option ℕ → List ℕ → Tree → ℤ → PropPerms → World
 world_define w None name v owner perms = w

@@ -4,7 +4,7 @@ ghost use Rattle.std.specs.Prelude.{◌≡◌, ◌<◌, Option, Some, length, If
 ghost use Rattle.std.specs.Option.{ForSome};
 ghost use Rattle.moo_table.specs.World.{object_of, cells_of, most};
 ghost use Rattle.moo_table.specs.Changes.{after_create};
-ghost use Rattle.moo_world.specs.Calls.{Changes, Tests, place_of, create_raises, world_create, TakesNoMemory};
+ghost use Rattle.moo_world.specs.Calls.{Changes, Tests, place_of, create_raises, world_create, TakesNoMemory, RaisesFirst};
 
 use crate::World;
 use crate::fault::WorldFault;
@@ -35,6 +35,7 @@ impl World {
         ensures world { let p = place_of self.old.objects parent in
             Changes result self.old self.new (create_raises self.old p) (world_create self.old p owner) }
         ensures number { IfOk result (λ o. o ≡ pos (length self.old.objects)) }
+        ensures memory { RaisesFirst result (create_raises self.old (place_of self.old.objects parent)) }
     {
         let Some(p) = self.place(parent) else {
             return Err(WorldFault::Raise(ErrorCode::Permission));
@@ -49,6 +50,7 @@ impl World {
         requires { ForSome p (λ up. IsSome (object_of self.old.objects up)) }
         ensures world { Changes result self.old self.new (create_raises self.old (Some p)) (after_create self.old p owner) }
         ensures few { OnOk result (length self.old.objects < most) }
+        ensures memory { RaisesFirst result (create_raises self.old (Some p)) }
     {
         if self.objects.len() >= MOST {
             return Err(WorldFault::Raise(ErrorCode::Quota));

@@ -7,8 +7,8 @@ ghost use Rattle.moo_forest.specs.Walk.{IsWalkDown};
 ghost use Rattle.moo_object.specs.Cells.{own_cell};
 ghost use Rattle.moo_table.specs.World.{object_of};
 ghost use Rattle.moo_table.specs.Changes.{after_define};
-ghost use Rattle.moo_world.specs.PropertyCalls.{define_raises, add_property_raises, world_define};
-ghost use Rattle.moo_world.specs.Calls.{Answers, Changes, Tests, number_of};
+ghost use Rattle.moo_world.specs.PropertyCalls.{name_raises, define_raises, add_property_raises, world_define};
+ghost use Rattle.moo_world.specs.Calls.{Answers, Changes, Tests, number_of, RaisesFirst};
 ghost use Rattle.moo_table.specs.Properties.{IsDefinable};
 
 use crate::World;
@@ -23,7 +23,8 @@ use std::alloc::Global;
 impl World {
     /// What defining a property of this name on an object raises.
     pub fn try_add_property(&self, alloc: Global, o: i32, name: &[u8]) -> Result<(), WorldFault>
-        ensures { Tests result (add_property_raises self.now (number_of self.now.objects o) (folded name.now)) }
+        ensures raises { Tests result (add_property_raises self.now (number_of self.now.objects o) (folded name.now)) }
+        ensures memory { RaisesFirst result (name_raises (number_of self.now.objects o) (folded name.now)) }
     {
         match self.number(o) {
             Some(x) => {
@@ -44,8 +45,9 @@ impl World {
         owner: i32,
         perms: PropPerms,
     ) -> Result<(), WorldFault>
-        ensures { let x = number_of self.old.objects o in
+        ensures world { let x = number_of self.old.objects o in
             Changes result self.old self.new (add_property_raises self.old x (folded name)) (world_define self.old x name (tree value) owner perms) }
+        ensures memory { RaisesFirst result (name_raises (number_of self.old.objects o) (folded name)) }
     {
         match self.number(o) {
             Some(x) => self.define(alloc, x, name, value, owner, perms),
@@ -63,7 +65,8 @@ impl World {
         perms: PropPerms,
     ) -> Result<(), WorldFault>
         requires { IsSome (object_of self.old.objects x) }
-        ensures { Changes result self.old self.new (add_property_raises self.old (Some x) (folded name)) (after_define self.old x name (own_cell x (folded name) (tree value) owner perms)) }
+        ensures world { Changes result self.old self.new (add_property_raises self.old (Some x) (folded name)) (after_define self.old x name (own_cell x (folded name) (tree value) owner perms)) }
+        ensures memory { RaisesFirst result (name_raises (Some x) (folded name)) }
     {
         let _weight = value.weight();
         let walk = self.test_property(alloc, x, name.as_bytes())?;
@@ -74,7 +77,8 @@ impl World {
     // Whether a valid object may define a property of this name, and what inherits from it.
     fn test_property(&self, alloc: Global, x: usize, name: &[u8]) -> Result<Vec<Step>, WorldFault>
         requires { IsSome (object_of self.now.objects x) }
-        ensures { Answers result (add_property_raises self.now (Some x) (folded name.now)) (λ walk. IsWalkDown self.now.inheritance x walk.items) }
+        ensures walk { Answers result (add_property_raises self.now (Some x) (folded name.now)) (λ walk. IsWalkDown self.now.inheritance x walk.items) }
+        ensures memory { RaisesFirst result (name_raises (Some x) (folded name.now)) }
     {
         if built_in(name).is_some() {
             return Err(WorldFault::Raise(ErrorCode::InvalidArgument));

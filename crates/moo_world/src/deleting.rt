@@ -5,7 +5,7 @@ ghost use Rattle.moo_value.specs.Compare.{folded};
 ghost use Rattle.moo_table.specs.World.{object_of};
 ghost use Rattle.moo_table.specs.Changes.{after_undefine};
 ghost use Rattle.moo_world.specs.PropertyCalls.{undefine_raises, delete_property_raises, world_undefine};
-ghost use Rattle.moo_world.specs.Calls.{Changes, Tests, number_of, TakesNoMemory};
+ghost use Rattle.moo_world.specs.Calls.{Changes, Tests, number_of, TakesNoMemory, RaisesFirst};
 
 use crate::World;
 use crate::fault::WorldFault;
@@ -31,8 +31,9 @@ impl World {
 
     /// Takes away a property that an object defines, with the cells for it on its descendants.
     pub fn delete_property(&mut self, alloc: Global, o: i32, name: &[u8]) -> Result<(), WorldFault>
-        ensures { let x = number_of self.old.objects o in
+        ensures world { let x = number_of self.old.objects o in
             Changes result self.old self.new (delete_property_raises self.old x (folded name.now)) (world_undefine self.old x (folded name.now)) }
+        ensures memory { RaisesFirst result (delete_property_raises self.old (number_of self.old.objects o) (folded name.now)) }
     {
         match self.number(o) {
             Some(_) if built_in(name).is_some() => {
@@ -57,7 +58,8 @@ impl World {
     // The same, of a valid object.
     fn undefine(&mut self, alloc: Global, x: usize, name: &[u8]) -> Result<(), WorldFault>
         requires { IsSome (object_of self.old.objects x) }
-        ensures { Changes result self.old self.new (undefine_raises self.old x (folded name.now)) (after_undefine self.old x (folded name.now)) }
+        ensures world { Changes result self.old self.new (undefine_raises self.old x (folded name.now)) (after_undefine self.old x (folded name.now)) }
+        ensures memory { RaisesFirst result (undefine_raises self.old x (folded name.now)) }
     {
         self.test_own_property(x, name)?;
         let walk = self.inheritance.walk_down(alloc, x)?;

@@ -1,12 +1,12 @@
 //! What objects inherit from.
 
-ghost use Rattle.std.specs.Prelude.{◌≡◌, ◌<◌, IsSome, Option};
+ghost use Rattle.std.specs.Prelude.{◌≡◌, ◌<◌, IsSome, Option, Some};
 ghost use Rattle.std.specs.Option.{ForSome};
 ghost use Rattle.moo_forest.specs.Forest.{above_of, moved};
 ghost use Rattle.moo_table.specs.World.{object_of};
 ghost use Rattle.moo_table.specs.Rows.{AreReady};
 ghost use Rattle.moo_table.specs.Changes.{after_chparent};
-ghost use Rattle.moo_world.specs.Calls.{Changes, Tests, Answers, number_of, place_of, parent_raises, chparent_raises, world_chparent, TakesNoMemory, IsThere};
+ghost use Rattle.moo_world.specs.Calls.{Changes, Tests, Answers, number_of, place_of, parent_raises, chparent_raises, world_chparent, TakesNoMemory, RaisesFirst, numbers_raise, IsThere};
 
 use crate::World;
 use crate::fault::WorldFault;
@@ -22,6 +22,7 @@ impl World {
     pub fn try_chparent(&self, alloc: Global, o: i32, p: i32) -> Result<(), WorldFault>
         ensures raises { Tests result (chparent_raises self.now (number_of self.now.objects o) (place_of self.now.objects p)) }
         ensures memory { IsThere self.now.objects self.now.inheritance o p → TakesNoMemory result }
+        ensures first { RaisesFirst result (numbers_raise self.now (number_of self.now.objects o) (place_of self.now.objects p)) }
     {
         match (self.number(o), self.place(p)) {
             (Some(x), Some(p)) => {
@@ -38,6 +39,7 @@ impl World {
         ensures world { let x = number_of self.old.objects o in let to = place_of self.old.objects p in
             Changes result self.old self.new (chparent_raises self.old x to) (world_chparent self.old x to) }
         ensures memory { IsThere self.old.objects self.old.inheritance o p → TakesNoMemory result }
+        ensures first { RaisesFirst result (numbers_raise self.old (number_of self.old.objects o) (place_of self.old.objects p)) }
     {
         match (self.number(o), self.place(p)) {
             (Some(x), Some(p)) => self.set_parent(alloc, x, p),
@@ -52,6 +54,7 @@ impl World {
         ensures rows { Answers result (parent_raises self.now x p)
             (λ new. AreReady self.now.objects (moved self.now.inheritance x p) new.walk.items new.rows.items) }
         ensures memory { above_of self.now.inheritance x ≡ p → TakesNoMemory result }
+        ensures first { RaisesFirst result (numbers_raise self.now (Some x) (Some p)) }
     {
         if self.inheritance.above(x) == p {
             return Ok(NewRows::none(alloc));
@@ -76,6 +79,7 @@ impl World {
         requires parent { ForSome p (λ up. IsSome (object_of self.old.objects up)) }
         ensures world { Changes result self.old self.new (parent_raises self.old x p) (after_chparent self.old x p) }
         ensures memory { above_of self.old.inheritance x ≡ p → TakesNoMemory result }
+        ensures first { RaisesFirst result (numbers_raise self.old (Some x) (Some p)) }
     {
         let NewRows { walk, rows } = self.rows_under(alloc, x, p)?;
         self.inheritance.move_to(x, p)?;

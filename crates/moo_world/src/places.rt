@@ -5,7 +5,7 @@ ghost use Rattle.std.specs.Option.{ForSome};
 ghost use Rattle.moo_forest.specs.Forest.{above_of};
 ghost use Rattle.moo_table.specs.World.{object_of};
 ghost use Rattle.moo_table.specs.Changes.{after_move, would_loop};
-ghost use Rattle.moo_world.specs.Calls.{Changes, Tests, number_of, place_of, place_raises, move_raises, world_move, TakesNoMemory, IsThere};
+ghost use Rattle.moo_world.specs.Calls.{Changes, Tests, number_of, place_of, place_raises, move_raises, world_move, TakesNoMemory, RaisesFirst, IsThere};
 
 use crate::World;
 use crate::fault::WorldFault;
@@ -30,6 +30,7 @@ impl World {
         ensures world { let x = number_of self.old.objects o in let place = place_of self.old.objects to in
             Changes result self.old self.new (move_raises self.old x place) (world_move self.old x place) }
         ensures memory { IsThere self.old.objects self.old.containment o to → TakesNoMemory result }
+        ensures first { RaisesFirst result (move_raises self.old (number_of self.old.objects o) (place_of self.old.objects to)) }
     {
         match (self.number(o), self.place(to)) {
             (Some(x), Some(to)) => self.set_place(x, to),
@@ -55,6 +56,7 @@ impl World {
         requires place { ForSome to (λ up. IsSome (object_of self.old.objects up)) }
         ensures world { Changes result self.old self.new (place_raises self.old x to) (after_move self.old x to) }
         ensures memory { above_of self.old.containment x ≡ to → TakesNoMemory result }
+        ensures first { RaisesFirst result (place_raises self.old x to) }
     {
         self.test_place(x, to)?;
         self.containment.move_to(x, to)?;

@@ -2,7 +2,7 @@
 
 ghost use Rattle.std.specs.Prelude.{◌≡◌, not, IsSome, Some, false};
 ghost use Rattle.moo_table.specs.World.{object_of};
-ghost use Rattle.moo_world.specs.Calls.{Changes, Tests, number_of, TakesNoMemory};
+ghost use Rattle.moo_world.specs.Calls.{Changes, Tests, number_of, TakesNoMemory, RaisesFirst};
 ghost use Rattle.moo_table.specs.Players.{after_set_player};
 ghost use Rattle.moo_world.specs.PlayerCalls.{set_player_raises, world_set_player};
 
@@ -36,6 +36,7 @@ impl World {
         ensures world { let x = number_of self.old.objects o in
             Changes result self.old self.new (set_player_raises self.old x on) (world_set_player self.old x on) }
         ensures memory { on ≡ false → TakesNoMemory result }
+        ensures first { RaisesFirst result (set_player_raises self.old (number_of self.old.objects o) on) }
     {
         match self.number(o) {
             Some(x) => self.mark_player(x, on),
@@ -60,6 +61,7 @@ impl World {
         requires { IsSome (object_of self.old.objects x) }
         ensures world { Changes result self.old self.new (set_player_raises self.old (Some x) on) (after_set_player self.old x on) }
         ensures memory { on ≡ false → TakesNoMemory result }
+        ensures first { RaisesFirst result (set_player_raises self.old (Some x) on) }
     {
         self.test_player(x, on)?;
         list_player(&mut self.players, x as i32, on)?;

@@ -1,6 +1,6 @@
 //! The owners, permissions and names of properties, changed.
 
-ghost use Rattle.std.specs.Prelude.{◌≡◌, IsSome, Some, OnOk, OnErr};
+ghost use Rattle.std.specs.Prelude.{◌≡◌, IsSome, Some, None, OnOk, OnErr};
 ghost use Rattle.std.specs.Option.{option_copied};
 ghost use Rattle.moo_value.specs.Compare.{folded};
 ghost use Rattle.moo_table.specs.World.{object_of};
@@ -9,7 +9,7 @@ ghost use Rattle.moo_table.specs.Properties.{definition_named};
 ghost use Rattle.moo_table.specs.Edits.{with_cell_info};
 ghost use Rattle.moo_table.specs.Renames.{after_rename, IsRenamable};
 ghost use Rattle.moo_world.specs.InfoCalls.{taken_raises, rename_raises, info_change_raises, set_info_raises, after_info, world_set_info};
-ghost use Rattle.moo_world.specs.Calls.{Answers, Changes, Tests, number_of};
+ghost use Rattle.moo_world.specs.Calls.{Answers, Changes, Tests, number_of, TakesNoMemory};
 
 use crate::World;
 use crate::fault::WorldFault;
@@ -32,7 +32,8 @@ impl World {
         name: &[u8],
         new_name: Option<&MooStr>,
     ) -> Result<(), WorldFault>
-        ensures { Tests result (set_info_raises self.now (number_of self.now.objects o) (folded name.now) (option_copied new_name.entry)) }
+        ensures raises { Tests result (set_info_raises self.now (number_of self.now.objects o) (folded name.now) (option_copied new_name.entry)) }
+        ensures memory { option_copied new_name.entry ≡ None → TakesNoMemory result }
     {
         match self.number(o) {
             Some(_) if built_in(name).is_some() => {
@@ -57,8 +58,9 @@ impl World {
         perms: PropPerms,
         new_name: Option<MooStr>,
     ) -> Result<(), WorldFault>
-        ensures { let x = number_of self.old.objects o in
+        ensures world { let x = number_of self.old.objects o in
             Changes result self.old self.new (set_info_raises self.old x (folded name.now) new_name) (world_set_info self.old x (folded name.now) owner perms new_name) }
+        ensures memory { new_name ≡ None → TakesNoMemory result }
     {
         match self.number(o) {
             Some(_) if built_in(name).is_some() => {
@@ -78,8 +80,9 @@ impl World {
         new_name: Option<&MooStr>,
     ) -> Result<usize, WorldFault>
         requires { IsSome (object_of self.now.objects x) }
-        ensures { Answers result (info_change_raises self.now x (option_copied new_name.entry) (definition_named self.now x (folded name.now)))
+        ensures definer { Answers result (info_change_raises self.now x (option_copied new_name.entry) (definition_named self.now x (folded name.now)))
             (λ definer. definition_named self.now x (folded name.now) ≡ Some (definer, folded name.now)) }
+        ensures memory { option_copied new_name.entry ≡ None → TakesNoMemory result }
     {
         let Some(definer) = definer_in(&self.objects[x], name) else {
             return Err(WorldFault::Raise(ErrorCode::PropertyNotFound));
@@ -137,8 +140,9 @@ impl World {
         new_name: Option<MooStr>,
     ) -> Result<(), WorldFault>
         requires { IsSome (object_of self.old.objects x) }
-        ensures { let k = definition_named self.old x (folded name.now) in
+        ensures world { let k = definition_named self.old x (folded name.now) in
             Changes result self.old self.new (info_change_raises self.old x new_name k) (after_info self.old x owner perms new_name k) }
+        ensures memory { new_name ≡ None → TakesNoMemory result }
     {
         let definer = self.test_info(alloc, x, name, new_name.as_ref())?;
         match new_name {

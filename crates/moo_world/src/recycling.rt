@@ -3,7 +3,7 @@
 ghost use Rattle.std.specs.Prelude.{◌≡◌, IsSome, None};
 ghost use Rattle.moo_table.specs.World.{object_of};
 ghost use Rattle.moo_table.specs.Recycling.{after_recycle};
-ghost use Rattle.moo_world.specs.Calls.{Changes, Tests, number_of, TakesNoMemory};
+ghost use Rattle.moo_world.specs.Calls.{Changes, Tests, number_of, TakesNoMemory, RaisesFirst};
 ghost use Rattle.moo_world.specs.RecycleCalls.{recycle_raises, world_recycle};
 
 use crate::World;
@@ -30,8 +30,9 @@ impl World {
     /// their order, and they and their descendants lose the properties that it defined. What is in
     /// it is moved to no place. Its number is no player's, and isn't given out again.
     pub fn recycle_bare(&mut self, alloc: Global, o: i32) -> Result<(), WorldFault>
-        ensures { let x = number_of self.old.objects o in
+        ensures world { let x = number_of self.old.objects o in
             Changes result self.old self.new (recycle_raises x) (world_recycle self.old x) }
+        ensures memory { RaisesFirst result (recycle_raises (number_of self.old.objects o)) }
     {
         match self.number(o) {
             Some(x) => self.remove_object(alloc, x),

@@ -6,7 +6,7 @@ ghost use Rattle.moo_value.specs.Size.{IsString};
 ghost use Rattle.moo_object.specs.Verbs.{with_verb_info, with_args};
 ghost use Rattle.moo_table.specs.World.{object_of, thing_of};
 ghost use Rattle.moo_table.specs.Changes.{with_object, with_verb, without_verb, with_changed_verb};
-ghost use Rattle.moo_world.specs.Calls.{Changes, Tests, number_of, TakesNoMemory};
+ghost use Rattle.moo_world.specs.Calls.{Changes, Tests, number_of, TakesNoMemory, RaisesFirst};
 ghost use Rattle.moo_world.specs.VerbCalls.{verb_raises, verb_info_raises, add_verb_raises, world_with_object};
 
 use crate::World;
@@ -58,6 +58,7 @@ impl World {
             Changes result self.old self.new (add_verb_raises self.old x names)
             (world_with_object self.old x (with_verb (record { names = names; owner = owner; perms = perms; args = args; program = None }))) }
         ensures place { IfOk result (λ i. option_map (λ x. length (thing_of self.old.objects x).verbs) (number_of self.old.objects o) ≡ Some i) }
+        ensures memory { RaisesFirst result (add_verb_raises self.old (number_of self.old.objects o) names) }
     {
         match self.number(o) {
             Some(x) => self.put_verb(
@@ -80,6 +81,7 @@ impl World {
         requires bare { verb.program ≡ None }
         ensures world { Changes result self.old self.new (add_verb_raises self.old (Some x) verb.names) (with_object self.old x (with_verb verb)) }
         ensures place { IfOk result (λ i. i ≡ length (thing_of self.old.objects x).verbs) }
+        ensures memory { RaisesFirst result (add_verb_raises self.old (Some x) verb.names) }
     {
         self.test_new_verb(x, &verb.names)?;
         let index = verbs_of(&self.objects[x]).len();

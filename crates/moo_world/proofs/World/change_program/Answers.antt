@@ -1,4 +1,4 @@
-use Rattle.std.proofs.Common.{◌≡◌, Some, is_some, sym, ◌∙◌, ap, subst, arith, length, IsSome}
+use Rattle.std.proofs.Common.{◌≡◌, Some, sym, ◌∙◌, ap, subst, arith, length, IsSome}
 use Rattle.moo_object.specs.Verbs.{with_program}
 use Rattle.moo_table.specs.World.{World, object_of, thing_of}
 use Rattle.moo_table.specs.Changes.{with_object, with_changed_verb}

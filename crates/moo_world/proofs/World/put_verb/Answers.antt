@@ -25,4 +25,5 @@ returns c =
     record {
       world = (c.in_ok-test_new_verb.ensures.raises.0, (rw slot (ap (λ v. with_object v c.args.x (with_verb c.args.verb)) c.self.view_is)));
       place = ap length c.verbs_of-index.ensures ∙ ap (λ o. length o.verbs) here ∙ ap (λ v. length (thing_of v.objects c.args.x).verbs) c.self.view_is;
+      memory = tt;
     }

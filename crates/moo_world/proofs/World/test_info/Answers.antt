@@ -10,16 +10,16 @@ use Rattle.moo_table.proofs.ValueChanges.{definition_is}
 use Rattle.moo_world.proofs.Informing.{still_err, no_info, info_named, info_unnamed, found_then}
 use Rattle.moo_world.proofs.World.test_info.Goals as goal
 
-pub returns-in_default : goal.returns-in_default
-returns-in_default c =
+pub returns-in_default-clause-definer : goal.returns-in_default-clause-definer
+returns-in_default-clause-definer c =
     let w : World = record { objects = c.self.inside.objects.items; inheritance = c.self.inside.inheritance; containment = c.self.inside.containment; players = c.self.inside.players.items } in
     let valid = subst (λ v. IsSome (object_of v.objects c.args.x)) (sym c.self.view_is) c.requires in
     let name = folded c.args.name.now in
     let found = definition_is w c.args.x name c.index.result.now c.definer_in.result c.self.invariant.formed valid c.index.ensures c.definer_in.ensures ∙ ap (λ v. definition_named v c.args.x name) c.self.view_is in
     no_info c.args.self.now c.args.x (option_copied c.args.new_name) name c.definer_in.result _ found c.in_default.is
 
-pub returns-in_err-test_rename : goal.returns-in_err-test_rename
-returns-in_err-test_rename c =
+pub returns-in_err-test_rename-clause-definer : goal.returns-in_err-test_rename-clause-definer
+returns-in_err-test_rename-clause-definer c =
     let w : World = record { objects = c.self.inside.objects.items; inheritance = c.self.inside.inheritance; containment = c.self.inside.containment; players = c.self.inside.players.items } in
     let valid = subst (λ v. IsSome (object_of v.objects c.args.x)) (sym c.self.view_is) c.requires in
     let name = folded c.args.name.now in
@@ -31,8 +31,8 @@ returns-in_err-test_rename c =
     let p = err_from_is_err_and c.from_residual.result c.from_residual.ensures.1 in
     rw (p.1, p.2) (still_err _ _ _ _ _ same c.in_err-test_rename.ensures)
 
-pub returns-in_ok-test_rename : goal.returns-in_ok-test_rename
-returns-in_ok-test_rename c =
+pub returns-in_ok-test_rename-clause-definer : goal.returns-in_ok-test_rename-clause-definer
+returns-in_ok-test_rename-clause-definer c =
     let w : World = record { objects = c.self.inside.objects.items; inheritance = c.self.inside.inheritance; containment = c.self.inside.containment; players = c.self.inside.players.items } in
     let valid = subst (λ v. IsSome (object_of v.objects c.args.x)) (sym c.self.view_is) c.requires in
     let name = folded c.args.name.now in
@@ -43,8 +43,8 @@ returns-in_ok-test_rename c =
     ap (λ s. rename_raises c.args.self.now c.args.x k (folded s)) (sym c.as_bytes.ensures.value) in
     (same ∙ c.in_ok-test_rename.ensures.0, there)
 
-pub returns-in_default-new_name : goal.returns-in_default-new_name
-returns-in_default-new_name c =
+pub returns-in_default-new_name-clause-definer : goal.returns-in_default-new_name-clause-definer
+returns-in_default-new_name-clause-definer c =
     let w : World = record { objects = c.self.inside.objects.items; inheritance = c.self.inside.inheritance; containment = c.self.inside.containment; players = c.self.inside.players.items } in
     let valid = subst (λ v. IsSome (object_of v.objects c.args.x)) (sym c.self.view_is) c.requires in
     let name = folded c.args.name.now in

@@ -36,8 +36,8 @@ invariant_of-self c =
     lost_is w c.args.x name c.self.invariant.formed valid c.in_ok-walk.walk.items c.in_ok-walk.ensures (set w.objects c.args.x c.forget_in.new.slot) start in
     rw lost (record { formed = (undefined_well_formed w c.args.x name c.self.invariant.formed valid); counted = c.self.invariant.counted ∙ sym (programs_undefined w.objects c.args.x name (valid_within w.objects c.args.x valid)) })
 
-pub returns : goal.returns
-returns c =
+pub returns-clause-world : goal.returns-clause-world
+returns-clause-world c =
     let w : World = record { objects = c.self.inside.objects.items; inheritance = c.self.inside.inheritance; containment = c.self.inside.containment; players = c.self.inside.players.items } in
     let valid = subst (λ v. IsSome (object_of v.objects c.args.x)) (sym c.self.view_is) c.requires in
     let name = folded c.args.name.now in

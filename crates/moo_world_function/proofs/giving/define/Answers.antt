@@ -14,7 +14,7 @@ returns-in_err-permitted c =
     let fits : FitsSigned w32 c.args.given.owner = search rules in
     let g = to_z-of_z w32 c.args.given.owner fits in
     let e = err_from_is_err_and c.from_residual.result c.from_residual.ensures.1 in
-    rw (e.1, e.2) (refused _ _ _ _ _ _ _ (simp (o, n) at c.try_add_property.ensures) (simp (o, p, g) at c.may_add-is_allowed.ensures) c.in_err-permitted.ensures)
+    rw (e.1, e.2) (refused _ _ _ _ _ _ _ (simp (o, n) at c.try_add_property.ensures.raises) (simp (o, p, g) at c.may_add-is_allowed.ensures) c.in_err-permitted.ensures)
 
 pub returns : goal.returns
 unfolding with_property
@@ -25,4 +25,4 @@ returns c =
     let fits : FitsSigned w32 c.args.given.owner = search rules in
     let g = to_z-of_z w32 c.args.given.owner fits in
     answered _ _ _ _ _ c.changed.ensures
-    (done _ _ _ _ _ _ _ _ _ (simp (o, n) at c.try_add_property.ensures) (simp (o, p, g) at c.may_add-is_allowed.ensures) c.in_ok-permitted.ensures (simp (o, g) at c.add_property.ensures))
+    (done _ _ _ _ _ _ _ _ _ (simp (o, n) at c.try_add_property.ensures.raises) (simp (o, p, g) at c.may_add-is_allowed.ensures) c.in_ok-permitted.ensures (simp (o, g) at c.add_property.ensures.world))

@@ -25,4 +25,4 @@ returns c =
     let fits : FitsSigned w32 c.args.given.owner = search rules in
     let g = to_z-of_z w32 c.args.given.owner fits in
     answered _ _ _ _ _ c.changed.ensures
-    (done _ _ _ _ _ _ _ _ _ (simp (o, n) at c.test_info-tested.ensures) (simp (o, p, n, g) at c.may_change_info-is_allowed.ensures) c.in_ok-permitted.ensures (simp (o, n, g) at c.set_property_info.ensures))
+    (done _ _ _ _ _ _ _ _ _ (simp (o, n) at c.test_info-tested.ensures) (simp (o, p, n, g) at c.may_change_info-is_allowed.ensures) c.in_ok-permitted.ensures (simp (o, n, g) at c.set_property_info.ensures.world))

@@ -21,4 +21,4 @@ returns c =
     let n = c.as_bytes-name.ensures.value in
     let p = to_z-of_z w32 c.args.programmer c.ranges.programmer in
     answered _ _ _ _ _ c.changed.ensures
-    (done _ _ _ _ _ _ _ _ _ (simp (o, n) at c.try_delete_property.ensures.raises) (simp (o, p) at c.may_write_object-is_allowed.ensures) c.in_ok-permitted.ensures (simp (o, n) at c.delete_property.ensures))
+    (done _ _ _ _ _ _ _ _ _ (simp (o, n) at c.try_delete_property.ensures.raises) (simp (o, p) at c.may_write_object-is_allowed.ensures) c.in_ok-permitted.ensures (simp (o, n) at c.delete_property.ensures.world))

@@ -1,17 +1,24 @@
 //! What follows from the invariant of a world.
 
-ghost use Rattle.std.specs.Prelude.{◌≡◌, None, is_some};
+ghost use Rattle.std.specs.Prelude.{◌≡◌, None, Some, is_some, IsSome};
+ghost use Rattle.std.specs.Option.{ForSome};
 ghost use Rattle.moo_value.specs.Compare.{folded};
 ghost use Rattle.moo_forest.specs.Forest.{above_of};
-ghost use Rattle.moo_table.specs.Changes.{after_chparent, after_move};
+ghost use Rattle.moo_value.specs.View.{tree};
+ghost use Rattle.moo_object.specs.Cells.{own_cell};
+ghost use Rattle.moo_table.specs.Changes.{after_chparent, after_define, after_move, after_undefine};
 ghost use Rattle.moo_world.specs.Calls.{parent_raises, place_raises};
-ghost use Rattle.moo_table.specs.World.{IsWellFormed};
+ghost use Rattle.moo_world.specs.PropertyCalls.{add_property_raises};
+ghost use Rattle.moo_world.specs.Lookups.{IsReparented, IsDefinedOn, IsWithout, IsUndefined};
+ghost use Rattle.moo_table.specs.Recycling.{after_recycle};
+ghost use Rattle.moo_table.specs.World.{IsWellFormed, object_of};
 ghost use Rattle.moo_table.specs.Restoring.{AreParts, restored_world};
 ghost use Rattle.moo_table.specs.Properties.{definition_named, read};
 
 use crate::World;
 use moo_forest::Forest;
-use moo_object::Object;
+use moo_object::{Object, PropPerms};
+use moo_value::{MooStr, Value};
 
 /// A property that is defined on an object or an ancestor has a value, and no other has one.
 pub fn a_defined_property_has_a_value(world: &World, x: usize, name: &[u8])
@@ -34,6 +41,54 @@ pub fn the_same_place_changes_nothing(world: &World, x: usize, to: Option<usize>
     requires { above_of world.now.containment x ≡ to }
     ensures raises { place_raises world.now x to ≡ None }
     ensures world { after_move world.now x to ≡ world.now }
+{
+    world.is_well_formed();
+}
+
+/// Under another parent an object and its descendants keep the cells of definers that are still
+/// above them, have clear ones for what is new above them and lose the others. Nothing else changes,
+/// and no look-up of anything else.
+pub fn another_parent_keeps_what_is_still_above(world: &World, x: usize, p: Option<usize>)
+    requires object { IsSome (object_of world.now.objects x) }
+    requires parent { ForSome p (λ up. IsSome (object_of world.now.objects up)) }
+    requires allowed { parent_raises world.now x p ≡ None }
+    ensures { IsReparented world.now (after_chparent world.now x p) x }
+{
+    world.is_well_formed();
+}
+
+/// A new property has its cell on the object that defines it, and a clear one on each descendant;
+/// their other cells stay. Nothing else changes, and no look-up of anything else.
+pub fn a_new_property_is_seen_below(
+    world: &World,
+    x: usize,
+    name: &MooStr,
+    value: &Value,
+    owner: i32,
+    perms: PropPerms,
+)
+    requires object { IsSome (object_of world.now.objects x) }
+    requires allowed { add_property_raises world.now (Some x) (folded name.now) ≡ None }
+    ensures { let cell = own_cell x (folded name.now) (tree value.now) owner perms in
+        IsDefinedOn world.now (after_define world.now x name.now cell) x name.now cell }
+{
+    world.is_well_formed();
+    let _bytes = name.as_bytes();
+    let _weight = value.weight();
+}
+
+/// Once an object is recycled nobody has a cell for what it defined. Every other cell stays.
+pub fn a_recycled_object_takes_its_properties_along(world: &World, x: usize)
+    requires { IsSome (object_of world.now.objects x) }
+    ensures { IsWithout world.now (after_recycle world.now x) x }
+{
+    world.is_well_formed();
+}
+
+/// Once a property is taken away nobody has a cell for it. Every other cell stays.
+pub fn a_deleted_property_is_gone_below(world: &World, x: usize, name: &[u8])
+    requires { IsSome (object_of world.now.objects x) }
+    ensures { IsUndefined world.now (after_undefine world.now x (folded name.now)) (x, folded name.now) }
 {
     world.is_well_formed();
 }

@@ -1,8 +1,15 @@
 // The arguments of a row's call: `#3` is an object, `3` an integer, `"rc"` a string, and `{` and `}` between blanks stand
 // round the elements of a list.
+ghost use Rattle.std.specs.Prelude.{◌<◌};
+
 use moo_value::{MooList, MooStr, Value};
-use moo_world::{PropPerms, VerbPerms, WorldFault};
-use moo_world_text::{prop_perms_from_text, verb_perms_from_text};
+use moo_world::{
+    ObjectSpecifier, PrepositionSpecifier, PropPerms, VerbArgs, VerbPerms, WorldFault,
+};
+use moo_world_text::{
+    object_specifier_from_text, preposition_specifier_from_text, prop_perms_from_text,
+    verb_perms_from_text,
+};
 use std::alloc::Global;
 
 const NO_PROP_PERMS: PropPerms = PropPerms {
@@ -129,6 +136,25 @@ impl Args {
     pub fn verb_perms(&self, place: usize) -> VerbPerms {
         verb_perms_from_text(self.bytes(place)).unwrap_or(NO_VERB_PERMS)
     }
+
+    /// Three specifiers from a place on.
+    pub fn verb_args(&self, place: usize) -> VerbArgs
+        requires { place < 8 }
+    {
+        VerbArgs {
+            direct: object_specifier(self.bytes(place)),
+            preposition: preposition_specifier(self.bytes(place + 1)),
+            indirect: object_specifier(self.bytes(place + 2)),
+        }
+    }
+}
+
+fn object_specifier(text: &[u8]) -> ObjectSpecifier {
+    object_specifier_from_text(text).unwrap_or(ObjectSpecifier::None)
+}
+
+fn preposition_specifier(text: &[u8]) -> PrepositionSpecifier {
+    preposition_specifier_from_text(text).unwrap_or(PrepositionSpecifier::None)
 }
 
 // An object's number behind `#`, or an integer; 0 where it is no number.

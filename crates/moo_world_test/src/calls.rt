@@ -159,7 +159,7 @@ fn change_verb(
     match call {
         "delete_verb" => Some(world.delete_verb(o, index)),
         "set_verb_info" => Some(set_verb_info(world, alloc, args)),
-        "set_verb_args" => Some(world.set_verb_args(o, index, NO_COMMAND)),
+        "set_verb_args" => Some(world.set_verb_args(o, index, args.verb_args(2))),
         "set_program" => Some(set_program(world, alloc, args)),
         "clear_program" => Some(world.set_program(o, index, None)),
         _ => None,
@@ -192,13 +192,44 @@ fn test(world: &World, alloc: Global, call: &str, args: &Args) -> Option<Result<
     let o = args.number(0);
     match call {
         "try_create" => Some(world.try_create(o)),
+        "try_recycle" => Some(world.try_recycle(o)),
+        "try_move" => Some(world.try_move(o, args.number(1))),
+        "try_set_player" => Some(world.try_set_player(o, args.is_on(1))),
+        "try_add_property" => Some(world.try_add_property(alloc, o, args.bytes(1))),
+        "try_delete_property" => Some(world.try_delete_property(o, args.bytes(1))),
+        "try_clear" => Some(world.try_clear_property(o, args.bytes(1))),
         "try_chparent" => Some(world.try_chparent(alloc, o, args.number(1))),
         "try_set" => Some(try_set(world, args)),
         "try_set_info" => Some(world.try_set_property_info(alloc, o, args.bytes(1), None)),
         "try_rename" => Some(try_rename(world, alloc, args)),
-        "try_set_program" => Some(world.try_set_program(o, args.index(1), true)),
+        _ => test_verb(world, alloc, call, args),
+    }
+}
+
+fn test_verb(
+    world: &World,
+    alloc: Global,
+    call: &str,
+    args: &Args,
+) -> Option<Result<(), WorldFault>> {
+    let (o, index) = (args.number(0), args.index(1));
+    match call {
+        "try_verb" => Some(world.try_verb(o, index)),
+        "try_add_verb" => Some(try_add_verb(world, alloc, args)),
+        "try_set_verb_info" => Some(try_set_verb_info(world, alloc, args)),
+        "try_set_program" => Some(world.try_set_program(o, index, true)),
         _ => None,
     }
+}
+
+fn try_add_verb(world: &World, alloc: Global, args: &Args) -> Result<(), WorldFault> {
+    let names = args.string(alloc, 1)?;
+    world.try_add_verb(args.number(0), &names)
+}
+
+fn try_set_verb_info(world: &World, alloc: Global, args: &Args) -> Result<(), WorldFault> {
+    let names = args.string(alloc, 2)?;
+    world.try_set_verb_info(args.number(0), args.index(1), &names)
 }
 
 fn try_set(world: &World, args: &Args) -> Result<(), WorldFault> {

@@ -1,8 +1,10 @@
 // What is seen of a world, by the names of the calls.
-use crate::args::{Args, list};
+use crate::args::{Args, list, string};
 use moo_value::{ErrorCode, Value};
-use moo_world::{Need, World, WorldFault};
-use moo_world_text::prop_perms_text;
+use moo_world::{Need, VerbArgs, World, WorldFault};
+use moo_world_text::{
+    object_specifier_text, preposition_specifier_text, prop_perms_text, verb_perms_text,
+};
 use std::alloc::Global;
 
 const NOT_VALID: WorldFault = WorldFault::Raise(ErrorCode::InvalidArgument);
@@ -37,7 +39,9 @@ fn look_at_property(
         "get" => Some(world.get(alloc, o, name)),
         "is_clear" => Some(is_clear(world, o, name)),
         "info" => Some(info(world, alloc, o, name)),
+        "value" => Some(value(world, o, name)),
         "has_row" => Some(Ok(truth(has_row(world, o, args)))),
+        "verb" => Some(verb(world, alloc, o, args.index(1))),
         "find_verb" => Some(find_verb(world, alloc, args, Need::Any)),
         "find_call" => Some(find_verb(world, alloc, args, Need::Call)),
         _ => None,
@@ -128,6 +132,37 @@ fn info(world: &World, alloc: Global, o: i32, name: &[u8]) -> Result<Value, Worl
     values.push(Value::Obj(owner))?;
     values.push(Value::Str(prop_perms_text(alloc, perms)?))?;
     list(alloc, values)
+}
+
+fn value(world: &World, o: i32, name: &[u8]) -> Result<Value, WorldFault> {
+    match world.property_value(o, name) {
+        Some(value) => Ok(value.try_clone()?),
+        None => Err(WorldFault::Raise(ErrorCode::PropertyNotFound)),
+    }
+}
+
+// A verb's names, owner, permissions and specifiers, and whether it has a program.
+fn verb(world: &World, alloc: Global, o: i32, index: usize) -> Result<Value, WorldFault> {
+    let verb = world
+        .verb(o, index)
+        .ok_or(WorldFault::Raise(ErrorCode::VerbNotFound))?;
+    let mut values = Vec::new(alloc);
+    values.push(Value::Str(verb.names.try_clone()?))?;
+    values.push(Value::Obj(verb.owner))?;
+    values.push(Value::Str(verb_perms_text(alloc, verb.perms)?))?;
+    push_args(&mut values, alloc, verb.args)?;
+    values.push(truth(verb.program.is_some()))?;
+    list(alloc, values)
+}
+
+fn push_args(values: &mut Vec<Value>, alloc: Global, args: VerbArgs) -> Result<(), WorldFault> {
+    let direct = object_specifier_text(args.direct);
+    values.push(Value::Str(string(alloc, direct)?))?;
+    let preposition = preposition_specifier_text(args.preposition);
+    values.push(Value::Str(string(alloc, preposition)?))?;
+    let indirect = object_specifier_text(args.indirect);
+    values.push(Value::Str(string(alloc, indirect)?))?;
+    Ok(())
 }
 
 // The object that a verb is on, and its place there.

@@ -29,7 +29,8 @@ set #2 "name" "width"
 clear #2 "size"
 add_verb #1 "width" #3 "rxd"
 set_verb_info #0 0 "width" #4 ""
-set_program #0 0
+clear_program #0 0
+set_verb_args #0 0 "any" "any" "any"
 delete_verb #0 0
 set_player #2 1"#;
 

@@ -1,13 +1,13 @@
-// Who may do what: the owner #4, the wizard #3 and somebody else, #5.
+// Who may do what: the owner #4, the wizard #3, somebody else, #5, and #-1, who is nobody.
 use crate::args::{Args, list};
 use moo_rights::{Action, Rights};
 use moo_value::Value;
 use moo_world::{World, WorldFault};
 use std::alloc::Global;
 
-const OWNER_WIZARD_OTHER: [i32; 3] = [4, 3, 5];
+const OWNER_WIZARD_OTHERS: [i32; 4] = [4, 3, 5, -1];
 
-/// For each of the three whether he may, 1 or 0; `None` where the call is none of a right.
+/// For each of the four whether he may, 1 or 0; `None` where the call is none of a right.
 pub fn rights(
     world: &World,
     alloc: Global,
@@ -22,7 +22,7 @@ pub fn rights(
 
 fn answers(world: &World, alloc: Global, action: Action<'_>) -> Result<Value, WorldFault> {
     let mut values = Vec::new(alloc);
-    for programmer in OWNER_WIZARD_OTHER {
+    for programmer in OWNER_WIZARD_OTHERS {
         let may = Rights::may(world, programmer, action);
         values.push(Value::Int(i32::from(may)))?;
     }

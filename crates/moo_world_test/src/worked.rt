@@ -3,7 +3,9 @@ use crate::script::first_wrong_of;
 use crate::worlds::{FAMILY, FOUR_OBJECTS, OWNED_ROOM, SIZED};
 use std::test::Fail;
 
-const INHERITED: &str = r#"
+// One after the other, on one world.
+const IN_ORDER: &str = r#"
+add_property #1 "size" 5 #3 "c" = 0
 get #2 "SIZE" = 5
 is_clear #2 "size" = 1
 info #2 "size" = {#3, "c"}
@@ -11,23 +13,26 @@ set #2 "size" 7 = 0
 set #1 "size" 8 = 0
 get #2 "size" = 7
 get #3 "size" = 8
-clear #2 "Size" = 0
-clear #2 "size" = 0
-is_clear #2 "size" = 1
-get #2 "size" = 8
 add_property #2 "Size" 1 #3 "" = E_INVARG
 chparent #1 #2 = E_RECMOVE
 move #2 #3 = E_RECMOVE
-"#;
-
-const LOST_WITH_A_PARENT: &str = r#"
 chparent #2 #-1 = 0
 get #2 "size" = E_PROPNF
-get #3 "size" = 5
 recycle #1 = 0
 get #1 "name" = E_INVIND
 get #3 "size" = E_PROPNF
 create #-1 #3 = #4
+"#;
+
+const CLEARED: &str = r#"
+set #2 "size" 7 = 0
+set #1 "size" 8 = 0
+clear #2 "Size" = 0
+clear #2 "size" = 0
+is_clear #2 "size" = 1
+get #2 "size" = 8
+value #2 "SIZE" = 8
+value #2 "none" = E_PROPNF
 "#;
 
 // A child that defines `own`, under an object that defines `p` and `q`.
@@ -125,6 +130,11 @@ add_property #0 "still" 4 #3 "" = 0
 info #1 "later" = {#7, "c"}
 info #2 "later" = {#8, "c"}
 info #1 "still" = {#3, ""}
+create #0 #7 = #3
+create #0 #4 = #4
+get #4 "owner" = #4
+info #4 "free" = {#4, "c"}
+info #4 "fixed" = {#3, ""}
 "#;
 
 const TREES: &str = r#"
@@ -143,6 +153,14 @@ children #0 = {#1, #2, #5}
 contents #1 = {#5, #3}
 chparent #3 #-1 = 0
 get #3 "base" = E_PROPNF
+move #3 #0 = 0
+contents #1 = {#5}
+contents #0 = {#1, #3}
+get #3 "location" = #0
+move #5 #-1 = 0
+contents #1 = {}
+location #5 = #-1
+get #5 "location" = #-1
 "#;
 
 const RECYCLED: &str = r#"
@@ -177,16 +195,92 @@ valid #3 = 0
 max_object = #2
 "#;
 
+const VERBS_CHANGED: &str = r#"
+verb #0 0 = {"do_login_command", #3, "rxd", "this", "none", "this", 1}
+add_verb #0 "look" #3 "rx" = 1
+verb #0 1 = {"look", #3, "rx", "none", "none", "none", 0}
+set_program #0 1 = 0
+set_verb_info #0 1 "l*ook gaze" #2 "rd" = 0
+set_verb_args #0 1 "this" "any" "none" = 0
+verb #0 1 = {"l*ook gaze", #2, "rd", "this", "any", "none", 1}
+find_verb #0 "loo" = {#0, 1}
+clear_program #0 0 = 0
+verb #0 0 = {"do_login_command", #3, "rxd", "this", "none", "this", 0}
+delete_verb #0 0 = 0
+verb #0 0 = {"l*ook gaze", #2, "rd", "this", "any", "none", 1}
+verb #0 1 = E_VERBNF
+verb #9 0 = E_VERBNF
+"#;
+
+const PLAYERS: &str = r#"
+set_player #1 1 = 0
+players = {#3, #1}
+set_player #3 1 = 0
+players = {#3, #1}
+set_player #3 0 = 0
+players = {#1}
+object #3 = {#3, 0, 0, 0}
+object #1 = {#3, 1, 0, 0}
+set_player #3 0 = 0
+set_player #3 1 = 0
+players = {#1, #3}
+"#;
+
+// The calls that tell what others would raise change nothing.
+const TRIED: &str = r#"
+try_create #1 = 0
+try_create #9 = E_PERM
+try_recycle #1 = 0
+try_recycle #9 = E_INVARG
+try_chparent #2 #-1 = 0
+try_chparent #1 #2 = E_RECMOVE
+try_move #3 #-1 = 0
+try_move #2 #3 = E_RECMOVE
+try_set_player #2 1 = 0
+try_set_player #9 1 = E_INVARG
+try_add_property #2 "new" = 0
+try_add_property #2 "SIZE" = E_INVARG
+try_add_property #2 "name" = E_INVARG
+try_delete_property #1 "size" = 0
+try_delete_property #2 "size" = E_PROPNF
+try_clear #2 "size" = 0
+try_clear #1 "size" = E_INVARG
+try_rename #1 "size" "width" = 0
+try_rename #2 "size" "width" = E_INVARG
+try_set_info #2 "size" = 0
+try_set #2 "size" 1 = 0
+try_set #2 "name" 1 = E_TYPE
+try_add_verb #0 "look" = 0
+try_add_verb #0 " " = E_INVARG
+try_verb #0 0 = 0
+try_verb #0 1 = E_VERBNF
+try_set_verb_info #0 0 "look" = 0
+try_set_verb_info #0 0 " " = E_INVARG
+try_set_program #0 0 = 0
+try_set_program #0 1 = E_VERBNF
+max_object = #3
+parent #2 = #1
+contents #2 = {#3}
+players = {#3}
+has_row #2 "size" = 1
+is_clear #2 "size" = 1
+verb #0 0 = {"do_login_command", #3, "rxd", "this", "none", "this", 1}
+verb #0 1 = E_VERBNF
+"#;
+
 #[test]
 fn worked(rt: HostRuntime) -> Result<(), Fail> {
     let worlds = [
-        [FOUR_OBJECTS, SIZED, INHERITED],
-        [FOUR_OBJECTS, SIZED, LOST_WITH_A_PARENT],
+        [FOUR_OBJECTS, IN_ORDER, ""],
+        [FOUR_OBJECTS, SIZED, CLEARED],
         [ROWS, "", ""],
         [FOUR_OBJECTS, BUILT_IN, ""],
         [FOUR_OBJECTS, SIZED, RENAMED],
         [VERBS, "", ""],
         [OWNERS, "", ""],
+        [FOUR_OBJECTS, VERBS_CHANGED, ""],
+        [FOUR_OBJECTS, PLAYERS, ""],
+        [FOUR_OBJECTS, SIZED, TRIED],
         [FAMILY, TREES, ""],
         [FAMILY, RECYCLED, ""],
         [LOOPS, "", ""],
@@ -198,61 +292,79 @@ fn worked(rt: HostRuntime) -> Result<(), Fail> {
 }
 
 const OF_OBJECTS: &str = r#"
-may_read #2 = {1, 1, 0}
-may_write #2 = {1, 1, 0}
-may_inherit #2 = {1, 1, 0}
-may_own #2 = {1, 1, 0}
-may_read #6 = {0, 0, 0}
-may_write #-1 = {0, 0, 0}
-may_inherit #6 = {0, 0, 0}
-may_own #-4 = {0, 0, 0}
+may_read #2 = {1, 1, 0, 0}
+may_write #2 = {1, 1, 0, 0}
+may_inherit #2 = {1, 1, 0, 0}
+may_own #2 = {1, 1, 0, 0}
+may_read #6 = {0, 0, 0, 0}
+may_write #-1 = {0, 0, 0, 0}
+may_inherit #6 = {0, 0, 0, 0}
+may_own #-4 = {0, 0, 0, 0}
 set #2 "r" 1 = 0
 set #2 "f" 1 = 0
-may_read #2 = {1, 1, 1}
-may_write #2 = {1, 1, 0}
-may_inherit #2 = {1, 1, 1}
-may_own #2 = {1, 1, 0}
+may_read #2 = {1, 1, 1, 1}
+may_write #2 = {1, 1, 0, 0}
+may_inherit #2 = {1, 1, 1, 1}
+may_own #2 = {1, 1, 0, 0}
 set #2 "w" 1 = 0
-may_write #2 = {1, 1, 1}
+may_write #2 = {1, 1, 1, 1}
+"#;
+
+// What has owner #-1 belongs to programmer #-1.
+const OF_NOBODY: &str = r#"
+set #2 "owner" #-1 = 0
+may_own #2 = {0, 1, 0, 1}
+may_read #2 = {0, 1, 0, 1}
+may_write #2 = {0, 1, 0, 1}
+may_inherit #2 = {0, 1, 0, 1}
+may_write_property #2 "name" = {0, 1, 0, 1}
+may_write_property #2 "r" = {0, 1, 0, 1}
+may_write_property #2 "owner" = {0, 1, 0, 0}
+may_write_property #2 "closed" = {1, 1, 0, 0}
 "#;
 
 const OF_VERBS_AND_PROPERTIES: &str = r#"
-may_read_verb #2 0 = {1, 1, 0}
-may_write_verb #2 0 = {1, 1, 0}
-may_read_verb #2 1 = {1, 1, 1}
-may_write_verb #2 1 = {1, 1, 1}
-may_read_verb #2 2 = {1, 1, 1}
-may_write_verb #2 2 = {0, 1, 1}
-may_read_verb #2 3 = {0, 0, 0}
-may_write_verb #6 0 = {0, 0, 0}
-may_read_property #2 "Closed" = {1, 1, 0}
-may_write_property #2 "closed" = {1, 1, 0}
-may_read_property #2 "open" = {1, 1, 1}
-may_write_property #2 "OPEN" = {1, 1, 1}
-may_read_property #2 "others" = {0, 1, 1}
-may_write_property #2 "others" = {0, 1, 1}
-may_read_property #2 "none" = {0, 0, 0}
-may_write_property #6 "name" = {0, 0, 0}
+may_read_verb #2 0 = {1, 1, 0, 0}
+may_write_verb #2 0 = {1, 1, 0, 0}
+may_read_verb #2 1 = {1, 1, 1, 1}
+may_write_verb #2 1 = {1, 1, 1, 1}
+may_read_verb #2 2 = {1, 1, 1, 1}
+may_write_verb #2 2 = {0, 1, 1, 0}
+may_read_verb #2 3 = {0, 0, 0, 0}
+may_write_verb #6 0 = {0, 0, 0, 0}
+may_read_property #2 "Closed" = {1, 1, 0, 0}
+may_write_property #2 "closed" = {1, 1, 0, 0}
+may_read_property #2 "open" = {1, 1, 1, 1}
+may_write_property #2 "OPEN" = {1, 1, 1, 1}
+may_read_property #2 "others" = {0, 1, 1, 0}
+may_write_property #2 "others" = {0, 1, 1, 0}
+may_read_property #2 "none" = {0, 0, 0, 0}
+may_write_property #6 "name" = {0, 0, 0, 0}
 "#;
 
 const OF_BUILT_IN_PROPERTIES: &str = r#"
-may_read_property #2 "Owner" = {1, 1, 1}
-may_write_property #2 "owner" = {0, 1, 0}
-may_write_property #2 "programmer" = {0, 1, 0}
-may_write_property #2 "wizard" = {0, 1, 0}
-may_write_property #2 "location" = {0, 0, 0}
-may_write_property #2 "contents" = {0, 0, 0}
-may_write_property #2 "r" = {1, 1, 0}
-may_write_property #2 "w" = {1, 1, 0}
-may_write_property #2 "f" = {1, 1, 0}
-may_write_property #2 "Name" = {1, 1, 0}
+may_read_property #2 "Owner" = {1, 1, 1, 1}
+may_write_property #2 "owner" = {0, 1, 0, 0}
+may_write_property #2 "programmer" = {0, 1, 0, 0}
+may_write_property #2 "wizard" = {0, 1, 0, 0}
+may_write_property #2 "location" = {0, 0, 0, 0}
+may_write_property #2 "contents" = {0, 0, 0, 0}
+may_write_property #2 "r" = {1, 1, 0, 0}
+may_write_property #2 "w" = {1, 1, 0, 0}
+may_write_property #2 "f" = {1, 1, 0, 0}
+may_write_property #2 "Name" = {1, 1, 0, 0}
 set_player #2 1 = 0
-may_write_property #2 "name" = {0, 1, 0}
+may_write_property #2 "name" = {0, 1, 0, 0}
 "#;
 
 #[test]
 fn rights(rt: HostRuntime) -> Result<(), Fail> {
-    for rows in [OF_OBJECTS, OF_VERBS_AND_PROPERTIES, OF_BUILT_IN_PROPERTIES] {
+    for rows in [
+        OF_OBJECTS,
+        OF_NOBODY,
+        OF_VERBS_AND_PROPERTIES,
+        OF_BUILT_IN_PROPERTIES,
+    ] {
         let world = [FOUR_OBJECTS, OWNED_ROOM, rows];
         assert_eq!(rt; first_wrong_of(rt.alloc(), &world)?, None);
     }

@@ -1,0 +1,29 @@
+/* An allocator that refuses one allocation, the one whose number REFUSE tells; it says so where there are fewer. */
+#include <stdio.h>
+#include <stdlib.h>
+
+extern void *__libc_malloc(size_t size);
+extern void *__libc_realloc(void *old, size_t size);
+extern void *__libc_memalign(size_t align, size_t size);
+
+static long count = 0;
+static long refused = 0;
+
+static int is_refused(void) {
+    if (refused == 0) {
+        const char *number = getenv("REFUSE");
+        refused = number ? atol(number) : -1;
+    }
+    count += 1;
+    return count == refused;
+}
+
+void *malloc(size_t size) { return is_refused() ? NULL : __libc_malloc(size); }
+
+void *realloc(void *old, size_t size) { return is_refused() ? NULL : __libc_realloc(old, size); }
+
+void *aligned_alloc(size_t align, size_t size) { return is_refused() ? NULL : __libc_memalign(align, size); }
+
+__attribute__((destructor)) static void tell(void) {
+    if (count < refused) fprintf(stderr, "only %ld allocations\n", count);
+}

@@ -5,3 +5,4 @@ pub mod ObjectLines
 pub mod ObjectClean
 pub mod ObjectCut
 pub mod ObjectStrict
+pub mod ObjectSmall

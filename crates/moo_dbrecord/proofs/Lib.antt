@@ -18,3 +18,4 @@ pub mod Canonical
 pub mod CanonicalText
 pub mod WriteLaws
 pub mod Sources
+pub mod DumpSmall

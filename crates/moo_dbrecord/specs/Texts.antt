@@ -1,9 +1,9 @@
 -- What a database text says line by line, and its lines.
-use Rattle.std.specs.Prelude.{IsSomeAnd, ◌≡◌, ℕ, ℤ, ◌+◌, ◌<◌, ◌≤◌, List, [], ◌∷◌, ◌++◌, map, length, codes, FitsSigned, Option, Some, None, option_map}
-use Rattle.std.specs.List.{flat_map, AllByRecursion}
+use Rattle.std.specs.Prelude.{IsSomeAnd, is_some, count_by, ◌≡◌, ℕ, ℤ, ◌+◌, ◌<◌, ◌≤◌, List, [], ◌∷◌, ◌++◌, map, length, codes, FitsSigned, Option, Some, None, option_map}
+use Rattle.std.specs.List.{flat_map, sum_by, AllByRecursion}
 use Rattle.std.specs.Int.{w32}
 use Rattle.std.specs.Fmt.{decimal, signed_decimal}
-use Rattle.moo_dbvalue.specs.Lines.{Line, Sizes, unlimited, limited, IsStringOf, IsCountOf, count_line, unlines}
+use Rattle.moo_dbvalue.specs.Lines.{Line, Sizes, unlimited, limited, most_records, IsStringOf, IsCountOf, count_line, unlines}
 use Rattle.moo_dbobject.specs.Objects.{Object, object_of, object_lines, IsObject}
 use Rattle.moo_dbrecord.specs.Programs.{Table, table_of, blank_table, Program, program_lines, Fills, IsProgramText}
 use Rattle.moo_dbrecord.specs.declared.dump.Form.{Form}
@@ -140,3 +140,10 @@ pub record SpellsWithin (bytes : List ℕ) (t : Text) : Type 0 where
   pub slack : Slack
   pub written : IsWritten limited t slack
   pub lines : bytes ≡ unlines (text_lines t slack)
+
+-- its objects, and the numbers of its objects, players and programs, are within the limits on sizes
+pub record HasRecordsWithin (t : Text) : Type 0 where
+  pub objects : AllByRecursion (IsEntry limited) t.objects
+  pub object_count : length t.objects ≤ most_records
+  pub player_count : length t.players ≤ most_records
+  pub program_count : sum_by (count_by is_some) t.programs ≤ most_records

@@ -2,7 +2,7 @@
 ghost use Rattle.std.specs.Prelude.{◌≡◌, ◌≢◌, ◌++◌, ◌⊎◌, ℕ, List, Ok, Err};
 ghost use Rattle.moo_dbvalue.specs.Lines.{Sizes, limited, unlimited, unlines};
 ghost use Rattle.moo_dbvalue.specs.declared.fault.LineFault.TheVariants.{TooLarge, Truncated};
-ghost use Rattle.moo_dbrecord.specs.Texts.{Text, Slack, text_lines, IsWritten, Spells, SpellsWithin};
+ghost use Rattle.moo_dbrecord.specs.Texts.{Text, Slack, text_lines, IsWritten, Spells, SpellsWithin, HasRecordsWithin};
 ghost use Rattle.moo_dbrecord.specs.Writing.{canonical, canonical_lines, IsWritable};
 ghost use Rattle.moo_dbrecord.specs.Answer.{Told, answer_to, front_lines};
 
@@ -59,4 +59,9 @@ pub fn the_writers_lines_are_read()
 /// What was read and written is read as the same records, whatever bytes it was read from.
 pub fn copies_are_read_alike()
     ensures { (bytes : List ℕ) (t : Text) → Spells bytes t → answer_to unlimited (unlines (canonical_lines t)) ≡ Ok t }
+{}
+
+/// What is read under the limits on sizes has objects within them, and no more records of a kind than there may be.
+pub fn read_texts_have_records_within_limits()
+    ensures { (bytes : List ℕ) (t : Text) → answer_to limited bytes ≡ Ok t → HasRecordsWithin t }
 {}

@@ -9,3 +9,4 @@ pub mod ValueFound
 pub mod Cutting
 pub mod Strictness
 pub mod Clean
+pub mod ValueSmall

@@ -1,13 +1,10 @@
 -- What is recorded of a verb and of a cell tells them apart.
-use Rattle.std.proofs.Common.{◌≡◌, ℕ, zero, suc, ◌+◌, ◌*◌, ◌<◌, ◌≤◌, ℤ, pos, negsuc, List, [], ◌∷◌, Option, Some, None, Bool, true, false, refl, sym, ap, ◌∙◌, arith, map, get_or}
-use Rattle.moo_program.specs.Tree.{Block}
+use Rattle.std.proofs.Common.{◌≡◌, ℕ, ◌+◌, ◌*◌, ◌≤◌, ℤ, pos, negsuc, List, [], ◌∷◌, Bool, true, false, refl, sym, ap, ◌∙◌, arith, map, get_or}
 use Rattle.moo_object.specs.Flags.{bit}
-use Rattle.moo_object.specs.Numbers.{prop_perms_number, verb_perms_number, object_specifier_number, preposition_number, preposition_specifier_number}
+use Rattle.moo_object.specs.Numbers.{verb_perms_number, object_specifier_number, preposition_number, preposition_specifier_number}
 use Rattle.moo_object.specs.Cells.{Cell, Key, key_of}
-use Rattle.moo_object.specs.declared.cell.PropPerms.{PropPerms}
 use Rattle.moo_object.specs.declared.verb.Verb.{Verb}
 use Rattle.moo_object.specs.declared.verb.VerbPerms.{VerbPerms}
-use Rattle.moo_object.specs.declared.verb_args.VerbArgs.{VerbArgs}
 use Rattle.moo_object.specs.declared.verb_args.ObjectSpecifier.{ObjectSpecifier}
 use Rattle.moo_object.specs.declared.verb_args.ObjectSpecifier.TheVariants as specifier
 use Rattle.moo_object.specs.declared.verb_args.PrepositionSpecifier.{PrepositionSpecifier}

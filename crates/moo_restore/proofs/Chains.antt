@@ -1,13 +1,13 @@
 -- Lists that are followed from the first along the next.
-use Rattle.std.proofs.Common.{◌≡◌, ◌≢◌, ℕ, zero, suc, ◌+◌, ◌<◌, ◌≤◌, ◌⊎◌, inl, inr, ℤ, pos, negsuc, List, [], ◌∷◌, ◌++◌, length, Option, Some, None, Bool, true, false, cond, eqb, refl, sym, ap, subst, ◌∙◌, ⊎_elim, arith, get_or, set}
+use Rattle.std.proofs.Common.{◌≡◌, ◌≢◌, ℕ, zero, suc, ◌+◌, ◌<◌, ◌≤◌, ◌⊎◌, inl, inr, ℤ, pos, List, [], ◌∷◌, ◌++◌, length, Option, Some, None, Bool, true, false, cond, eqb, refl, sym, ap, subst, ◌∙◌, ⊎_elim, arith, get_or, set}
 use Rattle.std.specs.List.{count_by}
-use Rattle.std.proofs.lemmas.List.{get_or-set_same, get_or-set_other, get_or_past, length-set}
+use Rattle.std.proofs.lemmas.List.{get_or-set_other, get_or_past, length-set}
 use Rattle.std.proofs.lemmas.List.Sums.{sum_by-append}
-use Rattle.std.proofs.lemmas.Bool.{cases_Bool, cases_eq, cases_lt, eqb-true, eq-eqb, ne_eqb, both_ways}
+use Rattle.std.proofs.lemmas.Bool.{cases_Bool, cases_eq, eqb-true, eq-eqb}
 use Rattle.std.specs.Option.{unwrap_or}
 use Rattle.moo_forest.specs.Forest.{times_below}
 use Rattle.moo_restore.specs.declared.link.Link.{Link}
-use Rattle.moo_restore.specs.Links.{nowhere, no_link, link_at, link_of, above_in, numbered, IsChain, AreBelow, HasList}
+use Rattle.moo_restore.specs.Links.{nowhere, no_link, link_at, link_of, above_in, numbered, IsChain, HasList}
 use Rattle.moo_restore.specs.Lists.{HasExtra, IsFollowed, AreTakenBefore}
 
 -- from z on one passes these, and comes to `at`

@@ -1,5 +1,5 @@
 -- The first object at fault in one of the two trees.
-use Rattle.std.proofs.Common.{◌≡◌, ℕ, List, length, Option, ap, sym, subst, map, ◌∙◌}
+use Rattle.std.proofs.Common.{◌≡◌, ℕ, List, length, Option, subst, ◌∙◌}
 use Rattle.std.proofs.lemmas.List.{length-map}
 use Rattle.std.specs.Option.{option_map}
 use Rattle.moo_dbobject.specs.Objects as recorded

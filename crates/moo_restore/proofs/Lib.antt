@@ -13,3 +13,6 @@ pub mod Touring
 pub mod Passing
 pub mod Naming
 pub mod Counting
+pub mod Keying
+pub mod Within
+pub mod Checked

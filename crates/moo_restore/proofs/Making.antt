@@ -1,5 +1,5 @@
 -- Objects made of records in which no object is at fault are what a world can be restored from, and the records say that world.
-use Rattle.std.proofs.Common.{◌≡◌, ℕ, zero, suc, ◌+◌, ◌<◌, ◌≤◌, List, [], ◌∷◌, ◌++◌, length, Option, Some, None, Bool, true, false, ◌||◌, refl, sym, ap, subst, ◌∙◌, ⊎_elim, arith, map, get_or}
+use Rattle.std.proofs.Common.{◌≡◌, ℕ, ◌≤◌, List, [], ◌∷◌, ◌++◌, length, Option, Some, None, false, ◌||◌, refl, sym, ap, subst, ◌∙◌, ⊎_elim, arith, map, get_or}
 use Rattle.std.specs.List.{list_any, range_with_len}
 use Rattle.std.specs.Option.{unwrap_or, option_map}
 use Rattle.std.proofs.lemmas.List.{length-map, get_or_past}
@@ -9,17 +9,17 @@ use Rattle.std.proofs.lemmas.Bool.{or_parts, cases_lt}
 use Rattle.moo_value.specs.Compare.{folded}
 use Rattle.moo_forest.specs.Forest.{Links, alone, ancestors}
 use Rattle.moo_object.specs.Names.{same_name}
-use Rattle.moo_object.specs.Cells.{Cell, Key, key_of}
+use Rattle.moo_object.specs.Cells.{Cell, Key}
 use Rattle.moo_object.specs.Objects.{Object}
-use Rattle.moo_table.specs.World.{World, nothing, object_of, thing_of, keys_along, definitions, has_twice, with_cells, most, IsJoined, IsWellFormed}
+use Rattle.moo_table.specs.World.{nothing, object_of, thing_of, definitions, has_twice, with_cells, most}
 use Rattle.moo_table.specs.Restoring.{rekeyed, restored_object, restored, restored_world, AreParts}
 use Rattle.moo_table.proofs.Restored.{restored_well_formed}
 use Rattle.moo_dbobject.specs.Objects as recorded
 use Rattle.moo_restore.specs.declared.link.Link.{Link}
 use Rattle.moo_restore.specs.First.{IsFirst}
-use Rattle.moo_restore.specs.Links.{no_link, numbered, link_at, link_of, above_in, IsLineage, IsTreeOf}
-use Rattle.moo_restore.specs.Records.{Records, record_at, parent_link, place_link, parent_links, place_links, names_in, cells_in, names_at, names_along}
-use Rattle.moo_restore.specs.Says.{recorded_cell, SaysObject, SaysAt, Says}
+use Rattle.moo_restore.specs.Links.{numbered, IsLineage, IsTreeOf}
+use Rattle.moo_restore.specs.Records.{Records, record_at, parent_link, place_link, parent_links, names_in, cells_in, names_at, names_along}
+use Rattle.moo_restore.specs.Says.{recorded_cell, SaysAt, Says}
 use Rattle.moo_restore.specs.Faults.{HasOwnNames, IsWellPlaced, HasItsCells}
 use Rattle.moo_restore.specs.Made.{AreMade, AreForestsOf}
 use Rattle.moo_restore.proofs.Noded.{no_link_past}

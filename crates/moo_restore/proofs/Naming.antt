@@ -1,9 +1,8 @@
 -- The names of properties on a walk.
-use Rattle.std.proofs.Common.{◌≡◌, ◌≢◌, ℕ, zero, suc, ◌+◌, ◌<◌, ◌≤◌, List, [], ◌∷◌, ◌++◌, length, reverse, map, take, drop, Option, Some, None, is_some, IsSome, option_to_list, Bool, true, false, not, ◌||◌, cond, refl, sym, ap, subst, ◌∙◌, ⊎_elim, arith, get_or}
+use Rattle.std.proofs.Common.{◌≡◌, ℕ, zero, suc, ◌+◌, ◌<◌, ◌≤◌, List, [], ◌∷◌, ◌++◌, length, reverse, map, take, drop, Option, Some, None, is_some, IsSome, option_to_list, Bool, true, false, not, ◌||◌, cond, refl, sym, ap, subst, ◌∙◌, ⊎_elim, arith, get_or}
 use Rattle.std.specs.List.{list_any}
 use Rattle.std.specs.BTreeMap as tree
 use Rattle.std.specs.BTreeMap.{BTreeMap}
-use Rattle.std.specs.Map.{update}
 use Rattle.std.specs.Ordering.{nat_cmp}
 use Rattle.std.specs.Cmp as cmp
 use Rattle.std.specs.Cmp.Lexicographic.{slice_cmp}
@@ -20,14 +19,14 @@ use Rattle.moo_table.specs.World.{has_twice}
 use Rattle.moo_dbobject.specs.Objects as recorded
 use Rattle.moo_restore.specs.declared.tour.Visit.{Visit}
 use Rattle.moo_restore.specs.declared.tour.Visit.TheVariants.{Enter, Leave}
-use Rattle.moo_restore.specs.First.{IsFirst, least_of}
+use Rattle.moo_restore.specs.First.{least_of}
 use Rattle.moo_restore.specs.Links.{IsLineage}
-use Rattle.moo_restore.specs.Records.{Records, record_at, parent_links, names_in, names_at, names_along}
+use Rattle.moo_restore.specs.Records.{Records, parent_links, names_in, names_at, names_along}
 use Rattle.moo_restore.specs.Faults.{HasOwnNames}
 use Rattle.moo_restore.specs.Names.{freshness, clashes_with, AreMet}
-use Rattle.moo_restore.specs.Tours.{Leads, IsTour}
+use Rattle.moo_restore.specs.Tours.{Leads}
 use Rattle.moo_restore.proofs.Worlds.{one_lineage}
-use Rattle.moo_restore.proofs.Passing.{IsFoundAmong, found_right, found_wrong, found_on, found_in_all}
+use Rattle.moo_restore.proofs.Passing.{IsFoundAmong, found_right, found_wrong, found_on}
 
 flip : (x y : List ℕ) → bytes_eq x y ≡ bytes_eq y x
 flip x y = cmp.both_ways (bytes_eq x y) (bytes_eq y x)

@@ -1,16 +1,16 @@
 -- Nodes made from links.
-use Rattle.std.proofs.Common.{◌≡◌, ℕ, zero, suc, ◌+◌, ◌-◌, ◌<◌, ◌≤◌, ◌⊎◌, inl, inr, List, [], ◌∷◌, ◌++◌, length, Option, Some, None, Bool, true, false, refl, sym, ap, subst, ◌∙◌, ⊎_elim, arith, get_or, eqb, is_some, cond, MatchOption}
+use Rattle.std.proofs.Common.{◌≡◌, ℕ, ◌+◌, ◌-◌, ◌<◌, ◌≤◌, inl, inr, List, [], ◌∷◌, ◌++◌, length, Option, Some, None, Bool, false, refl, sym, ap, subst, ◌∙◌, ⊎_elim, arith, get_or, eqb, MatchOption}
 use Rattle.std.specs.List.{count_by}
 use Rattle.std.specs.Option.{unwrap_or}
 use Rattle.std.proofs.lemmas.List.{get_or_past, get_or_append_left, get_or-append_right, length-append}
-use Rattle.std.proofs.lemmas.Bool.{cases_lt, cases_eq}
+use Rattle.std.proofs.lemmas.Bool.{cases_lt}
 use Rattle.moo_forest.specs.Forest.{Links, alone, above_of, below_of, times_below, IsWayUp}
 use Rattle.moo_forest.specs.Rooted.{IsRooted, IsLeastEndless}
 use Rattle.moo_forest.specs.Listed.{IsListed, IsLeastUnlisted}
 use Rattle.moo_restore.specs.declared.link.Link.{Link}
 use Rattle.moo_restore.specs.First.{IsFirst, least_of}
-use Rattle.moo_restore.specs.Links.{nowhere, no_link, link_at, link_of, above_in, numbered, IsPlace, IsLineage, IsChain, AreBelow, HasList, IsSound}
-use Rattle.moo_restore.specs.Lists.{HasExtra, IsFollowed, AreTakenBefore, AreNodesOf}
+use Rattle.moo_restore.specs.Links.{no_link, link_of, above_in, numbered, IsPlace, IsLineage, AreBelow, HasList, IsSound}
+use Rattle.moo_restore.specs.Lists.{IsFollowed, AreTakenBefore, AreNodesOf}
 use Rattle.moo_restore.proofs.Chains.{one_chain}
 use Rattle.moo_restore.proofs.Firsts.{first_along, first_of_both}
 

@@ -1,6 +1,6 @@
 -- The first object of which something doesn't hold, on a walk that enters each.
-use Rattle.std.proofs.Common.{◌≡◌, ◌≢◌, ℕ, ◌+◌, ◌<◌, ◌≤◌, List, [], ◌∷◌, ◌++◌, length, Option, Some, None, Bool, true, false, refl, sym, ap, subst, ◌∙◌, ⊎_elim, arith}
-use Rattle.std.proofs.lemmas.Bool.{cases_eq, cases_lt, lt-ltb, le-ltb, ne_eqb}
+use Rattle.std.proofs.Common.{◌≡◌, ◌≢◌, ℕ, ◌<◌, ◌≤◌, List, [], ◌∷◌, ◌++◌, length, Option, Some, None, refl, sym, subst, ⊎_elim, arith}
+use Rattle.std.proofs.lemmas.Bool.{cases_eq, cases_lt, lt-ltb, le-ltb}
 use Rattle.moo_restore.specs.declared.link.Link.{Link}
 use Rattle.moo_restore.specs.declared.tour.Visit.{Visit}
 use Rattle.moo_restore.specs.declared.tour.Visit.TheVariants.{Enter, Leave}
@@ -14,10 +14,10 @@ abbrev pub IsFoundAmong : List (Option Link) → (ℕ → Type 0) → List Visit
 IsFoundAmong links P vs None = (y : ℕ) → 0 < times_entered y vs → P y
 IsFoundAmong links P vs (Some x) = ((ys : List ℕ) × IsLineage links x ys) × (¬ (P x)) × ((y : ℕ) → y < x → 0 < times_entered y vs → P y)
 
-entered_before : (vs : List Visit) (x y : ℕ) → y ≢ x → 0 < times_entered y (vs ++ Enter x ∷ []) → 0 < times_entered y vs
+pub entered_before : (vs : List Visit) (x y : ℕ) → y ≢ x → 0 < times_entered y (vs ++ Enter x ∷ []) → 0 < times_entered y vs
 entered_before vs x y ne some = let parts = entered_parts y vs (Enter x ∷ []) in let none = entered_other y x ne in omega (arith, parts, none, some)
 
-entered_still : (vs : List Visit) (x y : ℕ) → 0 < times_entered y (vs ++ Leave x ∷ []) → 0 < times_entered y vs
+pub entered_still : (vs : List Visit) (x y : ℕ) → 0 < times_entered y (vs ++ Leave x ∷ []) → 0 < times_entered y vs
 entered_still vs x y some = let parts = entered_parts y vs (Leave x ∷ []) in let none : times_entered y (Leave x ∷ []) ≡ 0 = refl in omega (arith, parts, none, some)
 
 module _ (links : List (Option Link)) (P : ℕ → Type 0) (vs : List Visit) (x : ℕ) where

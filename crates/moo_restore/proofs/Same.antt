@@ -1,19 +1,19 @@
 -- Records say one world at most.
-use Rattle.std.proofs.Common.{◌≡◌, ℕ, ◌<◌, ◌≤◌, List, [], ◌∷◌, ◌++◌, length, Option, Some, None, refl, sym, ap, ◌∙◌, arith, map, get_or}
+use Rattle.std.proofs.Common.{◌≡◌, ℕ, ◌<◌, List, [], ◌∷◌, ◌++◌, length, Option, Some, None, refl, sym, ap, ◌∙◌, arith, map, get_or}
 use Rattle.std.specs.Option.{unwrap_or}
 use Rattle.std.proofs.lemmas.List.{length-map}
 use Rattle.std.proofs.lemmas.List.FromFn.{fill_by_all}
 use Rattle.moo_value.specs.Compare.{folded}
 use Rattle.moo_program.specs.Tree.{Block}
 use Rattle.moo_forest.specs.Forest.{Links, ancestors}
-use Rattle.moo_object.specs.Cells.{Cell, Key, key_of}
+use Rattle.moo_object.specs.Cells.{Key, key_of}
 use Rattle.moo_object.specs.declared.verb.Verb.{Verb}
 use Rattle.moo_object.specs.Objects.{Object}
 use Rattle.moo_restore.proofs.Bits.{flags_number_apart}
-use Rattle.moo_table.specs.World.{World, nothing, object_of, thing_of, keys_defined_on, keys_along, definitions}
+use Rattle.moo_table.specs.World.{World, nothing, object_of, thing_of, keys_defined_on, keys_along}
 use Rattle.moo_dbobject.specs.Objects as recorded
 use Rattle.moo_restore.specs.Records.{Records, record_at, program_at, parent_links, place_links}
-use Rattle.moo_restore.specs.Says.{recorded_verb, recorded_cell, program_of, SaysObject, SaysAt, Says}
+use Rattle.moo_restore.specs.Says.{recorded_verb, program_of, SaysObject, SaysAt, Says}
 use Rattle.moo_restore.proofs.Apart.{verbs_apart, cells_apart}
 use Rattle.moo_restore.proofs.Trees.{one_tree}
 use Rattle.moo_restore.proofs.Worlds.{defined_names}

@@ -1,5 +1,5 @@
 -- Sound links say one tree, and what says a tree is sound.
-use Rattle.std.proofs.Common.{◌≡◌, ◌≢◌, ℕ, zero, suc, ◌+◌, ◌<◌, ◌≤◌, ◌⊎◌, inl, inr, ℤ, pos, negsuc, List, [], ◌∷◌, length, Option, Some, None, Bool, true, false, refl, sym, ap, subst, ◌∙◌, ⊎_elim, arith, get_or, eqb, is_some, IsSome, cond}
+use Rattle.std.proofs.Common.{◌≡◌, ℕ, zero, suc, ◌<◌, inl, inr, ℤ, pos, negsuc, List, [], ◌∷◌, length, Option, Some, None, refl, sym, ap, subst, ◌∙◌, ⊎_elim, arith, get_or, eqb, IsSome}
 use Rattle.std.specs.List.{count_by}
 use Rattle.std.specs.Option.{unwrap_or}
 use Rattle.std.proofs.lemmas.List.{get_or_past}
@@ -8,10 +8,10 @@ use Rattle.std.proofs.lemmas.Bool.{cases_lt, eq-eqb}
 use Rattle.moo_forest.specs.Forest.{Links, alone, above_of, below_of, times_below, IsWayUp, ancestors, IsForest}
 use Rattle.moo_forest.proofs.Listing.{forest_checked}
 use Rattle.moo_restore.specs.declared.link.Link.{Link}
-use Rattle.moo_restore.specs.Links.{nowhere, no_link, link_at, link_of, above_in, numbered, place_number, IsPlace, IsLineage, IsChain, AreBelow, HasList, IsSound, IsJoinedAs, IsTreeOf}
-use Rattle.moo_restore.specs.Lists.{HasExtra, IsFollowed, AreNodesOf}
+use Rattle.moo_restore.specs.Links.{nowhere, no_link, link_at, link_of, above_in, numbered, place_number, IsPlace, IsLineage, IsChain, IsSound, IsTreeOf}
+use Rattle.moo_restore.specs.Lists.{IsFollowed, AreNodesOf}
 use Rattle.moo_restore.proofs.Chains.{one_chain}
-use Rattle.moo_restore.proofs.Noded.{list_of, listed_of, way_of, no_link_past}
+use Rattle.moo_restore.proofs.Noded.{listed_of, way_of, no_link_past}
 
 -- a place has the number that was read for it
 placed_number : (links : List (Option Link)) (z : ℤ) → IsPlace links z → place_number (numbered links z) ≡ z

@@ -1,16 +1,16 @@
 -- Where records say a world, none of their objects is at fault.
-use Rattle.std.proofs.Common.{◌≡◌, ℕ, List, [], ◌∷◌, ◌++◌, length, Option, Some, None, Bool, true, false, ◌||◌, refl, sym, ap, subst, ◌∙◌, arith, map, ◌⊎◌}
+use Rattle.std.proofs.Common.{◌≡◌, ℕ, List, [], ◌∷◌, ◌++◌, length, Option, Some, None, false, refl, sym, ap, subst, ◌∙◌, map}
 use Rattle.std.specs.List.{list_any}
 use Rattle.std.specs.Option.{unwrap_or}
-use Rattle.std.proofs.lemmas.List.{length-map, map-append, length-append}
+use Rattle.std.proofs.lemmas.List.{length-map, map-append}
 use Rattle.std.proofs.lemmas.List.Folds.{list_any-append}
 use Rattle.std.proofs.lemmas.Bool.{or_parts, or_from}
 use Rattle.moo_value.specs.Compare.{folded}
 use Rattle.moo_forest.specs.Forest.{ancestors}
 use Rattle.moo_object.specs.Names.{same_name}
-use Rattle.moo_object.specs.Cells.{Cell, Key, key_of}
+use Rattle.moo_object.specs.Cells.{Key, key_of}
 use Rattle.moo_object.specs.Objects.{Object}
-use Rattle.moo_table.specs.World.{World, nothing, object_of, thing_of, keys_defined_on, keys_along, definitions, has_twice, has_clash, IsWellFormed}
+use Rattle.moo_table.specs.World.{World, nothing, object_of, thing_of, keys_defined_on, keys_along, definitions, has_twice, IsWellFormed}
 use Rattle.moo_dbobject.specs.Objects as recorded
 use Rattle.moo_restore.specs.declared.link.Link.{Link}
 use Rattle.moo_restore.specs.Links.{above_in, IsLineage}

@@ -1,5 +1,5 @@
 -- The records of a world say it.
-use Rattle.std.proofs.Common.{◌≡◌, ℕ, zero, suc, ◌+◌, ◌<◌, ◌≤◌, List, [], ◌∷◌, ◌++◌, length, Option, Some, None, Bool, true, false, cond, eqb, refl, sym, ap, subst, ◌∙◌, ⊎_elim, arith, map, get_or, append_assoc}
+use Rattle.std.proofs.Common.{◌≡◌, ℕ, zero, suc, ◌+◌, ◌<◌, ◌≤◌, List, [], ◌∷◌, ◌++◌, length, Option, Some, None, cond, eqb, refl, sym, ap, subst, ◌∙◌, ⊎_elim, arith, map, get_or, append_assoc}
 use Rattle.std.specs.List.{range_with_len, count_by}
 use Rattle.std.specs.Option.{unwrap_or, option_map}
 use Rattle.std.proofs.lemmas.List.{length-map, get_or_past}
@@ -7,14 +7,13 @@ use Rattle.std.proofs.lemmas.List.Sums.{sum_by-append}
 use Rattle.std.proofs.lemmas.List.FromFn.{get_or-map-range_with_len, length-map-range_with_len}
 use Rattle.std.proofs.lemmas.Bool.{cases_Bool, cases_lt, eqb-true, eq-eqb}
 use Rattle.moo_program.specs.Tree.{Block}
-use Rattle.moo_forest.specs.Forest.{Links, alone, above_of, below_of, times_below, IsForest}
-use Rattle.moo_object.specs.declared.verb.Verb.{Verb}
+use Rattle.moo_forest.specs.Forest.{Links, alone, above_of, below_of, times_below}
 use Rattle.moo_object.specs.Objects.{Object}
-use Rattle.moo_table.specs.World.{World, nothing, object_of, thing_of, IsJoined, IsWellFormed}
+use Rattle.moo_table.specs.World.{World, nothing, object_of, IsJoined, IsWellFormed}
 use Rattle.moo_dbobject.specs.Objects as recorded
 use Rattle.moo_restore.specs.declared.link.Link.{Link}
-use Rattle.moo_restore.specs.Links.{nowhere, no_link, place_number, link_at, link_of, IsChain, IsJoinedAs, IsTreeOf}
-use Rattle.moo_restore.specs.Records.{Records, record_at, program_at, parent_link, place_link, parent_links, place_links}
+use Rattle.moo_restore.specs.Links.{no_link, place_number, link_at, link_of, IsChain, IsTreeOf}
+use Rattle.moo_restore.specs.Records.{record_at, program_at, parent_link, place_link, parent_links, place_links}
 use Rattle.moo_restore.specs.Says.{program_of, SaysAt, Says}
 use Rattle.moo_restore.specs.Recorded.{first_in, next_in, next_below, link_in, recorded_object, recorded_at, programs_at, records_of}
 

@@ -8,3 +8,6 @@ pub mod Recorded
 pub mod Made
 pub mod Tours
 pub mod Names
+pub mod Plain
+pub mod Keyed
+pub mod Restoring

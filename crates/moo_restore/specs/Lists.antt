@@ -1,5 +1,5 @@
 -- The nodes of a tree, made from links.
-use Rattle.std.specs.Prelude.{◌≡◌, ℕ, ◌<◌, ◌⊎◌, ℤ, List, Option, Some, Bool, true, false, length, slice_index_or, count_by, nat_eq}
+use Rattle.std.specs.Prelude.{◌≡◌, ℕ, ◌<◌, ◌⊎◌, List, Option, Some, Bool, true, false, length, slice_index_or, count_by, nat_eq}
 use Rattle.moo_forest.specs.Forest.{Links, above_of, below_of, times_below}
 use Rattle.moo_restore.specs.declared.link.Link.{Link}
 use Rattle.moo_restore.specs.Links.{above_in, link_of, IsChain, HasList}

@@ -4,7 +4,6 @@ use Rattle.std.specs.List.{All}
 use Rattle.moo_forest.specs.Forest.{Links, IsForest}
 use Rattle.moo_object.specs.Objects.{Object}
 use Rattle.moo_table.specs.World.{object_of, thing_of, most, programs_in, IsFine}
-use Rattle.moo_restore.specs.First.{IsFirst}
 use Rattle.moo_restore.specs.Links.{IsTreeOf}
 use Rattle.moo_restore.specs.Records.{Records, record_at, parent_links, place_links}
 use Rattle.moo_restore.specs.Says.{SaysAt}

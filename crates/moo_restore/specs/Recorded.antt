@@ -1,5 +1,5 @@
 -- The records of a world, as a database is written.
-use Rattle.std.specs.Prelude.{◌≡◌, ℕ, ◌==◌, List, [], ◌∷◌, Option, Some, None, length, map, if◌then◌else◌, option_map}
+use Rattle.std.specs.Prelude.{ℕ, ◌==◌, List, [], ◌∷◌, Option, Some, None, length, map, if◌then◌else◌, option_map}
 use Rattle.std.specs.List.{range_with_len}
 use Rattle.moo_program.specs.Tree.{Block}
 use Rattle.moo_forest.specs.Forest.{Links, above_of, below_of}

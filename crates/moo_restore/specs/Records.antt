@@ -1,5 +1,5 @@
 -- The records of a database, and what they say of a number.
-use Rattle.std.specs.Prelude.{◌≡◌, ℕ, ℤ, List, [], ◌∷◌, ◌++◌, Option, Some, None, map, slice_index_or, option_map}
+use Rattle.std.specs.Prelude.{ℕ, ℤ, List, [], ◌∷◌, ◌++◌, Option, Some, None, map, slice_index_or, option_map}
 use Rattle.moo_value.specs.Compare.{folded}
 use Rattle.moo_program.specs.Tree.{Block}
 use Rattle.moo_dbobject.specs.Objects as recorded

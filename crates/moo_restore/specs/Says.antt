@@ -1,5 +1,5 @@
 -- The world that records say.
-use Rattle.std.specs.Prelude.{◌≡◌, ℕ, ◌<◌, List, Option, Some, None, length, map, slice_index_or}
+use Rattle.std.specs.Prelude.{◌≡◌, ℕ, ◌<◌, Option, Some, None, length, map, slice_index_or}
 use Rattle.moo_program.specs.Tree.{Block}
 use Rattle.moo_object.specs.Flags.{flags_number}
 use Rattle.moo_object.specs.Numbers.{prop_perms_number, preposition_specifier_number}

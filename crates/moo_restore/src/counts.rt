@@ -16,7 +16,7 @@ use std::alloc::{AllocError, Global};
 
 /// The first object that has more or fewer cells than there are definitions on it and its
 /// ancestors, among those from which going up ends.
-pub fn first_miscounted(
+pub(crate) fn first_miscounted(
     alloc: Global,
     objects: &[Option<ObjectRecord>],
     tour: &[Visit],

@@ -17,7 +17,7 @@ use std::alloc::{AllocError, Global};
 /// The first object whose place in the tree of parents or in that of places isn't sound: it is
 /// right below what is no object, going up from it doesn't end, or one of its lists isn't that of
 /// what is right below it.
-pub fn first_misjoined(
+pub(crate) fn first_misjoined(
     alloc: Global,
     objects: &[Option<ObjectRecord>],
 ) -> Result<Option<usize>, AllocError>

@@ -2,6 +2,7 @@
 #![tactic(auto)]
 
 mod counts;
+mod fault;
 mod first;
 mod joining;
 pub mod laws;
@@ -9,14 +10,14 @@ mod link;
 mod lists;
 mod names;
 mod nodes;
+mod objects;
 mod records;
+mod restoring;
+mod rows;
 #[cfg(test)]
 mod tests;
 mod tour;
 
-pub use counts::first_miscounted;
-pub use joining::first_misjoined;
+pub use fault::RestoreFault;
 pub use link::Link;
-pub use names::first_misnamed;
-pub use nodes::{first_misplaced, first_unsound, forest_of, nodes_of};
-pub use tour::{Visit, tour_of};
+pub use restoring::restore;

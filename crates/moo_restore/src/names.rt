@@ -21,7 +21,7 @@ use std::collections::BTreeMap;
 
 /// The first object that defines a name twice, or one that an ancestor defines, among those from
 /// which going up ends.
-pub fn first_misnamed(
+pub(crate) fn first_misnamed(
     alloc: Global,
     objects: &[Option<ObjectRecord>],
     tour: &[Visit],

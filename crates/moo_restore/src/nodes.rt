@@ -12,7 +12,7 @@ use moo_forest::{Forest, Node, first_endless, first_unlisted};
 use std::alloc::{AllocError, Global};
 
 /// A node for each number, joined as the links say.
-pub fn nodes_of(alloc: Global, links: &[Option<Link>]) -> Result<Vec<Node>, AllocError>
+pub(crate) fn nodes_of(alloc: Global, links: &[Option<Link>]) -> Result<Vec<Node>, AllocError>
     ensures { IfOk result (λ nodes. AreNodesOf links.now nodes.items) }
 {
     let mut taken = vec![in alloc; false; links.len()]?;
@@ -37,7 +37,7 @@ fn nodes_along(
 }
 
 /// The first object that is right below a number which isn't an object's.
-pub fn first_misplaced(links: &[Option<Link>]) -> Option<usize>
+pub(crate) fn first_misplaced(links: &[Option<Link>]) -> Option<usize>
     ensures { IsFirst (λ x. IsPlace links.now (link_of links.now x).above) (length links.now) result }
 {
     for x in 0..links.len() {
@@ -50,7 +50,7 @@ pub fn first_misplaced(links: &[Option<Link>]) -> Option<usize>
 
 /// The first object whose links aren't sound: it is right below what is no object, going up from
 /// it doesn't end, or its list isn't that of what is right below it.
-pub fn first_unsound(
+pub(crate) fn first_unsound(
     alloc: Global,
     links: &[Option<Link>],
     nodes: &[Node],
@@ -66,7 +66,7 @@ pub fn first_unsound(
 }
 
 /// The forest that sound links say.
-pub fn forest_of(links: &[Option<Link>], nodes: Vec<Node>) -> Forest
+pub(crate) fn forest_of(links: &[Option<Link>], nodes: Vec<Node>) -> Forest
     requires nodes { AreNodesOf links.now nodes.items }
     requires sound { (x : ℕ) → x < length links.now → IsSound links.now x }
     ensures { IsTreeOf links.now result }

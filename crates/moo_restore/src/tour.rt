@@ -14,13 +14,13 @@ use std::alloc::{AllocError, Global};
 
 /// A step of a walk: an object is entered, and left once all that is below it has been.
 #[derive(Clone, Copy, Debug, PartialEq, Eq)]
-pub enum Visit {
+pub(crate) enum Visit {
     Enter(usize),
     Leave(usize),
 }
 
 /// Enters and leaves each object from which going up ends, inside the one right above it.
-pub fn tour_of(alloc: Global, links: &[Option<Link>]) -> Result<Vec<Visit>, AllocError>
+pub(crate) fn tour_of(alloc: Global, links: &[Option<Link>]) -> Result<Vec<Visit>, AllocError>
     ensures { IfOk result (λ tour. IsTour links.now tour.items) }
 {
     let nodes = lists_below(alloc, links)?;

@@ -1,4 +1,4 @@
-use Rattle.std.proofs.Common.{◌≡◌, ◌∙◌, None, length, take, map, sym, ap, subst, arith}
+use Rattle.std.proofs.Common.{◌≡◌, ◌∙◌, length, take, sym, ap, subst, arith}
 use Rattle.std.proofs.lemmas.List.{length-map, take_all}
 use Rattle.std.specs.Option.{option_map}
 use Rattle.moo_dbobject.specs.Objects.{object_of}
@@ -6,7 +6,7 @@ use Rattle.moo_restore.specs.First.{IsFirst}
 use Rattle.moo_restore.specs.Faults.{HasItsCells}
 use Rattle.moo_restore.specs.Records.{parent_link, parent_links, names_in, cells_in}
 use Rattle.moo_restore.specs.Names.{with_objects, WhereEnded}
-use Rattle.moo_restore.specs.declared.tour.Visit.TheVariants.{Enter, Leave}
+use Rattle.moo_restore.specs.declared.tour.Visit.TheVariants.{Enter}
 use Rattle.moo_restore.proofs.Counting.{object_read, counting_enters_wrong, counting_enters_right, counting_leaves, its_cells_past}
 use Rattle.moo_restore.proofs.Passing.{IsFoundAmong, found_in_all}
 use Rattle.moo_restore.proofs.counts.first_miscounted.Goals.{in-Enter+in_ok-add_definers-in-Enter+then-len-cell_count, in-Enter+in_ok-add_definers-in-Enter+else-len-cell_count, in-Leave}

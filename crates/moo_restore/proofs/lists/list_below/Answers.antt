@@ -1,8 +1,7 @@
-use Rattle.std.proofs.Common.{◌<◌, ◌++◌, ◌∷◌, [], subst, sym, ◌∙◌, ap, true, pos, ◌≡◌, to_z, of_z, w32, FitsSigned, rules, arith}
+use Rattle.std.proofs.Common.{subst, sym, ◌∙◌, ◌≡◌, to_z, of_z, w32, FitsSigned, rules, arith}
 use Rattle.std.proofs.lemmas.Int.{to_z-of_z}
-use Rattle.moo_restore.specs.Links.{link_of}
 use Rattle.moo_restore.specs.Lists.{IsFollowed}
-use Rattle.moo_restore.proofs.Chains.{IsFollowedTo, follow_goes_on, follow_stops, follow_ends, follow_breaks, unmarked-set}
+use Rattle.moo_restore.proofs.Chains.{follow_goes_on, follow_stops, follow_ends, follow_breaks, unmarked-set}
 use Rattle.moo_restore.proofs.lists.list_below.Goals.{then-not-is_end+in_ok-push-2, else-not-is_end}
 use Rattle.moo_restore.proofs.lists.list_below.Goals as goal
 

@@ -1,13 +1,13 @@
-use Rattle.std.proofs.Common.{◌≡◌, ◌++◌, ◌∷◌, [], ◌∙◌, ◌+◌, length, take, map, sym, ap, subst, arith, get_or}
+use Rattle.std.proofs.Common.{◌≡◌, [], ◌∙◌, take, ap, subst, arith, get_or}
 use Rattle.std.proofs.lemmas.List.{length-map, take_all}
 use Rattle.std.specs.Option.{option_map}
 use Rattle.moo_dbobject.specs.Objects.{object_of}
 use Rattle.moo_restore.specs.First.{IsFirst}
 use Rattle.moo_restore.specs.Faults.{HasOwnNames}
-use Rattle.moo_restore.specs.Records.{parent_link, parent_links, names_at}
+use Rattle.moo_restore.specs.Records.{parent_link, parent_links}
 use Rattle.moo_restore.specs.Names.{with_objects, WhereEnded, rows_of}
-use Rattle.moo_restore.specs.declared.tour.Visit.TheVariants.{Enter, Leave}
-use Rattle.moo_restore.proofs.Naming.{IsNaming, row_read, naming_enters_wrong, naming_enters_right, naming_leaves, own_names_past}
+use Rattle.moo_restore.specs.declared.tour.Visit.TheVariants.{Enter}
+use Rattle.moo_restore.proofs.Naming.{row_read, naming_enters_wrong, naming_enters_right, naming_leaves, own_names_past}
 use Rattle.moo_restore.proofs.Passing.{IsFoundAmong, found_in_all}
 use Rattle.moo_restore.proofs.names.first_misnamed.Goals.{in-Enter+in_ok-meet_all-in-Enter+then-branch, in-Enter+in_ok-meet_all-in-Enter+else-branch, in-Leave}
 use Rattle.moo_restore.proofs.names.first_misnamed.Goals as goal

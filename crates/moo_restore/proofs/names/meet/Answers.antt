@@ -1,4 +1,4 @@
-use Rattle.std.proofs.Common.{◌≡◌, ◌++◌, ◌∷◌, [], ◌∙◌, not, sym, ap, subst}
+use Rattle.std.proofs.Common.{◌≡◌, ◌++◌, ◌∷◌, [], ◌∙◌, not, sym, subst}
 use Rattle.std.specs.List.{list_any}
 use Rattle.moo_object.specs.Names.{same_name}
 use Rattle.moo_restore.specs.Names.{AreMet}

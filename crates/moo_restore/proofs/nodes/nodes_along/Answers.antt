@@ -1,4 +1,4 @@
-use Rattle.std.proofs.Common.{◌+◌, sym, ◌∙◌, ap, subst}
+use Rattle.std.proofs.Common.{sym, ◌∙◌, ap, subst}
 use Rattle.moo_forest.specs.Forest.{Links}
 use Rattle.moo_restore.specs.Lists.{IsFollowed}
 use Rattle.moo_restore.proofs.Noded.{one_more_made}

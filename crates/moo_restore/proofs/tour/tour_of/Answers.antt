@@ -1,6 +1,6 @@
-use Rattle.std.proofs.Common.{◌≡◌, ◌++◌, ◌∷◌, [], sym, ap, subst, ◌∙◌, length, map, arith}
+use Rattle.std.proofs.Common.{◌++◌, ◌∷◌, [], sym, ap, subst, ◌∙◌, length, map, arith}
 use Rattle.std.proofs.lemmas.List.{get_or_read, length-append, length-map}
-use Rattle.moo_forest.specs.Forest.{Links, alone, below_of}
+use Rattle.moo_forest.specs.Forest.{Links, alone}
 use Rattle.moo_restore.specs.declared.tour.Visit.TheVariants.{Enter, Leave}
 use Rattle.moo_restore.specs.Links.{AreBelow}
 use Rattle.moo_restore.proofs.Touring.{IsUnderWay, walk_skips, walk_goes, walk_enters, walk_done, unmet_set}

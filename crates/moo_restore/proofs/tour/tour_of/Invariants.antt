@@ -1,4 +1,4 @@
-use Rattle.std.proofs.Common.{◌≡◌, ◌+◌, length}
+use Rattle.std.proofs.Common.{◌+◌, length}
 use Rattle.moo_restore.proofs.Touring.{IsUnderWay, unmet}
 use Rattle.moo_restore.proofs.tour.tour_of.Given as goal
 

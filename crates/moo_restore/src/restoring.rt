@@ -1,0 +1,94 @@
+//! The world that records say.
+
+ghost use Rattle.std.specs.Prelude.{◌<◌, None, length, IfOk, IfErr, OnOk};
+ghost use Rattle.moo_forest.specs.Forest.{IsForest};
+ghost use Rattle.moo_restore.specs.First.{IsFirst};
+ghost use Rattle.moo_restore.specs.Faults.{IsWellPlaced, HasItsCells};
+ghost use Rattle.moo_restore.specs.Links.{IsSound, IsTreeOf};
+ghost use Rattle.moo_restore.specs.Names.{with_objects};
+ghost use Rattle.moo_restore.specs.Records.{parent_links};
+ghost use Rattle.moo_restore.specs.Restoring.{records_from, AreWithinLimits, IsFaultOf};
+ghost use Rattle.moo_restore.specs.Says.{Says};
+ghost use Rattle.moo_restore.specs.Tours.{IsTour};
+
+use crate::counts::first_miscounted;
+use crate::fault::RestoreFault;
+use crate::first::least_of;
+use crate::joining::first_misjoined;
+use crate::link::Link;
+use crate::names::first_misnamed;
+use crate::nodes::{forest_of, nodes_of};
+use crate::objects::make_objects;
+use crate::records::{parent_links, place_links};
+use crate::tour::{Visit, tour_of};
+use moo_dbobject::ObjectRecord;
+use moo_forest::Forest;
+use moo_grammar::Program;
+use moo_world::World;
+use std::alloc::{AllocError, Global};
+
+/// The world that these records say: the objects by number, `None` for a recycled one, the programs
+/// by object and verb, and the players. Strings, lists and programs in it are shared with them.
+pub fn restore(
+    alloc: Global,
+    objects: &[Option<ObjectRecord>],
+    programs: &[Vec<Option<Program>>],
+    players: Vec<i32>,
+) -> Result<World, RestoreFault>
+    requires { AreWithinLimits (records_from objects.now programs.now players.items) }
+    ensures world { IfOk result (λ w. Says (records_from objects.now programs.now players.items) w) }
+    ensures fault { IfErr result (IsFaultOf (records_from objects.now programs.now players.items)) }
+{
+    let parents = parent_links(alloc, objects)?;
+    let tour = tour_of(alloc, &parents)?;
+    check(alloc, objects, &tour)?;
+    let made = make_objects(alloc, objects, programs, &tour)?;
+    let inheritance = forest_in(alloc, &parents)?;
+    let places = place_links(alloc, objects)?;
+    let containment = forest_in(alloc, &places)?;
+    Ok(World::from_parts(made, inheritance, containment, players))
+}
+
+// The first fault of the records of objects.
+pub(crate) fn check(
+    alloc: Global,
+    objects: &[Option<ObjectRecord>],
+    tour: &[Visit],
+) -> Result<(), RestoreFault>
+    requires { IsTour (parent_links (with_objects objects.now)) tour.now }
+    ensures placed { OnOk result (IsFirst (IsWellPlaced (with_objects objects.now)) (length objects.now) None) }
+    ensures counted { OnOk result (IsFirst (HasItsCells (with_objects objects.now)) (length objects.now) None) }
+    ensures fault { IfErr result (IsFaultOf (with_objects objects.now)) }
+{
+    if let Some(x) = first_in_hierarchy(alloc, objects, tour)? {
+        return Err(RestoreFault::Hierarchy(x));
+    }
+    match first_miscounted(alloc, objects, tour)? {
+        Some(x) => Err(RestoreFault::PropertyCount(x)),
+        None => Ok(()),
+    }
+}
+
+fn first_in_hierarchy(
+    alloc: Global,
+    objects: &[Option<ObjectRecord>],
+    tour: &[Visit],
+) -> Result<Option<usize>, AllocError>
+    requires { IsTour (parent_links (with_objects objects.now)) tour.now }
+    ensures { IfOk result (λ x. IsFirst (IsWellPlaced (with_objects objects.now)) (length objects.now) x) }
+{
+    let misjoined = first_misjoined(alloc, objects)?;
+    let misnamed = first_misnamed(alloc, objects, tour)?;
+    Ok(least_of(misjoined, misnamed))
+}
+
+// The forest that sound links say.
+fn forest_in(alloc: Global, links: &[Option<Link>]) -> Result<Forest, AllocError>
+    requires { IsFirst (IsSound links.now) (length links.now) None }
+    ensures tree { IfOk result (λ forest. IsTreeOf links.now forest) }
+    ensures forest { IfOk result (λ forest. IsForest forest) }
+{
+    let forest = forest_of(links, nodes_of(alloc, links)?);
+    forest.is_forest();
+    Ok(forest)
+}

@@ -4,8 +4,10 @@ pub mod TextLengths
 pub mod Passing
 pub mod Words
 pub mod Whole
+pub mod Exceeding
 pub mod Sound
 pub mod Blamed
 pub mod Walks
 pub mod AllWalks
 pub mod Told
+pub mod ToldLines

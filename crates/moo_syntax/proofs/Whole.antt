@@ -1,5 +1,5 @@
 -- What the outcome of the parser says of whole texts.
-use Rattle.std.proofs.Common.{ℕ, zero, suc, ◌≤◌, ◌<◌, ap, Bool, true, List, [], ◌∷◌, ◌++◌, ◌≡◌, refl, sym, subst, length, take, drop, inr, arith, ◌+◌, ◌-◌, ◌∙◌, length-drop, inl, ⊎_elim}
+use Rattle.std.proofs.Common.{ℕ, zero, suc, ◌≤◌, ◌<◌, ap, Bool, true, List, [], ◌∷◌, ◌++◌, ◌≡◌, refl, sym, subst, length, take, drop, arith, ◌+◌, ◌-◌, ◌∙◌, length-drop}
 use Rattle.std.proofs.lemmas.List.{take-append-drop, drop_all}
 use Rattle.moo_token.specs.declared.token.Token.{Token}
 use Rattle.moo_token.specs.declared.token.Token.TheVariants as token
@@ -7,8 +7,7 @@ use Rattle.moo_token.specs.declared.token.Spot.{Spot}
 use Rattle.moo_token.specs.Lexing.{IsReading}
 use Rattle.moo_token.proofs.Readings.{bad_is_last}
 use Rattle.moo_program.specs.Tree.{Block}
-use Rattle.moo_program.specs.Limits.{AllFit, most_nodes, most_brackets}
-use Rattle.moo_program.specs.Listing.{listing}
+use Rattle.moo_program.specs.Limits.{most_nodes}
 use Rattle.moo_grammar.specs.declared.names.Names.{Names}
 use Rattle.moo_grammar.specs.Rules.{Rules, Admits, loose, strict}
 use Rattle.moo_expression.specs.declared.fault.Fault.{Fault}
@@ -16,23 +15,20 @@ use Rattle.moo_expression.specs.declared.fault.Fault.TheVariants.{Unexpected, Ba
 use Rattle.moo_expression.specs.declared.cursor.Cursor.{Cursor}
 use Rattle.moo_expression.specs.Cursor.{left}
 use Rattle.moo_expression.specs.Outcome.{ToldBy, why, HasFailed}
-use Rattle.moo_syntax.specs.Stops.{Passes, StopsBy, ExceedLimits}
+use Rattle.moo_syntax.specs.Stops.{Passes, StopsBy}
 use Rattle.moo_grammar.specs.Tokens.{words, is_sign, is_bad, next_passes}
-use Rattle.moo_syntax.specs.Programs.{SameUpTo, NoProgram, BeginsProgram, with_targets, with_functions, with_loops, IsBadToken, IsTooDeep, line_of}
+use Rattle.moo_syntax.specs.Programs.{SameUpTo, NoProgram, BeginsProgram, with_targets, with_functions, with_loops, IsBadToken, by_nodes, line_of}
 use Rattle.moo_expression.specs.Places.{is_jump, IsJump, at_keyword, at_name, IsCalled}
-use Rattle.moo_grammar.specs.Brackets.{open_behind, most_open_behind, most_open}
 use Rattle.moo_grammar.specs.Depth.{Deep}
 use Rattle.moo_token.specs.declared.sign.Sign.TheVariants as sign
-use Rattle.moo_grammar.specs.Grammar.{IsProgram, IsProgramBy, statements, block}
+use Rattle.moo_grammar.specs.Grammar.{IsProgramBy, statements, block}
 use Rattle.moo_grammar.specs.Machine.{Reads, Why, by_rule, Fails}
 use Rattle.moo_grammar.specs.Predictive.{grammar}
 use Rattle.moo_grammar.specs.Agree.{Agree, at_end, here, next}
 use Rattle.moo_grammar.proofs.MachineLemmas.{whole, reads_once, reads_again, fails_again}
 use Rattle.moo_grammar.proofs.Complete.{complete}
-use Rattle.moo_grammar.proofs.Unique.{one_program}
 use Rattle.moo_grammar.proofs.Begun.{program_begun}
 use Rattle.moo_grammar.proofs.Admitted.{loose_admits}
-use Rattle.moo_syntax.proofs.TextLengths.{tokens_within}
 use Rattle.moo_syntax.proofs.Passing.{failure_passes}
 use Rattle.moo_syntax.proofs.Words.{words_drop, words_length}
 use Rattle.moo_syntax.proofs.Told.{told_target, told_call, told_jump}
@@ -193,11 +189,11 @@ module _ (names : Names) (spots : List Spot) (old new : Cursor) (from : left old
     begins = begins_at with_loops new.at spots (jump_next spots new.at (subst (λ v. IsJump v new.at) same w.stands)) (failed_at BadLoopName with_loops w (loops_admit names, refl));
   }
   stop_of TooDeep z w =
-      let within : new.at ≤ length spots = subst (λ v. new.at ≤ length v) same new.in_range in
       let high = subst (λ v. Deep (strict names) block most_nodes (grammar (strict names) (statements [])) v) from (w.deep refl) in
       record {
+        within = reached;
         outside = λ b e l. let h = high.too_high b [] (complete e refl) in omega (arith, h, l.program.nodes);
-        long = inl (omega (arith, w.long refl, z, within, words_length spots));
+        exceeds = by_nodes (omega (arith, w.long refl, z));
       }
   stop_of Memory z w = tt
 
@@ -213,37 +209,3 @@ same_call spots at s t p q =
 
 pub nothing_left : (n : ℕ) (spots : List Spot) → length spots ≤ n → words (drop n spots) ≡ []
 nothing_left n spots h = ap words (drop_all n spots h)
-
-one_more_open : (n : ℕ) (x : Token) → open_behind n x ≤ n + 1
-one_more_open n (token.Sign sign.LeftParen) = omega arith
-one_more_open n (token.Sign sign.LeftBracket) = omega arith
-one_more_open n (token.Sign sign.LeftBrace) = omega arith
-one_more_open n (token.Sign sign.RightParen) = omega arith
-one_more_open n (token.Sign sign.RightBracket) = omega arith
-one_more_open n (token.Sign sign.RightBrace) = omega arith
-one_more_open n _ = omega arith
-
-open_within : (n : ℕ) (ts : List Token) → most_open_behind n ts ≤ n + length ts
-open_within n [] = omega arith
-open_within n (x ∷ ts) = omega (arith, open_within (open_behind n x) ts, one_more_open n x)
-
-pub exceed_by_brackets : (names : Names) (ts : List Token) → most_brackets < most_open ts → ExceedLimits names ts
-exceed_by_brackets names ts h = record {
-  outside = λ b e l. omega (arith, h, l.brackets);
-  long = inl (omega (arith, h, open_within 0 ts));
-}
-
--- the lines of the tokens' program don't fit
-pub exceed_by_lines : (names : Names) (ts : List Token) (b : Block) → IsProgram names ts b → (AllFit (listing b) → ⊥) → ExceedLimits names ts
-exceed_by_lines names ts b d none = record {
-  outside = λ c e w. none (subst (λ v. AllFit (listing v)) (one_program (strict names) ts c b e d) w.program.lines);
-  long = inr (record { tree = b; program = d; long = none });
-}
-
-pub too_deep : (names : Names) (lines : List (List ℕ)) (spots : List Spot) → IsReading lines spots → ExceedLimits names (words spots) → IsTooDeep names lines
-too_deep names lines spots r x = record {
-  spots = spots;
-  reading = r;
-  outside = x.outside;
-  long = ⊎_elim (λ n. inl (omega (arith, n, words_length spots, tokens_within lines spots r))) (λ l. inr l) x.long;
-}

@@ -1,5 +1,5 @@
 -- What a fault says of the text.
-use Rattle.std.specs.Prelude.{ℕ, suc, List, [], ◌∷◌, ◌++◌, ◌≡◌, ◌≤◌, ◌<◌, ◌⊎◌, ◌+◌, Bool, true, false, Some, None, length, take, drop}
+use Rattle.std.specs.Prelude.{ℕ, suc, List, [], ◌∷◌, ◌++◌, ◌≡◌, ◌≤◌, ◌<◌, ◌+◌, Bool, true, false, Some, None, length, take, drop}
 use Rattle.std.specs.List.{sum_by}
 use Rattle.moo_token.specs.declared.sign.Sign.TheVariants.{Assign}
 use Rattle.moo_token.specs.declared.token.Token.{Token}
@@ -8,12 +8,13 @@ use Rattle.moo_token.specs.declared.token.Spot.{Spot}
 use Rattle.moo_token.specs.Lexing.{IsReading, HasNoTokens}
 use Rattle.moo_program.specs.Tree.{Expr, Block}
 use Rattle.moo_program.specs.Target.{is_target}
-use Rattle.moo_program.specs.Limits.{AllFit, most_nodes}
+use Rattle.moo_program.specs.Limits.{AllFit, most_nodes, most_brackets}
 use Rattle.moo_program.specs.Listing.{listing}
 use Rattle.moo_grammar.specs.declared.names.Names.{Names}
 use Rattle.moo_grammar.specs.Tokens.{words, is_sign, is_bad, next_passes}
 use Rattle.moo_grammar.specs.Rules.{Rules, loose, may_call, has_loop}
 use Rattle.moo_grammar.specs.Grammar.{Derives, conditional, IsProgram, IsProgramBy}
+use Rattle.moo_grammar.specs.Brackets.{most_open}
 use Rattle.moo_grammar.specs.Texts.{IsWithin}
 use Rattle.moo_expression.specs.Places.{IsCalled, is_jump}
 use Rattle.moo_syntax.specs.declared.syntax_fault.SyntaxFaultKind.{SyntaxFaultKind}
@@ -126,22 +127,30 @@ pub record IsBadLoopName (lines : List (List ℕ)) (n : ℕ) : Type 0 where
 abbrev pub IsOutside : Names → List Token → Type 0
 IsOutside names ts = (b : Block) → IsProgram names ts b → IsWithin ts b → ⊥
 
--- how many bytes the lines have
-abbrev pub text_length : List (List ℕ) → ℕ
-text_length lines = sum_by length lines
-
 -- the tokens are a program with a line in its full listing that no string holds
 pub record HasLongLine (names : Names) (ts : List Token) : Type 0 where
   pub tree : Block
   pub program : IsProgram names ts tree
   pub long : ¬ AllFit (listing tree)
 
--- No program within the limits has the text, and it has more bytes than a path may have nodes, or such a line.
-pub record IsTooDeep (names : Names) (lines : List (List ℕ)) : Type 0 where
+-- what is past a limit at the place
+pub data Exceeds (names : Names) (spots : List Spot) (at : ℕ) : Type 0 where
+  -- the first bracket stands there that opens where as many as may be are open
+  by_bracket : most_open (words (take at spots)) ≤ most_brackets → most_brackets < most_open (words (take (at + 1) spots)) → Exceeds names spots at
+  -- more tokens stand before it than a path may have nodes
+  by_nodes : most_nodes < at → Exceeds names spots at
+  -- the text ends there, and its program has a line in its full listing that no string holds
+  by_line : at ≡ length spots → HasLongLine names (words spots) → Exceeds names spots at
+
+-- No program within the limits has the text. At a place on line n a limit is exceeded.
+pub record IsTooDeep (names : Names) (lines : List (List ℕ)) (n : ℕ) : Type 0 where
   pub spots : List Spot
   pub reading : IsReading lines spots
+  pub at : ℕ
+  pub within : at ≤ length spots
+  pub line : n ≡ line_of lines (drop at spots)
   pub outside : IsOutside names (words spots)
-  pub long : (most_nodes < text_length lines) ⊎ HasLongLine names (words spots)
+  pub exceeds : Exceeds names spots at
 
 -- what a fault of this kind on line n says of the text
 abbrev pub Blames : Names → List (List ℕ) → ℕ → SyntaxFaultKind → Type 0
@@ -150,5 +159,9 @@ Blames names lines n Unexpected = IsUnexpected lines n
 Blames names lines n BadTarget = IsBadTarget lines n
 Blames names lines n (UnknownFunction name) = IsUnknownFunction names lines n name
 Blames names lines n BadLoopName = IsBadLoopName lines n
-Blames names lines n TooDeep = IsTooDeep names lines
+Blames names lines n TooDeep = IsTooDeep names lines n
 Blames names lines n Memory = Unit {0}
+
+-- how many bytes the lines have
+abbrev pub text_length : List (List ℕ) → ℕ
+text_length lines = sum_by length lines

@@ -1,9 +1,8 @@
 -- What the parser knows of the tokens where it stops.
-use Rattle.std.specs.Prelude.{ℕ, List, ◌∷◌, ◌≡◌, ◌<◌, ◌⊎◌, false, drop, length}
+use Rattle.std.specs.Prelude.{ℕ, List, ◌∷◌, ◌≡◌, ◌≤◌, false, drop, length}
 use Rattle.moo_token.specs.declared.token.Token.{Token}
 use Rattle.moo_token.specs.declared.token.Spot.{Spot}
 use Rattle.moo_program.specs.Tree.{Block}
-use Rattle.moo_program.specs.Limits.{most_nodes}
 use Rattle.moo_grammar.specs.declared.names.Names.{Names}
 use Rattle.moo_grammar.specs.Rules.{loose, may_call}
 use Rattle.moo_grammar.specs.Tokens.{words, is_bad}
@@ -11,14 +10,15 @@ use Rattle.moo_grammar.specs.Grammar.{IsProgram}
 use Rattle.moo_grammar.specs.Texts.{IsWithin}
 use Rattle.moo_expression.specs.declared.fault.Fault.{Fault}
 use Rattle.moo_expression.specs.declared.fault.Fault.TheVariants.{Unexpected, BadTarget, UnknownFunction, BadLoopName, TooDeep, Memory}
-use Rattle.moo_syntax.specs.Programs.{AssignsNoTarget, IsBadJump, NoProgram, BeginsProgram, with_targets, with_functions, with_loops, IsOutside, HasLongLine}
+use Rattle.moo_syntax.specs.Programs.{AssignsNoTarget, IsBadJump, NoProgram, BeginsProgram, with_targets, with_functions, with_loops, IsOutside, Exceeds}
 use Rattle.moo_expression.specs.Places.{IsCalled}
 use Rattle.moo_syntax.specs.Ground.{of_value, ground_at}
 
--- no program within the limits has these tokens: they are many, or there is a long line
-pub record ExceedLimits (names : Names) (ts : List Token) : Type 0 where
-  pub outside : IsOutside names ts
-  pub long : (most_nodes < length ts) ⊎ HasLongLine names ts
+-- no program within the limits has these tokens, and a limit is exceeded at the place
+pub record ExceedLimits (names : Names) (spots : List Spot) (at : ℕ) : Type 0 where
+  pub within : at ≤ length spots
+  pub outside : IsOutside names (words spots)
+  pub exceeds : Exceeds names spots at
 
 -- from the tokens to their rest, over sound ones
 pub data Passes : List Token → List Token → Type 0 where
@@ -56,7 +56,7 @@ StopsBy names spots at Unexpected = IsStuckAt spots at
 StopsBy names spots at BadTarget = HasBadTarget spots at
 StopsBy names spots at UnknownFunction = CallsUnknown names spots at
 StopsBy names spots at BadLoopName = HasBadJump spots at
-StopsBy names spots at TooDeep = ExceedLimits names (words spots)
+StopsBy names spots at TooDeep = ExceedLimits names spots at
 StopsBy names spots at Memory = Unit {0}
 
 -- the tokens, all of them, are the program, within the limits

@@ -1,5 +1,5 @@
 //! How many brackets are open at once.
-ghost use Rattle.std.specs.Prelude.{◌≡◌, ◌<◌, ◌≤◌, ◌+◌, length, MatchOption};
+ghost use Rattle.std.specs.Prelude.{◌≡◌, ◌<◌, ◌≤◌, ◌+◌, length, take, MatchOption};
 ghost use Rattle.moo_program.specs.Limits.{most_brackets};
 ghost use Rattle.moo_grammar.specs.Tokens.{words};
 ghost use Rattle.moo_grammar.specs.Brackets.{open_behind, most_open};
@@ -24,7 +24,7 @@ fn open_behind(opened: u32, token: &Token) -> u32
 pub fn bracket_too_many(spots: &[Spot]) -> Option<usize>
     ensures { MatchOption result
         (most_open (words spots.now) ≤ most_brackets)
-        (λ at. (at < length spots.now) × (most_brackets < most_open (words spots.now))) }
+        (λ at. (at < length spots.now) × (most_open (words (take at spots.now)) ≤ most_brackets) × (most_brackets < most_open (words (take (at + 1) spots.now)))) }
 {
     let mut opened = 0;
     for (at, spot) in spots.iter().enumerate() {

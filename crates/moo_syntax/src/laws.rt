@@ -1,11 +1,13 @@
 //! What holds of every text and of the fault that it is told.
-ghost use Rattle.std.specs.Prelude.{◌≢◌, ℕ, List};
+ghost use Rattle.std.specs.Prelude.{◌≢◌, ◌≤◌, ◌<◌, ◌⊎◌, ℕ, List, length};
 ghost use Rattle.moo_program.specs.Tree.{Block};
+ghost use Rattle.moo_program.specs.Limits.{most_nodes};
 ghost use Rattle.moo_grammar.specs.declared.names.Names.{Names};
+ghost use Rattle.moo_grammar.specs.Tokens.{words};
 ghost use Rattle.moo_grammar.specs.Texts.{IsProgramOf, IsParsed};
 ghost use Rattle.moo_syntax.specs.declared.syntax_fault.SyntaxFaultKind.{SyntaxFaultKind};
 ghost use Rattle.moo_syntax.specs.declared.syntax_fault.SyntaxFaultKind.TheVariants.{TooDeep, Memory};
-ghost use Rattle.moo_syntax.specs.Programs.{Blames};
+ghost use Rattle.moo_syntax.specs.Programs.{Blames, IsTooDeep, HasLongLine, text_length};
 
 /// The text of a program within the limits is told no fault but want of memory.
 pub fn programs_are_not_blamed()
@@ -15,4 +17,15 @@ pub fn programs_are_not_blamed()
 /// A text that is told a fault, but for limits and want of memory, is no program.
 pub fn blamed_texts_are_no_programs()
     ensures { (names : Names) (lines : List (List ℕ)) (n : ℕ) (k : SyntaxFaultKind) (b : Block) → Blames names lines n k → k ≢ TooDeep → k ≢ Memory → IsProgramOf names lines b → ⊥ }
+{}
+
+/// A fault, but for want of memory, is told on a line of the text, counted from 1.
+pub fn told_lines_are_lines()
+    ensures { (names : Names) (lines : List (List ℕ)) (n : ℕ) (k : SyntaxFaultKind) → Blames names lines n k → k ≢ Memory → (1 ≤ n) × (n ≤ length lines) }
+{}
+
+/// A text that is too deep has more bytes than a path may have nodes, or it is a program with a line in its full listing that no
+/// string holds.
+pub fn deep_texts_are_long()
+    ensures { (names : Names) (lines : List (List ℕ)) (n : ℕ) (f : IsTooDeep names lines n) → (most_nodes < text_length lines) ⊎ HasLongLine names (words f.spots) }
 {}

@@ -1,4 +1,4 @@
-use Rattle.moo_syntax.proofs.Whole.{too_deep}
+use Rattle.moo_syntax.proofs.Exceeding.{too_deep}
 use Rattle.moo_syntax.proofs.reader.blame.Goals as goal
 
 pub returns-in-BadTarget : goal.returns-in-BadTarget
@@ -28,7 +28,7 @@ returns-in-BadLoopName c =
     }
 
 pub returns-in-TooDeep : goal.returns-in-TooDeep
-returns-in-TooDeep c = too_deep c.args.names c.args.lines.now c.args.spots.now c.requires.reading (rw c.in-TooDeep.is at c.requires.stopped)
+returns-in-TooDeep c = too_deep c.args.names c.args.lines.now c.args.spots.now c.args.stop.at _ c.requires.reading (rw c.in-TooDeep.is at c.requires.stopped) c.line_at-line.ensures
 
 pub returns-in-Unexpected : goal.returns-in-Unexpected
 returns-in-Unexpected c = c.unexpected.ensures c.args.names

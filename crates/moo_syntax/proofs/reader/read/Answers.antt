@@ -1,4 +1,4 @@
-use Rattle.std.proofs.Common.{rules, refl, subst, drop, []}
+use Rattle.std.proofs.Common.{rules, refl, subst, drop, length, ◌≤◌, arith, []}
 use Rattle.moo_program.specs.View.{block as tree_of}
 use Rattle.moo_grammar.specs.Tokens.{words}
 use Rattle.moo_grammar.specs.Rules.{loose, strict}
@@ -9,7 +9,8 @@ use Rattle.moo_grammar.proofs.Admitted.{loose_admits}
 use Rattle.moo_grammar.proofs.Derived.{derived}
 use Rattle.moo_expression.proofs.Steps.{admits_itself}
 use Rattle.moo_syntax.proofs.Passing.{program_passes}
-use Rattle.moo_syntax.proofs.Whole.{stop_of, refused_before, nothing_left, exceed_by_lines, exceed_by_brackets}
+use Rattle.moo_syntax.proofs.Whole.{stop_of, refused_before, nothing_left}
+use Rattle.moo_syntax.proofs.Exceeding.{exceed_by_lines, exceed_by_bracket}
 use Rattle.moo_syntax.proofs.reader.read.Goals as goal
 
 pub returns-in-Err-clause-stopped : goal.returns-in-Err-clause-stopped
@@ -32,10 +33,11 @@ returns-then-not-fit_lines-clause-stopped c =
     let tree = tree_of c.in-Ok.found.items in
     let read = subst (λ v. Reads (grammar (strict names)) block (grammar (strict names) (statements [])) (words spots) tree (words (drop n v))) c.in-Ok.ensures.moves.spots ((rw c.new.ensures.items at c.in-Ok.ensures.read).reads (strict names) (admits_itself names)) in
     let whole : IsProgram names (words spots) tree = derived (subst (λ v. Reads (grammar (strict names)) block (grammar (strict names) (statements [])) (words spots) tree v) (nothing_left n spots c.if-tokens-spots.false) read) in
-    exceed_by_lines names (words spots) tree whole (λ f. let no = (rw c.deref.ensures.value at c.if-not-fit_lines.ensures).1 f in absurd cc)
+    let within : n ≤ length spots = subst (λ v. n ≤ length v) c.in-Ok.ensures.moves.spots c.statements.new.tokens.in_range in
+    exceed_by_lines names spots n tree (omega (arith, within, c.if-tokens-spots.false)) whole (λ f. let no = (rw c.deref.ensures.value at c.if-not-fit_lines.ensures).1 f in absurd cc)
 
 pub returns-in-Some-clause-stopped : goal.returns-in-Some-clause-stopped
-returns-in-Some-clause-stopped c = exceed_by_brackets c.args.names (words c.args.spots.now) c.in-Some.ensures.1
+returns-in-Some-clause-stopped c = exceed_by_bracket c.args.names c.args.spots.now _ c.in-Some.ensures.0 c.in-Some.ensures.1 c.in-Some.ensures.2
 
 pub returns-clause-program : goal.returns-clause-program
 returns-clause-program c =

@@ -64,7 +64,8 @@ abbrev pub AreSound : List Token → Type 0
 AreSound [] = Unit {0}
 AreSound (x ∷ ts) = (is_bad x ≡ false) × AreSound ts
 
--- No program begins with the tokens of the text up to one on line n, whatever stands before `=` and is called. They are all sound.
+-- No program begins with the tokens of the text up to one on line n, whatever it assigns to, calls and jumps out of. They are
+-- all sound.
 pub record IsUnexpected (lines : List (List ℕ)) (n : ℕ) : Type 0 where
   pub spots : List Spot
   pub reading : IsReading lines spots

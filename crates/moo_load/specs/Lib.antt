@@ -1,0 +1,6 @@
+-- What is told of objects.
+pub mod Objects
+-- What a reader answers.
+pub mod Loading
+-- A reader between two pieces.
+pub mod Feeding

@@ -1,0 +1,73 @@
+-- What a reader of worlds answers.
+use Rattle.std.specs.Prelude.{◌≡◌, ℕ, ℤ, ◌+◌, List, Option, Result, Ok, Err, ◌⊎◌, map, take, length}
+use Rattle.moo_grammar.specs.declared.names.Names.TheVariants.{Any}
+use Rattle.moo_grammar.specs.Texts.{IsParsed}
+use Rattle.moo_table.specs.World.{World, IsWellFormed}
+use Rattle.moo_dbvalue.specs.Lines.{limited}
+use Rattle.moo_dbobject.specs.Objects.{Object}
+use Rattle.moo_dbrecord.specs.Texts.{Text, Link, link_of, objects_lines}
+use Rattle.moo_dbrecord.specs.Writing.{no_notes}
+use Rattle.moo_dbrecord.specs.Answer.{answer_to}
+use Rattle.moo_dbrecord.specs.declared.fault.DbFault.{DbFault}
+use Rattle.moo_dbrecord.specs.declared.fault.DbFaultKind.TheVariants as kind
+use Rattle.moo_dbprogram.specs.Reading.{IsRefused}
+use Rattle.moo_dbprogram.specs.declared.database.Database.{Database}
+use Rattle.moo_restore.specs.Records.{Records}
+use Rattle.moo_restore.specs.Says.{Says}
+use Rattle.moo_restore.specs.Faults.{IsHierarchyFault, IsCountFault}
+use Rattle.moo_restore.specs.Restoring.{records_from, IsFaultOf}
+use Rattle.moo_restore.specs.declared.fault.RestoreFault.{RestoreFault}
+use Rattle.moo_restore.specs.declared.fault.RestoreFault.TheVariants as restoring
+use Rattle.moo_saved.specs.Saved.{Saved, saved_of, IsTextOf}
+use Rattle.moo_load.specs.Objects.{HasObjectFault}
+use Rattle.moo_saved.specs.declared.saved.Saved as stored
+
+-- ---- what is kept of a text
+
+abbrev pub who_of : Link → ℤ
+who_of l = l.who
+
+abbrev pub records_kept : Database → Records
+records_kept d = records_from d.objects.items d.programs.items d.players.items
+
+-- the line of object x, where there are so many players
+abbrev pub IsLineOf : ℕ → List (Option Object) → ℕ → ℕ → Type 0
+IsLineOf players objects x line = line ≡ 6 + players + length (objects_lines 0 (take x objects) no_notes)
+
+abbrev pub IsTold : ℕ → List (Option Object) → RestoreFault → DbFault → Type 0
+IsTold players objects (restoring.Hierarchy x) e = (e.kind ≡ kind.BadHierarchy x) × IsLineOf players objects x e.line
+IsTold players objects (restoring.PropertyCount x) e = (e.kind ≡ kind.PropertyCount x) × IsLineOf players objects x e.line
+IsTold players objects restoring.Memory e = e.kind ≡ kind.Memory
+
+-- the records are at fault, and that is told, or there was no memory
+pub record IsObjectTold (r : Records) (e : DbFault) : Type 0 where
+  pub fault : RestoreFault
+  pub is : IsFaultOf r fault
+  pub told : IsTold (length r.players) r.objects fault e
+
+abbrev pub IsUntold : Records → DbFault → Type 0
+IsUntold r e = (e.kind ≡ kind.Memory) ⊎ IsObjectTold r e
+
+-- what is saved says what is kept
+pub record IsSavedFrom (d : Database) (s : stored.Saved) : Type 0 where
+  pub says : Says (records_kept d) s.world
+  pub sound : IsWellFormed s.world
+  pub connected : s.connected.items ≡ map who_of (map link_of d.connections.items)
+
+-- ---- what is answered of bytes
+
+-- the bytes are a text's, and the text is one of what is saved
+pub record IsLoaded (bytes : List ℕ) (s : Saved) : Type 0 where
+  pub text : Text
+  pub answer : answer_to limited bytes ≡ Ok text
+  pub is : IsTextOf (IsParsed Any) text s
+  pub sound : IsWellFormed s.world
+
+-- an object is told of the bytes' text
+pub record HasToldObject (bytes : List ℕ) (e : DbFault) : Type 0 where
+  pub object : ℕ
+  pub is : ((e.kind ≡ kind.BadHierarchy object) × HasObjectFault IsHierarchyFault bytes e.line object) ⊎ ((e.kind ≡ kind.PropertyCount object) × HasObjectFault IsCountFault bytes e.line object)
+
+abbrev pub LoadAnswers : Result stored.Saved DbFault → List ℕ → Type 0
+LoadAnswers (Ok s) bytes = IsLoaded bytes (saved_of s)
+LoadAnswers (Err e) bytes = IsRefused bytes (answer_to limited bytes) e ⊎ HasToldObject bytes e

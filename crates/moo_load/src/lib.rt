@@ -1,0 +1,15 @@
+//! From a database text to the world that it saves.
+#![tactic(auto)]
+
+mod db_reader;
+pub mod laws;
+mod loading;
+mod object_line;
+#[cfg(test)]
+mod tests;
+mod text;
+
+pub use db_reader::DbReader;
+pub use moo_dbrecord::{DbFault, DbFaultKind, ProgramFault, ProgramFaultKind};
+pub use moo_saved::Saved;
+pub use text::read_db;

@@ -1,0 +1,111 @@
+//! The world of what is kept of a text.
+ghost use Rattle.std.specs.Prelude.{◌≡◌, ◌⊎◌, map, take, option_map, IfOk, IfErr};
+ghost use Rattle.moo_dbobject.specs.Objects.{object_of};
+ghost use Rattle.moo_dbrecord.specs.Texts.{link_of};
+ghost use Rattle.moo_table.specs.World.{IsWellFormed};
+ghost use Rattle.moo_restore.specs.Says.{Says};
+ghost use Rattle.moo_restore.specs.Restoring.{records_from, AreWithinLimits};
+ghost use Rattle.moo_load.specs.Loading.{records_kept, who_of, IsLineOf, IsTold, IsUntold, IsSavedFrom};
+
+use crate::object_line::line_of_object;
+use moo_dbobject::ObjectRecord;
+use moo_dbprogram::Database;
+use moo_dbrecord::{Connection, DbFault, DbFaultKind};
+use moo_grammar::Program;
+use moo_restore::{RestoreFault, restore};
+use moo_saved::Saved;
+use moo_world::World;
+use std::alloc::{AllocError, Global};
+
+/// Who was connected.
+fn connected(alloc: Global, connections: &[Connection]) -> Result<Vec<i32>, AllocError>
+    ensures { IfOk result (λ who. who.items ≡ map who_of (map link_of connections.now)) }
+{
+    let mut who = Vec::new(alloc);
+    for connection in connections {
+        who.push(connection.who)?;
+    }
+    Ok(who)
+}
+
+fn without_memory() -> DbFault
+    ensures { result.kind ≡ DbFaultKind.Memory }
+{
+    DbFault {
+        line: 0,
+        kind: DbFaultKind::Memory,
+    }
+}
+
+/// How a fault of an object is told, in a text of so many players and these objects.
+fn told_object(
+    players: usize,
+    objects: &[Option<ObjectRecord>],
+    x: usize,
+    kind: DbFaultKind,
+) -> DbFault
+    ensures { (result.kind ≡ DbFaultKind.Memory) ⊎ ((result.kind ≡ kind) × IsLineOf players (map (option_map object_of) objects.now) x result.line) }
+{
+    match line_of_object(players, objects, x) {
+        Some(line) => DbFault { line, kind },
+        None => without_memory(),
+    }
+}
+
+/// How it is told why no world was restored.
+fn told(players: usize, objects: &[Option<ObjectRecord>], fault: RestoreFault) -> DbFault
+    ensures { (result.kind ≡ DbFaultKind.Memory) ⊎ IsTold players (map (option_map object_of) objects.now) fault result }
+{
+    match fault {
+        RestoreFault::Hierarchy(x) => match u32::try_from(x) {
+            Ok(number) => told_object(players, objects, x, DbFaultKind::BadHierarchy(number)),
+            Err(_) => without_memory(),
+        },
+        RestoreFault::PropertyCount(x) => match u32::try_from(x) {
+            Ok(number) => told_object(players, objects, x, DbFaultKind::PropertyCount(number)),
+            Err(_) => without_memory(),
+        },
+        RestoreFault::Memory => without_memory(),
+    }
+}
+
+/// The world of these records.
+fn world_of(
+    alloc: Global,
+    objects: &[Option<ObjectRecord>],
+    programs: &[Vec<Option<Program>>],
+    players: Vec<i32>,
+) -> Result<World, DbFault>
+    requires { AreWithinLimits (records_from objects.now programs.now players.items) }
+    ensures world { IfOk result (Says (records_from objects.now programs.now players.items)) }
+    ensures sound { IfOk result IsWellFormed }
+    ensures fault { IfErr result (IsUntold (records_from objects.now programs.now players.items)) }
+{
+    let many = players.len();
+    match restore(alloc, objects, programs, players) {
+        Ok(world) => {
+            world.is_well_formed();
+            Ok(world)
+        }
+        Err(fault) => Err(told(many, objects, fault)),
+    }
+}
+
+/// The saved world of what is kept of a text.
+pub(crate) fn load(alloc: Global, database: Database) -> Result<Saved, DbFault>
+    requires { AreWithinLimits (records_kept database) }
+    ensures saved { IfOk result (IsSavedFrom database) }
+    ensures fault { IfErr result (IsUntold (records_kept database)) }
+{
+    let Database {
+        players,
+        objects,
+        programs,
+        connections,
+    } = database;
+    let Ok(connected) = connected(alloc, &connections) else {
+        return Err(without_memory());
+    };
+    let world = world_of(alloc, &objects, &programs, players)?;
+    Ok(Saved { world, connected })
+}

@@ -1,8 +1,8 @@
 -- How many lines values and objects have.
-use Rattle.std.proofs.Common.{◌≡◌, ℕ, zero, suc, ◌+◌, ◌*◌, ◌<◌, List, [], ◌∷◌, ◌++◌, length, take, get_or, Option, Some, None, refl, sym, ap, ◌∙◌, arith}
+use Rattle.std.proofs.Common.{◌≡◌, ℕ, suc, ◌+◌, ◌*◌, ◌<◌, List, [], ◌∷◌, ◌++◌, length, take, get_or, Option, Some, None, refl, sym, ap, ◌∙◌, arith}
 use Rattle.std.specs.Prelude.{map, option_map}
 use Rattle.std.specs.List.{flat_map}
-use Rattle.std.proofs.lemmas.List.{take_more, map-append, length-append, length-map}
+use Rattle.std.proofs.lemmas.List.{take_more, map-append, length-append}
 use Rattle.moo_value.specs.Tree.{Tree, elements_of}
 use Rattle.moo_value.specs.View.{tree, trees}
 use Rattle.moo_value.specs.declared.value.Value.{Value}

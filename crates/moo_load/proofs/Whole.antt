@@ -1,5 +1,5 @@
 -- What an answer says of the bytes of a whole text.
-use Rattle.std.proofs.Common.{◌≡◌, ℕ, ℤ, zero, suc, ◌+◌, ◌≤◌, Bool, true, false, List, [], ◌∷◌, ◌++◌, length, take, arith, Option, Some, None, Result, Ok, Err, ◌⊎◌, inl, inr, refl, sym, ap, subst, ◌∙◌}
+use Rattle.std.proofs.Common.{◌≡◌, ℕ, ℤ, suc, ◌+◌, ◌≤◌, Bool, true, false, List, [], ◌∷◌, ◌++◌, length, take, arith, Option, Some, None, Result, Ok, Err, ◌⊎◌, inl, inr, refl, sym, ap, subst, ◌∙◌}
 use Rattle.std.specs.Prelude.{IfOk, IfErr, MatchResult, map, slice_index_or, count_by, is_some}
 use Rattle.std.specs.List.{sum_by, AllByRecursion}
 use Rattle.moo_program.specs.Tree.{Block}
@@ -22,9 +22,9 @@ use Rattle.moo_dbrecord.specs.declared.fault.DbFaultKind.{DbFaultKind}
 use Rattle.moo_dbrecord.specs.declared.fault.DbFaultKind.TheVariants as kind
 use Rattle.moo_dbrecord.specs.declared.fault.ProgramFault.{ProgramFault}
 use Rattle.moo_dbrecord.proofs.AnswerFound.{answer_found}
-use Rattle.moo_dbrecord.proofs.ReadLaws.{one_text, within_limits}
+use Rattle.moo_dbrecord.proofs.ReadLaws.{one_text}
 use Rattle.moo_dbrecord.proofs.DumpSmall.{answer_within, some_more, none_more, rows_more}
-use Rattle.moo_dbprogram.specs.Says.{Programs, HasSource, HaveSources, HasPrograms, HasProgramsWithin}
+use Rattle.moo_dbprogram.specs.Says.{Programs, HasSource, HaveSources}
 use Rattle.moo_dbprogram.specs.Faults.{IsProgramFault, IsOfLine, IsOfLimits}
 use Rattle.moo_dbprogram.specs.Reading.{IsRefused, IsRead}
 use Rattle.moo_dbprogram.specs.declared.database.Database.{Database}
@@ -38,7 +38,7 @@ use Rattle.moo_restore.specs.declared.fault.RestoreFault.TheVariants as restorin
 use Rattle.moo_restore.proofs.Worlds.{well_placed, has_its_cells}
 use Rattle.moo_saved.specs.Saved.{Saved, saved_of, IsTextOf, SpellsSaved, SpellsSavedWithin}
 use Rattle.moo_load.specs.Objects.{AreRecordsOf, HasObjectFault}
-use Rattle.moo_load.specs.Loading.{records_kept, who_of, IsLineOf, IsTold, IsObjectTold, IsUntold, IsSavedFrom, IsLoaded, HasToldObject, LoadAnswers}
+use Rattle.moo_load.specs.Loading.{records_kept, who_of, IsLineOf, IsTold, IsUntold, IsSavedFrom, IsLoaded, HasToldObject, LoadAnswers}
 use Rattle.moo_saved.specs.declared.saved.Saved as stored
 use Rattle.moo_load.proofs.Worlds.{says_of, loose_records, loose_text, one_spelled, spelled_within}
 

@@ -2,7 +2,7 @@
 use Rattle.std.specs.Prelude.{◌≡◌, ℕ, ℤ, ◌+◌, List, Option, Result, Ok, Err, ◌⊎◌, map, take, length}
 use Rattle.moo_grammar.specs.declared.names.Names.TheVariants.{Any}
 use Rattle.moo_grammar.specs.Texts.{IsParsed}
-use Rattle.moo_table.specs.World.{World, IsWellFormed}
+use Rattle.moo_table.specs.World.{IsWellFormed}
 use Rattle.moo_dbvalue.specs.Lines.{limited}
 use Rattle.moo_dbobject.specs.Objects.{Object}
 use Rattle.moo_dbrecord.specs.Texts.{Text, Link, link_of, objects_lines}

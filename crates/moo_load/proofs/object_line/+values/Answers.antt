@@ -1,4 +1,4 @@
-use Rattle.std.proofs.Common.{◌≡◌, ◌+◌, length, take, arith}
+use Rattle.std.proofs.Common.{arith}
 use Rattle.moo_value.proofs.Descent.{within_deepest}
 use Rattle.moo_load.proofs.Lengths.{values_length}
 use Rattle.moo_load.proofs.object_line.+values.Goals as goal

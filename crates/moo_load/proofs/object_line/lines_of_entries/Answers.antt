@@ -1,4 +1,4 @@
-use Rattle.std.proofs.Common.{◌≡◌, ◌+◌, length, take, arith}
+use Rattle.std.proofs.Common.{arith}
 use Rattle.moo_load.proofs.Lengths.{entries_length}
 use Rattle.moo_load.proofs.object_line.lines_of_entries.Goals as goal
 

@@ -1,6 +1,6 @@
 // Texts, and the listings of their programs or what is told of them.
 use crate::texts::{
-    BAD_TARGETS, EXPRESSIONS, FAULTS, FORMS, GROUPS, INDENTED, STATEMENTS, UNEXPECTED,
+    BAD_TARGETS, EXPRESSIONS, FAULTS, FORMS, GROUPS, PROGRAMS, STATEMENTS, UNEXPECTED,
 };
 use moo_grammar::Program;
 use moo_syntax::{Names, SyntaxFault, parse};
@@ -9,8 +9,12 @@ use moo_value::MooStr;
 use std::alloc::Global;
 use std::test::Fail;
 
-// The program of the text.
-fn program(alloc: Global, text: &str, names: Names) -> Result<Result<Program, SyntaxFault>, Fail> {
+/// The program of the text.
+pub fn program(
+    alloc: Global,
+    text: &str,
+    names: Names,
+) -> Result<Result<Program, SyntaxFault>, Fail> {
     let mut lines = Vec::new(alloc);
     for line in text.lines() {
         lines.push(MooStr::try_from_bytes(alloc, line.as_bytes())?)?;
@@ -96,18 +100,28 @@ fn faults_are_told(rt: HostRuntime) -> Result<(), Fail> {
     are_told(rt.alloc(), Names::Known, &FAULTS, ["", ""], ["", ""])
 }
 
-// What a listing of the text should be: `left` is full, `right` is short, with blanks in both.
-fn are_listed(alloc: Global, text: &str, full: &str, short: &str) -> Result<(), Fail> {
+#[test]
+fn faults_of_long_texts_are_told(rt: HostRuntime) -> Result<(), Fail> {
+    let comment =
+        "/* a comment that alone has more bytes than a path of a program may have nodes, so that it is long */";
+    are_told(rt.alloc(), Names::Known, &FAULTS, [comment, ""], ["", ""])
+}
+
+// The listings of the text are these: full, full with indents, short, short with indents.
+fn are_listed(alloc: Global, text: &str, listings: [&str; 4]) -> Result<(), Fail> {
     let Ok(program) = program(alloc, text, Names::Any)? else {
         return Err(Fail::from("no program"));
     };
-    let listing = shown(alloc, &list_full_indented(alloc, &program)?)?;
-    if listing.as_slice() != full.as_bytes() {
-        return Err(Fail::from(listing));
-    }
-    let listing = shown(alloc, &list_short(alloc, &program, true)?)?;
-    if listing.as_slice() != short.as_bytes() {
-        return Err(Fail::from(listing));
+    let found = [
+        shown(alloc, &list_full(alloc, &program)?)?,
+        shown(alloc, &list_full_indented(alloc, &program)?)?,
+        shown(alloc, &list_short(alloc, &program, false)?)?,
+        shown(alloc, &list_short(alloc, &program, true)?)?,
+    ];
+    for at in 0..4 {
+        if found[at].as_slice() != listings[at].as_bytes() {
+            return Err(Fail::from(listings[at]));
+        }
     }
     Ok(())
 }
@@ -119,31 +133,17 @@ fn expressions_are_listed(rt: HostRuntime) -> Result<(), Fail> {
         let text = format!(in alloc; "{};", row[0])?;
         let full = format!(in alloc; "{};\n", row[1])?;
         let short = format!(in alloc; "{};\n", row[2])?;
-        are_listed(alloc, text.as_str(), full.as_str(), short.as_str())?;
+        let (full, short) = (full.as_str(), short.as_str());
+        are_listed(alloc, text.as_str(), [full, full, short, short])?;
     }
     Ok(())
 }
 
 #[test]
-fn statements_are_indented(rt: HostRuntime) -> Result<(), Fail> {
-    let alloc = rt.alloc();
-    for row in &INDENTED {
-        are_listed(alloc, row[0], row[1], row[1])?;
+fn programs_are_listed(rt: HostRuntime) -> Result<(), Fail> {
+    for row in &PROGRAMS {
+        are_listed(rt.alloc(), row[0], [row[1], row[2], row[3], row[4]])?;
     }
-    Ok(())
-}
-
-#[test]
-fn a_short_listing_has_no_blanks(rt: HostRuntime) -> Result<(), Fail> {
-    let alloc = rt.alloc();
-    let Ok(program) = program(alloc, "while (1) -(-x); endwhile", Names::Any)? else {
-        return Err(Fail::from("no program"));
-    };
-    let listing = shown(alloc, &list_short(alloc, &program, false)?)?;
-    assert_eq!(rt;
-        listing.as_slice(),
-        b"while (1)\n--x;\nendwhile\n".as_slice()
-    );
     Ok(())
 }
 

@@ -3,7 +3,7 @@
 //! 4 are `except`, `finally`, `endtry` and `for`.
 
 /// Expressions and errors to be caught, a few of them.
-pub static EXPRESSIONS: [&str; 4] = ["E:0", "E:1", "K:2", "K:0"];
+pub static EXPRESSIONS: [&str; 5] = ["E:0", "E:1", "K:2", "K:0", "K:1"];
 
 /// Statements P, with jumps anywhere and to any loop.
 pub static ANYWHERE: [&str; 39] = [

@@ -1,12 +1,18 @@
 // All lists of tokens up to a length of which all but the last go on with those before them: the parser takes those that the
-// recogniser takes, and tells each fault at the first token at which no program goes on.
+// recogniser takes, and tells each fault at the first token at which no program goes on, whatever stands behind it. Where no
+// parenthesis and no base was read, the short listing has no parenthesis.
 use crate::recogniser::Recogniser;
 use crate::rules::{CALLS, COMMON, LOOSE, SCATTERS, TARGETS};
 use crate::statement_rules::{ANYWHERE, EXPRESSIONS, IN_LOOPS};
+use moo_grammar::Program;
 use moo_syntax::{Names, SyntaxFaultKind, parse};
+use moo_unparse::list_short;
 use moo_value::MooStr;
 use std::alloc::Global;
 use std::test::Fail;
+
+/// What no token is.
+const BAD: u8 = 5;
 
 fn text_of(token: u8) -> &'static str {
     match token {
@@ -52,6 +58,7 @@ fn text_of(token: u8) -> &'static str {
         2 => "finally",
         3 => "endtry",
         4 => "for",
+        BAD => "&",
         b'`' => "`",
         b'\'' => "'",
         _ => ";",
@@ -62,11 +69,18 @@ fn text_of(token: u8) -> &'static str {
 #[derive(Clone, Copy, PartialEq, Eq)]
 enum Verdict {
     Program,
+    BadToken(usize),
     Unexpected(usize),
     BadTarget(usize),
     UnknownFunction(usize),
     BadLoopName(usize),
     Other,
+}
+
+/// Whether the short listing of a program has a parenthesis.
+fn has_parenthesis(alloc: Global, program: &Program) -> Result<bool, Fail> {
+    let lines = list_short(alloc, program, false)?;
+    Ok(lines.iter().any(|line| line.as_bytes().contains(&b'(')))
 }
 
 /// What the parser says of the tokens, each on a line.
@@ -76,16 +90,22 @@ fn told(alloc: Global, tokens: &[u8], names: Names) -> Result<Verdict, Fail> {
         lines.push(MooStr::try_from_bytes(alloc, text_of(*token).as_bytes())?)?;
     }
     match parse(alloc, &lines, names) {
-        Ok(_) => Ok(Verdict::Program),
+        Ok(program) => {
+            let groups = tokens.iter().any(|token| b"(.[:".contains(token));
+            if !groups && has_parenthesis(alloc, &program)? {
+                return Ok(Verdict::Other);
+            }
+            Ok(Verdict::Program)
+        }
         Err(fault) => {
             let line = fault.line;
             Ok(match fault.kind {
+                SyntaxFaultKind::BadToken => Verdict::BadToken(line),
                 SyntaxFaultKind::Unexpected => Verdict::Unexpected(line),
                 SyntaxFaultKind::BadTarget => Verdict::BadTarget(line),
                 SyntaxFaultKind::BadLoopName => Verdict::BadLoopName(line),
                 SyntaxFaultKind::UnknownFunction(_) => Verdict::UnknownFunction(line),
-                SyntaxFaultKind::BadToken | SyntaxFaultKind::TooDeep | SyntaxFaultKind::Memory =>
-                    Verdict::Other,
+                SyntaxFaultKind::TooDeep | SyntaxFaultKind::Memory => Verdict::Other,
             })
         }
     }
@@ -99,7 +119,10 @@ fn expected(tokens: &[u8], strict: &Recogniser, loose: &Recogniser) -> Verdict {
     let place = strict.viable();
     let line = place.saturating_add(1);
     if place == loose.viable() {
-        return Verdict::Unexpected(line.min(tokens.len()));
+        return match tokens.get(place) {
+            Some(token) if *token == BAD => Verdict::BadToken(line),
+            _ => Verdict::Unexpected(line.min(tokens.len())),
+        };
     }
     match tokens.get(place) {
         Some(b'=') => Verdict::BadTarget(line),
@@ -107,6 +130,29 @@ fn expected(tokens: &[u8], strict: &Recogniser, loose: &Recogniser) -> Verdict {
         Some(b'"' | b'\\' | b'1') => Verdict::BadLoopName(line),
         _ => Verdict::Other,
     }
+}
+
+/// Whether the parser says of the tokens what is expected, also with others behind them where no program goes on.
+fn is_told(
+    alloc: Global,
+    tokens: &mut Vec<u8>,
+    names: Names,
+    verdict: Verdict,
+    goes_on: bool,
+) -> Result<bool, Fail> {
+    if told(alloc, tokens, names)? != verdict {
+        return Ok(false);
+    }
+    // The rules of statements know few expressions, and none that go on with a bracket.
+    if goes_on || matches!(tokens.last(), Some(b'(' | b'[')) {
+        return Ok(true);
+    }
+    tokens.push(b';')?;
+    tokens.push(BAD)?;
+    let same = told(alloc, tokens, names)? == verdict;
+    tokens.pop();
+    tokens.pop();
+    Ok(same)
 }
 
 /// Goes on with each token of the alphabet, up to so many more, and gives the first list on which the two differ.
@@ -123,10 +169,12 @@ fn explore(
         tokens.push(*token)?;
         strict.read(alloc, *token)?;
         loose.read(alloc, *token)?;
-        if told(alloc, tokens, names)? != expected(tokens, strict, loose) {
+        let verdict = expected(tokens, strict, loose);
+        let goes_on = loose.viable() == tokens.len();
+        if !is_told(alloc, tokens, names, verdict, goes_on)? {
             return Ok(false);
         }
-        if left > 0 && loose.viable() == tokens.len() {
+        if left > 0 && goes_on {
             if !explore(alloc, alphabet, names, tokens, strict, loose, left - 1)? {
                 return Ok(false);
             }
@@ -205,7 +253,7 @@ fn difference_of_statements(
 
 #[test]
 fn assignments(rt: HostRuntime) -> Result<(), Fail> {
-    let found = difference(rt.alloc(), b"3", b"1;()[].=@{}", Names::Any, 5)?;
+    let found = difference(rt.alloc(), b"3", b"1;()[].=@{}\x05", Names::Any, 5)?;
     assert_eq!(rt; found.as_slice(), b"".as_slice());
     Ok(())
 }
@@ -247,7 +295,7 @@ fn indexes_and_ranges(rt: HostRuntime) -> Result<(), Fail> {
 
 #[test]
 fn catches(rt: HostRuntime) -> Result<(), Fail> {
-    let found = difference(rt.alloc(), b"3`0", b"0;`!'25,?|", Names::Any, 6)?;
+    let found = difference(rt.alloc(), b"3`0", b"0;`!'25,?|\x05", Names::Any, 6)?;
     assert_eq!(rt; found.as_slice(), b"".as_slice());
     Ok(())
 }
@@ -261,7 +309,7 @@ fn operators(rt: HostRuntime) -> Result<(), Fail> {
 
 #[test]
 fn branches(rt: HostRuntime) -> Result<(), Fail> {
-    let found = difference_of_statements(rt.alloc(), b"6(0)", b"6789;3~", 6)?;
+    let found = difference_of_statements(rt.alloc(), b"6(0)", b"6789;3~\x05", 6)?;
     assert_eq!(rt; found.as_slice(), b"".as_slice());
     Ok(())
 }

@@ -299,18 +299,34 @@ pub static EXPRESSIONS: [[&str; 3]; 22] = [
     ],
 ];
 
-/// Statements, and their listings with blanks for each statement round a line, full and short.
-pub static INDENTED: [[&str; 2]; 3] = [
+/// Texts, and their listings: full, full with indents, short, short with indents.
+pub static PROGRAMS: [[&str; 5]; 4] = [
     [
-        "for i in [1..2] while w (a) continue w; break; endwhile endfor",
-        "for i in [1..2]\n  while w (a)\n    continue w;\n    break;\n  endwhile\nendfor\n",
+        "if (a) return (b - c) - d; endif",
+        "if (a)\nreturn (b - c) - d;\nendif\n",
+        "if (a)\n  return (b - c) - d;\nendif\n",
+        "if (a)\nreturn b - c - d;\nendif\n",
+        "if (a)\n  return b - c - d;\nendif\n",
     ],
     [
-        "if(a)b;elseif(c)else d;endif",
-        "if (a)\n  b;\nelseif (c)\nelse\n  d;\nendif\n",
+        "for i in [1..2] while w (!!a) continue w; break; endwhile endfor",
+        "for i in [1..2]\nwhile w (!(!a))\ncontinue w;\nbreak;\nendwhile\nendfor\n",
+        "for i in [1..2]\n  while w (!(!a))\n    continue w;\n    break;\n  endwhile\nendfor\n",
+        "for i in [1..2]\nwhile w (!!a)\ncontinue w;\nbreak;\nendwhile\nendfor\n",
+        "for i in [1..2]\n  while w (!!a)\n    continue w;\n    break;\n  endwhile\nendfor\n",
     ],
     [
-        "try a;except e(E_DIV,E_PERM)try finally b;endtry endtry",
-        "try\n  a;\nexcept e (E_DIV, E_PERM)\n  try\n  finally\n    b;\n  endtry\nendtry\n",
+        "if(a)b;elseif(c)else d+e+f;endif",
+        "if (a)\nb;\nelseif (c)\nelse\n(d + e) + f;\nendif\n",
+        "if (a)\n  b;\nelseif (c)\nelse\n  (d + e) + f;\nendif\n",
+        "if (a)\nb;\nelseif (c)\nelse\nd + e + f;\nendif\n",
+        "if (a)\n  b;\nelseif (c)\nelse\n  d + e + f;\nendif\n",
+    ],
+    [
+        "try a;except e(E_DIV,E_PERM)try finally --b;endtry endtry",
+        "try\na;\nexcept e (E_DIV, E_PERM)\ntry\nfinally\n-(-b);\nendtry\nendtry\n",
+        "try\n  a;\nexcept e (E_DIV, E_PERM)\n  try\n  finally\n    -(-b);\n  endtry\nendtry\n",
+        "try\na;\nexcept e (E_DIV, E_PERM)\ntry\nfinally\n--b;\nendtry\nendtry\n",
+        "try\n  a;\nexcept e (E_DIV, E_PERM)\n  try\n  finally\n    --b;\n  endtry\nendtry\n",
     ],
 ];

@@ -1,6 +1,7 @@
 pub mod Forms
 pub mod Full
 pub mod Good
+pub mod Indents
 pub mod Items
 pub mod Law
 pub mod LineSteps

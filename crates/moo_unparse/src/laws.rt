@@ -1,11 +1,12 @@
 //! What holds of the listings of every program.
-ghost use Rattle.std.specs.Prelude.{◌≡◌, ℕ, List, Bool};
+ghost use Rattle.std.specs.Prelude.{◌≡◌, ℕ, List, Bool, true, false};
 ghost use Rattle.moo_program.specs.Tree.{Block};
 ghost use Rattle.moo_program.specs.Limits.{IsWithinLimits};
 ghost use Rattle.moo_program.specs.Listing.{listing};
 ghost use Rattle.moo_grammar.specs.declared.names.Names.{Names};
 ghost use Rattle.moo_grammar.specs.declared.names.Names.TheVariants.{Any};
 ghost use Rattle.moo_grammar.specs.Texts.{IsProgramOf, IsParsed, HasText};
+ghost use Rattle.moo_unparse.specs.Indents.{AreIndented};
 ghost use Rattle.moo_unparse.specs.Listings.{indented_listing, short_listing};
 
 /// The full listing of the program of a text is a text of that program, and of no other.
@@ -37,4 +38,10 @@ pub fn listing_is_within_limits()
 /// The full listing of every program within the limits that some text has is a text of it within the limits.
 pub fn programs_have_listings()
     ensures { (b : Block) → HasText b → IsWithinLimits b → IsParsed Any (listing b) b }
+{}
+
+/// The listings with indents have the lines of those without, each with blanks before it.
+pub fn indents_are_blanks()
+    ensures full { (b : Block) → AreIndented (listing b) (indented_listing b) }
+    ensures short { (b : Block) → AreIndented (short_listing false b) (short_listing true b) }
 {}

@@ -1,9 +1,8 @@
 -- Properties by their names, the built-in ones among them.
-use Rattle.std.specs.Prelude.{ℕ, ℤ, pos, negsuc, List, Option, Some, None, Bool, map, length, nat_lt, if◌then◌else◌}
+use Rattle.std.specs.Prelude.{ℕ, ℤ, pos, negsuc, List, Option, Some, None, Bool, map, if◌then◌else◌}
 use Rattle.moo_value.specs.Tree.{Tree, integer, object, string, list_of}
-use Rattle.moo_value.specs.Size.{weight_limit}
 use Rattle.moo_value.specs.declared.error_code.ErrorCode.{ErrorCode}
-use Rattle.moo_value.specs.declared.error_code.ErrorCode.TheVariants.{InvalidIndirection, Quota}
+use Rattle.moo_value.specs.declared.error_code.ErrorCode.TheVariants.{InvalidIndirection}
 use Rattle.moo_forest.specs.Forest.{above_of, below_of}
 use Rattle.moo_object.specs.BuiltIn.{built_in_of}
 use Rattle.moo_object.specs.declared.built_in_property.BuiltInProperty.{BuiltInProperty}
@@ -48,25 +47,10 @@ built_in_value w x property.Read = own_value (thing_of w.objects x) property.Rea
 built_in_value w x property.Write = own_value (thing_of w.objects x) property.Write
 built_in_value w x property.Fertile = own_value (thing_of w.objects x) property.Fertile
 
--- a list of contents has to be within the limits of a value
-abbrev pub contents_raise : List ℕ → Option ErrorCode
-contents_raise ys = if nat_lt (length ys) weight_limit then None else Some Quota
-
-abbrev pub built_in_raises : World → ℕ → BuiltInProperty → Option ErrorCode
-built_in_raises w x property.Name = None
-built_in_raises w x property.Owner = None
-built_in_raises w x property.Location = None
-built_in_raises w x property.Contents = contents_raise (below_of w.containment x)
-built_in_raises w x property.Programmer = None
-built_in_raises w x property.Wizard = None
-built_in_raises w x property.Read = None
-built_in_raises w x property.Write = None
-built_in_raises w x property.Fertile = None
-
--- a built-in property of the name, or else one that is defined
+-- a built-in property is always there, any other one where it is defined
 abbrev pub named_raises : World → ℕ → List ℕ → Option BuiltInProperty → Option ErrorCode
 named_raises w x name None = plain_raises w x name
-named_raises w x name (Some property) = built_in_raises w x property
+named_raises w x name (Some property) = None
 
 abbrev pub named_value : World → ℕ → List ℕ → Option BuiltInProperty → Option Tree
 named_value w x name None = read w x name

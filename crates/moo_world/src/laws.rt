@@ -1,9 +1,10 @@
 //! What follows from the invariant of a world.
 
-ghost use Rattle.std.specs.Prelude.{◌≡◌, None, Some, is_some, IsSome};
+ghost use Rattle.std.specs.Prelude.{◌≡◌, ◌<◌, length, None, Some, is_some, IsSome};
 ghost use Rattle.std.specs.Option.{ForSome};
 ghost use Rattle.moo_value.specs.Compare.{folded};
-ghost use Rattle.moo_forest.specs.Forest.{above_of};
+ghost use Rattle.moo_forest.specs.Forest.{above_of, below_of};
+ghost use Rattle.moo_value.specs.Size.{weight_limit};
 ghost use Rattle.moo_value.specs.View.{tree};
 ghost use Rattle.moo_object.specs.Cells.{own_cell};
 ghost use Rattle.moo_table.specs.Changes.{after_chparent, after_define, after_move, after_undefine};
@@ -89,6 +90,14 @@ pub fn a_recycled_object_takes_its_properties_along(world: &World, x: usize)
 pub fn a_deleted_property_is_gone_below(world: &World, x: usize, name: &[u8])
     requires { IsSome (object_of world.now.objects x) }
     ensures { IsUndefined world.now (after_undefine world.now x (folded name.now)) (x, folded name.now) }
+{
+    world.is_well_formed();
+}
+
+/// What is in an object is within the limits of a list: the objects are distinct, and none is in
+/// itself.
+pub fn contents_are_within_the_limits(world: &World, x: usize)
+    ensures { length (below_of world.now.containment x) < weight_limit }
 {
     world.is_well_formed();
 }

@@ -7,22 +7,23 @@ ghost use Rattle.moo_value.specs.View.{tree};
 ghost use Rattle.moo_object.specs.BuiltIn.{built_in_of};
 ghost use Rattle.moo_table.specs.World.{object_of, most, nothing};
 ghost use Rattle.moo_table.specs.Properties.{read};
-ghost use Rattle.moo_world.specs.NamedProperties.{truth, number_of_place, objects_list, contents_raise, built_in_value, built_in_raises, named_raises, named_value, get_raises, value_got, own_value};
-ghost use Rattle.moo_world.specs.Calls.{Answers, number_of};
+ghost use Rattle.moo_world.specs.NamedProperties.{truth, number_of_place, objects_list, built_in_value, named_raises, named_value, get_raises, value_got, own_value};
+ghost use Rattle.moo_world.specs.Calls.{Answers, RaisesFirst, number_of};
 ghost use Rattle.std.specs.Option.{unwrap_or, ForSome};
 ghost use Rattle.moo_value.specs.Tree.{object};
 
 use crate::World;
 use crate::fault::WorldFault;
 use moo_object::{BuiltInProperty, Object, built_in};
-use moo_value::{ErrorCode, MooList, Value, WEIGHT_LIMIT};
+use moo_value::{ErrorCode, MooList, Value};
 use std::alloc::{AllocError, Global};
 
 impl World {
     /// The value of a property by its name, the built-in ones first.
     pub fn get(&self, alloc: Global, o: i32, name: &[u8]) -> Result<Value, WorldFault>
-        ensures { Answers result (get_raises self.now (number_of self.now.objects o) (folded name.now))
+        ensures value { Answers result (get_raises self.now (number_of self.now.objects o) (folded name.now))
             (λ v. value_got self.now (number_of self.now.objects o) (folded name.now) ≡ Some (tree v)) }
+        ensures memory { RaisesFirst result (get_raises self.now (number_of self.now.objects o) (folded name.now)) }
     {
         match self.number(o) {
             Some(x) => self.get_named(alloc, x, name),
@@ -32,18 +33,20 @@ impl World {
 
     fn get_named(&self, alloc: Global, x: usize, name: &[u8]) -> Result<Value, WorldFault>
         requires { IsSome (object_of self.now.objects x) }
-        ensures { Answers result (named_raises self.now x (folded name.now) (built_in_of (folded name.now)))
+        ensures value { Answers result (named_raises self.now x (folded name.now) (built_in_of (folded name.now)))
             (λ v. named_value self.now x (folded name.now) (built_in_of (folded name.now)) ≡ Some (tree v)) }
+        ensures memory { RaisesFirst result (named_raises self.now x (folded name.now) (built_in_of (folded name.now))) }
     {
         match built_in(name) {
-            Some(property) => self.get_built_in(alloc, x, property),
+            Some(property) => Ok(self.get_built_in(alloc, x, property)?),
             None => self.get_defined(x, name),
         }
     }
 
     fn get_defined(&self, x: usize, name: &[u8]) -> Result<Value, WorldFault>
         requires { IsSome (object_of self.now.objects x) }
-        ensures { Answers result (named_raises self.now x (folded name.now) None) (λ v. read self.now x (folded name.now) ≡ Some (tree v)) }
+        ensures value { Answers result (named_raises self.now x (folded name.now) None) (λ v. read self.now x (folded name.now) ≡ Some (tree v)) }
+        ensures memory { RaisesFirst result (named_raises self.now x (folded name.now) None) }
     {
         self.is_well_formed();
         match self.value_from(x, name) {
@@ -57,14 +60,14 @@ impl World {
         alloc: Global,
         x: usize,
         property: BuiltInProperty,
-    ) -> Result<Value, WorldFault>
+    ) -> Result<Value, AllocError>
         requires { IsSome (object_of self.now.objects x) }
-        ensures { Answers result (built_in_raises self.now x property) (λ v. tree v ≡ built_in_value self.now x property) }
+        ensures { IfOk result (λ v. tree v ≡ built_in_value self.now x property) }
     {
         match property {
             BuiltInProperty::Location => Ok(place_value(self.containment.above(x))),
             BuiltInProperty::Contents => contents_value(alloc, self.containment.below(x)),
-            _ => Ok(own_value(&self.objects[x], property)?),
+            _ => own_value(&self.objects[x], property),
         }
     }
 }
@@ -88,21 +91,18 @@ pub(crate) fn place_number(place: Option<usize>) -> i32
 }
 
 // The objects in a place, as a list of their numbers.
-fn contents_value(alloc: Global, below: &[usize]) -> Result<Value, WorldFault>
+fn contents_value(alloc: Global, below: &[usize]) -> Result<Value, AllocError>
     requires { All (λ y. y < most) below.now }
-    ensures { Answers result (contents_raise below.now) (λ v. tree v ≡ objects_list below.now) }
+    ensures { IfOk result (λ v. tree v ≡ objects_list below.now) }
 {
-    if below.len() >= WEIGHT_LIMIT as usize {
-        return Err(WorldFault::Raise(ErrorCode::Quota));
-    }
     let mut values = Vec::new(alloc);
     for y in below {
         values.push(Value::Obj(*y as i32))?;
     }
-    // A list of fewer than a million numbers is within the limits.
+    // What is in an object is always within the limits of a list.
     match MooList::try_from_vec(alloc, values) {
         Ok(list) => Ok(Value::List(list)),
-        Err(_) => Err(WorldFault::Memory),
+        Err(_) => Err(AllocError),
     }
 }
 

@@ -94,6 +94,13 @@ fn time(many: usize) {
     }
     tell("move", start);
     let start = Instant::now();
+    for o in 2..many {
+        if let Some(old) = world[o].location.take() {
+            world[old].contents.retain(|x| *x != o);
+        }
+    }
+    tell("leave", start);
+    let start = Instant::now();
     add(&mut world, 0, &Rc::new(b"late".to_vec()), Some(1));
     tell("add_property", start);
 }

@@ -212,27 +212,25 @@ fn called_variables(
     ensures { IfOk result (λ variables. variables_of variables ≡ called_variables frame.now (variables_of caller.now)) }
 {
     let mut variables = Variables::first(alloc, frame)?;
-    take_over(alloc, &mut variables, caller, "argstr")?;
-    take_over(alloc, &mut variables, caller, "dobj")?;
-    take_over(alloc, &mut variables, caller, "dobjstr")?;
-    take_over(alloc, &mut variables, caller, "prepstr")?;
-    take_over(alloc, &mut variables, caller, "iobj")?;
-    take_over(alloc, &mut variables, caller, "iobjstr")?;
+    take_over(&mut variables, caller, "argstr")?;
+    take_over(&mut variables, caller, "dobj")?;
+    take_over(&mut variables, caller, "dobjstr")?;
+    take_over(&mut variables, caller, "prepstr")?;
+    take_over(&mut variables, caller, "iobj")?;
+    take_over(&mut variables, caller, "iobjstr")?;
     Ok(variables)
 }
 
 // Sets a variable as it stands elsewhere, if it is set there. The letters of the name are small.
 fn take_over(
-    alloc: Global,
     variables: &mut Variables,
     elsewhere: &Variables,
-    name: &str,
+    name: &'static str,
 ) -> Result<(), AllocError>
     ensures { OnOk result (variables_of variables.new ≡ with_taken (variables_of variables.old) name.now (variables_of elsewhere.now (folded name.now))) }
 {
-    let Some(value) = elsewhere.get(name.as_bytes()) else {
-        return Ok(());
-    };
-    let name = MooStr::try_from_bytes(alloc, name.as_bytes()).map_err(|_| AllocError)?;
-    variables.set(&name, value.try_clone()?)
+    match elsewhere.get(name.as_bytes()) {
+        Some(value) => variables.set_given(name, value.try_clone()?),
+        None => Ok(()),
+    }
 }

@@ -1,8 +1,8 @@
 //! Whole tasks.
 ghost use Rattle.std.specs.Prelude.{◌≡◌};
 ghost use Rattle.moo_outcome.specs.Seen.{seen_flow, IsKnown};
-ghost use Rattle.moo_outcome.specs.Variables.{first_bindings};
-ghost use Rattle.moo_outcome.specs.Seen.{bindings_of};
+ghost use Rattle.moo_outcome.specs.Variables.{first_bindings, value_of_name};
+ghost use Rattle.moo_outcome.specs.Seen.{variables_of};
 ghost use Rattle.moo_eval.specs.Task.{TaskEnds, end_of};
 ghost use Rattle.moo_eval.specs.Ends.{IfEnded};
 
@@ -35,7 +35,7 @@ pub fn run_task(alloc: Global, world: &mut World, start: Frame) -> Ended
 }
 
 fn run_frame(alloc: Global, world: &mut World, start: Frame, variables: Variables) -> Ended
-    requires { bindings_of variables ≡ first_bindings start }
+    requires { variables_of variables ≡ value_of_name (first_bindings start) }
     ensures { IfEnded result (λ end. TaskEnds start world.old end world.new) }
 {
     let mut active = Activation {

@@ -1,32 +1,102 @@
 -- How a variable is looked for.
-use Rattle.std.proofs.Common.{◌≡◌, ℕ, ◌+◌, ◌<◌, Bool, true, false, cond, List, ◌∷◌, Option, Some, Decides, map, length, get_or, drop, refl, sym, ap, ◌∙◌}
-use Rattle.std.proofs.lemmas.List.{at_drop_more}
+use Rattle.std.proofs.Common.{◌≡◌, ℕ, zero, suc, ◌+◌, ◌<◌, ◌≤◌, Bool, true, false, cond, List, [], ◌∷◌, ◌++◌, Option, Some, None, Decides, map, length, get_or, position, All, codes, option_copied, refl, sym, ap, ◌∙◌, arith}
 use Rattle.std.specs.Option.{option_map}
-use Rattle.std.specs.List.{find}
+use Rattle.std.specs.List.{find, position_or_len}
 use Rattle.std.specs.Str.{bytes_eq}
+use Rattle.std.proofs.lemmas.Bool.{ltb-false}
 use Rattle.std.proofs.lemmas.Bool.Decides.{same_from_decides}
+use Rattle.std.proofs.lemmas.List.Quantifiers.{position-Some}
+use Rattle.std.proofs.lemmas.List.Sums.{fails_before_first}
 use Rattle.std.proofs.lemmas.Slice.Eq.{bytes_eq-Decides}
-use Rattle.moo_value.specs.Tree.{Tree}
+use Rattle.moo_value.specs.declared.value.Value.{Value}
+use Rattle.std.specs.Borrow.{Bor}
+use Rattle.moo_value.specs.Tree.{Tree, list_of}
 use Rattle.moo_value.specs.Compare.{folded}
 use Rattle.moo_value.specs.View.{tree}
 use Rattle.moo_outcome.specs.declared.variables.Variable.{Variable}
-use Rattle.moo_outcome.specs.Variables.{Binding, value_of_name}
-use Rattle.moo_outcome.specs.Seen.{binding_of}
+use Rattle.moo_outcome.specs.declared.frame.Frame.{Frame}
+use Rattle.moo_outcome.specs.Variables.{Binding, bind, with_variable, type_bindings, object_bindings, text_bindings, first_bindings, over, value_of_name}
+use Rattle.moo_outcome.specs.Seen.{own_name, binding_of, value_among, slot_value}
 
-abbrev pub looked : List ℕ → List Variable → Option Tree
-looked name rows = value_of_name (map binding_of rows) name
+-- the program's name is this one
+abbrev pub is_own : List ℕ → List ℕ → Bool
+is_own name own = bytes_eq (folded own) (folded name)
 
 pub split : (b : Bool) (x : Binding) (o : Option Binding) → option_map (λ y. y.value) (cond b (Some x) o) ≡ cond b (Some x.value) (option_map (λ y. y.value) o)
 split true x o = refl
 split false x o = refl
 
--- the first of the bindings that are left, or else the others
-pub looked_next : (name : List ℕ) (rows : List Variable) (i : ℕ) (row : Variable) → i < length rows → row ≡ get_or rows i row → looked name (drop i rows) ≡ cond (bytes_eq (folded row.name) name) (Some (tree row.value)) (looked name (drop (i + 1) rows))
-looked_next name rows i row h e =
-    at_drop_more (looked name) rows i row h
-    ∙ ap (λ r. looked name (r ∷ drop (i + 1) rows)) (sym e)
-    ∙ split (bytes_eq (folded row.name) name) (binding_of row) (find (λ b. bytes_eq (folded b.name) name) (map binding_of (drop (i + 1) rows)))
+-- a binding before others
+pub first_name : (b : Binding) (bs : List Binding) → with_variable (value_of_name bs) b ≡ value_of_name (b ∷ bs)
+first_name b bs = λ j n. sym (split (bytes_eq (folded b.name) n) b (find (λ x. bytes_eq (folded x.name) n) bs)) j
+
+pub over_names : (bs cs : List Binding) → over bs (value_of_name cs) ≡ value_of_name (bs ++ cs)
+over_names [] cs = refl
+over_names (b ∷ bs) cs = ap (λ f. with_variable f b) (over_names bs cs) ∙ first_name b (bs ++ cs)
 
 -- what the comparison of two names answers
 pub named : (b : Bool) (r n a d : List ℕ) → a ≡ r → d ≡ n → Decides b (folded a ≡ folded d) → b ≡ bytes_eq (folded r) (folded n)
 named b r n a d p q h = same_from_decides b (bytes_eq (folded r) (folded n)) (rw (p, q) at h) (bytes_eq-Decides (folded r) (folded n))
+
+-- what has no place is nowhere
+no_place : {X : Type 0} (b : Bool) (x : X) → cond b (Some x) None ≡ None → b ≡ false
+no_place true x h = absurd cc
+no_place false x h = refl
+
+either : (b : Bool) → ◌≡◌ {A = Option Tree} (cond b None None) None
+either true = refl
+either false = refl
+
+-- A name whose slot is not among the first n is none of these.
+unslotted_at : (P : List ℕ → Bool) (slots : List (List ℕ)) (n : ℕ) (o : Option ℕ) → position P slots ≡ o → ((i : ℕ) → position P slots ≡ Some i → n ≤ i) → (k : ℕ) → k < length slots → k < n → P (get_or slots k []) ≡ false
+unslotted_at P slots n (Some i) e h k l m = let q = h i e in (position-Some P slots i [] e).2 k (omega (arith, q, m))
+unslotted_at P slots n None e h k l m = fails_before_first P slots k [] (omega (arith, l, ltb-false _ _ (no_place _ (position_or_len P slots) e)))
+
+pub unslotted : (P : List ℕ → Bool) (slots : List (List ℕ)) (n : ℕ) → ((i : ℕ) → position P slots ≡ Some i → n ≤ i) → (k : ℕ) → k < length slots → k < n → P (get_or slots k []) ≡ false
+unslotted P slots n h = unslotted_at P slots n (position P slots) refl h
+
+-- the variables that a frame begins with, set from the last one on
+pub first_set : (f : Frame) (v1 v2 v3 v4 v5 : List ℕ → Option Tree) → v1 ≡ value_of_name [] → v2 ≡ with_variable v1 (bind (codes "args") (list_of f.args)) → v3 ≡ over (text_bindings f) v2 → v4 ≡ over (object_bindings f) v3 → v5 ≡ over type_bindings v4 → v5 ≡ value_of_name (first_bindings f)
+first_set f v1 v2 v3 v4 v5 p1 p2 p3 p4 p5 =
+    let args = bind (codes "args") (list_of f.args) in
+    let a = p2 ∙ ap (λ v. with_variable v args) p1 ∙ first_name args [] in
+    let b = p3 ∙ ap (over (text_bindings f)) a ∙ over_names (text_bindings f) (args ∷ []) in
+    let d = p4 ∙ ap (over (object_bindings f)) b ∙ over_names (object_bindings f) (text_bindings f ++ args ∷ []) in
+    p5 ∙ ap (over type_bindings) d ∙ over_names type_bindings (object_bindings f ++ text_bindings f ++ args ∷ [])
+
+-- a value that is lent
+pub lent : (r : Option (Bor Value)) → option_map (λ v. tree v.now) r ≡ option_map (λ v. tree v) (option_copied r)
+lent None = refl
+lent (Some v) = refl
+
+value_at : (name : List ℕ) (slots : List (List ℕ)) (values : List (Option Value)) (elsewhere : List ℕ → Option Tree) (d : Option Value) (i : ℕ) → i < length slots → i < length values → is_own name (get_or slots i []) ≡ true → ((k : ℕ) → k < i → is_own name (get_or slots k []) ≡ false) → slot_value slots values elsewhere (folded name) ≡ option_map (λ v. tree v) (get_or values i d)
+value_at name [] values elsewhere d i g h p a = absurd (omega arith)
+value_at name (own ∷ slots) [] elsewhere d i g h p a = absurd (omega arith)
+value_at name (own ∷ slots) (x ∷ values) elsewhere d zero g h p a = ap (λ b. cond b (option_map (λ v. tree v) x) (slot_value slots values elsewhere (folded name))) p
+value_at name (own ∷ slots) (x ∷ values) elsewhere d (suc i) g h p a =
+    ap (λ b. cond b (option_map (λ v. tree v) x) (slot_value slots values elsewhere (folded name))) (a 0 (omega arith))
+    ∙ value_at name slots values elsewhere d i (omega (arith, g)) (omega (arith, h)) p (λ k l. a (suc k) (omega (arith, l)))
+
+-- what a name has by its slot
+pub slot_at : (name : List ℕ) (slots : List (List ℕ)) (values : List (Option Value)) (elsewhere : List ℕ → Option Tree) (d : Option Value) (i : ℕ) → position (is_own name) slots ≡ Some i → i < length values → slot_value slots values elsewhere (folded name) ≡ option_map (λ v. tree v) (get_or values i d)
+slot_at name slots values elsewhere d i e h = let p = position-Some (is_own name) slots i [] e in value_at name slots values elsewhere d i p.0 h p.1 p.2
+
+nothing_at : (name : List ℕ) (slots : List (List ℕ)) (values : List (Option Value)) (elsewhere : List ℕ → Option Tree) → ((k : ℕ) → k < length slots → k < length values → is_own name (get_or slots k []) ≡ false) → slot_value slots values elsewhere (folded name) ≡ elsewhere (folded name)
+nothing_at name [] values elsewhere a = refl
+nothing_at name (own ∷ slots) [] elsewhere a = refl
+nothing_at name (own ∷ slots) (x ∷ values) elsewhere a =
+    ap (λ b. cond b (option_map (λ v. tree v) x) (slot_value slots values elsewhere (folded name))) (a 0 (omega arith) (omega arith))
+    ∙ nothing_at name slots values elsewhere (λ k l m. a (suc k) (omega (arith, l)) (omega (arith, m)))
+
+-- what a name without a slot has
+pub no_slot : (name : List ℕ) (slots : List (List ℕ)) (values : List (Option Value)) (elsewhere : List ℕ → Option Tree) → ((i : ℕ) → position (is_own name) slots ≡ Some i → length values ≤ i) → slot_value slots values elsewhere (folded name) ≡ elsewhere (folded name)
+no_slot name slots values elsewhere h = nothing_at name slots values elsewhere (unslotted (is_own name) slots (length values) h)
+
+-- where no slot has a value
+pub nothing_set : (slots : List (List ℕ)) (values : List (Option Value)) (n : List ℕ) → All (λ v. v ≡ None) values → slot_value slots values (value_of_name []) n ≡ None
+nothing_set [] values n a = refl
+nothing_set (own ∷ slots) [] n a = refl
+nothing_set (own ∷ slots) (x ∷ values) n a =
+    ap (λ y. cond (bytes_eq (folded own) n) (option_map (λ v. tree v) y) (slot_value slots values (value_of_name []) n)) (a 0 x (omega arith))
+    ∙ ap (cond (bytes_eq (folded own) n) None) (nothing_set slots values n (λ k d h. a (suc k) d (omega (arith, h))))
+    ∙ either (bytes_eq (folded own) n)

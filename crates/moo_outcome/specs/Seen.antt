@@ -1,18 +1,23 @@
 -- What the program's values stand for in the meaning.
-use Rattle.std.specs.Prelude.{ℕ, List, [], Box, Option, Some, None, Result, Ok, Err, map, option_map}
+use Rattle.std.specs.Prelude.{ℕ, List, [], ◌∷◌, Box, Option, Some, None, Result, Ok, Err, map, option_map, reverse, if◌then◌else◌}
+use Rattle.std.specs.Str.{bytes_eq}
 use Rattle.std.specs.Borrow.{Bor}
 use Rattle.std.specs.declared.vec.Vec.{Vec}
 use Rattle.std.specs.declared.alloc.Global.{Global}
 use Rattle.moo_value.specs.declared.value.Value.{Value}
 use Rattle.moo_value.specs.Tree.{Tree}
+use Rattle.moo_value.specs.Compare.{folded}
 use Rattle.moo_value.specs.View.{tree, trees}
 use Rattle.moo_program.specs.declared.tree.Expr as code_expr
 use Rattle.moo_program.specs.Tree.{Expr, catch, catch_or, Codes}
+use Rattle.moo_program.specs.Slots.{slots}
 use Rattle.moo_program.specs.View.{root}
 use Rattle.moo_outcome.specs.declared.frame.CallStack.{CallStack}
 use Rattle.moo_outcome.specs.declared.frame.Activation.{Activation}
 use Rattle.moo_outcome.specs.declared.variables.Variables.{Variables}
 use Rattle.moo_outcome.specs.declared.variables.Variable.{Variable}
+use Rattle.moo_outcome.specs.declared.variables.Name.{Name}
+use Rattle.moo_outcome.specs.declared.variables.Name.TheVariants as name_case
 use Rattle.moo_outcome.specs.declared.outcome.Raise as code_raise
 use Rattle.moo_outcome.specs.declared.outcome.Stop as code_stop
 use Rattle.moo_outcome.specs.declared.outcome.Stop.TheVariants as stop_case
@@ -25,14 +30,26 @@ use Rattle.moo_outcome.specs.State.{Context, entries}
 use Rattle.moo_outcome.specs.declared.frame.TraceEntry.{TraceEntry}
 use Rattle.moo_outcome.specs.Outcome.{Raise, Stop, raised, out_of_ticks, Failure, fails, stops, Flow, next, returned, broken, continued}
 
+abbrev pub own_name : Name → List ℕ
+own_name (name_case.Given name) = name.now
+own_name (name_case.Own name) = name
+
 abbrev pub binding_of : Variable → Binding
-binding_of v = record { name = v.name; value = tree v.value }
+binding_of v = record { name = own_name v.name; value = tree v.value }
 
-abbrev pub bindings_of : Variables → List Binding
-bindings_of variables = map binding_of variables.bindings.items
+-- of these variables the newest, the last one, hides the others of its name
+abbrev pub value_among : List Variable → List ℕ → Option Tree
+value_among others = value_of_name (map binding_of (reverse others))
 
-abbrev pub variables_of : Variables → List ℕ → Option Tree
-variables_of variables = value_of_name (bindings_of variables)
+-- the value in the slot of a folded name, and where it has none the value elsewhere
+abbrev pub slot_value : List (List ℕ) → List (Option Value) → (List ℕ → Option Tree) → List ℕ → Option Tree
+slot_value (own ∷ slots) (value ∷ values) elsewhere name =
+    if bytes_eq (folded own) name then option_map (λ v. tree v) value else slot_value slots values elsewhere name
+slot_value _ _ elsewhere name = elsewhere name
+
+-- the value that a folded name has
+unfoldable pub variables_of : Variables → List ℕ → Option Tree
+variables_of variables = slot_value (slots variables.program) variables.values.items (value_among variables.others.items)
 
 abbrev pub indexed_of : Option (Bor Value) → Option Tree
 indexed_of indexed = option_map (λ v. tree v.now) indexed

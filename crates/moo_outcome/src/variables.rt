@@ -1,89 +1,135 @@
 //! The variables of a frame.
-ghost use Rattle.std.specs.Prelude.{◌≡◌, ◌<◌, ◌++◌, ◌∷◌, [], option_map, position, vec_len, IfOk, IfSome, OnOk};
+ghost use Rattle.std.specs.Prelude.{◌≡◌, ℕ, ◌<◌, ◌≤◌, [], Some, None, All, position, length, option_map, IfOk, IfSome, IfNone, OnOk};
 ghost use Rattle.std.specs.Str.{bytes_eq};
 ghost use Rattle.moo_value.specs.Tree.{string};
 ghost use Rattle.moo_value.specs.View.{tree};
 ghost use Rattle.moo_value.specs.Compare.{folded};
-ghost use Rattle.moo_outcome.specs.Variables.{bind, with_variable, type_bindings, object_bindings, text_bindings, first_bindings};
-ghost use Rattle.moo_outcome.specs.Seen.{bindings_of, variables_of};
+ghost use Rattle.moo_program.specs.Slots.{slots};
+ghost use Rattle.moo_outcome.specs.Variables.{bind, with_variable, type_bindings, object_bindings, text_bindings, first_bindings, over, value_of_name};
+ghost use Rattle.moo_outcome.specs.Seen.{own_name, value_among, variables_of};
 
 use crate::frame::Frame;
+use moo_program::Program;
 use moo_value::{MooStr, Value};
 use std::alloc::{AllocError, Global};
 
-/// The variables of a frame, by names whose letters are folded.
+/// The variables of a frame: a value or none for each name of its program, by the name's slot, and those of the names
+/// that the program doesn't have.
 #[derive(Drop)]
 pub struct Variables {
-    bindings: Vec<Variable>,
+    program: Program,
+    values: Vec<Option<Value>>,
+    /// The newest last, which hides older ones of its name.
+    others: Vec<Variable>,
 }
 
+/// A variable that no statement of the program reads or sets.
 #[derive(Drop)]
 struct Variable {
-    name: MooStr,
+    name: Name,
     value: Value,
+}
+
+/// A name that every frame has, or another.
+#[derive(Drop)]
+enum Name {
+    Given(&'static str),
+    Own(MooStr),
 }
 
 impl Variables {
     /// The variables that a frame begins with.
     pub fn first(alloc: Global, frame: &Frame) -> Result<Variables, AllocError>
-        ensures { IfOk result (λ v. bindings_of v ≡ first_bindings frame.now) }
+        ensures { IfOk result (λ v. variables_of v ≡ value_of_name (first_bindings frame.now)) }
     {
-        let mut variables = Variables {
-            bindings: Vec::new(alloc),
-        };
-        variables.add_types(alloc)?;
-        variables.add_objects(alloc, frame)?;
-        variables.add_texts(alloc, frame)?;
-        variables.add(alloc, "args", Value::List(frame.args.try_clone()?))?;
+        let mut variables = Variables::unset(alloc, &frame.program)?;
+        variables.set_given("args", Value::List(frame.args.try_clone()?))?;
+        variables.set_texts(frame)?;
+        variables.set_objects(frame)?;
+        variables.set_types()?;
         Ok(variables)
     }
 
-    fn add_types(&mut self, alloc: Global) -> Result<(), AllocError>
-        ensures { OnOk result (bindings_of self.new ≡ bindings_of self.old ++ type_bindings) }
+    // No variable is set.
+    fn unset(alloc: Global, program: &Program) -> Result<Variables, AllocError>
+        ensures { IfOk result (λ v. variables_of v ≡ value_of_name []) }
     {
-        self.add(alloc, "NUM", Value::Int(0))?;
-        self.add(alloc, "INT", Value::Int(0))?;
-        self.add(alloc, "OBJ", Value::Int(1))?;
-        self.add(alloc, "STR", Value::Int(2))?;
-        self.add(alloc, "ERR", Value::Int(3))?;
-        self.add(alloc, "LIST", Value::Int(4))?;
-        self.add(alloc, "FLOAT", Value::Int(9))?;
+        let program = program.try_clone()?;
+        let values = no_values(alloc, program.slots())?;
+        Ok(Variables {
+            program,
+            values,
+            others: Vec::new(alloc),
+        })
+    }
+
+    // The numbers of the types, the last one first.
+    fn set_types(&mut self) -> Result<(), AllocError>
+        ensures { OnOk result (variables_of self.new ≡ over type_bindings (variables_of self.old)) }
+    {
+        self.set_given("FLOAT", Value::Int(9))?;
+        self.set_given("LIST", Value::Int(4))?;
+        self.set_given("ERR", Value::Int(3))?;
+        self.set_given("STR", Value::Int(2))?;
+        self.set_given("OBJ", Value::Int(1))?;
+        self.set_given("INT", Value::Int(0))?;
+        self.set_given("NUM", Value::Int(0))?;
         Ok(())
     }
 
-    fn add_objects(&mut self, alloc: Global, frame: &Frame) -> Result<(), AllocError>
-        ensures { OnOk result (bindings_of self.new ≡ bindings_of self.old ++ object_bindings frame.now) }
+    fn set_objects(&mut self, frame: &Frame) -> Result<(), AllocError>
+        ensures { OnOk result (variables_of self.new ≡ over (object_bindings frame.now) (variables_of self.old)) }
     {
-        self.add(alloc, "player", Value::Obj(frame.player))?;
-        self.add(alloc, "this", Value::Obj(frame.this))?;
-        self.add(alloc, "caller", Value::Obj(frame.caller))?;
-        self.add(alloc, "dobj", Value::Obj(frame.dobj))?;
-        self.add(alloc, "iobj", Value::Obj(frame.iobj))?;
+        self.set_given("iobj", Value::Obj(frame.iobj))?;
+        self.set_given("dobj", Value::Obj(frame.dobj))?;
+        self.set_given("caller", Value::Obj(frame.caller))?;
+        self.set_given("this", Value::Obj(frame.this))?;
+        self.set_given("player", Value::Obj(frame.player))?;
         Ok(())
     }
 
-    fn add_texts(&mut self, alloc: Global, frame: &Frame) -> Result<(), AllocError>
-        ensures { OnOk result (bindings_of self.new ≡ bindings_of self.old ++ text_bindings frame.now) }
+    fn set_texts(&mut self, frame: &Frame) -> Result<(), AllocError>
+        ensures { OnOk result (variables_of self.new ≡ over (text_bindings frame.now) (variables_of self.old)) }
     {
-        self.add_text(alloc, "verb", &frame.verb)?;
-        self.add_text(alloc, "argstr", &frame.argstr)?;
-        self.add_text(alloc, "dobjstr", &frame.dobjstr)?;
-        self.add_text(alloc, "prepstr", &frame.prepstr)?;
-        self.add_text(alloc, "iobjstr", &frame.iobjstr)?;
+        self.set_text("iobjstr", &frame.iobjstr)?;
+        self.set_text("prepstr", &frame.prepstr)?;
+        self.set_text("dobjstr", &frame.dobjstr)?;
+        self.set_text("argstr", &frame.argstr)?;
+        self.set_text("verb", &frame.verb)?;
         Ok(())
     }
 
-    fn add_text(&mut self, alloc: Global, name: &str, text: &MooStr) -> Result<(), AllocError>
-        ensures { OnOk result (bindings_of self.new ≡ bindings_of self.old ++ bind name.now (string text.now) ∷ []) }
+    fn set_text(&mut self, name: &'static str, text: &MooStr) -> Result<(), AllocError>
+        ensures { OnOk result (variables_of self.new ≡ with_variable (variables_of self.old) (bind name.now (string text.now))) }
     {
-        self.add(alloc, name, Value::Str(text.try_clone()?))
+        self.set_given(name, Value::Str(text.try_clone()?))
     }
 
-    fn add(&mut self, alloc: Global, name: &str, value: Value) -> Result<(), AllocError>
-        ensures { OnOk result (bindings_of self.new ≡ bindings_of self.old ++ bind name.now (tree value) ∷ []) }
+    /// Sets a variable that every frame has.
+    pub fn set_given(&mut self, name: &'static str, value: Value) -> Result<(), AllocError>
+        ensures { OnOk result (variables_of self.new ≡ with_variable (variables_of self.old) (bind name.now (tree value))) }
     {
-        let name = MooStr::try_from_bytes(alloc, name.as_bytes()).map_err(|_| AllocError)?;
-        self.bindings.push(Variable { name, value })?;
+        match self.slot(name.as_bytes()) {
+            Some(slot) => self.values[slot] = Some(value),
+            None => self.others.push(Variable {
+                name: Name::Given(name),
+                value,
+            })?,
+        }
+        Ok(())
+    }
+
+    /// Sets a variable.
+    pub fn set(&mut self, name: &MooStr, value: Value) -> Result<(), AllocError>
+        ensures { OnOk result (variables_of self.new ≡ with_variable (variables_of self.old) (bind name.now (tree value))) }
+    {
+        match self.slot(name.as_bytes()) {
+            Some(slot) => self.values[slot] = Some(value),
+            None => self.others.push(Variable {
+                name: Name::Own(name.try_clone()?),
+                value,
+            })?,
+        }
         Ok(())
     }
 
@@ -91,42 +137,77 @@ impl Variables {
     pub fn get(&self, name: &[u8]) -> Option<&Value>
         ensures { option_map (λ v. tree v.now) result ≡ variables_of self.now (folded name.now) }
     {
-        for binding in &self.bindings {
-            if binding.name.as_bytes().eq_ignore_ascii_case(name) {
-                return Some(&binding.value);
+        match self.slot(name) {
+            Some(slot) => self.values[slot].as_ref(),
+            None => self.other(name),
+        }
+    }
+
+    // The slot of a name of the program.
+    fn slot(&self, name: &[u8]) -> Option<usize>
+        ensures some { IfSome result (λ i. (position (λ own. bytes_eq (folded own) (folded name.now)) (slots self.now.program) ≡ Some i) × (i < length self.now.values.items)) }
+        ensures none { IfNone result ((i : ℕ) → position (λ own. bytes_eq (folded own) (folded name.now)) (slots self.now.program) ≡ Some i → length self.now.values.items ≤ i) }
+    {
+        match place(self.program.slots(), name) {
+            Some(slot) if slot < self.values.len() => Some(slot),
+            _ => None,
+        }
+    }
+
+    // The value of a name that the program doesn't have.
+    fn other(&self, name: &[u8]) -> Option<&Value>
+        ensures { option_map (λ v. tree v.now) result ≡ value_among self.now.others.items (folded name.now) }
+    {
+        let mut rest = self.others.as_slice();
+        while let Some((newest, older)) = rest.split_last() {
+            if newest.name.is(name) {
+                return Some(&newest.value);
             }
+            rest = older;
         }
         None
     }
+}
 
-    /// Sets a variable.
-    pub fn set(&mut self, name: &MooStr, value: Value) -> Result<(), AllocError>
-        ensures { OnOk result (variables_of self.new ≡ with_variable (variables_of self.old) (bind name.now (tree value))) }
+impl Name {
+    // Whether the name is this one but for the case of its letters.
+    fn is(&self, name: &[u8]) -> bool
+        ensures { result ≡ bytes_eq (folded (own_name self.now)) (folded name.now) }
     {
-        match self.place(name) {
-            Some(place) => self.bindings[place].value = value,
-            None => self.bindings.push(Variable {
-                name: name.try_clone()?,
-                value,
-            })?,
+        match self {
+            Name::Given(own) => own.as_bytes().eq_ignore_ascii_case(name),
+            Name::Own(own) => is_named(own, name),
         }
-        Ok(())
     }
+}
 
-    // Where a variable stands.
-    fn place(&self, name: &MooStr) -> Option<usize>
-        ensures place { result ≡ position (λ b. bytes_eq (folded b.name) (folded name.now)) self.now.bindings.items }
-        ensures bound { IfSome result (λ i. i < vec_len self.now.bindings) }
-    {
-        self.bindings
-            .iter()
-            .position(|binding| is_same_name(&binding.name, name))
+// Where a name stands first among these, but for the case of its letters.
+fn place(names: &[MooStr], name: &[u8]) -> Option<usize>
+    ensures { result ≡ position (λ own. bytes_eq (folded own) (folded name.now)) names.now }
+{
+    names.iter().position(|own| is_named(own, name))
+}
+
+// No value for each of these names.
+fn no_values(alloc: Global, names: &[MooStr]) -> Result<Vec<Option<Value>>, AllocError>
+    ensures { IfOk result (λ values. All (λ value. value ≡ None) values.items) }
+{
+    let mut values = Vec::with_capacity(alloc, names.len())?;
+    for _ in names {
+        values.push(None)?;
     }
+    Ok(values)
 }
 
 /// Whether two names are the same but for the case of their letters.
 pub(crate) fn is_same_name(a: &MooStr, b: &MooStr) -> bool
     ensures { result ≡ bytes_eq (folded a.now) (folded b.now) }
 {
-    a.as_bytes().eq_ignore_ascii_case(b.as_bytes())
+    is_named(a, b.as_bytes())
+}
+
+fn is_named(own: &MooStr, name: &[u8]) -> bool
+    ensures { result ≡ bytes_eq (folded own.now) (folded name.now) }
+{
+    own.as_bytes().eq_ignore_ascii_case(name)
 }

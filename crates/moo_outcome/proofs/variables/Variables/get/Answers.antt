@@ -1,23 +1,21 @@
-use Rattle.std.proofs.Common.{◌+◌, Some, cond, drop, refl, sym, ap, ◌∙◌}
-use Rattle.moo_value.specs.Compare.{folded}
+use Rattle.std.proofs.Common.{sym, ap, ◌∙◌}
+use Rattle.std.specs.Option.{option_map}
 use Rattle.moo_value.specs.View.{tree}
-use Rattle.moo_outcome.proofs.Names.{looked, looked_next, named}
+use Rattle.moo_program.specs.Slots.{slots}
+use Rattle.moo_outcome.specs.Seen.{value_among, variables_of}
+use Rattle.moo_outcome.proofs.Names.{lent, slot_at, no_slot}
 use Rattle.moo_outcome.proofs.variables.Variables.get.Goals as goal
 
-pub loop-binding-preserved : goal.loop-binding-preserved
-loop-binding-preserved c =
-    let rows = c.args.self.now.bindings.items in
-    let name = folded c.args.name.now in
-    let i = c.loop-binding.binding-index in
-    let e = looked_next name rows i c.binding-item.result (rw c.deref-binding-items.ensures.value at c.loop-binding-test.true) (rw c.deref-binding-items.ensures.value at c.binding-item.is) in
-    let q = sym (named _ _ _ _ _ c.as_bytes.ensures.value refl c.eq_ignore_ascii_case.ensures.test) ∙ c.if-eq_ignore_ascii_case.false in
-    sym (e ∙ ap (λ b. cond b (Some (tree c.binding-item.result.value)) (looked name (drop (i + 1) rows))) q) ∙ c.loop-binding.invariant
+pub returns-in-Some : goal.returns-in-Some
+unfolding variables_of
+returns-in-Some c =
+    let found = c.in-Some.ensures.some in
+    lent c.as_ref.result
+    ∙ ap (option_map (λ v. tree v)) (c.as_ref.ensures.value ∙ c.index.ensures)
+    ∙ sym (slot_at c.args.name.now (slots c.args.self.now.program) c.args.self.now.values.items (value_among c.args.self.now.others.items) c.index.result.now c.in-Some.slot found.0 found.1)
 
-pub returns-then-eq_ignore_ascii_case : goal.returns-then-eq_ignore_ascii_case
-returns-then-eq_ignore_ascii_case c =
-    let rows = c.args.self.now.bindings.items in
-    let name = folded c.args.name.now in
-    let i = c.loop-binding.binding-index in
-    let e = looked_next name rows i c.binding-item.result (rw c.deref-binding-items.ensures.value at c.loop-binding-test.true) (rw c.deref-binding-items.ensures.value at c.binding-item.is) in
-    let q = sym (named _ _ _ _ _ c.as_bytes.ensures.value refl c.eq_ignore_ascii_case.ensures.test) ∙ c.if-eq_ignore_ascii_case.true in
-    sym (e ∙ ap (λ b. cond b (Some (tree c.binding-item.result.value)) (looked name (drop (i + 1) rows))) q) ∙ c.loop-binding.invariant
+pub returns-in-None : goal.returns-in-None
+unfolding variables_of
+returns-in-None c =
+    c.other.ensures
+    ∙ sym (no_slot c.args.name.now (slots c.args.self.now.program) c.args.self.now.values.items (value_among c.args.self.now.others.items) c.in-None.ensures.none)

@@ -1,9 +1,16 @@
-use Rattle.std.proofs.Common.{sym, ◌∙◌}
-use Rattle.moo_outcome.proofs.Stored.{set_found, set_new}
+use Rattle.std.proofs.Common.{refl}
+use Rattle.moo_program.specs.Slots.{slots}
+use Rattle.moo_outcome.specs.Seen.{value_among, variables_of}
+use Rattle.moo_outcome.proofs.Stored.{set_slot, set_elsewhere}
 use Rattle.moo_outcome.proofs.variables.Variables.set.Goals as goal
 
 pub returns-in-Some : goal.returns-in-Some
-returns-in-Some c = set_found c.args.name.now c.args.value c.args.self.now.bindings.items c.in-Some.place c.index_mut.result.now (sym c.place.ensures.place ∙ c.in-Some.is) c.index_mut.ensures.value
+unfolding variables_of
+returns-in-Some c =
+    let found = rw c.as_bytes.ensures.value at c.in-Some.ensures.some in
+    set_slot c.args.name.now c.args.value (slots c.args.self.now.program) c.args.self.now.values.items (value_among c.args.self.now.others.items) c.in-Some.slot found.0 found.1
 
 pub returns-in_ok-push-in-None : goal.returns-in_ok-push-in-None
-returns-in_ok-push-in-None c = rw (c.in_ok-push-in-None.ensures.items, c.in_ok-try_clone-in-None.ensures) (set_new c.args.name.now c.args.value c.args.self.now.bindings.items (sym c.place.ensures.place ∙ c.in-None.is))
+unfolding variables_of
+returns-in_ok-push-in-None c =
+    rw (c.in_ok-push-in-None.ensures.items, c.in_ok-try_clone-in-None.ensures) (set_elsewhere c.args.name.now _ (slots c.args.self.now.program) c.args.self.now.values.items c.args.self.now.others.items refl (rw c.as_bytes.ensures.value at c.in-None.ensures.none))

@@ -106,6 +106,10 @@ tostr(1, "x", #2, E_DIV, {1}) --> "1x#2Division by zero{list}"
 ticks_left() --> 99998
 notify(#1, "x") --> Invalid argument
 notify("x", 1) --> Type mismatch
+ticks_left() --> 99998
+{valid(#0), max_object(), callers(), caller_perms()} --> {0, #-1, {}, #-1}
+set_task_perms(#0) --> Permission denied
+raise(E_PERM, "mine") --> mine
 length() --> Incorrect number of arguments
 {`length(1) ! ANY', `length() ! ANY'} --> {E_TYPE, E_ARGS}"##;
 

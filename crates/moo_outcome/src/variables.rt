@@ -9,7 +9,7 @@ ghost use Rattle.moo_outcome.specs.Variables.{bind, with_variable, type_bindings
 ghost use Rattle.moo_outcome.specs.Seen.{own_name, value_among, variables_of};
 
 use crate::frame::Frame;
-use moo_program::Program;
+use moo_grammar::Program;
 use moo_value::{MooStr, Value};
 use std::alloc::{AllocError, Global};
 

@@ -1,0 +1,32 @@
+//! `moo copy`: a database in its canonical form.
+ghost use Rattle.std.specs.Prelude.{◌≢◌, IfOk};
+ghost use Rattle.moo_dbtext.specs.Canonical.{canonical};
+ghost use Rattle.moo_database.specs.Database.{ShowsDatabase};
+
+use crate::database::{read_input, show, tell};
+use crate::refusal::Refusal;
+use moo_dbtext::copy_db;
+use std::alloc::Global;
+use std::io::{Read, Write};
+
+/// Writes the canonical text of the database that the input is, and answers the exit status: 0, or 1 where
+/// the database is refused, which is told in a line; 3 where the input or the output failed and 4 where
+/// memory was wanting, each told in a line of its own where the output still takes it.
+pub fn run_copy<I: Read, O: Write>(alloc: Global, input: &mut I, output: &mut O) -> u8
+    ensures { result ≢ 3 → result ≢ 4 → ShowsDatabase canonical (I.remaining input.old) (O.contents output.old) (O.contents output.new) result }
+{
+    match copied(alloc, input, output) {
+        Ok(status) => status,
+        Err(refusal) => refusal.told(output),
+    }
+}
+
+fn copied<I: Read, O: Write>(alloc: Global, input: &mut I, output: &mut O) -> Result<u8, Refusal>
+    ensures { IfOk result (λ status. ShowsDatabase canonical (I.remaining input.old) (O.contents output.old) (O.contents output.new) status) }
+{
+    let bytes = read_input(alloc, input)?;
+    match copy_db(alloc, bytes.as_slice()) {
+        Ok(text) => show(text.as_slice(), output),
+        Err(fault) => tell(fault, output),
+    }
+}

@@ -1,5 +1,5 @@
 -- How an answer of the program stands to what a function gives.
-use Rattle.std.specs.Prelude.{◌≡◌, pos, Bool, if◌then◌else◌, Option, None, Some, Result, Ok, Err}
+use Rattle.std.specs.Prelude.{◌≡◌, pos, Bool, if◌then◌else◌, Option, None, Some, Result, Ok, Err, ⊤}
 use Rattle.moo_value.specs.declared.error_code.ErrorCode.{ErrorCode}
 use Rattle.moo_value.specs.declared.error_code.ErrorCode.TheVariants.{Permission}
 use Rattle.moo_value.specs.declared.value.Value.{Value}
@@ -24,6 +24,13 @@ abbrev pub DoesSome : Option (Result Value OperationFault) → World → World �
 DoesSome None old new r = (r ≡ None) × (new ≡ old)
 DoesSome (Some a) old new None = ⊥
 DoesSome (Some a) old new (Some r) = Does a old new r
+
+-- a call that looks at what its arguments are refused for before it takes memory
+abbrev pub RefusesFirst : Option (Result Value OperationFault) → Option ErrorCode → Type 0
+RefusesFirst None refused = ⊤
+RefusesFirst (Some (Ok v)) refused = ⊤
+RefusesFirst (Some (Err (Raise e))) refused = ⊤
+RefusesFirst (Some (Err Memory)) refused = refused ≡ None
 
 -- the same of a function that only looks
 abbrev pub GivesSome : Option (Result Value OperationFault) → Option (Result Tree ErrorCode) → Type 0

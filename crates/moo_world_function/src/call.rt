@@ -1,7 +1,10 @@
 //! A call of a built-in function over the world.
 ghost use Rattle.std.specs.Prelude.{◌≡◌};
 ghost use Rattle.moo_value.specs.View.{trees};
-ghost use Rattle.moo_world_function.specs.Answers.{Does, DoesSome, GivesSome};
+ghost use Rattle.moo_world_function.specs.Answers.{Does, DoesSome, GivesSome, RefusesFirst};
+ghost use Rattle.moo_function.specs.Table.{row};
+ghost use Rattle.moo_function.specs.Check.{refusal};
+ghost use Rattle.moo_world_function.specs.Objects.{is_valid};
 ghost use Rattle.moo_world_function.specs.Calls.{is_of_world, looking, changing, answer, world_call};
 
 use crate::giving::{add_property, set_property_info};
@@ -30,7 +33,8 @@ pub fn call_world(
     world: &mut World,
     programmer: i32,
 ) -> Option<Result<Value, OperationFault>>
-    ensures { DoesSome result world.old world.new (world_call function world.old programmer (trees args.now)) }
+    ensures answer { DoesSome result world.old world.new (world_call function world.old programmer (trees args.now)) }
+    ensures memory { RefusesFirst result (refusal (is_valid world.old) (row function) (trees args.now)) }
 {
     if !is_of_world(function) {
         return None;

@@ -12,5 +12,7 @@ mod refusing;
 mod verb_changes;
 mod verbs;
 
+pub use allowed::numbered_verb;
 pub use call::call_world;
 pub use refusing::refusal;
+pub use verbs::chosen;

@@ -1,4 +1,5 @@
-// Calls of the built-in functions over the world.
+// Calls of the built-in functions over the world and on the code of verbs.
+use moo_code_function::call_code;
 use moo_function::Function;
 use moo_operation::OperationFault;
 use moo_value::{ErrorCode, Value};
@@ -17,7 +18,11 @@ pub fn function_answer(
     let Some(function) = Function::from_name(name.as_bytes()) else {
         return Err(WorldFault::Raise(ErrorCode::VerbNotFound));
     };
-    match call_world(alloc, function, args, world, programmer) {
+    let answer = match call_world(alloc, function, args, world, programmer) {
+        Some(answer) => Some(answer),
+        None => call_code(alloc, function, args, world, programmer),
+    };
+    match answer {
         Some(Ok(value)) => Ok(value),
         Some(Err(OperationFault::Raise(error))) => Err(WorldFault::Raise(error)),
         Some(Err(OperationFault::Memory)) => Err(WorldFault::Memory),

@@ -10,6 +10,8 @@ mod built_ins;
 #[cfg(test)]
 mod calls;
 #[cfg(test)]
+mod code;
+#[cfg(test)]
 mod functions;
 #[cfg(test)]
 mod limits;

@@ -1,0 +1,3 @@
+pub mod Heavy
+pub mod Lines
+pub mod Coming

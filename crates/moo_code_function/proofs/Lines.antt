@@ -1,0 +1,9 @@
+-- Lines that are read one after another.
+use Rattle.std.proofs.Common.{ℕ, List, ◌++◌}
+use Rattle.std.specs.Prelude.{Result, Ok, Err}
+use Rattle.moo_value.specs.declared.error_code.ErrorCode.{ErrorCode}
+
+-- lines before those that are still to be read
+abbrev pub behind_all : List (List ℕ) → Result (List (List ℕ)) ErrorCode → Result (List (List ℕ)) ErrorCode
+behind_all lines (Ok others) = Ok (lines ++ others)
+behind_all lines (Err e) = Err e

@@ -1,0 +1,29 @@
+-- What a call of a function on the code of verbs is.
+use Rattle.std.specs.Prelude.{ℤ, List, Bool, true, false}
+use Rattle.moo_value.specs.Tree.{Tree}
+use Rattle.moo_function.specs.declared.function.Function.{Function}
+use Rattle.moo_function.specs.declared.function.Function.TheVariants.{VerbCode, SetVerbCode}
+use Rattle.moo_function.specs.Table.{row}
+use Rattle.moo_function.specs.Check.{refusal}
+use Rattle.moo_table.specs.World.{World}
+use Rattle.moo_world_function.specs.Objects.{is_valid}
+use Rattle.moo_code_function.specs.Answers.{Outcomes, Only, Unless}
+use Rattle.moo_code_function.specs.Listed.{verb_code}
+use Rattle.moo_code_function.specs.Setting.{SetsCode}
+
+-- the functions that list the code of a verb or set it
+abbrev pub is_of_code : Function → Bool
+is_of_code VerbCode = true
+is_of_code SetVerbCode = true
+is_of_code _ = false
+
+-- what each of them comes to for arguments that fit
+abbrev pub Answers : Function → World → ℤ → List Tree → Outcomes
+Answers VerbCode w p args r after = Only (verb_code w p args) w r after
+Answers SetVerbCode w p args r after = SetsCode w p args r after
+Answers _ w p args r after = ⊥
+
+-- A call: the number of the arguments, then their types, then whether their objects are valid, come before what the function
+-- itself looks at.
+abbrev pub IsCodeCall : Function → World → ℤ → List Tree → Outcomes
+IsCodeCall f w p args = Unless (refusal (is_valid w) (row f) args) w (Answers f w p args)

@@ -1,0 +1,5 @@
+-- What the functions on the code of verbs answer, and what a call of one is.
+pub mod Answers
+pub mod Listed
+pub mod Setting
+pub mod Calls

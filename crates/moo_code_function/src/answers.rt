@@ -1,0 +1,38 @@
+//! Errors of these functions, and the lists of strings that they answer.
+ghost use Rattle.std.specs.Prelude.{◌≡◌, IfOk, map};
+ghost use Rattle.moo_value.specs.Tree.{string, list_of};
+ghost use Rattle.moo_value.specs.View.{trees};
+ghost use Rattle.moo_operation.specs.Answer.{limited};
+ghost use Rattle.moo_text_function.specs.Answers.{Gives};
+
+use moo_operation::{OperationFault, list};
+use moo_value::{ErrorCode, MooStr, Value};
+use std::alloc::{AllocError, Global};
+
+pub const TYPE_MISMATCH: OperationFault = OperationFault::Raise(ErrorCode::TypeMismatch);
+
+pub const PERMISSION: OperationFault = OperationFault::Raise(ErrorCode::Permission);
+
+pub const VERB_NOT_FOUND: OperationFault = OperationFault::Raise(ErrorCode::VerbNotFound);
+
+pub const QUOTA: OperationFault = OperationFault::Raise(ErrorCode::Quota);
+
+/// The list of these lines, or E_QUOTA past its limits.
+pub fn listed(alloc: Global, lines: Vec<MooStr>) -> Result<Value, OperationFault>
+    ensures { Gives result (limited (list_of (map (λ line. string line) lines.items))) }
+{
+    match strings(alloc, lines) {
+        Ok(strings) => list(alloc, strings),
+        Err(AllocError) => Err(OperationFault::Memory),
+    }
+}
+
+fn strings(alloc: Global, lines: Vec<MooStr>) -> Result<Vec<Value>, AllocError>
+    ensures { IfOk result (λ v. trees v.items ≡ map (λ line. string line) lines.items) }
+{
+    let mut values = Vec::new(alloc);
+    for line in lines {
+        values.push(Value::Str(line))?;
+    }
+    Ok(values)
+}

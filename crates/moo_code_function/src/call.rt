@@ -1,0 +1,58 @@
+//! A call of a built-in function on the code of verbs.
+ghost use Rattle.std.specs.Prelude.{◌≡◌, true};
+ghost use Rattle.moo_value.specs.View.{trees};
+ghost use Rattle.moo_code_function.specs.Answers.{Comes, ComesSome};
+ghost use Rattle.moo_code_function.specs.Calls.{is_of_code, Answers, IsCodeCall};
+
+use crate::listing::verb_code;
+use crate::setting::set_verb_code;
+use moo_function::Function;
+use moo_operation::OperationFault;
+use moo_value::Value;
+use moo_world::World;
+use moo_world_function::refusal;
+use std::alloc::Global;
+
+/// Calls a function that lists the code of a verb or sets it, for a programmer. A wrong number of arguments raises
+/// E_ARGS, then one of a wrong type E_TYPE, then an object that isn't valid E_INVARG, then a verb that isn't there
+/// E_VERBNF; the programmer's right comes last. A raise and want of memory leave the world as it was. `None`, with nothing
+/// changed, where the function is another one.
+pub fn call_code(
+    alloc: Global,
+    function: Function,
+    args: &[Value],
+    world: &mut World,
+    programmer: i32,
+) -> Option<Result<Value, OperationFault>>
+    ensures { ComesSome result world.old world.new (is_of_code function) (IsCodeCall function world.old programmer (trees args.now)) }
+{
+    if !is_of_code(function) {
+        return None;
+    }
+    match refusal(function, args, world) {
+        Some(error) => Some(Err(OperationFault::Raise(error))),
+        None => Some(answer(alloc, function, args, world, programmer)),
+    }
+}
+
+fn is_of_code(function: Function) -> bool
+    ensures { result ≡ is_of_code function }
+{
+    matches!(function, Function::VerbCode | Function::SetVerbCode)
+}
+
+fn answer(
+    alloc: Global,
+    function: Function,
+    args: &[Value],
+    world: &mut World,
+    programmer: i32,
+) -> Result<Value, OperationFault>
+    requires { is_of_code function ≡ true }
+    ensures { Comes result world.old world.new (Answers function world.old programmer (trees args.now)) }
+{
+    match function {
+        Function::VerbCode => verb_code(alloc, args, world, programmer),
+        _ => set_verb_code(alloc, args, world, programmer),
+    }
+}

@@ -1,0 +1,9 @@
+//! The built-in functions that list the code of a verb and set it.
+#![tactic(auto)]
+
+mod answers;
+mod call;
+mod listing;
+mod setting;
+
+pub use call::call_code;

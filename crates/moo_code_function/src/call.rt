@@ -1,6 +1,10 @@
 //! A call of a built-in function on the code of verbs.
 ghost use Rattle.std.specs.Prelude.{◌≡◌, true};
 ghost use Rattle.moo_value.specs.View.{trees};
+ghost use Rattle.moo_function.specs.Table.{row};
+ghost use Rattle.moo_function.specs.Check.{refusal};
+ghost use Rattle.moo_world_function.specs.Answers.{RefusesFirst};
+ghost use Rattle.moo_world_function.specs.Objects.{is_valid};
 ghost use Rattle.moo_code_function.specs.Answers.{Comes, ComesSome};
 ghost use Rattle.moo_code_function.specs.Calls.{is_of_code, Answers, IsCodeCall};
 
@@ -24,7 +28,8 @@ pub fn call_code(
     world: &mut World,
     programmer: i32,
 ) -> Option<Result<Value, OperationFault>>
-    ensures { ComesSome result world.old world.new (is_of_code function) (IsCodeCall function world.old programmer (trees args.now)) }
+    ensures answer { ComesSome result world.old world.new (is_of_code function) (IsCodeCall function world.old programmer (trees args.now)) }
+    ensures memory { RefusesFirst result (refusal (is_valid world.old) (row function) (trees args.now)) }
 {
     if !is_of_code(function) {
         return None;

@@ -59,3 +59,13 @@ fn rows_of_texts(rt: HostRuntime) -> Result<(), Fail> {
     }
     Ok(())
 }
+
+#[test]
+fn a_reader_in_pieces(rt: HostRuntime) -> Result<(), Fail> {
+    let alloc = rt.alloc();
+    let mut reader = DbReader::new(alloc);
+    reader.feed(alloc, TEXT)?;
+    let saved = reader.finish(alloc)?;
+    assert_eq!(rt; saved.world.objects().len(), 4);
+    Ok(())
+}

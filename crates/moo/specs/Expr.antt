@@ -3,12 +3,6 @@ use Rattle.std.specs.Prelude.{ℕ, List, ◌++◌, codes, not, ◌==◌, Option,
 use Rattle.std.specs.List.{flat_map, take_while}
 use Rattle.std.specs.Io.KnownBytes.{Appends}
 use Rattle.moo_eval.specs.Line.{AnswersLine}
-use Rattle.moo.specs.declared.refusal.Refusal.{Refusal}
-use Rattle.moo.specs.declared.refusal.Refusal.TheVariants.{Device, Memory}
-
-abbrev pub refusal_status : Refusal → ℕ
-refusal_status Device = 3
-refusal_status Memory = 4
 
 -- the bytes before the first LF, or all
 abbrev pub first_line : List ℕ → List ℕ

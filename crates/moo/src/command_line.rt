@@ -1,5 +1,5 @@
 // What the words of the command line ask for.
-use clap::{Arg, Command, Error, value_parser};
+use clap::{Arg, ArgMatches, Command, Error, value_parser};
 use std::alloc::{AllocError, Global};
 
 /// Rounds of `moo serve` where none are given.
@@ -10,6 +10,10 @@ const ROUNDS: &str = "1000000000";
 pub enum Work<'a> {
     /// Evaluate the first line of the input.
     Expr,
+    /// Tell what the database of this path holds.
+    Check(&'a str),
+    /// Write the database of this path in its canonical form.
+    Copy(&'a str),
     /// A command of this name, which the program can't do yet.
     Missing(&'a str),
 }
@@ -18,12 +22,19 @@ pub enum Work<'a> {
 /// for the error's `use_stderr` is false.
 pub fn read_words<'a>(alloc: Global, words: &'a [String]) -> Result<Option<Work<'a>>, Error> {
     let matches = command(alloc)?.try_get_matches_from(words)?;
-    Ok(
-        matches.subcommand().map(|(name, _)| match name {
-            "expr" => Work::Expr,
-            _ => Work::Missing(name),
-        }),
-    )
+    match matches.subcommand() {
+        Some((name, found)) => Ok(work_of(name, found)),
+        None => Ok(None),
+    }
+}
+
+fn work_of<'a>(name: &'a str, found: &ArgMatches<'a>) -> Option<Work<'a>> {
+    match name {
+        "expr" => Some(Work::Expr),
+        "check" => found.get_str("DB").map(Work::Check),
+        "copy" => found.get_str("DB").map(Work::Copy),
+        _ => Some(Work::Missing(name)),
+    }
 }
 
 fn command<'a>(alloc: Global) -> Result<Command<'a>, AllocError> {

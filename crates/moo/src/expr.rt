@@ -5,7 +5,7 @@ ghost use Rattle.moo_eval.specs.Ends.{texts};
 ghost use Rattle.moo.specs.Expr.{Shows, printed};
 
 use crate::line::read_first_line;
-use crate::refusal::Refusal;
+use moo_database::Refusal;
 use moo_eval::eval_line;
 use std::alloc::Global;
 use std::io::{BufRead, Write};

@@ -4,14 +4,14 @@
 mod command_line;
 mod expr;
 mod line;
-mod refusal;
 #[cfg(test)]
 mod tests;
 
 use clap::error::ErrorKind;
 use command_line::{Work, read_words};
 use expr::run_expr;
-use refusal::Refusal;
+use moo_database::{Refusal, run_check, run_copy};
+use std::fs::File;
 use std::io::BufReader;
 use std::process::ExitCode;
 use std::{env, io};
@@ -47,6 +47,14 @@ fn run_work(rt: &HostRuntime, work: Work) -> io::Result<u8> {
         Work::Expr => {
             let mut input = BufReader::new(rt.alloc(), rt.reader())?;
             Ok(run_expr(rt.alloc(), &mut input, &mut io::writer(rt)))
+        }
+        Work::Check(path) => {
+            let mut file = File::open(rt, path)?;
+            Ok(run_check(rt.alloc(), &mut file, &mut io::writer(rt)))
+        }
+        Work::Copy(path) => {
+            let mut file = File::open(rt, path)?;
+            Ok(run_copy(rt.alloc(), &mut file, &mut io::writer(rt)))
         }
         Work::Missing(name) => {
             eprintln!(rt; "moo: the command {name} is not there yet")?;

@@ -136,7 +136,7 @@ fn reads_the_command_line(rt: HostRuntime) -> Result<(), Fail> {
     ];
     let words = words.as_slice();
     assert_eq!(rt; asked(alloc, &words[..2]), Some(Work::Expr));
-    assert_eq!(rt; asked(alloc, &words[2..]), Some(Work::Missing("check")));
+    assert_eq!(rt; asked(alloc, &words[2..]), Some(Work::Check("w.db")));
     assert_eq!(rt; asked(alloc, &words[..4]), None);
     Ok(())
 }

@@ -4,3 +4,4 @@ pub mod Lengths
 pub mod LineLengths
 pub mod Sizes
 pub mod VariableSteps
+pub mod EachOnce

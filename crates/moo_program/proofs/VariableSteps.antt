@@ -7,8 +7,8 @@ use Rattle.moo_program.specs.declared.tree.Handler.{Handler, Except', ExceptAs'}
 use Rattle.moo_program.specs.declared.tree.Stmt as code
 use Rattle.moo_program.specs.declared.tree.Expr as expr
 use Rattle.moo_program.specs.Tree.{Handlers}
-use Rattle.moo_program.specs.View.{root, codes_of, statements, block, arms_of, with_arm, handlers_of, with_handler}
-use Rattle.moo_program.specs.Slots.{variables, codes_variables, block_variables, arms_variables, handlers_variables, handler_variables}
+use Rattle.moo_program.specs.View.{root, block, arms_of, with_arm, handlers_of, with_handler}
+use Rattle.moo_program.specs.Slots.{variables, block_variables, arms_variables, handlers_variables, handler_variables}
 use Rattle.moo_program.proofs.Rows.{row_block}
 
 -- names and others behind these

@@ -1,6 +1,7 @@
 //! Programs as trees.
 #![tactic(auto)]
 
+pub mod laws;
 mod length;
 mod limits;
 mod lines;

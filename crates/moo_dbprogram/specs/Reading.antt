@@ -61,6 +61,10 @@ IsWell r = r.failed ≡ None
 abbrev pub HasRefused : ProgramReader → DbFault → Type 0
 HasRefused r e = r.failed ≡ Some e
 
+-- how many lines have ended
+abbrev pub lines_of : ProgramReader → ℕ
+lines_of r = (taken_of r.records).lines
+
 -- the records of the bytes are read, and say what is kept
 pub record IsRead (bytes : List ℕ) (d : Database) : Type 0 where
   pub text : Text

@@ -8,7 +8,7 @@ ghost use Rattle.moo_dbrecord.specs.declared.fault.ProgramFault.{ProgramFault};
 ghost use Rattle.moo_dbrecord.specs.declared.fault.DbFault.{DbFault};
 ghost use Rattle.moo_dbprogram.specs.Says.{IsParsedAs, programs_of, Says, HasPrograms, HasProgramsWithin};
 ghost use Rattle.moo_dbprogram.specs.Faults.{IsProgramFault, IsOfLine, IsOfLimits};
-ghost use Rattle.moo_dbprogram.specs.Reading.{IsWholeLine, IsBehind, IsRefused, HasRead, IsWell, HasRefused, Answers, ended_between, verb_at, sources_at, IsSourceRefused};
+ghost use Rattle.moo_dbprogram.specs.Reading.{IsWholeLine, IsBehind, IsRefused, HasRead, IsWell, HasRefused, Answers, lines_of, ended_between, verb_at, sources_at, IsSourceRefused};
 
 use crate::database::Database;
 use crate::fault::kind_of_source;
@@ -102,6 +102,13 @@ impl ProgramReader {
             programs: Vec::new(alloc),
             failed: None,
         }
+    }
+
+    /// How many lines have ended.
+    pub fn lines(&self) -> u64
+        ensures { result ≡ lines_of self.now }
+    {
+        self.records.lines()
     }
 
     /// Parses and keeps the program of a verb, whose dot has come.

@@ -1,3 +1,4 @@
 pub mod Lengths
 pub mod Worlds
 pub mod Whole
+pub mod Pieces

@@ -6,12 +6,12 @@ use Rattle.moo_load.specs.declared.db_reader.DbReader.{DbReader}
 
 -- The reader has taken these bytes, in whatever pieces, or has refused them.
 abbrev pub HasFed : DbReader → List ℕ → Type 0
-HasFed r bytes = reading.HasRead r.programs bytes
+HasFed r bytes = reading.HasRead r bytes
 
 -- No fault has come yet.
 abbrev pub IsWell : DbReader → Type 0
-IsWell r = reading.IsWell r.programs
+IsWell r = reading.IsWell r
 
 -- This fault has come.
 abbrev pub HasRefused : DbReader → DbFault → Type 0
-HasRefused r e = reading.HasRefused r.programs e
+HasRefused r e = reading.HasRefused r e

@@ -4,3 +4,5 @@ pub mod Objects
 pub mod Loading
 -- A reader between two pieces.
 pub mod Feeding
+-- Why bytes are refused.
+pub mod Refusals

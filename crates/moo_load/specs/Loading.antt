@@ -1,5 +1,5 @@
 -- What a reader of worlds answers.
-use Rattle.std.specs.Prelude.{◌≡◌, ℕ, ℤ, ◌+◌, List, Option, Result, Ok, Err, ◌⊎◌, map, take, length}
+use Rattle.std.specs.Prelude.{◌≡◌, ℕ, ℤ, ◌+◌, List, ◌++◌, Option, Result, Ok, Err, ◌⊎◌, map, take, length}
 use Rattle.moo_grammar.specs.declared.names.Names.TheVariants.{Any}
 use Rattle.moo_grammar.specs.Texts.{IsParsed}
 use Rattle.moo_table.specs.World.{IsWellFormed}
@@ -68,6 +68,14 @@ pub record HasToldObject (bytes : List ℕ) (e : DbFault) : Type 0 where
   pub object : ℕ
   pub is : ((e.kind ≡ kind.BadHierarchy object) × HasObjectFault IsHierarchyFault bytes e.line object) ⊎ ((e.kind ≡ kind.PropertyCount object) × HasObjectFault IsCountFault bytes e.line object)
 
+-- why the bytes are refused
+abbrev pub IsRefusedSo : List ℕ → DbFault → Type 0
+IsRefusedSo bytes e = IsRefused bytes (answer_to limited bytes) e ⊎ HasToldObject bytes e
+
+-- these bytes are refused so, however they go on
+abbrev pub IsRefusedFrom : List ℕ → DbFault → Type 0
+IsRefusedFrom bytes e = (more : List ℕ) → IsRefusedSo (bytes ++ more) e
+
 abbrev pub LoadAnswers : Result stored.Saved DbFault → List ℕ → Type 0
 LoadAnswers (Ok s) bytes = IsLoaded bytes (saved_of s)
-LoadAnswers (Err e) bytes = IsRefused bytes (answer_to limited bytes) e ⊎ HasToldObject bytes e
+LoadAnswers (Err e) bytes = IsRefusedSo bytes e

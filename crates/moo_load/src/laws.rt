@@ -1,8 +1,16 @@
 //! What follows from the definitions.
 ghost use Rattle.std.specs.Prelude.{ℕ, List};
+ghost use Rattle.moo_dbrecord.specs.declared.fault.DbFault.{DbFault};
 ghost use Rattle.moo_saved.specs.Saved.{Saved, SpellsSaved, SpellsSavedWithin};
+ghost use Rattle.moo_load.specs.Loading.{IsRefusedSo};
+ghost use Rattle.moo_load.specs.Refusals.{Refuses};
 
 /// What is spelled within the limits on sizes is spelled without them.
 pub fn saved_within_limits_is_saved()
     ensures { (bytes : List ℕ) (s : Saved) → SpellsSavedWithin bytes s → SpellsSaved bytes s }
+{}
+
+/// What a reader answers where it refuses bytes says why, as the clauses of `read_db` do.
+pub fn a_refusal_says_why()
+    ensures { (bytes : List ℕ) (e : DbFault) → IsRefusedSo bytes e → Refuses bytes e }
 {}

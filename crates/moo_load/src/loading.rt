@@ -28,17 +28,19 @@ fn connected(alloc: Global, connections: &[Connection]) -> Result<Vec<i32>, Allo
     Ok(who)
 }
 
-fn without_memory() -> DbFault
+/// Want of memory behind so many lines.
+fn without_memory(lines: u64) -> DbFault
     ensures { result.kind ≡ DbFaultKind.Memory }
 {
     DbFault {
-        line: 0,
+        line: lines,
         kind: DbFaultKind::Memory,
     }
 }
 
-/// How a fault of an object is told, in a text of so many players and these objects.
+/// How a fault of an object is told, in a text of so many lines and players and these objects.
 fn told_object(
+    lines: u64,
     players: usize,
     objects: &[Option<ObjectRecord>],
     x: usize,
@@ -48,30 +50,42 @@ fn told_object(
 {
     match line_of_object(players, objects, x) {
         Some(line) => DbFault { line, kind },
-        None => without_memory(),
+        None => without_memory(lines),
     }
 }
 
 /// How it is told why no world was restored.
-fn told(players: usize, objects: &[Option<ObjectRecord>], fault: RestoreFault) -> DbFault
+fn told(
+    lines: u64,
+    players: usize,
+    objects: &[Option<ObjectRecord>],
+    fault: RestoreFault,
+) -> DbFault
     ensures { (result.kind ≡ DbFaultKind.Memory) ⊎ IsTold players (map (option_map object_of) objects.now) fault result }
 {
     match fault {
         RestoreFault::Hierarchy(x) => match u32::try_from(x) {
-            Ok(number) => told_object(players, objects, x, DbFaultKind::BadHierarchy(number)),
-            Err(_) => without_memory(),
+            Ok(number) => {
+                let kind = DbFaultKind::BadHierarchy(number);
+                told_object(lines, players, objects, x, kind)
+            }
+            Err(_) => without_memory(lines),
         },
         RestoreFault::PropertyCount(x) => match u32::try_from(x) {
-            Ok(number) => told_object(players, objects, x, DbFaultKind::PropertyCount(number)),
-            Err(_) => without_memory(),
+            Ok(number) => {
+                let kind = DbFaultKind::PropertyCount(number);
+                told_object(lines, players, objects, x, kind)
+            }
+            Err(_) => without_memory(lines),
         },
-        RestoreFault::Memory => without_memory(),
+        RestoreFault::Memory => without_memory(lines),
     }
 }
 
 /// The world of these records.
 fn world_of(
     alloc: Global,
+    lines: u64,
     objects: &[Option<ObjectRecord>],
     programs: &[Vec<Option<Program>>],
     players: Vec<i32>,
@@ -87,12 +101,12 @@ fn world_of(
             world.is_well_formed();
             Ok(world)
         }
-        Err(fault) => Err(told(many, objects, fault)),
+        Err(fault) => Err(told(lines, many, objects, fault)),
     }
 }
 
-/// The saved world of what is kept of a text.
-pub(crate) fn load(alloc: Global, database: Database) -> Result<Saved, DbFault>
+/// The saved world of what is kept of a text of so many lines.
+pub(crate) fn load(alloc: Global, lines: u64, database: Database) -> Result<Saved, DbFault>
     requires { AreWithinLimits (records_kept database) }
     ensures saved { IfOk result (IsSavedFrom database) }
     ensures fault { IfErr result (IsUntold (records_kept database)) }
@@ -104,8 +118,8 @@ pub(crate) fn load(alloc: Global, database: Database) -> Result<Saved, DbFault>
         connections,
     } = database;
     let Ok(connected) = connected(alloc, &connections) else {
-        return Err(without_memory());
+        return Err(without_memory(lines));
     };
-    let world = world_of(alloc, &objects, &programs, players)?;
+    let world = world_of(alloc, lines, &objects, &programs, players)?;
     Ok(Saved { world, connected })
 }

@@ -11,8 +11,7 @@ ghost use Rattle.moo_saved.specs.Saved.{saved_of, SpellsSaved, SpellsSavedWithin
 ghost use Rattle.moo_load.specs.Objects.{HasObjectFault};
 ghost use Rattle.moo_load.specs.Loading.{LoadAnswers};
 
-use crate::loading::load;
-use moo_dbprogram::read_programs;
+use crate::db_reader::DbReader;
 use moo_dbrecord::{DbFault, DbFaultKind};
 use moo_saved::Saved;
 use std::alloc::Global;
@@ -20,8 +19,9 @@ use std::alloc::Global;
 fn read_all(alloc: Global, bytes: &[u8]) -> Result<Saved, DbFault>
     ensures { LoadAnswers result bytes.now }
 {
-    let database = read_programs(alloc, bytes)?;
-    load(alloc, database)
+    let mut reader = DbReader::new(alloc);
+    reader.feed(alloc, bytes)?;
+    reader.finish(alloc)
 }
 
 /// The saved world that the bytes of a whole text spell.

@@ -1,8 +1,9 @@
-use Rattle.moo_load.proofs.Whole.{kept_within, loaded_answer}
+use Rattle.std.proofs.Common.{[]}
+use Rattle.std.proofs.lemmas.Result.{err_from_is_err_and}
+use Rattle.moo_load.proofs.Pieces.{refused_alone}
 use Rattle.moo_load.proofs.text.read_all.Goals as goal
 
-pub load-requires : goal.load-requires
-load-requires c = kept_within c.args.bytes.now c.in_ok-database.database c.in_ok-database.ensures.exact
-
-pub returns : goal.returns
-returns c = loaded_answer c.args.bytes.now c.in_ok-database.database c.load.result c.in_ok-database.ensures.exact c.load.ensures.saved c.load.ensures.fault
+pub returns-in_err-feed : goal.returns-in_err-feed
+returns-in_err-feed c =
+    let p = err_from_is_err_and c.from_residual.result c.from_residual.ensures.1 in
+    rw (p.1, p.2) (refused_alone c.args.bytes.now c.in_err-feed.field-0.0 (c.in_err-feed.ensures.refused [] c.new-reader.ensures))

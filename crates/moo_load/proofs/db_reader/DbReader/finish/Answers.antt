@@ -1,8 +1,9 @@
-use Rattle.moo_load.proofs.Whole.{kept_within, loaded_answer}
+use Rattle.moo_load.proofs.Whole.{is_found}
+use Rattle.moo_load.proofs.Pieces.{answer_says}
 use Rattle.moo_load.proofs.db_reader.DbReader.finish.Goals as goal
 
-pub load-requires : goal.load-requires
-load-requires c = kept_within c.requires.0 c.in_ok-database.database (c.in_ok-database.ensures.answer c.requires.0 c.requires.1)
+pub returns-clause-found : goal.returns-clause-found
+returns-clause-found c = λ bytes h. is_found bytes c.end.result (c.end.ensures.answer bytes h)
 
-pub returns-clause-answer : goal.returns-clause-answer
-returns-clause-answer c = λ bytes h. loaded_answer bytes c.in_ok-database.database c.load.result (c.in_ok-database.ensures.answer bytes h) c.load.ensures.saved c.load.ensures.fault
+pub returns-clause-refused : goal.returns-clause-refused
+returns-clause-refused c = λ bytes h. answer_says bytes c.end.result (c.end.ensures.answer bytes h)

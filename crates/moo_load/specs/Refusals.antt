@@ -1,0 +1,31 @@
+-- Why bytes are refused.
+use Rattle.std.specs.Prelude.{◌≡◌, ℕ, List, ◌++◌}
+use Rattle.moo_table.specs.World.{IsWellFormed}
+use Rattle.moo_dbrecord.specs.Texts.{Text, Spells, SpellsWithin}
+use Rattle.moo_dbrecord.specs.Answer.{front_lines, StandWithoutLimits}
+use Rattle.moo_dbrecord.specs.declared.fault.DbFault.{DbFault}
+use Rattle.moo_dbrecord.specs.declared.fault.DbFaultKind.TheVariants as kind
+use Rattle.moo_dbrecord.specs.declared.fault.ProgramFault.{ProgramFault}
+use Rattle.moo_dbprogram.specs.Faults.{IsProgramFault, IsOfLine, IsOfLimits}
+use Rattle.moo_restore.specs.Faults.{IsHierarchyFault, IsCountFault}
+use Rattle.moo_saved.specs.Saved.{Saved, SpellsSaved, SpellsSavedWithin}
+use Rattle.moo_load.specs.Objects.{HasObjectFault}
+
+-- The bytes of a whole text are refused, and this is told.
+pub record Refuses (bytes : List ℕ) (e : DbFault) : Type 0 where
+  -- a saved world that they spell is past a limit, or memory ended it
+  pub only : (s : Saved) → IsWellFormed s.world → SpellsSaved bytes s → IsOfLimits e.kind
+  -- one within the limits they spell only where memory ended it
+  pub within : (s : Saved) → IsWellFormed s.world → SpellsSavedWithin bytes s → e.kind ≡ kind.Memory
+  -- no text begins with the lines up to the one that is told
+  pub place : IsOfLine e.kind → (more : List ℕ) (t : Text) → ¬ (Spells (front_lines e.line bytes ++ more) t)
+  -- where a program is told, the bytes have it there, and its source is none
+  pub program : (object verb : ℕ) (fault : ProgramFault) → e.kind ≡ kind.Program object verb fault → IsProgramFault bytes e.line object verb fault
+  -- where an object is told, it is the first that isn't well placed
+  pub hierarchy : (x : ℕ) → e.kind ≡ kind.BadHierarchy x → HasObjectFault IsHierarchyFault bytes e.line x
+  -- or all are, and it is the first that has more or fewer cells than definitions
+  pub count : (x : ℕ) → e.kind ≡ kind.PropertyCount x → HasObjectFault IsCountFault bytes e.line x
+  -- where a size is told, no text within the limits begins with the lines up to it
+  pub size : e.kind ≡ kind.TooLarge → (more : List ℕ) (t : Text) → ¬ (SpellsWithin (front_lines e.line bytes ++ more) t)
+  -- a size is told only of a line that can stand there but for its size
+  pub large : e.kind ≡ kind.TooLarge → StandWithoutLimits e.line bytes

@@ -2,7 +2,6 @@
 use Rattle.std.specs.Prelude.{ℕ, List, length}
 use Rattle.moo_table.specs.World.{IsWellFormed}
 use Rattle.moo_dbvalue.specs.Lines.{Sizes, IsCountOf}
-use Rattle.moo_world.specs.Numbers.{HaveNumbers}
 use Rattle.moo_dump.specs.Held.{IsHeld}
 use Rattle.moo_dump.specs.Texts.{canonical_bytes}
 use Rattle.moo_saved.specs.Saved.{Saved}
@@ -13,6 +12,5 @@ canonical s = canonical_bytes s.world s.connected
 -- a saved world as the types of the program have it, of which not too many are connected
 pub record IsKept (z : Sizes) (s : Saved) : Type 0 where
   pub formed : IsWellFormed s.world
-  pub numbers : HaveNumbers s.world
   pub held : IsHeld s.world s.connected
   pub few : IsCountOf z (length s.connected)

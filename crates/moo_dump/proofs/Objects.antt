@@ -12,7 +12,6 @@ use Rattle.moo_object.specs.Objects.{Object}
 use Rattle.moo_object.specs.declared.verb.Verb.{Verb}
 use Rattle.moo_table.specs.World.{World, nothing, object_of, thing_of, keys_along, most, HasStored, IsFilled, IsFine, IsWellFormed}
 use Rattle.moo_forest.specs.Forest.{ancestors}
-use Rattle.moo_world.specs.Numbers.{HasNumbers, HaveNumbers}
 use Rattle.moo_dbvalue.specs.Lines.{Line, Sizes, IsStringOf}
 use Rattle.moo_dbobject.specs.Objects as recorded
 use Rattle.moo_dbrecord.specs.Texts.{IsEntry}
@@ -74,14 +73,14 @@ module _ (s : Sizes) where
   cell_written : (c : Cell) → HasStored c.value × FitsSigned w32 c.owner → recorded.IsCell s (recorded_cell c)
   cell_written c h = record { value = cell_value_written s c.value h.0; owner = h.1; perms = cell_perms_fit c.perms }
 
-  object_written : (x : ℕ) (o : Object) (rest : List Key) (parent place : Link) → IsFine o → HasNumbers o → All (IsFilled x) o.cells
+  object_written : (x : ℕ) (o : Object) (rest : List Key) (parent place : Link) → IsFine o → All (IsFilled x) o.cells
       → map key_of o.cells ≡ map (λ name. (let k : Key = (x, folded name) in k)) o.defined ++ rest → AreLinks parent → AreLinks place
       → recorded.IsObject s (record { name = o.name; body = body_with o parent place })
-  object_written x o rest parent place fine numbers filled keys up around = record {
+  object_written x o rest parent place fine filled keys up around = record {
     name = string_written s o.name fine.name;
     numbers = record {
       flags = flags_fit o.flags;
-      owner = numbers.owner;
+      owner = fine.numbers.owner;
       location = around.above;
       contents = around.first;
       next = around.next;
@@ -90,10 +89,10 @@ module _ (s : Sizes) where
       sibling = up.next;
     };
     verbs = all_mapped (λ (v : Verb). IsString v.names × FitsSigned w32 v.owner) (recorded.IsVerb s) recorded_verb verb_written o.verbs
-        (both (λ (v : Verb). IsString v.names) (λ (v : Verb). FitsSigned w32 v.owner) o.verbs (recursion_from_All (λ (v : Verb). IsString v.names) o.verbs fine.verb_names) (recursion_from_All (λ (v : Verb). FitsSigned w32 v.owner) o.verbs numbers.verbs));
+        (both (λ (v : Verb). IsString v.names) (λ (v : Verb). FitsSigned w32 v.owner) o.verbs (recursion_from_All (λ (v : Verb). IsString v.names) o.verbs fine.verb_names) (recursion_from_All (λ (v : Verb). FitsSigned w32 v.owner) o.verbs fine.numbers.verbs));
     names = all_of IsString (IsStringOf s) (string_written s) o.defined (recursion_from_All IsString o.defined fine.names);
     cells = all_mapped (λ (c : Cell). HasStored c.value × FitsSigned w32 c.owner) (recorded.IsCell s) recorded_cell cell_written o.cells
-        (both (λ (c : Cell). HasStored c.value) (λ (c : Cell). FitsSigned w32 c.owner) o.cells (recursion_from_All (λ (c : Cell). HasStored c.value) o.cells fine.values) (recursion_from_All (λ (c : Cell). FitsSigned w32 c.owner) o.cells numbers.cells));
+        (both (λ (c : Cell). HasStored c.value) (λ (c : Cell). FitsSigned w32 c.owner) o.cells (recursion_from_All (λ (c : Cell). HasStored c.value) o.cells fine.values) (recursion_from_All (λ (c : Cell). FitsSigned w32 c.owner) o.cells fine.numbers.cells));
     own = own_filled x (length o.defined) 0 o.defined rest o.cells keys (omega arith) (recursion_from_All (IsFilled x) o.cells filled);
     verb_count = count_written s (length (map recorded_verb o.verbs)) (let same = length-map o.verbs recorded_verb in let few = fine.few_verbs in omega (arith, same, few));
     name_count = count_written s (length o.defined) few_names;
@@ -109,7 +108,7 @@ module _ (s : Sizes) where
           let few = fine.few_cells in
           omega (arith, whole, cells, parts, names, few)
 
-  module _ (w : World) (f : IsWellFormed w) (n : HaveNumbers w) where
+  module _ (w : World) (f : IsWellFormed w) where
     forest_few : length w.inheritance ≤ most
     forest_few = let same = f.parents.many in let few = f.few in omega (arith, same, few)
 
@@ -122,7 +121,6 @@ module _ (s : Sizes) where
         let same : thing_of w.objects x ≡ o = ap (λ (p : Option Object). unwrap_or p nothing) e in
         object_written x o (keys_along w.objects (ancestors w.inheritance x)) (link_in w.inheritance x) (link_in w.containment x)
         (subst IsFine same (f.stocked.fine x))
-        (subst HasNumbers same (n.objects x))
         (subst (λ (p : Object). All (IsFilled x) p.cells) same (f.stocked.own_filled x))
         (subst (λ (p : Object). map key_of p.cells ≡ map (λ name. (let k : Key = (x, folded name) in k)) p.defined ++ keys_along w.objects (ancestors w.inheritance x)) same (f.stocked.exact_cells x))
         (links_fit w.inheritance f.parents.forest forest_few x)

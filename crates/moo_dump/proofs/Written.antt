@@ -11,7 +11,6 @@ use Rattle.moo_program.specs.Listing.{listing}
 use Rattle.moo_object.specs.Objects.{Object}
 use Rattle.moo_object.specs.declared.verb.Verb.{Verb}
 use Rattle.moo_table.specs.World.{World, nothing, object_of, most, IsWellFormed}
-use Rattle.moo_world.specs.Numbers.{HaveNumbers}
 use Rattle.moo_dbvalue.specs.Lines.{Line, Sizes, IsCountOf}
 use Rattle.moo_dbrecord.specs.Programs.{Row, Table, Program, no_program, blank_entry, blank_table, Fills, IsSourceLine, IsProgramText}
 use Rattle.moo_dbrecord.specs.Texts.{IsLink}
@@ -96,7 +95,7 @@ filled w = subst (λ (table : Table). Fills table (table_programs 0 (table_of (r
 links_written : (whos : List ℤ) → AllByRecursion (FitsSigned w32) whos → AllByRecursion (IsLink WithListeners) (map link_to whos)
 links_written whos h = all_mapped (FitsSigned w32) (IsLink WithListeners) link_to (λ who fits. (fits, record { sfits = omega arith })) whos h
 
-module _ (s : Sizes) (w : World) (whos : List ℤ) (f : IsWellFormed w) (n : HaveNumbers w) (h : IsHeld w whos) (few : IsCountOf s (length whos)) where
+module _ (s : Sizes) (w : World) (whos : List ℤ) (f : IsWellFormed w) (h : IsHeld w whos) (few : IsCountOf s (length whos)) where
   rows : All HasRow w.objects
   rows k d low = (h.programs k d low, subst (λ (o : Option Object). length (unwrap_or o nothing).verbs ≤ most) (get_or_default w.objects k None d low) (f.stocked.fine k).few_verbs)
 
@@ -111,9 +110,9 @@ module _ (s : Sizes) (w : World) (whos : List ℤ) (f : IsWellFormed w) (n : Hav
   written = record {
     version = record { low = omega arith; high = omega arith };
     unused = record { sfits = omega arith };
-    players = recursion_from_All (FitsSigned w32) w.players n.players;
+    players = recursion_from_All (FitsSigned w32) w.players f.player_numbers;
     player_count = count_written s (length w.players) f.few_players;
-    objects = objects_written s w f n;
+    objects = objects_written s w f;
     notes = λ i. string_written s [] (record { text = λ k d low. absurd (omega (arith, low)); fits = omega arith });
     object_count = count_written s (length (records_of w).objects) (let same = length-map-range_with_len (recorded_at w) 0 (length w.objects) in let bound = f.few in omega (arith, same, bound));
     programs = subst (λ (table : Table). AllByRecursion (IsProgramText s) (table_programs 0 table)) (table_is w)

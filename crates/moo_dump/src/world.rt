@@ -87,7 +87,6 @@ pub fn write_world(alloc: Global, world: &World, connected: &[i32]) -> Result<Ve
     ensures held { IfOk result (λ _. IsHeld world.now connected.now) }
 {
     world.is_well_formed();
-    world.numbers_fit();
     let mut out = Vec::new(alloc);
     put_world(alloc, &mut out, world, connected)?;
     Ok(out)

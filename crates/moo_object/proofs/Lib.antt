@@ -1,5 +1,6 @@
 pub mod Names
 mod Rows
+mod Seeking
 mod Fitting
 mod Patterns
 mod Verbs

@@ -1,6 +1,6 @@
 -- The cells of properties.
-use Rattle.std.specs.Prelude.{ℕ, ℤ, List, [], ◌∷◌, Option, Some, None, Bool, ◌&&◌, ◌==◌, if◌then◌else◌}
-use Rattle.std.specs.List.{find}
+use Rattle.std.specs.Prelude.{◌≡◌, ℕ, ℤ, List, [], ◌∷◌, Option, Some, None, Bool, ◌&&◌, ◌==◌, if◌then◌else◌}
+use Rattle.std.specs.List.{find, All}
 use Rattle.moo_value.specs.Tree.{Tree}
 use Rattle.moo_object.specs.declared.cell.PropPerms.{PropPerms}
 use Rattle.moo_object.specs.Names.{same_name}
@@ -29,6 +29,10 @@ is_named name c = same_name c.name name
 -- the cell for a definition
 abbrev pub cell_at : List Cell → Key → Option Cell
 cell_at cells k = find (is_key k) cells
+
+-- no two cells are for the same definition: each is the one that is found for its own
+abbrev pub AreDistinct : List Cell → Type 0
+AreDistinct cells = All (λ c. cell_at cells (key_of c) ≡ Some c) cells
 
 -- the cell of a name
 abbrev pub cell_named : List Cell → List ℕ → Option Cell

@@ -15,13 +15,6 @@ pub record Object : Type 0 where
   pub defined : List (List ℕ)
   pub cells : List Cell
 
--- how many verbs, and how many properties, inherited ones too, an object has at most
-abbrev pub most_verbs : ℕ
-most_verbs = 1000000
-
-abbrev pub most_cells : ℕ
-most_cells = 1000000
-
 -- the cell of an object for a definition that its parent has: the one it had, or a clear one
 abbrev pub fitted_cell : Object → Cell → Cell
 fitted_cell o above = unwrap_or (cell_at o.cells (key_of above)) (cleared o.owner above)

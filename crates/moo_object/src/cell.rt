@@ -3,7 +3,6 @@ ghost use Rattle.std.specs.Prelude.{◌≡◌, ◌≤◌, IfOk, IfSome, IfNone, 
 ghost use Rattle.std.specs.Option.{option_copied, option_map};
 ghost use Rattle.moo_value.specs.Compare.{folded};
 ghost use Rattle.moo_value.specs.View.{tree};
-ghost use Rattle.moo_object.specs.Names.{same_name};
 ghost use Rattle.moo_object.specs.Cells.{is_key, is_named, key_of, cleared, own_cell, emptied, with_info, renamed};
 
 use crate::bits::{bit, take_bit};
@@ -123,13 +122,6 @@ impl PropCell {
         self.definer
     }
 
-    /// The name of the definition, as it was spelled for this cell.
-    pub fn name(&self) -> &MooStr
-        ensures { folded result.now ≡ self.now.name }
-    {
-        &self.name
-    }
-
     /// Whether this is the cell for a definition.
     pub fn is_for(&self, definer: usize, name: &[u8]) -> bool
         ensures { result ≡ is_key (definer, folded name.now) self.now }
@@ -149,13 +141,6 @@ impl PropCell {
         ensures { result ≡ is_key (key_of other.now) self.now }
     {
         self.is_for(other.definer, other.name.as_bytes())
-    }
-
-    /// Whether the cell of another definition has the same name.
-    pub fn has_name_of(&self, other: &PropCell) -> bool
-        ensures { result ≡ same_name self.now.name other.now.name }
-    {
-        same_name(self.name.as_bytes(), other.name.as_bytes())
     }
 
     /// The number of the owner, which may be any number.

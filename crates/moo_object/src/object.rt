@@ -1,31 +1,25 @@
 // An object by itself.
-ghost use Rattle.std.specs.Prelude.{◌≡◌, ◌<◌, ◌-◌, ◌==◌, IfOk, OnOk, OnErr, [], ◌∷◌, ◌++◌, take, length, filter, map, not, position, nat_le, slice_get, slice_set};
-ghost use Rattle.std.specs.Option.{option_copied};
+ghost use Rattle.std.specs.Prelude.{◌≡◌, ◌<◌, ◌-◌, ◌==◌, IfOk, OnOk, OnErr, [], ◌∷◌, ◌++◌, take, length, filter, map, not, position, slice_get, slice_set};
+ghost use Rattle.std.specs.Option.{ForSome, option_copied, option_and_then};
 ghost use Rattle.std.specs.List.{list_any, remove};
 ghost use Rattle.moo_object.specs.Verbs.{fits_verb, changed_at, with_verb_info, with_args, with_program};
 ghost use Rattle.moo_value.specs.Compare.{folded};
 ghost use Rattle.moo_value.specs.View.{tree};
 ghost use Rattle.moo_object.specs.Names.{same_name};
 ghost use Rattle.moo_object.specs.Flags.{no_flags};
-ghost use Rattle.moo_object.specs.Cells.{Cell, is_key, cleared, key_of, with_value, at_key, emptied, with_info, renamed};
-ghost use Rattle.moo_object.specs.Objects.{fitted_cell, fitted_row, most_verbs, most_cells};
+ghost use Rattle.moo_object.specs.Cells.{AreDistinct, is_key, cell_at, cleared, key_of, with_value, at_key, emptied, with_info, renamed};
+ghost use Rattle.moo_object.specs.Objects.{fitted_cell, fitted_row};
 
 use crate::cell::{PropCell, PropPerms};
 use crate::flags::Flags;
 use crate::name::{defines_name, forget_name, position_of_name, put_name};
-use crate::row::{Row, cell_with_key_of, renamed_cell};
+use crate::row::{Row, absent_definer, place_for, renamed_cell};
 use crate::verb::{Need, Verb, VerbPerms, change_args, change_info, change_program};
 use crate::verb_args::VerbArgs;
 use moo_grammar::Program;
 use moo_value::{MooStr, Value};
 use std::alloc::{AllocError, Global};
 use std::marker::Model;
-
-/// How many verbs an object has at most.
-pub const MOST_VERBS: usize = 1_000_000;
-
-/// How many properties an object has at most, inherited ones too.
-pub const MOST_CELLS: usize = 1_000_000;
 
 /// An object, but for what it is joined to: its parent, its place, its children and its contents.
 #[derive(Drop)]
@@ -161,20 +155,6 @@ impl Object {
         self.verbs.get(index)
     }
 
-    /// Whether the object has as many verbs as an object may have.
-    pub fn is_full_of_verbs(&self) -> bool
-        ensures { result ≡ nat_le most_verbs (length self.now.verbs) }
-    {
-        self.verbs.len() >= MOST_VERBS
-    }
-
-    /// Whether the object has as many properties, inherited ones too, as an object may have.
-    pub fn is_full_of_cells(&self) -> bool
-        ensures { result ≡ nat_le most_cells (length self.now.cells) }
-    {
-        self.cells.as_slice().len() >= MOST_CELLS
-    }
-
     /// The place of the first verb that a name fits. For a call only verbs that can be executed count.
     pub fn verb_position(&self, need: Need, name: &[u8]) -> Option<usize>
         ensures { result ≡ position (fits_verb need name.now) self.now.verbs }
@@ -251,24 +231,27 @@ impl Object {
         self.cells = cells;
     }
 
-    /// The cell for what a definition's cell on the parent is for: the one there is, or a clear one.
-    pub fn fitted_cell(&self, above: &PropCell) -> Result<PropCell, AllocError>
-        ensures { IfOk result (λ c. c ≡ fitted_cell self.now above.now) }
-    {
-        match cell_with_key_of(self.cells.as_slice(), above) {
-            Some(cell) => cell.try_clone(),
-            None => above.cleared(self.owner),
-        }
-    }
-
-    /// The cells under a parent with these cells, for the object of this number.
+    /// The cells under a parent with these cells, for the object of this number: those of its own
+    /// definitions, and for each of its parent's the one that there is, or a clear one. What stays in
+    /// order is found where it is looked for first, and a definer that is new above is looked for
+    /// once.
     pub fn fitted_row(
         &self,
         alloc: Global,
         number: usize,
         above: &[PropCell],
     ) -> Result<Row, AllocError>
+        requires { AreDistinct self.now.cells }
         ensures { IfOk result (λ row. row ≡ fitted_row number self.now above.now) }
+    {
+        let mut row = self.own_cells(alloc, number)?;
+        self.push_fitted(&mut row, above)?;
+        Ok(Row::from_cells(row))
+    }
+
+    // The cells of the object's own definitions, for the object of this number.
+    fn own_cells(&self, alloc: Global, number: usize) -> Result<Vec<PropCell>, AllocError>
+        ensures { IfOk result (λ row. row.items ≡ filter (λ c. c.definer == number) self.now.cells) }
     {
         let mut row = Vec::new(alloc);
         for cell in self.cells.as_slice() {
@@ -276,10 +259,39 @@ impl Object {
                 row.push(cell.try_clone()?)?;
             }
         }
-        for cell in above {
-            row.push(self.fitted_cell(cell)?)?;
+        Ok(row)
+    }
+
+    // Adds a cell for each of the parent's cells.
+    fn push_fitted(&self, row: &mut Vec<PropCell>, above: &[PropCell]) -> Result<(), AllocError>
+        requires { AreDistinct self.now.cells }
+        ensures { OnOk result (row.new.items ≡ row.old.items ++ map (fitted_cell self.now) above.now) }
+    {
+        let cells = self.cells.as_slice();
+        let mut next = 0;
+        let mut absent = None;
+        for other in above {
+            let place = place_for(cells, other, next, absent);
+            row.push(self.fitted_cell(other, place)?)?;
+            match place {
+                Some(place) => next = place + 1,
+                None => absent = absent_definer(cells, other, absent),
+            }
         }
-        Ok(Row::from_cells(row))
+        Ok(())
+    }
+
+    // The cell for what a definition's cell on the parent is for: the one there is, at this place, or a
+    // clear one.
+    fn fitted_cell(&self, above: &PropCell, place: Option<usize>) -> Result<PropCell, AllocError>
+        requires within { ForSome place (λ i. i < length self.now.cells) }
+        requires found { option_and_then (slice_get self.now.cells) place ≡ cell_at self.now.cells (key_of above.now) }
+        ensures { IfOk result (λ c. c ≡ fitted_cell self.now above.now) }
+    {
+        match place {
+            Some(place) => self.cells.as_slice()[place].try_clone(),
+            None => above.cleared(self.owner),
+        }
     }
 
     /// Sets the value of the cell of a name.

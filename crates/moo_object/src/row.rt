@@ -1,9 +1,10 @@
 // The cells of an object.
-ghost use Rattle.std.specs.Prelude.{◌≡◌, [], ◌∷◌, ◌++◌, ◌-◌, ◌==◌, IfOk, OnOk, OnErr, take, length, filter, map, not};
-ghost use Rattle.std.specs.Option.{option_copied};
+ghost use Rattle.std.specs.Prelude.{◌≡◌, ◌<◌, [], ◌∷◌, ◌++◌, ◌-◌, ◌==◌, IfOk, OnOk, OnErr, take, length, filter, map, not, false, position, slice_get};
+ghost use Rattle.std.specs.Option.{ForSome, option_copied, option_and_then};
+ghost use Rattle.std.specs.List.{list_any};
 ghost use Rattle.moo_value.specs.Compare.{folded};
 ghost use Rattle.moo_value.specs.View.{tree};
-ghost use Rattle.moo_object.specs.Cells.{Cell, with_value, is_key, key_of, cell_at, cell_named, at_key, emptied, with_info, renamed};
+ghost use Rattle.moo_object.specs.Cells.{AreDistinct, with_value, is_key, key_of, cell_at, cell_named, at_key, emptied, with_info, renamed};
 
 use crate::cell::{PropCell, PropPerms};
 use moo_value::{MooStr, Value};
@@ -112,11 +113,52 @@ pub fn cell_at<'a>(cells: &'a [PropCell], definer: usize, name: &[u8]) -> Option
     cells.iter().find(|cell| cell.is_for(definer, name))
 }
 
-/// The cell for the definition that another cell is for.
-pub fn cell_with_key_of<'a>(cells: &'a [PropCell], other: &PropCell) -> Option<&'a PropCell>
-    ensures { option_copied result ≡ cell_at cells.now (key_of other.now) }
+/// The place of the cell for the definition that another cell is for. It is looked for at `next` first, and
+/// nowhere else where its definer is `absent`, of which there is no cell.
+pub(crate) fn place_for(
+    cells: &[PropCell],
+    other: &PropCell,
+    next: usize,
+    absent: Option<usize>,
+) -> Option<usize>
+    requires distinct { AreDistinct cells.now }
+    requires absent { ForSome absent (λ d. list_any (λ c. c.definer == d) cells.now ≡ false) }
+    ensures within { ForSome result (λ i. i < length cells.now) }
+    ensures found { option_and_then (slice_get cells.now) result ≡ cell_at cells.now (key_of other.now) }
 {
-    cells.iter().find(|cell| cell.has_key_of(other))
+    match cells.get(next) {
+        Some(cell) if cell.has_key_of(other) => Some(next),
+        _ if absent == Some(other.definer()) => None,
+        _ => position_of_key(cells, other),
+    }
+}
+
+fn position_of_key(cells: &[PropCell], other: &PropCell) -> Option<usize>
+    ensures { result ≡ position (is_key (key_of other.now)) cells.now }
+{
+    cells.iter().position(|cell| cell.has_key_of(other))
+}
+
+/// A definer of which there is no cell: that of another cell, if there is none of it, else the one that is known.
+pub(crate) fn absent_definer(
+    cells: &[PropCell],
+    other: &PropCell,
+    absent: Option<usize>,
+) -> Option<usize>
+    requires { ForSome absent (λ d. list_any (λ c. c.definer == d) cells.now ≡ false) }
+    ensures { ForSome result (λ d. list_any (λ c. c.definer == d) cells.now ≡ false) }
+{
+    let definer = other.definer();
+    if absent == Some(definer) || has_definer(cells, definer) {
+        return absent;
+    }
+    Some(definer)
+}
+
+fn has_definer(cells: &[PropCell], definer: usize) -> bool
+    ensures { result ≡ list_any (λ c. c.definer == definer) cells.now }
+{
+    cells.iter().any(|cell| cell.definer() == definer)
 }
 
 /// The cell of a name.

@@ -1,5 +1,6 @@
 -- The first fault of records, and the world that they say where there is none.
-use Rattle.std.proofs.Common.{◌≡◌, ◌≢◌, ℕ, ℤ, List, length, map, Option, Some, None, refl, sym, ap, subst, ◌∙◌, arith}
+use Rattle.std.proofs.Common.{◌≡◌, ◌≢◌, ℕ, ℤ, List, length, map, Option, Some, None, refl, sym, ap, subst, ◌∙◌, arith, FitsSigned, w32}
+use Rattle.std.specs.List.{All}
 use Rattle.std.specs.Option.{option_map}
 use Rattle.std.proofs.lemmas.List.{length-map}
 use Rattle.moo_program.specs.Tree.{Block}
@@ -90,7 +91,7 @@ module _ (os : List (Option ObjectRecord)) where
     )
     fault_too fault.Memory f = tt
 
-    module _ (w : AreWithinLimits whole) (placed : IsFirst (IsWellPlaced alone) (length os) None) (counted : IsFirst (HasItsCells alone) (length os) None)
+    module _ (w : AreWithinLimits whole) (numbers : All (FitsSigned w32) players) (placed : IsFirst (IsWellPlaced alone) (length os) None) (counted : IsFirst (HasItsCells alone) (length os) None)
         (made : List (Option Object)) (parents places : List Links) (keyed : AreKeyed (parent_links alone) (plain_objects os rows) made)
         (parent_forest : IsForest parents) (place_forest : IsForest places) (parent_tree : IsTreeOf (parent_links whole) parents) (place_tree : IsTreeOf (place_links whole) places) where
       all_placed : IsFirst (IsWellPlaced whole) (length whole.objects) None
@@ -109,12 +110,12 @@ module _ (os : List (Option ObjectRecord)) where
       world_is_formed =
           subst (λ l. IsWellFormed (record { objects = l; inheritance = parents; containment = places; players = players })) (sym same)
           (restored_well_formed (plain_objects os rows) parents places players
-          (parts_made whole all_placed all_counted (plain_objects os rows) (plain_are_made os rows players w) parents places forests w.object_count w.player_count))
+          (parts_made whole all_placed all_counted (plain_objects os rows) (plain_are_made os rows players w) parents places forests w.object_count w.player_count numbers))
 
       pub world_is_said : Says whole (record { objects = made; inheritance = parents; containment = places; players = players })
       world_is_said =
           subst (λ l. Says whole (record { objects = l; inheritance = parents; containment = places; players = players })) (sym same)
-          (made_world_is_said whole all_placed all_counted (plain_objects os rows) (plain_are_made os rows players w) parents places forests w.object_count w.player_count)
+          (made_world_is_said whole all_placed all_counted (plain_objects os rows) (plain_are_made os rows players w) parents places forests w.object_count w.player_count numbers)
 
 pub not_some : (o : Option ℕ) → ((x : ℕ) → o ≢ Some x) → o ≡ None
 not_some None h = refl

@@ -1,6 +1,6 @@
 -- Objects made of records in which no object is at fault are what a world can be restored from, and the records say that world.
-use Rattle.std.proofs.Common.{◌≡◌, ℕ, ◌≤◌, List, [], ◌∷◌, ◌++◌, length, Option, Some, None, false, ◌||◌, refl, sym, ap, subst, ◌∙◌, ⊎_elim, arith, map, get_or}
-use Rattle.std.specs.List.{list_any, range_with_len}
+use Rattle.std.proofs.Common.{◌≡◌, ℕ, ◌≤◌, List, [], ◌∷◌, ◌++◌, length, Option, Some, None, false, ◌||◌, refl, sym, ap, subst, ◌∙◌, ⊎_elim, arith, map, get_or, FitsSigned, w32}
+use Rattle.std.specs.List.{list_any, range_with_len, All}
 use Rattle.std.specs.Option.{unwrap_or, option_map}
 use Rattle.std.proofs.lemmas.List.{length-map, get_or_past}
 use Rattle.std.proofs.lemmas.List.Folds.{list_any-append}
@@ -98,8 +98,8 @@ module _ (r : Records) (placed : IsFirst (IsWellPlaced r) (length r.objects) Non
     joined g tree says x none =
         says.free x (link_mapped g r.objects x ∙ ap (option_map g) (none_recorded r x (record_at r x) (object_of made x) (m.objects x) none))
 
-    pub parts_made : length r.objects ≤ most → length r.players ≤ most → AreParts made parents places r.players
-    parts_made few few_players = record {
+    pub parts_made : length r.objects ≤ most → length r.players ≤ most → All (FitsSigned w32) r.players → AreParts made parents places r.players
+    parts_made few few_players numbers = record {
       parents_joined = record {
         forest = t.parent_forest;
         many = t.parents.many ∙ (length-map r.objects (option_map parent_link) ∙ sym m.many);
@@ -118,6 +118,7 @@ module _ (r : Records) (placed : IsFirst (IsWellPlaced r) (length r.objects) Non
       };
       few = let many = m.many in omega (arith, many, few);
       few_players = few_players;
+      player_numbers = numbers;
       few_programs = m.few_programs;
     }
 
@@ -145,11 +146,11 @@ module _ (r : Records) (placed : IsFirst (IsWellPlaced r) (length r.objects) Non
       cells = recorded_rekeyed ks o.cells h ∙ s.cells;
     }
 
-    pub made_world_is_said : length r.objects ≤ most → length r.players ≤ most → Says r (restored_world made parents places r.players)
-    made_world_is_said few few_players = record {
+    pub made_world_is_said : length r.objects ≤ most → length r.players ≤ most → All (FitsSigned w32) r.players → Says r (restored_world made parents places r.players)
+    made_world_is_said few few_players numbers = record {
       many = length-map-range_with_len (restored_object made parents) 0 (length made) ∙ m.many;
       objects = λ x. subst (SaysAt r x (record_at r x)) (sym (object_made x)) (said_with x (definitions made parents x) (record_at r x) (object_of made x) (counts x) (m.objects x));
-      definitions = (restored_well_formed made parents places r.players (parts_made few few_players)).stocked.exact_cells;
+      definitions = (restored_well_formed made parents places r.players (parts_made few few_players numbers)).stocked.exact_cells;
       parents = t.parents;
       places = t.places;
       players = refl;

@@ -1,5 +1,5 @@
 -- Plain objects of records within the limits are made of these.
-use Rattle.std.proofs.Common.{◌≡◌, ℕ, zero, suc, ◌+◌, ◌<◌, ◌≤◌, ℤ, List, [], ◌∷◌, length, map, take, Option, Some, None, is_some, true, cond, refl, sym, ap, subst, ◌∙◌, arith, get_or}
+use Rattle.std.proofs.Common.{◌≡◌, ℕ, zero, suc, ◌+◌, ◌<◌, ◌≤◌, ℤ, List, [], ◌∷◌, length, map, take, Option, Some, None, is_some, true, cond, refl, sym, ap, subst, ◌∙◌, arith, get_or, FitsSigned, w32}
 use Rattle.std.specs.List.{All, AllByRecursion, count_by, sum_by}
 use Rattle.std.specs.Option.{option_map, unwrap_or}
 use Rattle.std.proofs.lemmas.List.{length-map, length-take, get_or-take}
@@ -83,6 +83,15 @@ verb_names_kept [] ps h = tt
 verb_names_kept (v ∷ vs) [] h = (h.0.names, verb_names_kept vs [] h.1)
 verb_names_kept (v ∷ vs) (p ∷ ps) h = (h.0.names, verb_names_kept vs ps h.1)
 
+cell_owners : (cs : List PropertyRecord) → AllByRecursion (recorded.IsCell limited) (map recorded.cell_of cs) → AllByRecursion (λ (c : Cell). FitsSigned w32 c.owner) (map plain_cell cs)
+cell_owners [] h = tt
+cell_owners (c ∷ cs) h = (h.0.owner, cell_owners cs h.1)
+
+verb_owners : (vs : List VerbRecord) (ps : List (Option Block)) → AllByRecursion (recorded.IsVerb limited) (map recorded.verb_of vs) → AllByRecursion (λ (v : Verb). FitsSigned w32 v.owner) (plain_verbs vs ps)
+verb_owners [] ps h = tt
+verb_owners (v ∷ vs) [] h = (h.0.owner, verb_owners vs [] h.1)
+verb_owners (v ∷ vs) (p ∷ ps) h = (h.0.owner, verb_owners vs ps h.1)
+
 many_verbs : (vs : List VerbRecord) (ps : List (Option Block)) → length (plain_verbs vs ps) ≡ length vs
 many_verbs [] ps = refl
 many_verbs (v ∷ vs) [] = ap suc (many_verbs vs [])
@@ -115,6 +124,11 @@ fine_object o ps h = record {
   few_cells = let one = length-map o.cells.items plain_cell in let two = length-map o.cells.items recorded.cell_of in let few = h.cell_count in omega (arith, one, two, few);
   verb_names = all_from (λ (v : Verb). IsString v.names) (plain_verbs o.verbs.items ps) (verb_names_kept o.verbs.items ps h.verbs);
   few_verbs = let one = many_verbs o.verbs.items ps in let two = length-map o.verbs.items recorded.verb_of in let few = h.verb_count in omega (arith, one, two, few);
+  numbers = record {
+    owner = h.numbers.owner;
+    cells = all_from (λ (c : Cell). FitsSigned w32 c.owner) (map plain_cell o.cells.items) (cell_owners o.cells.items h.cells);
+    verbs = all_from (λ (v : Verb). FitsSigned w32 v.owner) (plain_verbs o.verbs.items ps) (verb_owners o.verbs.items ps h.verbs);
+  };
 }
 
 -- programs

@@ -1,6 +1,8 @@
 //! What follows from the definitions.
 
-ghost use Rattle.std.specs.Prelude.{◌≡◌, ◌≤◌, ℕ, List, Option, None, length};
+ghost use Rattle.std.specs.Prelude.{◌≡◌, ◌≤◌, ℕ, List, Option, None, length, FitsSigned};
+ghost use Rattle.std.specs.Int.{w32};
+ghost use Rattle.std.specs.List.{All};
 ghost use Rattle.moo_forest.specs.Forest.{Links, IsForest};
 ghost use Rattle.moo_object.specs.Objects.{Object};
 ghost use Rattle.moo_table.specs.World.{World, most, IsWellFormed};
@@ -47,8 +49,8 @@ pub fn records_of_a_world_say_it()
 pub fn records_without_fault_say_a_world()
     ensures parts { (r : Records) (made : List (Option Object)) (parents places : List Links) → AreMade r made → AreForestsOf r parents places
         → IsFirst (IsWellPlaced r) (length r.objects) None → IsFirst (HasItsCells r) (length r.objects) None
-        → length r.objects ≤ most → length r.players ≤ most → AreParts made parents places r.players }
+        → length r.objects ≤ most → length r.players ≤ most → All (FitsSigned w32) r.players → AreParts made parents places r.players }
     ensures world { (r : Records) (made : List (Option Object)) (parents places : List Links) → AreMade r made → AreForestsOf r parents places
         → IsFirst (IsWellPlaced r) (length r.objects) None → IsFirst (HasItsCells r) (length r.objects) None
-        → length r.objects ≤ most → length r.players ≤ most → Says r (restored_world made parents places r.players) }
+        → length r.objects ≤ most → length r.players ≤ most → All (FitsSigned w32) r.players → Says r (restored_world made parents places r.players) }
 {}

@@ -1,6 +1,8 @@
 //! The world that records say.
 
-ghost use Rattle.std.specs.Prelude.{◌<◌, None, length, IfOk, IfErr, OnOk};
+ghost use Rattle.std.specs.Prelude.{◌<◌, None, length, IfOk, IfErr, OnOk, FitsSigned};
+ghost use Rattle.std.specs.Int.{w32};
+ghost use Rattle.std.specs.List.{All};
 ghost use Rattle.moo_forest.specs.Forest.{IsForest};
 ghost use Rattle.moo_restore.specs.First.{IsFirst};
 ghost use Rattle.moo_restore.specs.Faults.{IsWellPlaced, HasItsCells};
@@ -46,6 +48,7 @@ pub fn restore(
     let inheritance = forest_in(alloc, &parents)?;
     let places = place_links(alloc, objects)?;
     let containment = forest_in(alloc, &places)?;
+    players_fit(&players);
     Ok(World::from_parts(made, inheritance, containment, players))
 }
 
@@ -91,4 +94,13 @@ fn forest_in(alloc: Global, links: &[Option<Link>]) -> Result<Forest, AllocError
     let forest = forest_of(links, nodes_of(alloc, links)?);
     forest.is_forest();
     Ok(forest)
+}
+
+// That each player is a number of 32 bits, as its type says.
+fn players_fit(players: &[i32])
+    ensures { All (FitsSigned w32) players.now }
+{
+    for player in players {
+        let _player = *player;
+    }
 }

@@ -10,7 +10,7 @@ use Rattle.moo_forest.specs.declared.walk.Step.{Step}
 use Rattle.moo_forest.proofs.Walking.{node_met}
 use Rattle.moo_object.specs.Objects.{Object}
 use Rattle.moo_table.specs.World.{object_of, IsJoined}
-use Rattle.moo_table.specs.Changes.{changed_along}
+use Rattle.moo_table.specs.Steps.{changed_along}
 use Rattle.moo_table.proofs.Joining.{walk_low}
 use Rattle.moo_table.proofs.Rowing.{walk_lists}
 

@@ -95,6 +95,7 @@ module _ (w : World) (x : ℕ) (p : Option ℕ) (f : IsWellFormed w) (valid : Is
         stocked = fitted_stocked w.objects tree joined (own_exact w f) f.stocked.own_filled f.stocked.fine none room;
         few = omega (arith, many, f.few);
         few_players = f.few_players;
+        player_numbers = f.player_numbers;
         few_programs = omega (arith, programs_refitted w.objects tree, f.few_programs);
       }
 
@@ -105,6 +106,7 @@ module _ (w : World) (x : ℕ) (p : Option ℕ) (f : IsWellFormed w) (valid : Is
     stocked = f.stocked;
     few = f.few;
     few_players = f.few_players;
+    player_numbers = f.player_numbers;
     few_programs = f.few_programs;
   }
 

@@ -15,7 +15,7 @@ use Rattle.moo_object.specs.Objects.{Object}
 use Rattle.moo_object.specs.Cells.{Cell, Key, key_of, is_named}
 use Rattle.moo_object.proofs.Names.{same_name-true, same_name-false, eq-same_name, ne-same_name}
 use Rattle.moo_table.specs.World.{thing_of, keys_defined_on, keys_along, has_twice, has_clash, clashes}
-use Rattle.moo_table.specs.Rows.{own_clash}
+use Rattle.moo_table.specs.Steps.{own_clash}
 use Rattle.moo_table.proofs.Refitting.{all_fail, passes, fails}
 use Rattle.moo_table.proofs.Rowing.{IsRejoined, walk_lists}
 

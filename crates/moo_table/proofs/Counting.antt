@@ -1,7 +1,7 @@
 -- How many programs there are, before and after a change.
-use Rattle.std.proofs.Common.{◌≡◌, ℕ, zero, suc, ◌<◌, ◌≤◌, ◌+◌, List, get_or, [], ◌∷◌, ◌++◌, Option, Some, None, IsSome, refl, sym, ◌∙◌, ap, arith, length, set, map, is_some, cond}
+use Rattle.std.proofs.Common.{◌≡◌, ℕ, zero, suc, ◌<◌, ◌≤◌, ◌+◌, List, get_or, [], ◌∷◌, ◌++◌, Option, Some, None, IsSome, refl, ◌∙◌, ap, arith, length, set, map, is_some, cond}
 use Rattle.std.specs.Option.{unwrap_or, option_map}
-use Rattle.std.specs.List.{remove, count_by}
+use Rattle.std.specs.List.{remove}
 use Rattle.std.proofs.lemmas.List.Sums.{sum_by-cons, sum_by-set, sum_by_push, get_or-le-sum_by, sum_by-remove}
 use Rattle.std.proofs.lemmas.Bool.{false≢true}
 use Rattle.moo_forest.specs.Forest.{Links, ancestors}

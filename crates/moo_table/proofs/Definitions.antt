@@ -1,5 +1,5 @@
 -- A new definition keeps a world well formed.
-use Rattle.std.proofs.Common.{◌≡◌, ℕ, ◌-◌, ◌<◌, List, [], ◌∷◌, ◌++◌, Option, Some, None, Bool, true, false, ◌&&◌, eqb, leb, ltb, refl, sym, ◌∙◌, ap, subst, ⊎_elim, arith, length, get_or, set, map, take, IsSome}
+use Rattle.std.proofs.Common.{◌≡◌, ℕ, ◌-◌, ◌<◌, List, [], ◌∷◌, ◌++◌, Option, Some, None, Bool, true, false, ◌&&◌, eqb, leb, ltb, refl, sym, ◌∙◌, ap, subst, ⊎_elim, arith, length, get_or, set, map, take, IsSome, FitsSigned, w32}
 use Rattle.std.specs.List.{list_any, All, range_with_len}
 use Rattle.std.specs.Option.{unwrap_or}
 use Rattle.std.proofs.lemmas.List.{get_or-set_same, get_or-set_other, length-set, length_push, length-append, length-map, map-append, append_assoc, set-set, set-get_or, take_at, get_or_read}
@@ -13,16 +13,16 @@ use Rattle.moo_forest.specs.declared.walk.Step.{Step}
 use Rattle.moo_forest.proofs.Climbing.{not_met, way_up_is_ancestors}
 use Rattle.moo_forest.proofs.Dissolving.{above_apart}
 use Rattle.moo_object.specs.Names.{same_name}
-use Rattle.moo_object.specs.Cells.{Cell, Key, key_of}
+use Rattle.moo_object.specs.Cells.{Cell, Key, key_of, cell_at, AreDistinct}
 use Rattle.moo_object.specs.Objects.{Object}
 use Rattle.moo_object.proofs.Names.{same_name-false, ne-same_name}
 use Rattle.moo_table.specs.World.{World, nothing, object_of, thing_of, keys_defined_on, keys_along, definitions, has_twice, has_clash, is_crowded, most, fitted_over, fitted_along, cells_of, IsFilled, IsFine, HasStored, IsJoined, IsWellFormed, refitted}
-use Rattle.moo_table.specs.Rows.{AreFitted, AreReady, without_last}
+use Rattle.moo_table.specs.Steps.{AreFitted, AreReady, without_last, IsDefinable}
 use Rattle.moo_table.specs.Changes.{with_definition, with_definition_on, after_define}
-use Rattle.moo_table.specs.Properties.{IsDefinable, has_name}
+use Rattle.moo_table.specs.Properties.{has_name}
 use Rattle.moo_table.proofs.Counting.{programs_defined}
 use Rattle.moo_table.proofs.Changing.{valid_within, roomy_here}
-use Rattle.moo_table.proofs.FittedRows.{IsOwnExact, own_exact, own_cells, already_fitted}
+use Rattle.moo_table.proofs.FittedRows.{IsOwnExact, own_exact, own_cells, already_fitted, cells_distinct, one_more_distinct, unnamed_key}
 use Rattle.moo_table.proofs.Joining.{within_low, walk_low}
 use Rattle.moo_table.proofs.Refitting.{joined_kept, fitted_stocked, all_fail, none_passes, length_refitted, was_none}
 use Rattle.moo_table.proofs.Rowing.{IsFittedOutside, IsRejoined, row_for, rows_fit}
@@ -43,15 +43,20 @@ none_some : (o : Option Object) → o ≡ None → IsSome o → ⊥
 none_some None e h = false≢true h
 none_some (Some o) e h = cc
 
-fine_then : (o : Option Object) (name : List ℕ) (cell : Cell) → IsString name → HasStored cell.value → length (unwrap_or o nothing).cells < most → IsFine (unwrap_or o nothing) → IsFine (unwrap_or (with_definition name cell o) nothing)
-fine_then None name cell string stored room f = f
-fine_then (Some o) name cell string stored room f = record {
+fine_then : (o : Option Object) (name : List ℕ) (cell : Cell) → IsString name → HasStored cell.value → FitsSigned w32 cell.owner → length (unwrap_or o nothing).cells < most → IsFine (unwrap_or o nothing) → IsFine (unwrap_or (with_definition name cell o) nothing)
+fine_then None name cell string stored owner room f = f
+fine_then (Some o) name cell string stored owner room f = record {
   name = f.name;
   names = All-push IsString o.defined name f.names string;
   values = All-push (λ (c : Cell). HasStored c.value) o.cells cell f.values stored;
   few_cells = let more = length_push o.cells cell in omega (arith, more);
   verb_names = f.verb_names;
   few_verbs = f.few_verbs;
+  numbers = record {
+    owner = f.numbers.owner;
+    cells = All-push (λ (c : Cell). FitsSigned w32 c.owner) o.cells cell f.numbers.cells owner;
+    verbs = f.numbers.verbs;
+  };
 }
 
 last_off : {X : Type 0} (xs : List X) (y : X) → take (length (xs ++ y ∷ []) - 1) (xs ++ y ∷ []) ≡ xs
@@ -144,11 +149,11 @@ module _ (w : World) (x : ℕ) (name : List ℕ) (cell : Cell) (f : IsWellFormed
   cells_there : (y : ℕ) → (y ≡ x → ⊥) → (thing_of (with_definition_on w.objects x name cell) y).cells ≡ (thing_of w.objects y).cells
   cells_there y ne = ap (λ o. (unwrap_or o nothing).cells) (there y ne)
 
-  keys_here : keys_defined_on (with_definition_on w.objects x name cell) x ≡ keys_defined_on w.objects x ++ (let k : Key = (x, folded name) in k) ∷ []
+  pub keys_here : keys_defined_on (with_definition_on w.objects x name cell) x ≡ keys_defined_on w.objects x ++ (let k : Key = (x, folded name) in k) ∷ []
   keys_here = ap (λ o. map (λ n. (x, folded n)) (unwrap_or o nothing).defined) here ∙ ap (map (λ n. (x, folded n))) (defined_then (object_of w.objects x) name cell valid) ∙
       map-append (λ n. (x, folded n)) (thing_of w.objects x).defined (name ∷ [])
 
-  keys_there : (y : ℕ) → (y ≡ x → ⊥) → keys_defined_on (with_definition_on w.objects x name cell) y ≡ keys_defined_on w.objects y
+  pub keys_there : (y : ℕ) → (y ≡ x → ⊥) → keys_defined_on (with_definition_on w.objects x name cell) y ≡ keys_defined_on w.objects y
   keys_there y ne = ap (λ o. map (λ n. (y, folded n)) (unwrap_or o nothing).defined) (there y ne)
 
   pub own_then : IsOwnExact (with_definition_on w.objects x name cell)
@@ -164,6 +169,23 @@ module _ (w : World) (x : ℕ) (name : List ℕ) (cell : Cell) (f : IsWellFormed
     where
       last_key : map key_of (own_cells x (cell ∷ [])) ≡ (let k : Key = (x, folded name) in k) ∷ []
       last_key = let own = eq-eqb cell.definer x (ap (λ (k : Key). k.0) d.own) in rw own (ap (λ (k : Key). k ∷ []) d.own)
+
+  pub free_of : (y : ℕ) → is_within w.inheritance y x ≡ true → has_name w.objects w.inheritance (folded name) y ≡ false
+  free_of y on = right_of (is_within w.inheritance y x) (has_name w.objects w.inheritance (folded name) y)
+      (none_passes (λ z. is_within w.inheritance z x && has_name w.objects w.inheritance (folded name) z) (length w.objects) d.free y (within_low w.objects w.inheritance f.parents x valid y on)) on
+
+  -- no two cells are for the same definition
+  pub distinct_then : (y : ℕ) → AreDistinct (thing_of (with_definition_on w.objects x name cell) y).cells
+  distinct_then y = ⊎_elim
+      (λ e. rw e (rw cells_here (one_more_distinct (thing_of w.objects x).cells cell (cells_distinct w f x) unheld)))
+      (λ ne. let same = cells_there y ne in rw same (cells_distinct w f y))
+      (cases_eq y x)
+    where
+      unheld : cell_at (thing_of w.objects x).cells (key_of cell) ≡ None
+      unheld = ap (cell_at (thing_of w.objects x).cells) d.own ∙
+          unnamed_key (thing_of w.objects x).cells (x, folded name)
+          (ap (list_any (λ (k : Key). same_name k.1 (folded name))) (f.stocked.exact_cells x) ∙
+          free_of x (or_left (eqb x x) (list_any (eqb x) (ancestors w.inheritance x)) (eq-eqb x x refl)))
 
   filled_then : (y : ℕ) → All (IsFilled y) (thing_of (with_definition_on w.objects x name cell) y).cells
   filled_then y = ⊎_elim
@@ -230,10 +252,6 @@ module _ (w : World) (x : ℕ) (name : List ℕ) (cell : Cell) (f : IsWellFormed
       (λ ne. before_definer z (u ∷ us) ne (inserted u us way.1 (⊎_elim (λ e. absurd (ne (eqb-true x z e))) (λ h. h) (or_cases (eqb x z) (list_any (eqb x) (u ∷ us)) on))))
       (cases_eq x z)
 
-  free_of : (y : ℕ) → is_within w.inheritance y x ≡ true → has_name w.objects w.inheritance (folded name) y ≡ false
-  free_of y on = right_of (is_within w.inheritance y x) (has_name w.objects w.inheritance (folded name) y)
-      (none_passes (λ z. is_within w.inheritance z x && has_name w.objects w.inheritance (folded name) z) (length w.objects) d.free y (within_low w.objects w.inheritance f.parents x valid y on)) on
-
   room_at : (y : ℕ) → is_within w.inheritance y x ≡ true → length (definitions w.objects w.inheritance y) < most
   room_at y on = leb-false most (length (definitions w.objects w.inheritance y))
       (right_of (is_within w.inheritance y x) (leb most (length (definitions w.objects w.inheritance y)))
@@ -262,7 +280,7 @@ module _ (w : World) (x : ℕ) (name : List ℕ) (cell : Cell) (f : IsWellFormed
   fine_after : (y : ℕ) → IsFine (thing_of (with_definition_on w.objects x name cell) y)
   fine_after y = ⊎_elim
       (λ e. rw e (let at = ap (λ o. unwrap_or o nothing) here in rw at
-      (fine_then (object_of w.objects x) name cell d.string d.stored
+      (fine_then (object_of w.objects x) name cell d.string d.stored d.owner
       (let room = room_at x (or_left (eqb x x) (list_any (eqb x) (ancestors w.inheritance x)) (eq-eqb x x refl)) in
       let same = sym (length-map (thing_of w.objects x).cells key_of) ∙ ap length (f.stocked.exact_cells x) in omega (arith, room, same))
       (f.stocked.fine x))))
@@ -284,6 +302,7 @@ module _ (w : World) (x : ℕ) (name : List ℕ) (cell : Cell) (f : IsWellFormed
             (all_fail (is_crowded objects w.inheritance) (range_with_len 0 (length objects)) (λ y h. roomy_then y));
         few = omega (arith, len, many, f.few);
         few_players = f.few_players;
+        player_numbers = f.player_numbers;
         few_programs = omega (arith, programs_defined w.objects w.inheritance x name cell (valid_within w.objects x valid), f.few_programs);
       }
 

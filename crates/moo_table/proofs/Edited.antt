@@ -1,5 +1,5 @@
 -- An object with a property set or cleared keeps its shape.
-use Rattle.std.proofs.Common.{◌≡◌, ◌≤◌, ℕ, ℤ, List, [], ◌∷◌, true, false, eqb, refl, sym, ◌∙◌, ap, ⊎_elim, arith, length, map}
+use Rattle.std.proofs.Common.{◌≡◌, ◌≤◌, ℕ, ℤ, List, [], ◌∷◌, true, false, eqb, refl, sym, ◌∙◌, ap, ⊎_elim, arith, length, map, FitsSigned, w32}
 use Rattle.std.specs.List.{All}
 use Rattle.std.proofs.lemmas.List.{length-map}
 use Rattle.std.proofs.lemmas.List.Elements.{All-cons, All-head, All-tail}
@@ -31,19 +31,19 @@ named_kept x (string b) o s = record {
   keys = refl;
   names = refl;
   filled = λ h. h;
-  fine = λ h. record { name = string_stored b s; names = h.names; values = h.values; few_cells = h.few_cells; verb_names = h.verb_names; few_verbs = h.few_verbs };
+  fine = λ h. record { name = string_stored b s; names = h.names; values = h.values; few_cells = h.few_cells; verb_names = h.verb_names; few_verbs = h.few_verbs; numbers = record { owner = h.numbers.owner; cells = h.numbers.cells; verbs = h.numbers.verbs } };
 }
 
-owned_kept : (x : ℕ) (v : Tree) (o : Object) → KeepsShape x (with_owner v) o
-owned_kept x (integer i) o = same_shape x o
-owned_kept x (error e) o = same_shape x o
-owned_kept x (string b) o = same_shape x o
-owned_kept x (list es) o = same_shape x o
-owned_kept x (object n) o = record {
+owned_kept : (x : ℕ) (v : Tree) (o : Object) → IsStored v → KeepsShape x (with_owner v) o
+owned_kept x (integer i) o s = same_shape x o
+owned_kept x (error e) o s = same_shape x o
+owned_kept x (string b) o s = same_shape x o
+owned_kept x (list es) o s = same_shape x o
+owned_kept x (object n) o s = record {
   keys = refl;
   names = refl;
   filled = λ h. h;
-  fine = λ h. record { name = h.name; names = h.names; values = h.values; few_cells = h.few_cells; verb_names = h.verb_names; few_verbs = h.few_verbs };
+  fine = λ h. record { name = h.name; names = h.names; values = h.values; few_cells = h.few_cells; verb_names = h.verb_names; few_verbs = h.few_verbs; numbers = record { owner = s.0; cells = h.numbers.cells; verbs = h.numbers.verbs } };
 }
 
 flagged_kept : (x : ℕ) (f : Flags → Flags) (o : Object) → KeepsShape x (with_flags f) o
@@ -51,12 +51,12 @@ flagged_kept x f o = record {
   keys = refl;
   names = refl;
   filled = λ h. h;
-  fine = λ h. record { name = h.name; names = h.names; values = h.values; few_cells = h.few_cells; verb_names = h.verb_names; few_verbs = h.few_verbs };
+  fine = λ h. record { name = h.name; names = h.names; values = h.values; few_cells = h.few_cells; verb_names = h.verb_names; few_verbs = h.few_verbs; numbers = record { owner = h.numbers.owner; cells = h.numbers.cells; verbs = h.numbers.verbs } };
 }
 
 pub built_in_kept : (x : ℕ) (p : BuiltInProperty) (v : Tree) (o : Object) → IsStored v → KeepsShape x (with_built_in p v) o
 built_in_kept x property.Name v o s = named_kept x v o s
-built_in_kept x property.Owner v o s = owned_kept x v o
+built_in_kept x property.Owner v o s = owned_kept x v o s
 built_in_kept x property.Location v o s = same_shape x o
 built_in_kept x property.Contents v o s = same_shape x o
 built_in_kept x property.Programmer v o s = flagged_kept x _ o
@@ -109,8 +109,8 @@ few_at : (k : Key) (f : Cell → Cell) (cells : List Cell) (n : ℕ) → length 
 few_at k f cells n few = let same = length-map cells (at_key k f) in omega (arith, same, few)
 
 pub cells_kept : (x : ℕ) (k : Key) (f : Cell → Cell) (o : Object) → ((c : Cell) → key_of (f c) ≡ key_of c) → ((c : Cell) → is_key k c ≡ true → IsFilled x c → IsFilled x (f c)) → ((c : Cell) → HasStored c.value → HasStored (f c).value) →
-    KeepsShape x (λ p. record p { cells = map (at_key k f) p.cells }) o
-cells_kept x k f o same filled stored = record {
+    ((c : Cell) → FitsSigned w32 c.owner → FitsSigned w32 (f c).owner) → KeepsShape x (λ p. record p { cells = map (at_key k f) p.cells }) o
+cells_kept x k f o same filled stored owned = record {
   keys = keys_at k f o.cells same;
   names = refl;
   filled = each_at (IsFilled x) k f o.cells filled;
@@ -121,6 +121,7 @@ cells_kept x k f o same filled stored = record {
     few_cells = few_at k f o.cells _ h.few_cells;
     verb_names = h.verb_names;
     few_verbs = h.few_verbs;
+    numbers = record { owner = h.numbers.owner; cells = each_at (λ (c : Cell). FitsSigned w32 c.owner) k f o.cells (λ c e. owned c) h.numbers.cells; verbs = h.numbers.verbs };
   };
 }
 
@@ -129,7 +130,7 @@ definer_at k c e = ⊎_elim (λ on. eqb-true c.definer k.0 on) (λ off. absurd (
 
 -- only inherited cells are cleared
 pub clear_kept : (x : ℕ) (k : Key) (o : Object) → (k.0 ≡ x → ⊥) → KeepsShape x (with_clear k) o
-clear_kept x k o inherited = cells_kept x k emptied o (λ c. refl) (λ c e h own. absurd (inherited (sym (definer_at k c e) ∙ own))) (λ c h. tt)
+clear_kept x k o inherited = cells_kept x k emptied o (λ c. refl) (λ c e h own. absurd (inherited (sym (definer_at k c e) ∙ own))) (λ c h. tt) (λ c h. h)
 
-pub info_kept : (x : ℕ) (k : Key) (owner : ℤ) (perms : PropPerms) (o : Object) → KeepsShape x (with_cell_info k owner perms) o
-info_kept x k owner perms o = cells_kept x k (with_info owner perms) o (λ c. refl) (λ c e h. h) (λ c h. h)
+pub info_kept : (x : ℕ) (k : Key) (owner : ℤ) (perms : PropPerms) (o : Object) → FitsSigned w32 owner → KeepsShape x (with_cell_info k owner perms) o
+info_kept x k owner perms o fits = cells_kept x k (with_info owner perms) o (λ c. refl) (λ c e h. h) (λ c h. h) (λ c h. fits)

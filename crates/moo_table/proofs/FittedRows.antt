@@ -1,9 +1,10 @@
 -- Cells fitted along a way up.
-use Rattle.std.proofs.Common.{◌≡◌, ℕ, List, [], ◌∷◌, ◌++◌, Option, Some, None, true, false, eqb, refl, sym, ◌∙◌, ap, ⊎_elim, map}
-use Rattle.std.specs.List.{AllByRecursion, list_any, filter}
-use Rattle.std.specs.Option.{unwrap_or}
+use Rattle.std.proofs.Common.{◌≡◌, ℕ, List, [], ◌∷◌, ◌++◌, Option, Some, None, true, false, eqb, refl, sym, ◌∙◌, ap, ⊎_elim, map, get_or}
+use Rattle.std.specs.List.{All, AllByRecursion, list_any, filter}
+use Rattle.std.specs.Option.{unwrap_or, option_or}
 use Rattle.std.proofs.lemmas.List.{append-nil, map-append}
-use Rattle.std.proofs.lemmas.List.Elements.{filter-append}
+use Rattle.std.proofs.lemmas.List.Elements.{filter-append, All-nil, All-cons, All-push}
+use Rattle.std.proofs.lemmas.List.Folds.{find-append}
 use Rattle.std.proofs.lemmas.Bool.{cases_Bool, eqb-true, eqb-false, eq-eqb, ne_eqb, or_parts, and_parts, and_from, and_right}
 use Rattle.moo_value.specs.Compare.{folded}
 use Rattle.moo_object.specs.Names.{same_name}
@@ -12,7 +13,7 @@ use Rattle.moo_forest.specs.Forest.{ancestors, above_of, IsWayUp}
 use Rattle.moo_forest.proofs.Climbing.{way_up_is_ancestors, not_met}
 use Rattle.moo_table.specs.World.{World, nothing, thing_of, object_of, keys_defined_on, keys_along, has_twice, fitted_over, fitted_along, IsWellFormed}
 use Rattle.moo_object.specs.Objects.{Object, fitted_cell, fitted_row}
-use Rattle.moo_object.specs.Cells.{Cell, Key, is_key, key_of, cell_at, cleared}
+use Rattle.moo_object.specs.Cells.{Cell, Key, is_key, key_of, cell_at, cleared, AreDistinct}
 
 pair_same : (a b : ℕ) (c d : List ℕ) → a ≡ b → c ≡ d → ◌≡◌ {A = Key} (a, c) (b, d)
 pair_same a b c d p q = cc
@@ -158,6 +159,10 @@ all_found (c ∷ cs) once =
     let mine : is_key (key_of c) c ≡ true = and_from (eqb c.definer c.definer) (same_name c.name c.name) (eq-eqb _ _ refl) (eq-same_name c.name c.name refl) in
     ((rw mine refl), found_later c cs cs parts.0 (all_found cs parts.1))
 
+found_all : (cells some : List Cell) → AllFound cells some → All (λ c. cell_at cells (key_of c) ≡ Some c) some
+found_all cells [] found = All-nil (λ c. cell_at cells (key_of c) ≡ Some c)
+found_all cells (c ∷ some) found = All-cons (λ d. cell_at cells (key_of d) ≡ Some d) c some found.0 (found_all cells some found.1)
+
 found_last : (cells first last : List Cell) → AllFound cells (first ++ last) → AllFound cells last
 found_last cells [] last found = found
 found_last cells (c ∷ first) last found = found_last cells first last found.1
@@ -223,3 +228,26 @@ already_fitted w f x (y ∷ ys) way =
     (λ h. absurd (let none : above_of w.inheritance x ≡ None = ap (λ n. n.above) (f.parents.free x h) in let some = way.0 in cc))
     keys rest_keys (not_met w.inheritance x (y ∷ ys) way)
     (ap (λ ks. has_twice (map (λ (k : Key). k.1) ks)) (f.stocked.exact_cells x) ∙ f.stocked.names_once x)
+
+-- in a well formed world no two cells of an object are for the same definition
+pub cells_distinct : (w : World) → IsWellFormed w → (x : ℕ) → AreDistinct (thing_of w.objects x).cells
+cells_distinct w f x =
+    let cells = (thing_of w.objects x).cells in
+    found_all cells cells
+    (all_found cells (ap has_twice (sym (names_of_keys cells)) ∙ ap (λ ks. has_twice (map (λ (k : Key). k.1) ks)) (f.stocked.exact_cells x) ∙ f.stocked.names_once x))
+
+-- nor with one more, for which there was none
+pub one_more_distinct : (cells : List Cell) (c : Cell) → AreDistinct cells → cell_at cells (key_of c) ≡ None → AreDistinct (cells ++ c ∷ [])
+one_more_distinct cells c once none =
+    let mine : is_key (key_of c) c ≡ true = and_from (eqb c.definer c.definer) (same_name c.name c.name) (eq-eqb _ _ refl) (eq-same_name c.name c.name refl) in
+    All-push (λ d. cell_at (cells ++ c ∷ []) (key_of d) ≡ Some d) cells c
+    (λ k d h. find-append (is_key (key_of (get_or cells k d))) cells (c ∷ []) ∙ ap (λ r. option_or r (cell_at (c ∷ []) (key_of (get_or cells k d)))) (once k d h))
+    (find-append (is_key (key_of c)) cells (c ∷ []) ∙ ap (λ r. option_or r (cell_at (c ∷ []) (key_of c))) none ∙ (rw mine refl))
+
+-- there is no cell for a definition of a name that no cell has
+pub unnamed_key : (cells : List Cell) (k : Key) → list_any (λ (j : Key). same_name j.1 k.1) (map key_of cells) ≡ false → cell_at cells k ≡ None
+unnamed_key [] k h = refl
+unnamed_key (c ∷ cs) k h =
+    let parts = or_parts (same_name c.name k.1) (list_any (λ (j : Key). same_name j.1 k.1) (map key_of cs)) h in
+    let off : is_key k c ≡ false = and_right (eqb c.definer k.0) (same_name c.name k.1) parts.0 in
+    rw off (unnamed_key cs k parts.1)

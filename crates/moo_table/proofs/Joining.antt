@@ -6,14 +6,15 @@ use Rattle.std.proofs.lemmas.Bool.{cases_lt, eqb-true, or_cases, false≢true}
 use Rattle.moo_forest.specs.Forest.{Links, above_of, ancestors, climb, moved, is_within}
 use Rattle.moo_forest.specs.Walk.{met, step_at, IsWalkDown}
 use Rattle.moo_forest.specs.declared.walk.Step.{Step}
+use Rattle.moo_forest.proofs.Climbing.{way_up_is_ancestors}
 use Rattle.moo_forest.proofs.Walking.{node_met}
 use Rattle.moo_object.specs.Objects.{Object}
 use Rattle.moo_object.specs.Cells.{Cell, Key, key_of}
-use Rattle.moo_table.specs.World.{World, object_of, fitted_over, with_cells, cells_of, keys_along, has_twice, clashes, crowds, IsWellFormed, IsJoined}
-use Rattle.moo_table.specs.Rows.{AreFitted, AreReady, with_rows, own_clash, row_is_long}
+use Rattle.moo_table.specs.World.{World, object_of, thing_of, fitted_over, fitted_along, with_cells, cells_of, keys_along, has_twice, clashes, crowds, IsWellFormed, IsJoined}
+use Rattle.moo_table.specs.Steps.{AreFitted, AreReady, with_rows, own_clash, is_crowded_by}
 use Rattle.moo_table.specs.Changes.{would_loop}
 use Rattle.moo_table.proofs.FittedRows.{own_exact, keys_fitted}
-use Rattle.moo_table.proofs.Rowing.{row_for, rows_are, rows_fit, crowd_tested, walked_within}
+use Rattle.moo_table.proofs.Rowing.{row_for, rows_fit, crowd_tested, walked_within}
 use Rattle.moo_table.proofs.Clashes.{clash_tested}
 use Rattle.moo_table.proofs.Changing.{IsValidPlace, valid_within, joined_valid, outside_well_formed, rejoined, parent_cells, top_row}
 
@@ -58,20 +59,27 @@ module _ (w : World) (x : ℕ) (p : Option ℕ) (f : IsWellFormed w) (valid : Is
       (parent_once p) f.stocked.names_once walk d (within_low w.objects w.inheritance f.parents x valid)
       (λ y off. ap (λ ys. has_twice (map (λ (k : Key). k.1) (keys_along w.objects (y ∷ ys)))) (r.apart y off) ∙ f.stocked.names_once y)
 
+  -- the definitions above x: so many would go and so many come
+  keys_above : (q : Option ℕ) → above_of w.inheritance x ≡ q → length (keys_along w.objects (ancestors w.inheritance x)) ≡ length (cells_of w.objects q)
+  keys_above None is = ap (λ ys. length (keys_along w.objects ys)) (way_up_is_ancestors w.inheritance f.parents.forest.exact x [] is)
+  keys_above (Some up) is =
+      ap (λ ys. length (keys_along w.objects ys)) (way_up_is_ancestors w.inheritance f.parents.forest.exact x (up ∷ ancestors w.inheritance up) (is, f.parents.forest.rooted up)) ∙
+      ap length (sym (f.stocked.exact_cells up)) ∙ length-map (thing_of w.objects up).cells key_of
+
+  pub some_crowded_is : list_any (is_crowded_by w.objects (length (cells_of w.objects p)) (length (cells_of w.objects (above_of w.inheritance x)))) (met walk) ≡ crowds w.objects (moved w.inheritance x p)
+  some_crowded_is =
+      let tree = moved w.inheritance x p in
+      crowd_tested w.objects w.inheritance tree x walk f.parents.forest (rejoined w x p f valid p_valid apart) d
+      (length (cells_of w.objects p)) (length (cells_of w.objects (above_of w.inheritance x)))
+      (ap length (sym (keys_fitted w.objects (own_exact w f) (ancestors tree x))) ∙ length-map (fitted_along w.objects (ancestors tree x)) key_of ∙ ap length (sym (parent_cells w x p f valid p_valid apart)))
+      (keys_above (above_of w.inheritance x) refl)
+      (outside_well_formed w x f) f.stocked.exact_cells (within_low w.objects w.inheritance f.parents x valid)
+
 module _ (w : World) (x : ℕ) (p : Option ℕ) (f : IsWellFormed w) (valid : IsSome (object_of w.objects x)) (p_valid : IsValidPlace w.objects p) (walk : List Step) (rows : List (List Cell))
     (apart : would_loop w.inheritance x p ≡ false) (d : IsWalkDown w.inheritance x walk)
     (a : AreFitted w.objects walk (fitted_over (step_at walk 0).node (object_of w.objects (step_at walk 0).node) (cells_of w.objects p)) (length walk) rows) where
   top : fitted_over (step_at walk 0).node (object_of w.objects (step_at walk 0).node) (cells_of w.objects p) ≡ row_for w.objects (moved w.inheritance x p) x
   top = ap (λ n. fitted_over n (object_of w.objects n) (cells_of w.objects p)) d.first ∙ top_row w x p f valid p_valid apart
-
-  all : rows ≡ map (row_for w.objects (moved w.inheritance x p)) (met walk)
-  all = rows_are w.objects w.inheritance (moved w.inheritance x p) x walk f.parents.forest (rejoined w x p f valid p_valid apart) d
-      (fitted_over (step_at walk 0).node (object_of w.objects (step_at walk 0).node) (cells_of w.objects p)) rows top a
-
-  pub rows_crowd_is : list_any row_is_long rows ≡ crowds w.objects (moved w.inheritance x p)
-  rows_crowd_is = ap (list_any row_is_long) all ∙
-      crowd_tested w.objects w.inheritance (moved w.inheritance x p) x walk f.parents.forest (rejoined w x p f valid p_valid apart) d (own_exact w f) (outside_well_formed w x f)
-      (within_low w.objects w.inheritance f.parents x valid)
 
   pub rows_ready : AreReady w.objects (moved w.inheritance x p) walk rows
   rows_ready = record {
@@ -156,3 +164,12 @@ clash_read objects given lent walk steps p cells given_is lent_is steps_are cell
     ap (λ os. list_any (own_clash os cells) (met steps)) given_is ∙
     ap (λ cs. list_any (own_clash objects cs) (met steps)) (cells_are ∙ ap (λ os. cells_of os p) lent_is) ∙
     ap (λ ys. list_any (own_clash objects (cells_of objects p)) (met ys)) steps_are
+
+pub crowd_read : (objects given gains loses : List (Option Object)) (walk steps : List Step) (p q r : Option ℕ) (gained lost : List Cell) → given ≡ objects → gains ≡ objects → loses ≡ objects → steps ≡ walk →
+    gained ≡ cells_of gains p → lost ≡ cells_of loses q → q ≡ r →
+    list_any (is_crowded_by given (length gained) (length lost)) (met steps) ≡ list_any (is_crowded_by objects (length (cells_of objects p)) (length (cells_of objects r))) (met walk)
+crowd_read objects given gains loses walk steps p q r gained lost given_is gains_are loses_are steps_are gained_is lost_is same =
+    ap (λ os. list_any (is_crowded_by os (length gained) (length lost)) (met steps)) given_is ∙
+    ap (λ cs. list_any (is_crowded_by objects (length cs) (length lost)) (met steps)) (gained_is ∙ ap (λ os. cells_of os p) gains_are) ∙
+    ap (λ cs. list_any (is_crowded_by objects (length (cells_of objects p)) (length cs)) (met steps)) (lost_is ∙ ap (λ os. cells_of os q) loses_are ∙ ap (cells_of objects) same) ∙
+    ap (λ ys. list_any (is_crowded_by objects (length (cells_of objects p)) (length (cells_of objects r))) (met ys)) steps_are

@@ -1,5 +1,5 @@
 -- A recycled object leaves a well formed world.
-use Rattle.std.proofs.Common.{◌≡◌, ℕ, ◌<◌, ◌≤◌, List, [], ◌∷◌, ◌++◌, Option, Some, None, Bool, false, not, pos, eqb, refl, sym, ◌∙◌, ap, subst, ⊎_elim, arith, length, set, map, IsSome}
+use Rattle.std.proofs.Common.{◌≡◌, ℕ, ◌<◌, ◌≤◌, List, [], ◌∷◌, ◌++◌, Option, Some, None, Bool, false, not, pos, eqb, refl, sym, ◌∙◌, ap, subst, ⊎_elim, arith, length, set, map, IsSome, FitsSigned, w32}
 use Rattle.std.specs.List.{list_any, filter, count_by, All}
 use Rattle.std.specs.Option.{unwrap_or}
 use Rattle.std.proofs.lemmas.List.{get_or-set_same, get_or-set_other, length-set, length-map, get_or-map, get_or_past}
@@ -15,7 +15,7 @@ use Rattle.moo_forest.proofs.Moving.{IsPlace}
 use Rattle.moo_object.specs.Objects.{Object}
 use Rattle.moo_object.specs.Cells.{Cell, Key, key_of}
 use Rattle.moo_table.specs.World.{World, nothing, object_of, thing_of, keys_defined_on, keys_along, definitions, has_twice, IsFilled, IsWellFormed, IsJoined, IsFine, HasStored, most}
-use Rattle.moo_table.specs.Changes.{changed_along}
+use Rattle.moo_table.specs.Steps.{changed_along}
 use Rattle.moo_table.specs.Recycling.{without_cells_of, after_recycle}
 use Rattle.moo_table.specs.Players.{players_with}
 use Rattle.moo_table.proofs.Counting.{programs_recycled}
@@ -25,6 +25,7 @@ use Rattle.moo_table.proofs.PlayerLists.{none_out}
 use Rattle.moo_table.proofs.Refitting.{definer_elsewhere, key_within, no_ancestors}
 use Rattle.moo_table.proofs.Removals.{once_kept, cells_short}
 use Rattle.moo_table.proofs.WellFormed.{fine_nothing}
+use Rattle.std.specs.Ordering.{int_eq}
 
 -- whether a definition is on another object
 abbrev pub is_apart : ℕ → Key → Bool
@@ -63,6 +64,11 @@ fine_left x (Some o) f = record {
   few_cells = let short = cells_short (λ c. not (eqb c.definer x)) o.cells in let few = f.few_cells in omega (arith, short, few);
   verb_names = f.verb_names;
   few_verbs = f.few_verbs;
+  numbers = record {
+    owner = f.numbers.owner;
+    cells = All-filter (λ c. not (eqb c.definer x)) (λ (c : Cell). FitsSigned w32 c.owner) o.cells f.numbers.cells;
+    verbs = f.numbers.verbs;
+  };
 }
 
 filtered_twice : (t : Cell → Bool) (cs : List Cell) → filter t (filter t cs) ≡ filter t cs
@@ -227,6 +233,7 @@ module _ (w : World) (x : ℕ) (f : IsWellFormed w) (valid : IsSome (object_of w
     };
     few = let same = many in let few = f.few in omega (arith, same, few);
     few_players = few_after;
+    player_numbers = All-filter (λ q. not (int_eq (pos x) q)) (FitsSigned w32) w.players f.player_numbers;
     few_programs = omega (arith, programs_recycled w.objects x (valid_within w.objects x valid), f.few_programs);
   }
 

@@ -1,6 +1,6 @@
 -- A new object keeps a world well formed.
-use Rattle.std.proofs.Common.{◌≡◌, ℕ, ◌<◌, ◌≤◌, List, [], ◌∷◌, ◌++◌, Option, Some, None, false, eqb, refl, sym, ◌∙◌, ap, ⊎_elim, arith, length, map, ℤ, subst}
-use Rattle.std.specs.List.{list_any}
+use Rattle.std.proofs.Common.{◌≡◌, ℕ, ◌<◌, ◌≤◌, List, [], ◌∷◌, ◌++◌, Option, Some, None, false, eqb, refl, sym, ◌∙◌, ap, ⊎_elim, arith, length, map, ℤ, subst, FitsSigned, w32, get_or}
+use Rattle.std.specs.List.{list_any, All}
 use Rattle.std.specs.Option.{unwrap_or}
 use Rattle.std.proofs.lemmas.List.{get_or_append_left, get_or_past, length_push, get_or_push, length-map}
 use Rattle.std.proofs.lemmas.List.Elements.{All-map, All-nil}
@@ -18,10 +18,10 @@ use Rattle.moo_object.specs.Objects.{Object}
 use Rattle.moo_object.specs.Cells.{Cell, Key, key_of, cleared}
 use Rattle.moo_table.proofs.Counting.{programs_added}
 use Rattle.moo_table.proofs.Changing.{valid_within, not_valid, IsValidPlace}
-use Rattle.moo_table.proofs.Refitting.{definer_elsewhere, key_within, IsStoredCell}
+use Rattle.moo_table.proofs.Refitting.{definer_elsewhere, key_within, IsStoredCell, IsOwnedCell, owned_cleared}
 
 -- what stands at the other numbers stays
-object_before : (objects : List (Option Object)) (o : Object) (y : ℕ) → (y ≡ length objects → ⊥) → object_of (objects ++ Some o ∷ []) y ≡ object_of objects y
+pub object_before : (objects : List (Option Object)) (o : Object) (y : ℕ) → (y ≡ length objects → ⊥) → object_of (objects ++ Some o ∷ []) y ≡ object_of objects y
 object_before objects o y other =
     ⊎_elim
     (λ h. get_or_append_left objects (Some o ∷ []) None y h)
@@ -31,10 +31,10 @@ object_before objects o y other =
     sym (get_or_past objects y None past))
     (cases_lt y (length objects))
 
-object_new : (objects : List (Option Object)) (o : Object) → object_of (objects ++ Some o ∷ []) (length objects) ≡ Some o
+pub object_new : (objects : List (Option Object)) (o : Object) → object_of (objects ++ Some o ∷ []) (length objects) ≡ Some o
 object_new objects o = get_or_push objects (Some o) None (length objects) refl
 
-keys_before : (objects : List (Option Object)) (o : Object) (way : List ℕ) → list_any (eqb (length objects)) way ≡ false → keys_along (objects ++ Some o ∷ []) way ≡ keys_along objects way
+pub keys_before : (objects : List (Option Object)) (o : Object) (way : List ℕ) → list_any (eqb (length objects)) way ≡ false → keys_along (objects ++ Some o ∷ []) way ≡ keys_along objects way
 keys_before objects o [] apart = refl
 keys_before objects o (y ∷ way) apart =
     let parts = or_parts (eqb (length objects) y) (list_any (eqb (length objects)) way) apart in
@@ -70,7 +70,7 @@ module _ (w : World) (f : IsWellFormed w) where
   on_no_way : (y : ℕ) → (y ≡ length w.objects → ⊥) → is_within (all_of w) y (length w.objects) ≡ false
   on_no_way y other = subst (λ n. is_within (all_of w) y n ≡ false) f.parents.many (new_is_on_no_way w.inheritance f.parents.forest y (λ e. other (e ∙ f.parents.many)))
 
-  off_way : (y : ℕ) → (y ≡ length w.objects → ⊥) → list_any (eqb (length w.objects)) (y ∷ ancestors w.inheritance y) ≡ false
+  pub off_way : (y : ℕ) → (y ≡ length w.objects → ⊥) → list_any (eqb (length w.objects)) (y ∷ ancestors w.inheritance y) ≡ false
   off_way y other = ap (λ ys. list_any (eqb (length w.objects)) (y ∷ ys)) (sym (ancestors_added w.inheritance f.parents.forest y)) ∙ on_no_way y other
 
   place_all : (p : Option ℕ) → IsValidPlace w.objects p → IsPlace (all_of w) p
@@ -82,23 +82,23 @@ module _ (w : World) (f : IsWellFormed w) where
   apart_all : (p : Option ℕ) → IsValidPlace w.objects p → IsApart (all_of w) (length w.objects) p
   apart_all p valid up is = on_no_way up (not_new p valid up is)
 
-  same_ancestors : (p : Option ℕ) → IsValidPlace w.objects p → (y : ℕ) → (y ≡ length w.objects → ⊥) → ancestors (tree_of w p) y ≡ ancestors w.inheritance y
+  pub same_ancestors : (p : Option ℕ) → IsValidPlace w.objects p → (y : ℕ) → (y ≡ length w.objects → ⊥) → ancestors (tree_of w p) y ≡ ancestors w.inheritance y
   same_ancestors p valid y other = ancestors_elsewhere (all_of w) (length w.objects) p y all_forest node (place_all p valid) (on_no_way y other) ∙ ancestors_added w.inheritance f.parents.forest y
 
   -- the definitions of the others stay
-  same_definitions : (p : Option ℕ) (o : Object) → IsValidPlace w.objects p → (y : ℕ) → (y ≡ length w.objects → ⊥) → definitions (w.objects ++ Some o ∷ []) (tree_of w p) y ≡ definitions w.objects w.inheritance y
+  pub same_definitions : (p : Option ℕ) (o : Object) → IsValidPlace w.objects p → (y : ℕ) → (y ≡ length w.objects → ⊥) → definitions (w.objects ++ Some o ∷ []) (tree_of w p) y ≡ definitions w.objects w.inheritance y
   same_definitions p o valid y other =
       ap (λ ys. keys_along (w.objects ++ Some o ∷ []) (y ∷ ys)) (same_ancestors p valid y other) ∙
       keys_before w.objects o (y ∷ ancestors w.inheritance y) (off_way y other)
 
   -- those of the new object are those of its parent
-  new_way : (p : Option ℕ) → IsValidPlace w.objects p → ancestors (tree_of w p) (length w.objects) ≡ way_of w p
+  pub new_way : (p : Option ℕ) → IsValidPlace w.objects p → ancestors (tree_of w p) (length w.objects) ≡ way_of w p
   new_way None valid = ancestors_of_root (all_of w) (length w.objects) all_forest node
   new_way (Some up) valid =
       ancestors_of_moved (all_of w) (length w.objects) up all_forest node (place_all (Some up) valid up refl) (apart_all (Some up) valid up refl) ∙
       ap (λ ys. up ∷ ys) (ancestors_added w.inheritance f.parents.forest up)
 
-  off_new_way : (p : Option ℕ) → IsValidPlace w.objects p → list_any (eqb (length w.objects)) (way_of w p) ≡ false
+  pub off_new_way : (p : Option ℕ) → IsValidPlace w.objects p → list_any (eqb (length w.objects)) (way_of w p) ≡ false
   off_new_way None valid = refl
   off_new_way (Some up) valid = off_way up (not_new (Some up) valid up refl)
 
@@ -110,7 +110,7 @@ module _ (w : World) (f : IsWellFormed w) where
   parent_once None = refl
   parent_once (Some up) = f.stocked.names_once up
 
-  new_definitions : (p : Option ℕ) (o : Object) → o.defined ≡ [] → IsValidPlace w.objects p → definitions (w.objects ++ Some o ∷ []) (tree_of w p) (length w.objects) ≡ keys_along w.objects (way_of w p)
+  pub new_definitions : (p : Option ℕ) (o : Object) → o.defined ≡ [] → IsValidPlace w.objects p → definitions (w.objects ++ Some o ∷ []) (tree_of w p) (length w.objects) ≡ keys_along w.objects (way_of w p)
   new_definitions p o none valid =
       ap (λ q. map (λ n. (length w.objects, folded n)) (unwrap_or q nothing).defined ++ keys_along (w.objects ++ Some o ∷ []) (ancestors (tree_of w p) (length w.objects))) (object_new w.objects o) ∙
       ap (λ ns. map (λ n. (length w.objects, folded n)) ns ++ keys_along (w.objects ++ Some o ∷ []) (ancestors (tree_of w p) (length w.objects))) none ∙
@@ -120,18 +120,27 @@ module _ (w : World) (f : IsWellFormed w) where
   few_parent None = omega arith
   few_parent (Some up) = (f.stocked.fine up).few_cells
 
-  fine_new : (p : Option ℕ) (owner : ℤ) → IsFine (made w p owner)
-  fine_new p owner = record {
+  owned_parent : (p : Option ℕ) → All IsOwnedCell (cells_of w.objects p)
+  owned_parent None = All-nil IsOwnedCell
+  owned_parent (Some up) = (f.stocked.fine up).numbers.cells
+
+  fine_new : (p : Option ℕ) (owner : ℤ) → FitsSigned w32 owner → IsFine (made w p owner)
+  fine_new p owner fits = record {
     name = record { text = All-nil IsTextByte; fits = omega arith };
     names = All-nil IsString;
     values = All-map IsStoredCell (cleared owner) (cells_of w.objects p) (λ k d h. tt);
     few_cells = let len = length-map (cells_of w.objects p) (cleared owner) in let few = few_parent p in omega (arith, len, few);
     verb_names = All-nil (λ (v : Verb). IsString v.names);
     few_verbs = omega arith;
+    numbers = record {
+      owner = fits;
+      cells = All-map IsOwnedCell (cleared owner) (cells_of w.objects p) (λ k d h. owned_cleared owner (get_or (cells_of w.objects p) k d) fits (owned_parent p k d h));
+      verbs = All-nil (λ (v : Verb). FitsSigned w32 v.owner);
+    };
   }
 
-  pub create_well_formed : (p : Option ℕ) (owner : ℤ) → IsValidPlace w.objects p → length w.objects < most → IsWellFormed (after_create w p owner)
-  create_well_formed p owner valid room =
+  pub create_well_formed : (p : Option ℕ) (owner : ℤ) → FitsSigned w32 owner → IsValidPlace w.objects p → length w.objects < most → IsWellFormed (after_create w p owner)
+  create_well_formed p owner fits valid room =
       let o = made w p owner in
       let many = length_push w.objects (Some o) in
       let parents = length_moved (all_of w) (length w.objects) p ∙ length_push w.inheritance alone in
@@ -168,12 +177,13 @@ module _ (w : World) (f : IsWellFormed w) where
               (λ other. let kept = ap (λ q. (unwrap_or q nothing).cells) (object_before w.objects o y other) in rw kept (f.stocked.own_filled y))
               (cases_eq y (length w.objects));
           fine = λ y. ⊎_elim
-              (λ e. rw e (let here = ap (λ q. unwrap_or q nothing) (object_new w.objects o) in rw here (fine_new p owner)))
+              (λ e. rw e (let here = ap (λ q. unwrap_or q nothing) (object_new w.objects o) in rw here (fine_new p owner fits)))
               (λ other. let kept = ap (λ q. unwrap_or q nothing) (object_before w.objects o y other) in rw kept (f.stocked.fine y))
               (cases_eq y (length w.objects));
         };
         few = omega (arith, many);
         few_players = f.few_players;
+        player_numbers = f.player_numbers;
         few_programs = omega (arith, programs_added w.objects o refl, f.few_programs);
       }
     where

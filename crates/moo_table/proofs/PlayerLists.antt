@@ -1,8 +1,9 @@
 -- The list of players keeps its limit.
-use Rattle.std.proofs.Common.{◌≡◌, ℕ, ℤ, ◌≤◌, List, [], ◌∷◌, ◌++◌, Bool, true, false, not, cond, ltb, leb, Option, Some, None, refl, sym, ◌∙◌, ⊎_elim, arith, length}
-use Rattle.std.specs.List.{list_any, filter}
+use Rattle.std.proofs.Common.{◌≡◌, ℕ, ℤ, ◌≤◌, List, [], ◌∷◌, ◌++◌, Bool, true, false, not, cond, ltb, leb, Option, Some, None, refl, sym, ◌∙◌, ⊎_elim, arith, length, FitsSigned, w32}
+use Rattle.std.specs.List.{list_any, filter, All}
 use Rattle.std.specs.Ordering.{int_eq}
 use Rattle.std.proofs.lemmas.List.{length_push}
+use Rattle.std.proofs.lemmas.List.Elements.{All-filter, All-push}
 use Rattle.std.proofs.lemmas.Bool.{cases_Bool, lt-ltb, le-ltb, ltb-false, leb-true, leb-false}
 use Rattle.moo_value.specs.declared.error_code.ErrorCode.{ErrorCode}
 use Rattle.moo_value.specs.declared.error_code.ErrorCode.TheVariants.{Quota}
@@ -40,12 +41,16 @@ marked x on w = record {
   keys = refl;
   names = refl;
   filled = λ h. h;
-  fine = λ h. record { name = h.name; names = h.names; values = h.values; few_cells = h.few_cells; verb_names = h.verb_names; few_verbs = h.few_verbs };
+  fine = λ h. record { name = h.name; names = h.names; values = h.values; few_cells = h.few_cells; verb_names = h.verb_names; few_verbs = h.few_verbs; numbers = record { owner = h.numbers.owner; cells = h.numbers.cells; verbs = h.numbers.verbs } };
 }
 
--- another list of players
-pub players_changed : (w : World) (ps : List ℤ) → IsWellFormed w → length ps ≤ most → IsWellFormed (record w { players = ps })
-players_changed w ps f few = record { parents = f.parents; places = f.places; stocked = f.stocked; few = f.few; few_players = few; few_programs = f.few_programs }
+pub numbers_listed : (ps : List ℤ) (p : ℤ) (on : Bool) → All (FitsSigned w32) ps → FitsSigned w32 p → All (FitsSigned w32) (players_with ps p on)
+numbers_listed ps p false all fits = All-filter (λ q. not (int_eq p q)) (FitsSigned w32) ps all
+numbers_listed ps p true all fits = ⊎_elim (λ e. rw e all) (λ e. rw e (All-push (FitsSigned w32) ps p all fits)) (cases_Bool (list_any (int_eq p) ps))
 
-pub players_counted : (w : World) (ps : List ℤ) (n : ℕ) → IsCounted w n → length ps ≤ most → IsCounted (record w { players = ps }) n
-players_counted w ps n c few = record { formed = players_changed w ps c.formed few; counted = c.counted }
+-- another list of players
+pub players_changed : (w : World) (ps : List ℤ) → IsWellFormed w → length ps ≤ most → All (FitsSigned w32) ps → IsWellFormed (record w { players = ps })
+players_changed w ps f few fit = record { parents = f.parents; places = f.places; stocked = f.stocked; few = f.few; few_players = few; player_numbers = fit; few_programs = f.few_programs }
+
+pub players_counted : (w : World) (ps : List ℤ) (n : ℕ) → IsCounted w n → length ps ≤ most → All (FitsSigned w32) ps → IsCounted (record w { players = ps }) n
+players_counted w ps n c few fit = record { formed = players_changed w ps c.formed few fit; counted = c.counted }

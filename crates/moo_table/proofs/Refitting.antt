@@ -1,5 +1,5 @@
 -- Objects fitted to another tree of parents.
-use Rattle.std.proofs.Common.{◌≡◌, ℕ, zero, suc, ◌<◌, ◌≤◌, List, [], ◌∷◌, ◌++◌, Option, Some, None, Bool, false, eqb, refl, sym, ◌∙◌, ap, ⊎_elim, arith, length, get_or, map, true, ltb, subst}
+use Rattle.std.proofs.Common.{◌≡◌, ℕ, zero, suc, ◌<◌, ◌≤◌, List, [], ◌∷◌, ◌++◌, Option, Some, None, Bool, false, eqb, refl, sym, ◌∙◌, ap, ⊎_elim, arith, length, get_or, map, true, ltb, subst, ℤ, FitsSigned, w32}
 use Rattle.std.specs.List.{range_with_len, All, list_any}
 use Rattle.std.specs.Option.{unwrap_or}
 use Rattle.std.proofs.lemmas.List.{get_or-map, length-map, get_or_past}
@@ -10,7 +10,7 @@ use Rattle.std.proofs.lemmas.Bool.{cases_Bool, cases_lt, eqb-true, eqb-false, eq
 use Rattle.moo_value.specs.Compare.{folded}
 use Rattle.moo_forest.specs.Forest.{Links, alone, ancestors, climb, above_of}
 use Rattle.moo_forest.proofs.Climbing.{not_met}
-use Rattle.moo_table.specs.World.{nothing, thing_of, object_of, keys_defined_on, keys_along, has_twice, has_clash, clashes, fitted_over, fitted_along, with_cells, refitted_object, refitted, IsFilled, IsJoined, IsStocked, IsFine, HasStored, most, crowds, is_crowded, definitions}
+use Rattle.moo_table.specs.World.{nothing, thing_of, object_of, keys_defined_on, keys_along, has_twice, has_clash, clashes, fitted_over, fitted_along, with_cells, refitted_object, refitted, IsFilled, IsJoined, IsStocked, IsFine, HasNumbers, HasStored, most, crowds, is_crowded, definitions}
 use Rattle.moo_object.specs.Objects.{Object, fitted_cell}
 use Rattle.moo_object.specs.Cells.{Cell, Key, key_of, cleared, cell_at, is_key}
 use Rattle.moo_table.proofs.FittedRows.{fitted_key, own_cells, IsOwnExact, keys_fitted}
@@ -163,11 +163,54 @@ stored_over x (Some o) above none old =
     let a = get_or above k d in
     stored_unwrapped (cell_at o.cells (key_of a)) (cleared o.owner a) tt (λ c found. found_stored (key_of a) o.cells c old found)))
 
+-- cells whose owners are numbers of 32 bits
+abbrev pub IsOwnedCell : Cell → Type 0
+IsOwnedCell c = FitsSigned w32 c.owner
+
+pub owned_cleared : (owner : ℤ) (a : Cell) → FitsSigned w32 owner → IsOwnedCell a → IsOwnedCell (cleared owner a)
+owned_cleared owner a mine above = ⊎_elim (λ e. rw e mine) (λ e. rw e above) (cases_Bool a.perms.change_owner)
+
+owned_unwrapped : (r : Option Cell) (d : Cell) → IsOwnedCell d → ((c : Cell) → r ≡ Some c → IsOwnedCell c) → IsOwnedCell (unwrap_or r d)
+owned_unwrapped None d h each = h
+owned_unwrapped (Some c) d h each = each c refl
+
+found_owned : (k : Key) (cells : List Cell) (c : Cell) → All IsOwnedCell cells → cell_at cells k ≡ Some c → IsOwnedCell c
+found_owned k [] c all h = cc
+found_owned k (x ∷ xs) c all h =
+    ⊎_elim
+    (λ e.
+    let s : Some x ≡ Some c = (rw e at h) in
+    let same : x ≡ c = cc in
+    subst IsOwnedCell same (All-head IsOwnedCell x xs all))
+    (λ e. found_owned k xs c (All-tail IsOwnedCell x xs all) (rw e at h))
+    (cases_Bool (is_key k x))
+
+owned_over : (x : ℕ) (o : Option Object) (above : List Cell) → HasNumbers (unwrap_or o nothing) → All IsOwnedCell above → All IsOwnedCell (fitted_over x o above)
+owned_over x None above n all = all
+owned_over x (Some o) above n all =
+    All-append IsOwnedCell (own_cells x o.cells) (map (fitted_cell o) above)
+    (All-filter (λ (c : Cell). eqb c.definer x) IsOwnedCell o.cells n.cells)
+    (All-map IsOwnedCell (fitted_cell o) above (λ k d h.
+    let a = get_or above k d in
+    owned_unwrapped (cell_at o.cells (key_of a)) (cleared o.owner a) (owned_cleared o.owner a n.owner (all k d h)) (λ c found. found_owned (key_of a) o.cells c n.cells found)))
+
+owned_along : (objects : List (Option Object)) → ((x : ℕ) → HasNumbers (thing_of objects x)) → (way : List ℕ) → All IsOwnedCell (fitted_along objects way)
+owned_along objects n [] = All-nil IsOwnedCell
+owned_along objects n (x ∷ way) = owned_over x (object_of objects x) (fitted_along objects way) (n x) (owned_along objects n way)
+
 -- an object with other cells keeps the limits where these do
-pub fine_with_cells : (o : Option Object) (cells : List Cell) → IsFine (unwrap_or o nothing) → All IsStoredCell (unwrap_or (with_cells o cells) nothing).cells → length (unwrap_or (with_cells o cells) nothing).cells ≤ most →
+pub fine_with_cells : (o : Option Object) (cells : List Cell) → IsFine (unwrap_or o nothing) → All IsStoredCell (unwrap_or (with_cells o cells) nothing).cells → All IsOwnedCell (unwrap_or (with_cells o cells) nothing).cells → length (unwrap_or (with_cells o cells) nothing).cells ≤ most →
     IsFine (unwrap_or (with_cells o cells) nothing)
-fine_with_cells None cells f stored few = f
-fine_with_cells (Some o) cells f stored few = record { name = f.name; names = f.names; values = stored; few_cells = few; verb_names = f.verb_names; few_verbs = f.few_verbs }
+fine_with_cells None cells f stored owned few = f
+fine_with_cells (Some o) cells f stored owned few = record {
+  name = f.name;
+  names = f.names;
+  values = stored;
+  few_cells = few;
+  verb_names = f.verb_names;
+  few_verbs = f.few_verbs;
+  numbers = record { owner = f.numbers.owner; cells = owned; verbs = f.numbers.verbs };
+}
 
 pub kept_none : (o : Option Object) (cells : List Cell) → with_cells o cells ≡ None → o ≡ None
 kept_none None cells h = refl
@@ -195,6 +238,7 @@ fitted_stocked objects tree f own filled fine none room = record {
   fine = λ x. let same = object_refitted objects tree x in rw same
       (fine_with_cells (object_of objects x) (fitted_along objects (x ∷ ancestors tree x)) (fine x)
       (let cells = sym (ap (λ o. (unwrap_or o nothing).cells) same) ∙ cells_refitted objects tree f.free x in rw cells (stored_along x))
+      (let cells = sym (ap (λ o. (unwrap_or o nothing).cells) same) ∙ cells_refitted objects tree f.free x in rw cells (owned_along objects (λ y. (fine y).numbers) (x ∷ ancestors tree x)))
       (let many = ap (λ o. length (unwrap_or o nothing).cells) (sym same) ∙ sym (length-map (thing_of (refitted objects tree) x).cells key_of) ∙ ap length (exact x ∙ keys_refitted objects tree (x ∷ ancestors tree x)) in
       rw many (few_definitions x)));
 }

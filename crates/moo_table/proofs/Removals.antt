@@ -1,5 +1,5 @@
 -- A definition taken away keeps a world well formed.
-use Rattle.std.proofs.Common.{◌≡◌, ℕ, ◌≤◌, List, [], ◌∷◌, ◌++◌, Option, Some, None, Bool, false, not, ◌&&◌, eqb, refl, sym, ◌∙◌, ap, ⊎_elim, arith, length, set, map, IsSome}
+use Rattle.std.proofs.Common.{◌≡◌, ℕ, ◌≤◌, List, [], ◌∷◌, ◌++◌, Option, Some, None, Bool, false, not, ◌&&◌, eqb, refl, sym, ◌∙◌, ap, ⊎_elim, arith, length, set, map, IsSome, FitsSigned, w32}
 use Rattle.std.specs.List.{list_any, filter, All}
 use Rattle.std.specs.Option.{unwrap_or}
 use Rattle.std.proofs.lemmas.List.{get_or-set_same, get_or-set_other, length-set, length-map, get_or-map, get_or_past}
@@ -13,7 +13,8 @@ use Rattle.moo_value.specs.Size.{IsString}
 use Rattle.moo_object.specs.Names.{same_name}
 use Rattle.moo_object.proofs.Names.{same_name-true, same_name-false, eq-same_name, ne-same_name}
 use Rattle.moo_table.specs.World.{World, nothing, object_of, thing_of, keys_defined_on, keys_along, definitions, has_twice, IsFilled, IsWellFormed, IsFine, HasStored}
-use Rattle.moo_table.specs.Changes.{without_cell, without_name, after_undefine, changed_along}
+use Rattle.moo_table.specs.Changes.{without_cell, without_name, after_undefine}
+use Rattle.moo_table.specs.Steps.{changed_along}
 use Rattle.moo_object.specs.Objects.{Object}
 use Rattle.moo_object.specs.Cells.{Cell, Key, key_of, is_key}
 use Rattle.moo_table.proofs.Counting.{programs_undefined}
@@ -103,6 +104,11 @@ fine_lost k (Some o) f = record {
   few_cells = let short = cells_short (λ c. not (is_key k c)) o.cells in let few = f.few_cells in omega (arith, short, few);
   verb_names = f.verb_names;
   few_verbs = f.few_verbs;
+  numbers = record {
+    owner = f.numbers.owner;
+    cells = All-filter (λ c. not (is_key k c)) (λ (c : Cell). FitsSigned w32 c.owner) o.cells f.numbers.cells;
+    verbs = f.numbers.verbs;
+  };
 }
 
 fine_unnamed : (name : List ℕ) (o : Option Object) → IsFine (unwrap_or o nothing) → IsFine (unwrap_or (without_name name o) nothing)
@@ -114,6 +120,7 @@ fine_unnamed name (Some o) f = record {
   few_cells = f.few_cells;
   verb_names = f.verb_names;
   few_verbs = f.few_verbs;
+  numbers = record { owner = f.numbers.owner; cells = f.numbers.cells; verbs = f.numbers.verbs };
 }
 
 kept_whole : (k : Key) (o : Option Object) → All (λ (c : Cell). eqb c.definer k.0 ≡ false) (unwrap_or o nothing).cells → without_cell k o ≡ o
@@ -194,6 +201,7 @@ module _ (w : World) (x : ℕ) (name : List ℕ) (f : IsWellFormed w) (valid : I
         };
         few = rw many f.few;
         few_players = f.few_players;
+        player_numbers = f.player_numbers;
         few_programs = omega (arith, programs_undefined w.objects x name (valid_within w.objects x valid), f.few_programs);
       }
 

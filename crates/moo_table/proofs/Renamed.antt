@@ -1,5 +1,5 @@
 -- A definition renamed keeps a world well formed.
-use Rattle.std.proofs.Common.{◌≡◌, ℕ, ◌<◌, List, [], ◌∷◌, ◌++◌, Option, Some, None, Bool, true, false, ◌&&◌, cond, eqb, refl, sym, ◌∙◌, ap, subst, ⊎_elim, arith, length, get_or, map, IsSome}
+use Rattle.std.proofs.Common.{◌≡◌, ℕ, ◌<◌, List, [], ◌∷◌, ◌++◌, Option, Some, None, Bool, true, false, ◌&&◌, cond, eqb, refl, sym, ◌∙◌, ap, subst, ⊎_elim, arith, length, get_or, map, IsSome, FitsSigned, w32}
 use Rattle.std.specs.List.{list_any, All}
 use Rattle.std.specs.Option.{option_map, unwrap_or}
 use Rattle.std.proofs.lemmas.List.{get_or-set_same, get_or-set_other, length-set, length-map, get_or-map, get_or_past, get_or_default, same_lists, map-append}
@@ -16,11 +16,11 @@ use Rattle.moo_object.proofs.Names.{same_name-true, same_name-false, eq-same_nam
 use Rattle.moo_object.specs.Objects.{Object}
 use Rattle.moo_object.specs.Cells.{Cell, Key, key_of, is_key, at_key, renamed}
 use Rattle.moo_table.specs.World.{World, nothing, object_of, thing_of, keys_defined_on, keys_along, definitions, has_twice, with_cells, IsFilled, IsWellFormed, IsFine, HasStored}
-use Rattle.moo_table.specs.Rows.{with_rows}
+use Rattle.moo_table.specs.Steps.{with_rows, IsRenamable}
 use Rattle.moo_table.specs.Changes.{changed_on}
 use Rattle.moo_table.specs.Properties.{is_taken, has_name}
 use Rattle.moo_table.specs.Edits.{respelled, with_respelled, renamed_cells, with_renamed_cell}
-use Rattle.moo_table.specs.Renames.{after_rename, IsRenamable}
+use Rattle.moo_table.specs.Renames.{after_rename}
 use Rattle.moo_table.proofs.Counting.{programs_renamed}
 use Rattle.moo_table.proofs.Changing.{valid_within}
 use Rattle.moo_table.proofs.Joining.{within_low, walk_low}
@@ -176,6 +176,11 @@ fine_renamed k n (Some o) f = record {
   few_cells = let same = length-map o.cells (at_key k (renamed n)) in let few = f.few_cells in omega (arith, same, few);
   verb_names = f.verb_names;
   few_verbs = f.few_verbs;
+  numbers = record {
+    owner = f.numbers.owner;
+    cells = each_at (λ (c : Cell). FitsSigned w32 c.owner) k (renamed n) o.cells (λ c e h. h) f.numbers.cells;
+    verbs = f.numbers.verbs;
+  };
 }
 
 fine_spelled : (name n : List ℕ) (o : Option Object) → IsString n → IsFine (unwrap_or o nothing) → IsFine (unwrap_or (option_map (with_respelled name n) o) nothing)
@@ -187,6 +192,7 @@ fine_spelled name n (Some o) s f = record {
   few_cells = f.few_cells;
   verb_names = f.verb_names;
   few_verbs = f.few_verbs;
+  numbers = record { owner = f.numbers.owner; cells = f.numbers.cells; verbs = f.numbers.verbs };
 }
 
 -- an object without a cell for the definition stays
@@ -244,7 +250,7 @@ module _ (w : World) (x : ℕ) (name n : List ℕ) (f : IsWellFormed w) (valid :
       (λ ne. ap (λ o. (unwrap_or o nothing).cells) (there y ne))
       (cases_eq y x)
 
-  cells_at : (y : ℕ) → (thing_of after y).cells ≡ map (at_key key (renamed (folded n))) (thing_of w.objects y).cells
+  pub cells_at : (y : ℕ) → (thing_of after y).cells ≡ map (at_key key (renamed (folded n))) (thing_of w.objects y).cells
   cells_at y =
       ap (λ o. (unwrap_or o nothing).cells) (at y) ∙ renamed_thing key (folded n) (object_of before y) ∙
       ap (map (at_key key (renamed (folded n)))) (cells_before y)
@@ -260,7 +266,7 @@ module _ (w : World) (x : ℕ) (name n : List ℕ) (f : IsWellFormed w) (valid :
       sym (untouched key (folded n) (keys_defined_on w.objects y) (others_apart x y name (thing_of w.objects y).defined (ne_eqb y x ne))))
       (cases_eq y x)
 
-  keys_on : (way : List ℕ) → keys_along after way ≡ map (renamed_key key (folded n)) (keys_along w.objects way)
+  pub keys_on : (way : List ℕ) → keys_along after way ≡ map (renamed_key key (folded n)) (keys_along w.objects way)
   keys_on [] = refl
   keys_on (y ∷ way) =
       ap (λ ks. ks ++ keys_along after way) (keys_at y) ∙
@@ -330,6 +336,7 @@ module _ (w : World) (x : ℕ) (name n : List ℕ) (f : IsWellFormed w) (valid :
         };
         few = rw many f.few;
         few_players = f.few_players;
+        player_numbers = f.player_numbers;
         few_programs = omega (arith, programs_renamed w.objects x key name (folded n) n (valid_within w.objects x valid), f.few_programs);
       }
 

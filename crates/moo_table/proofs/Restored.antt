@@ -1,20 +1,20 @@
 -- A world that was restored is well formed, and one that is well formed is restored as it was.
-use Rattle.std.proofs.Common.{◌≡◌, ◌≢◌, ℕ, zero, suc, ◌+◌, ◌<◌, ◌≤◌, ℤ, List, [], ◌∷◌, ◌++◌, Option, Some, None, Bool, true, false, eqb, refl, sym, ◌∙◌, ap, subst, ⊎_elim, arith, length, map, take, drop, is_some}
-use Rattle.std.specs.List.{range_with_len, list_any, All}
+use Rattle.std.proofs.Common.{◌≡◌, ℕ, ◌≤◌, ℤ, List, [], ◌∷◌, ◌++◌, Option, Some, None, true, false, eqb, refl, sym, ◌∙◌, ap, subst, ⊎_elim, arith, length, map, take, drop, is_some, FitsSigned, w32}
+use Rattle.std.specs.List.{All}
 use Rattle.std.specs.Option.{unwrap_or}
-use Rattle.std.proofs.lemmas.List.{length-map, get_or_past, length-append}
+use Rattle.std.proofs.lemmas.List.{length-map, get_or_past}
 use Rattle.std.proofs.lemmas.List.FromFn.{get_or-map-range_with_len, length-map-range_with_len, fill_by_all}
-use Rattle.std.proofs.lemmas.List.Elements.{All-append, All-nil, All-cons, All-head, All-tail, All-take, All-drop}
+use Rattle.std.proofs.lemmas.List.Elements.{All-append, All-nil, All-cons, All-head, All-tail}
 use Rattle.std.proofs.lemmas.Bool.{cases_lt, eqb-false}
 use Rattle.moo_value.specs.Compare.{folded}
 use Rattle.moo_forest.specs.Forest.{Links, ancestors}
 use Rattle.moo_forest.proofs.Climbing.{not_met}
 use Rattle.moo_object.specs.Objects.{Object}
 use Rattle.moo_object.specs.Cells.{Cell, Key, key_of}
-use Rattle.moo_table.specs.World.{World, nothing, object_of, thing_of, keys_defined_on, keys_along, definitions, has_twice, has_clash, with_cells, most, programs_in, IsFilled, IsFine, HasStored, IsJoined, IsStocked, IsWellFormed}
+use Rattle.moo_table.specs.World.{World, nothing, object_of, thing_of, keys_defined_on, keys_along, definitions, has_twice, with_cells, programs_in, IsFilled, HasStored, IsJoined, IsStocked, IsWellFormed}
 use Rattle.moo_table.specs.Restoring.{rekeyed, restored_object, restored, restored_world, AreComplete, AreParts}
 use Rattle.moo_table.proofs.Counting.{programs_alike}
-use Rattle.moo_table.proofs.Refitting.{same_defined, definer_elsewhere, joined_kept, kept_none, cells_stay, fine_with_cells, IsStoredCell}
+use Rattle.moo_table.proofs.Refitting.{same_defined, definer_elsewhere, joined_kept, kept_none, cells_stay, fine_with_cells, IsStoredCell, IsOwnedCell}
 
 rekeyed_keys : (ks : List Key) (cells : List Cell) → length cells ≡ length ks → map key_of (rekeyed ks cells) ≡ ks
 rekeyed_keys [] cells h = refl
@@ -38,13 +38,13 @@ rekeyed_parted (k ∷ ks) (j ∷ js) [] = refl
 rekeyed_parted (k ∷ ks) js (c ∷ cells) =
     ap (λ cs. (let d : Cell = record { definer = k.0; name = k.1; owner = c.owner; perms = c.perms; value = c.value } in d) ∷ cs) (rekeyed_parted ks js cells)
 
--- what is said of values
-values_rekeyed : (P : Cell → Type 0) → ((c d : Cell) → d.value ≡ c.value → P c → P d) → (ks : List Key) (cells : List Cell) → All P cells → All P (rekeyed ks cells)
+-- what is said of values and owners
+values_rekeyed : (P : Cell → Type 0) → ((c d : Cell) → d.value ≡ c.value → d.owner ≡ c.owner → P c → P d) → (ks : List Key) (cells : List Cell) → All P cells → All P (rekeyed ks cells)
 values_rekeyed P same [] cells all = All-nil P
 values_rekeyed P same (k ∷ ks) [] all = All-nil P
 values_rekeyed P same (k ∷ ks) (c ∷ cells) all =
     All-cons P (record { definer = k.0; name = k.1; owner = c.owner; perms = c.perms; value = c.value }) (rekeyed ks cells)
-    (same c (record { definer = k.0; name = k.1; owner = c.owner; perms = c.perms; value = c.value }) refl (All-head P c cells all)) (values_rekeyed P same ks cells (All-tail P c cells all))
+    (same c (record { definer = k.0; name = k.1; owner = c.owner; perms = c.perms; value = c.value }) refl refl (All-head P c cells all)) (values_rekeyed P same ks cells (All-tail P c cells all))
 
 -- what is said of definitions
 keys_rekeyed : (P : Key → Type 0) (ks : List Key) (cells : List Cell) → All P ks → All (λ (c : Cell). P (key_of c)) (rekeyed ks cells)
@@ -106,7 +106,9 @@ module _ (objects : List (Option Object)) (tree : List Links) where
     fine = λ x. let same = ap (λ o. unwrap_or o nothing) (object_restored x) in rw same (
         fine_with_cells (object_of objects x) (rekeyed (definitions objects tree x) (thing_of objects x).cells) (c.fine x)
         (let here = cells_of_restored (object_of objects x) (definitions objects tree x) in rw here (
-        values_rekeyed IsStoredCell (λ d e same h. subst HasStored (sym same) h) (definitions objects tree x) (thing_of objects x).cells (c.fine x).values))
+        values_rekeyed IsStoredCell (λ d e same owner h. subst HasStored (sym same) h) (definitions objects tree x) (thing_of objects x).cells (c.fine x).values))
+        (let here = cells_of_restored (object_of objects x) (definitions objects tree x) in rw here (
+        values_rekeyed IsOwnedCell (λ d e same owner h. subst (FitsSigned w32) (sym owner) h) (definitions objects tree x) (thing_of objects x).cells (c.fine x).numbers.cells))
         (let here = cells_of_restored (object_of objects x) (definitions objects tree x) in rw here (
         let short = short_rekeyed (definitions objects tree x) (thing_of objects x).cells in let few = (c.fine x).few_cells in omega (arith, short, few))));
   }
@@ -121,7 +123,7 @@ module _ (objects : List (Option Object)) (tree : List Links) where
           subst (All (IsFilled x)) (sym (rekeyed_parted own rest cells))
           (All-append (IsFilled x) (rekeyed own (take (length own) cells)) (rekeyed rest (drop (length own) cells))
           (implied (λ (d : Cell). is_some d.value ≡ true) (IsFilled x) (λ d some own. some) (rekeyed own (take (length own) cells))
-          (values_rekeyed (λ (d : Cell). is_some d.value ≡ true) (λ d e same h. ap is_some same ∙ h) own (take (length own) cells) mine))
+          (values_rekeyed (λ (d : Cell). is_some d.value ≡ true) (λ d e same owner h. ap is_some same ∙ h) own (take (length own) cells) mine))
           (implied (λ (d : Cell). eqb d.definer x ≡ false) (IsFilled x) (λ d other own. absurd (eqb-false d.definer x other own)) (rekeyed rest (drop (length own) cells))
           (keys_rekeyed (λ (k : Key). eqb k.0 x ≡ false) rest (drop (length own) cells) (definer_elsewhere objects x (ancestors tree x) (not_met tree x (ancestors tree x) (f.forest.rooted x))))))
 
@@ -132,6 +134,7 @@ restored_well_formed objects parents places players p = record {
   stocked = restored_stocked objects parents p.parents_joined p.complete;
   few = let many = many_restored objects parents in let few = p.few in omega (arith, many, few);
   few_players = p.few_players;
+  player_numbers = p.player_numbers;
   few_programs = omega (arith, programs_restored, p.few_programs);
 }
   where

@@ -1,12 +1,12 @@
 -- Rows made along a walk down are those that the tree of parents asks for.
-use Rattle.std.proofs.Common.{◌≡◌, ◌≢◌, ℕ, zero, suc, ◌<◌, List, [], ◌∷◌, Option, Some, None, Bool, true, false, cond, eqb, refl, sym, ◌∙◌, ap, subst, ⊎_elim, arith, length, get_or, set, map, ltb}
+use Rattle.std.proofs.Common.{◌≡◌, ◌≢◌, ℕ, zero, suc, ◌+◌, ◌<◌, List, [], ◌∷◌, Option, Some, None, Bool, true, false, cond, eqb, refl, sym, ◌∙◌, ap, subst, ⊎_elim, arith, length, get_or, set, map, ltb}
 use Rattle.std.specs.List.{range_with_len, list_any, count_by, All}
-use Rattle.std.proofs.lemmas.List.{get_or-map, length-map, get_or_default, same_lists, length-set, get_or-set_same, get_or-set_other}
+use Rattle.std.proofs.lemmas.List.{get_or-map, length-map, length-append, get_or_default, same_lists, length-set, get_or-set_same, get_or-set_other}
 use Rattle.std.proofs.lemmas.List.FromFn.{get_or-range_with_len, length-range_with_len, fill_by_all}
 use Rattle.std.proofs.lemmas.List.Folds.{list_any_at}
 use Rattle.std.proofs.lemmas.List.Elements.{All-head, All-tail}
-use Rattle.std.proofs.lemmas.Bool.{cases_Bool, eqb-true, eqb-false, eq-eqb, or_parts, or_left, or_right, or_cases, cases_eq, false≢true, both_ways}
-use Rattle.moo_forest.specs.Forest.{Links, above_of, ancestors, IsForest, is_within}
+use Rattle.std.proofs.lemmas.Bool.{cases_Bool, cases_lt, eqb-true, eqb-false, or_cases, cases_eq, false≢true, both_ways, lt-ltb, le-ltb}
+use Rattle.moo_forest.specs.Forest.{Links, above_of, ancestors, IsForest, IsWayUp, is_within}
 use Rattle.moo_forest.specs.Walk.{met, step_at, IsWalkDown}
 use Rattle.moo_forest.specs.declared.walk.Step.{Step}
 use Rattle.moo_forest.proofs.Counting.{counted_if_any}
@@ -15,10 +15,9 @@ use Rattle.moo_forest.proofs.Dissolving.{above_apart}
 use Rattle.moo_forest.proofs.Walking.{any_counted, counts_at, node_met}
 use Rattle.moo_object.specs.Objects.{Object}
 use Rattle.moo_object.specs.Cells.{Cell, key_of}
-use Rattle.moo_table.specs.World.{object_of, thing_of, fitted_over, fitted_along, with_cells, refitted_object, refitted, has_clash, is_crowded, crowds, keys_along, most}
-use Rattle.moo_table.specs.Rows.{AreFitted, with_rows, row_is_long}
-use Rattle.moo_table.proofs.FittedRows.{IsOwnExact, keys_fitted}
-use Rattle.moo_table.proofs.Refitting.{all_fail, cells_stay}
+use Rattle.moo_table.specs.World.{object_of, thing_of, fitted_over, fitted_along, with_cells, refitted_object, refitted, has_clash, is_crowded, crowds, keys_along, keys_defined_on, definitions, most}
+use Rattle.moo_table.specs.Steps.{AreFitted, with_rows, is_crowded_by}
+use Rattle.moo_table.proofs.Refitting.{all_fail, passes, fails, cells_stay}
 
 -- what a walk meets stands within the node that it begins with
 pub walked_within : (tree : List Links) (x : ℕ) (walk : List Step) → IsWalkDown tree x walk → (k : ℕ) → k < length walk → is_within tree (step_at walk k).node x ≡ true
@@ -47,23 +46,11 @@ later_is_other tree x walk f w i some h same =
     both_ways (is_within tree (step_at walk (step_at walk i).from).node x) (above_apart tree f x (step_at walk (step_at walk i).from).node up)
     (walked_within tree x walk w (step_at walk i).from (omega (arith, before)))
 
--- an element that passes
-some_passes : {A : Type 0} (t : A → Bool) (f : ℕ → A) (ys : List ℕ) → list_any t (map f ys) ≡ true → (y : ℕ) × (list_any (eqb y) ys ≡ true) × (t (f y) ≡ true)
-some_passes t f [] h = absurd (false≢true h)
-some_passes t f (y ∷ ys) h =
-    ⊎_elim
-    (λ e. (y, or_left (eqb y y) (list_any (eqb y) ys) (eq-eqb y y refl), e))
-    (λ later. let r = some_passes t f ys later in (r.0, or_right (eqb r.0 y) (list_any (eqb r.0) ys) r.1, r.2))
-    (or_cases (t (f y)) (list_any t (map f ys)) h)
-
-each_fails : {A : Type 0} (t : A → Bool) (f : ℕ → A) (ys : List ℕ) (y : ℕ) → list_any t (map f ys) ≡ false → list_any (eqb y) ys ≡ true → t (f y) ≡ false
-each_fails t f [] y none here = absurd (false≢true here)
-each_fails t f (z ∷ ys) y none here =
-    let parts = or_parts (t (f z)) (list_any t (map f ys)) none in
-    ⊎_elim
-    (λ e. ap (λ k. t (f k)) (eqb-true y z e) ∙ parts.0)
-    (λ later. each_fails t f ys y parts.1 later)
-    (or_cases (eqb y z) (list_any (eqb y) ys) here)
+ltb_shifted : (a b n m : ℕ) → m ≡ b + n → ltb (a + n) m ≡ ltb a b
+ltb_shifted a b n m is = ⊎_elim
+    (λ low. lt-ltb (a + n) m (omega (arith, is, low)) ∙ sym (lt-ltb a b low))
+    (λ past. le-ltb (a + n) m (omega (arith, is, past)) ∙ sym (le-ltb a b past))
+    (cases_lt a b)
 
 with_cells_twice : (o : Option Object) (a b : List Cell) → with_cells (with_cells o a) b ≡ with_cells o b
 with_cells_twice None a b = refl
@@ -161,24 +148,58 @@ module _ (objects : List (Option Object)) (tree other : List Links) (x : ℕ) (w
           let at = get_or_default (met walk) k d 0 h ∙ node_met walk k low in
           subst (λ y. y < length objects) (sym at) (inside (step_at walk k).node (walked_within tree x walk w k low))
 
-  -- a test of the rows is one of all objects, where those outside fail it
-  pub rows_tested : (t : List Cell → Bool) (u : ℕ → Bool) → ((y : ℕ) → is_within tree y x ≡ true → y < length objects) → ((y : ℕ) → t (row_for objects other y) ≡ u y) → ((y : ℕ) → is_within tree y x ≡ false → u y ≡ false) →
-      list_any t (map (row_for objects other) (met walk)) ≡ list_any u (range_with_len 0 (length objects))
-  rows_tested t u inside same none = ⊎_elim
+  -- a test along the walk is one of all objects, where those outside fail it
+  walk_tested : (g u : ℕ → Bool) → ((y : ℕ) → is_within tree y x ≡ true → y < length objects) → ((y : ℕ) → is_within tree y x ≡ true → g y ≡ u y) → ((y : ℕ) → is_within tree y x ≡ false → u y ≡ false) →
+      list_any g (met walk) ≡ list_any u (range_with_len 0 (length objects))
+  walk_tested g u inside same none = ⊎_elim
       (λ e.
-      let found = some_passes t (row_for objects other) (met walk) e in
+      let found = passes g (met walk) e in
       let within = sym (walk_lists tree x walk w found.0) ∙ found.1 in
       let low = inside found.0 within in
       let len = length-range_with_len 0 (length objects) in
       e ∙ sym (list_any_at u (range_with_len 0 (length objects)) found.0 0 (omega (arith, len))
-      (let at = get_or-range_with_len 0 (length objects) found.0 0 low in ap u (at ∙ omega arith) ∙ sym (same found.0) ∙ found.2)))
+      (let at = get_or-range_with_len 0 (length objects) found.0 0 low in ap u (at ∙ omega arith) ∙ sym (same found.0 within) ∙ found.2)))
       (λ e. e ∙ sym (all_fail u (range_with_len 0 (length objects)) (λ y here. ⊎_elim
-      (λ within. sym (same y) ∙ each_fails t (row_for objects other) (met walk) y e (walk_lists tree x walk w y ∙ within))
+      (λ within. sym (same y within) ∙ fails g (met walk) y e (walk_lists tree x walk w y ∙ within))
       (none y)
       (cases_Bool (is_within tree y x)))))
-      (cases_Bool (list_any t (map (row_for objects other) (met walk))))
+      (cases_Bool (list_any g (met walk)))
 
-  pub crowd_tested : IsOwnExact objects → IsFittedOutside objects tree x → ((y : ℕ) → is_within tree y x ≡ true → y < length objects) → list_any row_is_long (map (row_for objects other) (met walk)) ≡ crowds objects other
-  crowd_tested own outside inside = rows_tested row_is_long (is_crowded objects other) inside
-      (λ y. ap (λ n. ltb most n) (sym (length-map (row_for objects other y) key_of) ∙ ap length (keys_fitted objects own (y ∷ ancestors other y))))
-      (λ y off. ap (λ ys. ltb most (length (keys_along objects (y ∷ ys)))) (r.apart y off) ∙ outside.roomy y off)
+  -- what x and its descendants gain and lose in definitions
+  module _ (gained lost : ℕ) (new : length (keys_along objects (ancestors other x)) ≡ gained) (old : length (keys_along objects (ancestors tree x)) ≡ lost) where
+    many_on : (y : ℕ) (way : List ℕ) → length (keys_along objects (y ∷ way)) ≡ length (keys_defined_on objects y) + length (keys_along objects way)
+    many_on y way = length-append (keys_defined_on objects y) (keys_along objects way)
+
+    counted_at : (ys : List ℕ) → IsWayUp tree x ys → length (keys_along objects (x ∷ ancestors other x)) + lost ≡ length (keys_along objects (x ∷ ys)) + gained
+    counted_at ys way =
+        let same = ap (λ zs. length (keys_along objects zs)) (way_up_is_ancestors tree f.exact x ys way) in
+        let one = many_on x (ancestors other x) in
+        let two = many_on x ys in
+        omega (arith, one, two, same, new, old)
+
+    counted_along : (y : ℕ) (ys : List ℕ) → IsWayUp tree y ys → list_any (eqb x) (y ∷ ys) ≡ true → length (keys_along objects (y ∷ ancestors other y)) + lost ≡ length (keys_along objects (y ∷ ys)) + gained
+    counted_along y [] way on = ⊎_elim
+        (λ e. let same = eqb-true x y e in subst (λ z. length (keys_along objects (z ∷ ancestors other z)) + lost ≡ length (keys_along objects (z ∷ [])) + gained) same (counted_at [] (subst (λ z. IsWayUp tree z []) (sym same) way)))
+        (λ later. absurd (false≢true later))
+        (or_cases (eqb x y) false on)
+    counted_along y (u ∷ us) way on = ⊎_elim
+        (λ same. subst (λ z. length (keys_along objects (z ∷ ancestors other z)) + lost ≡ length (keys_along objects (z ∷ u ∷ us)) + gained) (sym same) (counted_at (u ∷ us) (subst (λ z. IsWayUp tree z (u ∷ us)) same way)))
+        (λ ne.
+        let later = ⊎_elim (λ e. absurd (ne (sym (eqb-true x y e)))) (λ h. h) (or_cases (eqb x y) (list_any (eqb x) (u ∷ us)) on) in
+        let rest = counted_along u us way.1 later in
+        let up : above_of other y ≡ Some u = r.above y ne ∙ way.0 in
+        let whole = ap (λ zs. length (keys_along objects zs)) (way_up_is_ancestors other r.forest.exact y (u ∷ ancestors other u) (up, r.forest.rooted u)) in
+        let one = many_on y (ancestors other y) in
+        let two = many_on y (u ∷ us) in
+        omega (arith, rest, whole, one, two))
+        (cases_eq y x)
+
+    -- who would have too many, by what each has now
+    pub crowd_tested : IsFittedOutside objects tree x → ((y : ℕ) → map key_of (thing_of objects y).cells ≡ definitions objects tree y) → ((y : ℕ) → is_within tree y x ≡ true → y < length objects) →
+        list_any (is_crowded_by objects gained lost) (met walk) ≡ crowds objects other
+    crowd_tested outside exact inside = walk_tested (is_crowded_by objects gained lost) (is_crowded objects other) inside
+        (λ y on.
+        let has = sym (length-map (thing_of objects y).cells key_of) ∙ ap length (exact y) in
+        let many = counted_along y (ancestors tree y) (f.rooted y) on in
+        ltb_shifted most (length (definitions objects other y)) lost (length (thing_of objects y).cells + gained) (omega (arith, has, many)))
+        (λ y off. ap (λ ys. ltb most (length (keys_along objects (y ∷ ys)))) (r.apart y off) ∙ outside.roomy y off)

@@ -83,6 +83,7 @@ module _ (w : World) (x : ℕ) (f : Object → Object) (wf : IsWellFormed w) (va
         };
         few = rw many wf.few;
         few_players = wf.few_players;
+        player_numbers = wf.player_numbers;
         few_programs = programs;
       }
 

@@ -1,5 +1,5 @@
 -- An object whose parent is to be the one that it has.
-use Rattle.std.proofs.Common.{◌≡◌, ℕ, ◌<◌, List, [], Option, Some, None, false, true, eqb, refl, sym, ◌∙◌, ap, ⊎_elim, arith, length, IsSome}
+use Rattle.std.proofs.Common.{◌≡◌, ℕ, List, Option, Some, None, false, true, eqb, refl, sym, ◌∙◌, ap, length}
 use Rattle.std.specs.List.{range_with_len}
 use Rattle.std.specs.Option.{option_eq}
 use Rattle.std.proofs.lemmas.List.FromFn.{fill_by_all}
@@ -7,7 +7,6 @@ use Rattle.std.proofs.lemmas.Bool.{eq-eqb, eqb-true, false≢true}
 use Rattle.moo_forest.specs.Forest.{Links, IsForest, above_of, ancestors, moved}
 use Rattle.moo_forest.proofs.Dissolving.{above_apart}
 use Rattle.moo_table.specs.World.{World, object_of, has_clash, clashes, is_crowded, crowds, with_cells, refitted, refitted_object, IsWellFormed}
-use Rattle.moo_table.specs.Rows.{AreReady}
 use Rattle.moo_table.specs.Changes.{after_chparent, after_move, would_loop}
 use Rattle.moo_table.proofs.Changing.{roomy_here}
 use Rattle.moo_table.proofs.FittedRows.{already_fitted}
@@ -61,7 +60,3 @@ module _ (w : World) (x : ℕ) (p : Option ℕ) (f : IsWellFormed w) (same : abo
 
   pub no_crowd : crowds w.objects (moved w.inheritance x p) ≡ false
   no_crowd = ap (crowds w.objects) tree_stays ∙ all_fail (is_crowded w.objects w.inheritance) (range_with_len 0 (length w.objects)) (λ y here. roomy_here w f y)
-
-  -- no rows are to be put in place
-  pub none_ready : AreReady w.objects (moved w.inheritance x p) [] []
-  none_ready = record { many = refl; within = λ k h. absurd (omega arith); fit = sym objects_stay }

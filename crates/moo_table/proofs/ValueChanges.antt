@@ -1,5 +1,5 @@
 -- Reading and writing the value of a property.
-use Rattle.std.proofs.Common.{◌≡◌, ℕ, List, [], ◌∷◌, Option, Some, None, refl, sym, ◌∙◌, ap, ⊎_elim, arith, length, get_or, map, IsSome, slice_get}
+use Rattle.std.proofs.Common.{◌≡◌, ℕ, List, [], ◌∷◌, Option, Some, None, refl, sym, ◌∙◌, ap, ⊎_elim, arith, length, get_or, map, IsSome, slice_get, FitsSigned, w32}
 use Rattle.std.specs.List.{find, All}
 use Rattle.std.specs.Option.{option_map, unwrap_or}
 use Rattle.std.proofs.lemmas.List.{get_or_read, length-map}
@@ -60,6 +60,15 @@ stored_with_value name v (c ∷ cs) s all =
     (λ e. rw e (All-cons P c (with_value name v cs) (All-head P c cs all) (stored_with_value name v cs s (All-tail P c cs all))))
     (cases_Bool (same_name c.name name))
 
+owned_with_value : (name : List ℕ) (v : Tree) (cells : List Cell) → All (λ (c : Cell). FitsSigned w32 c.owner) cells → All (λ (c : Cell). FitsSigned w32 c.owner) (with_value name v cells)
+owned_with_value name v [] all = all
+owned_with_value name v (c ∷ cs) all =
+    let P = λ (d : Cell). FitsSigned w32 d.owner in
+    ⊎_elim
+    (λ e. rw e (All-cons P (record c { value = Some v }) cs (All-head P c cs all) (All-tail P c cs all)))
+    (λ e. rw e (All-cons P c (with_value name v cs) (All-head P c cs all) (owned_with_value name v cs (All-tail P c cs all))))
+    (cases_Bool (same_name c.name name))
+
 pub value_kept : (x : ℕ) (name : List ℕ) (v : Tree) (o : Object) → IsStored v → KeepsShape x (with_value_of name v) o
 value_kept x name v o s = record {
   keys = keys_with_value name v o.cells;
@@ -75,5 +84,6 @@ value_kept x name v o s = record {
         omega (arith, same, few);
     verb_names = h.verb_names;
     few_verbs = h.few_verbs;
+    numbers = record { owner = h.numbers.owner; cells = owned_with_value name v o.cells h.numbers.cells; verbs = h.numbers.verbs };
   };
 }

@@ -1,5 +1,5 @@
 -- Changes of verbs keep a world well formed.
-use Rattle.std.proofs.Common.{◌≡◌, ℕ, zero, suc, ◌<◌, List, [], ◌∷◌, Option, None, Some, Bool, true, false, cond, ltb, refl, ap, arith, length, get_or, take, drop, IsSome}
+use Rattle.std.proofs.Common.{◌≡◌, ℕ, zero, suc, ◌<◌, List, [], ◌∷◌, Option, None, Some, Bool, true, false, cond, ltb, refl, ap, arith, length, get_or, take, drop, IsSome, FitsSigned, w32}
 use Rattle.std.specs.List.{All}
 use Rattle.std.specs.Option.{unwrap_or}
 use Rattle.std.proofs.lemmas.List.{length_push, length-append, length-take, length-drop, get_or_read}
@@ -19,8 +19,11 @@ use Rattle.moo_table.proofs.Single.{KeepsShape}
 abbrev pub IsNamed : Verb → Type 0
 IsNamed v = IsString v.names
 
-pub verb_added : (x : ℕ) (v : Verb) (o : Object) → IsString v.names → length o.verbs < most → KeepsShape x (with_verb v) o
-verb_added x v o named room = record {
+abbrev pub IsOwned : Verb → Type 0
+IsOwned v = FitsSigned w32 v.owner
+
+pub verb_added : (x : ℕ) (v : Verb) (o : Object) → IsString v.names → FitsSigned w32 v.owner → length o.verbs < most → KeepsShape x (with_verb v) o
+verb_added x v o named owned room = record {
   keys = refl;
   names = refl;
   filled = λ h. h;
@@ -31,6 +34,7 @@ verb_added x v o named room = record {
     few_cells = h.few_cells;
     verb_names = All-push IsNamed o.verbs v h.verb_names named;
     few_verbs = let more = length_push o.verbs v in omega (arith, more);
+    numbers = record { owner = h.numbers.owner; cells = h.numbers.cells; verbs = All-push IsOwned o.verbs v h.numbers.verbs owned };
   };
 }
 
@@ -51,6 +55,11 @@ verb_removed x i o = record {
         let back = length-drop (suc i) o.verbs in
         let few = h.few_verbs in
         omega (arith, all, front, back, few);
+    numbers = record {
+      owner = h.numbers.owner;
+      cells = h.numbers.cells;
+      verbs = All-append IsOwned (take i o.verbs) (drop (suc i) o.verbs) (All-take IsOwned i o.verbs h.numbers.verbs) (All-drop IsOwned (suc i) o.verbs h.numbers.verbs);
+    };
   };
 }
 
@@ -59,13 +68,13 @@ changed_length i f [] = refl
 changed_length zero f (v ∷ vs) = refl
 changed_length (suc i) f (v ∷ vs) = ap (λ n. suc n) (changed_length i f vs)
 
-changed_named : (i : ℕ) (f : Verb → Verb) (vs : List Verb) → ((v : Verb) → IsNamed v → IsNamed (f v)) → All IsNamed vs → All IsNamed (changed_at i f vs)
-changed_named i f [] each all = all
-changed_named zero f (v ∷ vs) each all = All-cons IsNamed (f v) vs (each v (All-head IsNamed v vs all)) (All-tail IsNamed v vs all)
-changed_named (suc i) f (v ∷ vs) each all = All-cons IsNamed v (changed_at i f vs) (All-head IsNamed v vs all) (changed_named i f vs each (All-tail IsNamed v vs all))
+changed_all : (P : Verb → Type 0) (i : ℕ) (f : Verb → Verb) (vs : List Verb) → ((v : Verb) → P v → P (f v)) → All P vs → All P (changed_at i f vs)
+changed_all P i f [] each all = all
+changed_all P zero f (v ∷ vs) each all = All-cons P (f v) vs (each v (All-head P v vs all)) (All-tail P v vs all)
+changed_all P (suc i) f (v ∷ vs) each all = All-cons P v (changed_at i f vs) (All-head P v vs all) (changed_all P i f vs each (All-tail P v vs all))
 
-pub verb_changed : (x i : ℕ) (f : Verb → Verb) (o : Object) → ((v : Verb) → IsNamed v → IsNamed (f v)) → KeepsShape x (with_changed_verb i f) o
-verb_changed x i f o each = record {
+pub verb_changed : (x i : ℕ) (f : Verb → Verb) (o : Object) → ((v : Verb) → IsNamed v → IsNamed (f v)) → ((v : Verb) → IsOwned v → IsOwned (f v)) → KeepsShape x (with_changed_verb i f) o
+verb_changed x i f o each owned = record {
   keys = refl;
   names = refl;
   filled = λ h. h;
@@ -74,8 +83,9 @@ verb_changed x i f o each = record {
     names = h.names;
     values = h.values;
     few_cells = h.few_cells;
-    verb_names = changed_named i f o.verbs each h.verb_names;
+    verb_names = changed_all IsNamed i f o.verbs each h.verb_names;
     few_verbs = let same = changed_length i f o.verbs in let few = h.few_verbs in omega (arith, same, few);
+    numbers = record { owner = h.numbers.owner; cells = h.numbers.cells; verbs = changed_all IsOwned i f o.verbs owned h.numbers.verbs };
   };
 }
 

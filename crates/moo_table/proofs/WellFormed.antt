@@ -1,5 +1,5 @@
 -- What keeps a world well formed.
-use Rattle.std.proofs.Common.{[], refl, arith}
+use Rattle.std.proofs.Common.{[], refl, arith, FitsSigned, w32}
 use Rattle.std.proofs.lemmas.List.Elements.{All-nil}
 use Rattle.moo_value.specs.Tree.{IsTextByte}
 use Rattle.moo_value.specs.Size.{IsString}
@@ -22,6 +22,11 @@ fine_nothing = record {
   few_cells = omega arith;
   verb_names = All-nil (λ (v : Verb). IsString v.names);
   few_verbs = omega arith;
+  numbers = record {
+    owner = record { sfits = omega arith };
+    cells = All-nil (λ (c : Cell). FitsSigned w32 c.owner);
+    verbs = All-nil (λ (v : Verb). FitsSigned w32 v.owner);
+  };
 }
 
 pub empty_well_formed : IsWellFormed (record { objects = []; inheritance = []; containment = []; players = [] })
@@ -36,6 +41,7 @@ empty_well_formed = record {
   };
   few = omega arith;
   few_players = omega arith;
+  player_numbers = All-nil (FitsSigned w32);
   few_programs = omega arith;
 }
 

@@ -11,7 +11,7 @@ use Rattle.moo_object.specs.declared.verb.Verb.{Verb}
 use Rattle.moo_object.specs.Verbs.{changed_at}
 use Rattle.std.specs.Option.{option_map}
 use Rattle.std.specs.List.{remove}
-use Rattle.moo_table.specs.World.{World, object_of, refitted, with_cells, cells_of}
+use Rattle.moo_table.specs.World.{World, object_of, refitted, cells_of}
 
 -- a new object: without a name, flags, verbs and definitions, its cells clear
 abbrev pub newborn : ℤ → List Cell → Object
@@ -32,10 +32,6 @@ after_chparent w x p = record w { objects = refitted w.objects (moved w.inherita
 -- the world after x moved
 abbrev pub after_move : World → ℕ → Option ℕ → World
 after_move w x to = record w { containment = moved w.containment x to }
-
--- the objects with other cells of x
-abbrev pub with_cells_on : List (Option Object) → ℕ → List Cell → List (Option Object)
-with_cells_on objects x cells = slice_set objects x (with_cells (object_of objects x) cells)
 
 -- an object with one more definition, and its cell
 abbrev pub with_definition : List ℕ → Cell → Option Object → Option Object
@@ -85,11 +81,6 @@ with_changed_verb i f o = record o { verbs = changed_at i f o.verbs }
 -- an object with a value in its cell of a name
 abbrev pub with_value_of : List ℕ → Tree → Object → Object
 with_value_of name v o = record o { cells = with_value name v o.cells }
-
--- the objects once each of these was changed
-abbrev pub changed_along : (Option Object → Option Object) → List (Option Object) → List ℕ → List (Option Object)
-changed_along f objects [] = objects
-changed_along f objects (y ∷ ys) = changed_along f (slice_set objects y (f (object_of objects y))) ys
 
 -- x is the new place, or stands above it
 abbrev pub would_loop : List Links → ℕ → Option ℕ → Bool

@@ -1,7 +1,6 @@
 -- One object with a property set, cleared, of another owner or another name.
-use Rattle.std.specs.Prelude.{ℕ, ℤ, pos, List, [], ◌∷◌, Bool, true, false, not, map, Option, Some, None, if◌then◌else◌}
-use Rattle.std.specs.Ordering.{int_eq}
-use Rattle.moo_value.specs.Tree.{Tree, integer, object, error, string, list, no_elements, element}
+use Rattle.std.specs.Prelude.{ℕ, ℤ, List, [], ◌∷◌, map, Option, Some, None, if◌then◌else◌}
+use Rattle.moo_value.specs.Tree.{Tree, integer, object, error, string, list}
 use Rattle.moo_value.specs.Compare.{folded}
 use Rattle.moo_object.specs.Names.{same_name}
 use Rattle.moo_object.specs.Cells.{Cell, Key, at_key, emptied, with_info, renamed}
@@ -10,17 +9,8 @@ use Rattle.moo_object.specs.declared.cell.PropPerms.{PropPerms}
 use Rattle.moo_object.specs.declared.flags.Flags.{Flags}
 use Rattle.moo_object.specs.declared.built_in_property.BuiltInProperty.{BuiltInProperty}
 use Rattle.moo_object.specs.declared.built_in_property.BuiltInProperty.TheVariants as property
+use Rattle.moo_operation.specs.Truth.{is_true}
 use Rattle.moo_table.specs.Changes.{with_value_of}
-
--- integers other than 0, and strings and lists that are not empty, count as true
-abbrev pub counts_as_true : Tree → Bool
-counts_as_true (integer i) = not (int_eq i (pos 0))
-counts_as_true (object o) = false
-counts_as_true (error e) = false
-counts_as_true (string []) = false
-counts_as_true (string (b ∷ s)) = true
-counts_as_true (list no_elements) = false
-counts_as_true (list (element t es)) = true
 
 -- an object with a name, where the value is a string
 abbrev pub with_name : Tree → Object → Object
@@ -47,11 +37,11 @@ with_built_in property.Name v o = with_name v o
 with_built_in property.Owner v o = with_owner v o
 with_built_in property.Location v o = o
 with_built_in property.Contents v o = o
-with_built_in property.Programmer v o = with_flags (λ f. record f { programmer = counts_as_true v }) o
-with_built_in property.Wizard v o = with_flags (λ f. record f { wizard = counts_as_true v }) o
-with_built_in property.Read v o = with_flags (λ f. record f { read = counts_as_true v }) o
-with_built_in property.Write v o = with_flags (λ f. record f { write = counts_as_true v }) o
-with_built_in property.Fertile v o = with_flags (λ f. record f { fertile = counts_as_true v }) o
+with_built_in property.Programmer v o = with_flags (λ f. record f { programmer = is_true v }) o
+with_built_in property.Wizard v o = with_flags (λ f. record f { wizard = is_true v }) o
+with_built_in property.Read v o = with_flags (λ f. record f { read = is_true v }) o
+with_built_in property.Write v o = with_flags (λ f. record f { write = is_true v }) o
+with_built_in property.Fertile v o = with_flags (λ f. record f { fertile = is_true v }) o
 
 -- an object with a value in the property of a name, whose letters are folded
 abbrev pub with_named : List ℕ → Tree → Option BuiltInProperty → Object → Object

@@ -3,7 +3,7 @@ pub mod Players
 pub mod Properties
 pub mod Recycling
 pub mod Restoring
-pub mod Rows
+pub mod Steps
 pub mod Verbs
 pub mod World
 pub mod Edits

@@ -1,15 +1,13 @@
 -- Properties by their names.
-use Rattle.std.specs.Prelude.{◌≡◌, true, false, ℕ, List, ◌∷◌, Option, Bool, ◌&&◌, slice_get, is_some, length, nat_le}
+use Rattle.std.specs.Prelude.{ℕ, List, ◌∷◌, Option, Bool, ◌&&◌, slice_get, length, nat_le}
 use Rattle.std.specs.Option.{unwrap_or, option_and_then}
 use Rattle.std.specs.List.{find, filter_map, list_any, range_with_len}
 use Rattle.moo_value.specs.Tree.{Tree}
 use Rattle.moo_forest.specs.Forest.{Links, ancestors, is_within}
 use Rattle.moo_object.specs.Names.{same_name}
-use Rattle.moo_object.specs.Cells.{Cell, Key, key_of, cell_at}
-use Rattle.moo_value.specs.Compare.{folded}
+use Rattle.moo_object.specs.Cells.{Key, cell_at}
 use Rattle.moo_object.specs.Objects.{Object}
-use Rattle.moo_table.specs.World.{World, nothing, object_of, definitions, most, HasStored}
-use Rattle.moo_value.specs.Size.{IsString}
+use Rattle.moo_table.specs.World.{World, nothing, object_of, definitions, most}
 
 -- what is found at an object for a definition: the value of its cell, where that is not clear
 abbrev pub value_in : Option Object → Key → Option Tree
@@ -41,12 +39,3 @@ is_taken objects tree x name = list_any (λ y. is_within tree y x && has_name ob
 -- whether an object or a descendant has as many properties as it may have
 abbrev pub is_full : List (Option Object) → List Links → ℕ → Bool
 is_full objects tree x = list_any (λ y. is_within tree y x && nat_le most (length (definitions objects tree y))) (range_with_len 0 (length objects))
-
--- a definition that keeps a world well formed: of a name that is free, with a cell of its own, where there is room
-pub record IsDefinable (w : World) (x : ℕ) (name : List ℕ) (cell : Cell) : Type 0 where
-  pub free : is_taken w.objects w.inheritance x (folded name) ≡ false
-  pub roomy : is_full w.objects w.inheritance x ≡ false
-  pub own : key_of cell ≡ (x, folded name)
-  pub filled : is_some cell.value ≡ true
-  pub stored : HasStored cell.value
-  pub string : IsString name

@@ -1,19 +1,12 @@
 -- A definition renamed.
-use Rattle.std.specs.Prelude.{◌≡◌, ◌⊎◌, ℕ, List, false, map}
+use Rattle.std.specs.Prelude.{ℕ, List, map}
 use Rattle.std.specs.Option.{option_map}
 use Rattle.moo_value.specs.Compare.{folded}
-use Rattle.moo_value.specs.Size.{IsString}
 use Rattle.moo_table.specs.World.{World}
 use Rattle.moo_table.specs.Changes.{changed_on}
-use Rattle.moo_table.specs.Properties.{is_taken}
 use Rattle.moo_table.specs.Edits.{with_respelled, with_renamed_cell}
 
 -- the world once the property of a name, letters folded, that x defines has another name: x spells it so, and the cells for it have
 -- that name on x and on each descendant
 abbrev pub after_rename : World → ℕ → List ℕ → List ℕ → World
 after_rename w x name spelling = record w { objects = map (option_map (with_renamed_cell (x, name) (folded spelling))) (changed_on w.objects x (with_respelled name spelling)) }
-
--- another name that keeps a world well formed: the same in other letters, or one that is free
-pub record IsRenamable (w : World) (x : ℕ) (name spelling : List ℕ) : Type 0 where
-  pub free : (folded spelling ≡ name) ⊎ (is_taken w.objects w.inheritance x (folded spelling) ≡ false)
-  pub string : IsString spelling

@@ -1,5 +1,6 @@
 -- A world from what a database says: the cells of an object stand in the order of definitions, without their names.
-use Rattle.std.specs.Prelude.{◌≡◌, ℕ, ◌<◌, ◌≤◌, ℤ, List, [], ◌∷◌, Option, true, false, length, map, take, is_some}
+use Rattle.std.specs.Prelude.{◌≡◌, ℕ, ◌≤◌, ℤ, List, [], ◌∷◌, Option, true, false, length, map, take, is_some, FitsSigned}
+use Rattle.std.specs.Int.{w32}
 use Rattle.std.specs.List.{range_with_len, All}
 use Rattle.moo_forest.specs.Forest.{Links}
 use Rattle.moo_object.specs.Cells.{Cell, Key}
@@ -37,4 +38,5 @@ pub record AreParts (objects : List (Option Object)) (parents places : List Link
   pub complete : AreComplete objects parents
   pub few : length objects ≤ most
   pub few_players : length players ≤ most
+  pub player_numbers : All (FitsSigned w32) players
   pub few_programs : programs_in objects ≤ most

@@ -1,5 +1,6 @@
 -- The object world: numbered objects in a tree of parents and a tree of places, with properties and players.
-use Rattle.std.specs.Prelude.{◌≡◌, ℕ, ◌≤◌, ℤ, pos, List, [], ◌∷◌, ◌++◌, Option, Some, None, Bool, true, false, ◌||◌, length, map, slice_index_or, is_some, nat_lt}
+use Rattle.std.specs.Prelude.{◌≡◌, ℕ, ◌≤◌, ℤ, pos, List, [], ◌∷◌, ◌++◌, Option, Some, None, Bool, true, false, ◌||◌, length, map, slice_index_or, is_some, nat_lt, FitsSigned}
+use Rattle.std.specs.Int.{w32}
 use Rattle.std.specs.Option.{unwrap_or}
 use Rattle.std.specs.List.{range_with_len, list_any, All, count_by, sum_by}
 use Rattle.moo_value.specs.Compare.{folded}
@@ -106,6 +107,12 @@ abbrev pub HasStored : Option Tree → Type 0
 HasStored None = Unit {0}
 HasStored (Some v) = IsStored v
 
+-- the owners of an object, of its cells and of its verbs are numbers of 32 bits
+pub record HasNumbers (o : Object) : Type 0 where
+  pub owner : FitsSigned w32 o.owner
+  pub cells : All (λ c. FitsSigned w32 c.owner) o.cells
+  pub verbs : All (λ v. FitsSigned w32 v.owner) o.verbs
+
 -- an object that keeps the limits
 pub record IsFine (o : Object) : Type 0 where
   pub name : IsString o.name
@@ -114,6 +121,7 @@ pub record IsFine (o : Object) : Type 0 where
   pub few_cells : length o.cells ≤ most
   pub verb_names : All (λ v. IsString v.names) o.verbs
   pub few_verbs : length o.verbs ≤ most
+  pub numbers : HasNumbers o
 
 -- a tree of objects: no cycles, exact lists, and what is not valid is joined to nothing
 pub record IsJoined (objects : List (Option Object)) (tree : List Links) : Type 0 where
@@ -136,6 +144,7 @@ pub record IsWellFormed (w : World) : Type 0 where
   pub stocked : IsStocked w.objects w.inheritance
   pub few : length w.objects ≤ most
   pub few_players : length w.players ≤ most
+  pub player_numbers : All (FitsSigned w32) w.players
   pub few_programs : programs_in w.objects ≤ most
 
 -- a well formed world, and how many programs it has

@@ -7,7 +7,7 @@ ghost use Rattle.moo_value.specs.Compare.{folded};
 ghost use Rattle.moo_forest.specs.Walk.{met, step_at};
 ghost use Rattle.moo_object.specs.Cells.{is_named};
 ghost use Rattle.moo_table.specs.World.{nothing};
-ghost use Rattle.moo_table.specs.Rows.{own_clash};
+ghost use Rattle.moo_table.specs.Steps.{own_clash};
 
 use moo_forest::Step;
 use moo_object::{Object, PropCell};

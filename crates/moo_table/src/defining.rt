@@ -7,7 +7,7 @@ ghost use Rattle.moo_value.specs.Compare.{folded};
 ghost use Rattle.moo_forest.specs.Walk.{met, step_at};
 ghost use Rattle.moo_object.specs.Cells.{is_named};
 ghost use Rattle.moo_table.specs.World.{thing_of, nothing, most};
-ghost use Rattle.moo_table.specs.Rows.{without_last};
+ghost use Rattle.moo_table.specs.Steps.{without_last};
 ghost use Rattle.moo_table.specs.Changes.{with_definition};
 
 use crate::MOST;

@@ -7,7 +7,8 @@ ghost use Rattle.moo_value.specs.Compare.{folded};
 ghost use Rattle.moo_forest.specs.Walk.{met, step_at};
 ghost use Rattle.moo_object.specs.Names.{same_name};
 ghost use Rattle.moo_table.specs.World.{nothing};
-ghost use Rattle.moo_table.specs.Changes.{without_cell, without_name, changed_along};
+ghost use Rattle.moo_table.specs.Changes.{without_cell, without_name};
+ghost use Rattle.moo_table.specs.Steps.{changed_along};
 
 use moo_forest::Step;
 use moo_object::Object;

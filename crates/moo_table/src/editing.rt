@@ -4,7 +4,8 @@ ghost use Rattle.std.specs.Prelude.{◌≡◌};
 ghost use Rattle.std.specs.Option.{option_map};
 ghost use Rattle.moo_value.specs.Compare.{folded};
 ghost use Rattle.moo_value.specs.View.{tree};
-ghost use Rattle.moo_table.specs.Edits.{counts_as_true, with_name, with_owner, with_built_in, with_clear, with_cell_info};
+ghost use Rattle.moo_operation.specs.Truth.{is_true};
+ghost use Rattle.moo_table.specs.Edits.{with_name, with_owner, with_built_in, with_clear, with_cell_info};
 
 use moo_object::{BuiltInProperty, Object, PropPerms};
 use moo_value::Value;
@@ -53,7 +54,7 @@ fn set_owner(object: &mut Object, value: Value)
 
 #[tactic(auto, using(crate::proofs::Truths::tested))]
 fn is_true(value: &Value) -> bool
-    ensures { result ≡ counts_as_true (tree value.now) }
+    ensures { result ≡ is_true (tree value.now) }
 {
     value.is_true()
 }

@@ -1,37 +1,18 @@
 //! Rows of cells along a walk down from an object whose parent or definitions change.
 
-ghost use Rattle.std.specs.Prelude.{◌≡◌, ◌<◌, [], IfOk, length, IsSome, vec_len, ℕ};
-ghost use Rattle.std.specs.Option.{ForSome};
+ghost use Rattle.std.specs.Prelude.{◌≡◌, ◌<◌, ◌+◌, IfOk, length, IsSome, vec_len, nat_lt, ℕ};
+ghost use Rattle.std.specs.Option.{ForSome, unwrap_or};
 ghost use Rattle.std.specs.List.{list_any};
 ghost use Rattle.moo_forest.specs.Walk.{step_at, met};
-ghost use Rattle.moo_table.specs.World.{fitted_over, object_of, with_cells, cells_of};
-ghost use Rattle.moo_table.specs.Rows.{AreFitted, with_rows, row_is_long};
+ghost use Rattle.moo_object.specs.Cells.{AreDistinct};
+ghost use Rattle.moo_table.specs.World.{nothing, most, thing_of, fitted_over, object_of, with_cells, cells_of};
+ghost use Rattle.moo_table.specs.Steps.{AreFitted, with_rows, is_crowded_by};
 
 use crate::MOST;
-use crate::properties::cells_of;
+use crate::properties::{cells_in, cells_of};
 use moo_forest::Step;
 use moo_object::{Object, PropCell, Row};
 use std::alloc::{AllocError, Global};
-
-/// A walk down from an object, and the new row of each object on it.
-#[derive(Drop)]
-pub struct NewRows {
-    pub walk: Vec<Step>,
-    pub rows: Vec<Row>,
-}
-
-impl NewRows {
-    /// No rows, where nothing is to change.
-    pub fn none(alloc: Global) -> Self
-        ensures walk { result.walk.items ≡ [] }
-        ensures rows { result.rows.items ≡ [] }
-    {
-        NewRows {
-            walk: Vec::new(alloc),
-            rows: Vec::new(alloc),
-        }
-    }
-}
 
 /// The rows of the objects on a walk, once the first has the parent `p`.
 pub fn rows_below(
@@ -43,6 +24,7 @@ pub fn rows_below(
     requires begins { 0 < length walk.now }
     requires place { ForSome p (λ up. up < length objects.now) }
     requires valid { (k : ℕ) → k < length walk.now → IsSome (object_of objects.now (step_at walk.now k).node) }
+    requires distinct { (k : ℕ) → k < length walk.now → AreDistinct (thing_of objects.now (step_at walk.now k).node).cells }
     requires follows { (k : ℕ) → 0 < k → k < length walk.now → (step_at walk.now k).from < k }
     ensures { let x = (step_at walk.now 0).node in
         IfOk result (λ rows. AreFitted objects.now walk.now (fitted_over x (object_of objects.now x) (cells_of objects.now p)) (length walk.now) rows.items) }
@@ -70,7 +52,8 @@ fn row_over(
     x: usize,
     above: &[PropCell],
 ) -> Result<Row, AllocError>
-    requires { IsSome slot.now }
+    requires valid { IsSome slot.now }
+    requires distinct { AreDistinct (unwrap_or slot.now nothing).cells }
     ensures { IfOk result (λ row. row ≡ fitted_over x slot.now above.now) }
 {
     match slot {
@@ -99,15 +82,27 @@ fn put_row(slot: &mut Option<Object>, row: Row)
     }
 }
 
-/// Whether some row is too long.
-pub fn rows_crowd(rows: &[Row]) -> bool
-    ensures { result ≡ list_any row_is_long rows.now }
+/// Whether some object on a walk would have too many properties, once each of them has these cells more and
+/// those fewer.
+pub fn some_crowded(
+    objects: &[Option<Object>],
+    walk: &[Step],
+    gained: &[PropCell],
+    lost: &[PropCell],
+) -> bool
+    requires { (k : ℕ) → k < length walk.now → (step_at walk.now k).node < length objects.now }
+    ensures { result ≡ list_any (is_crowded_by objects.now (length gained.now) (length lost.now)) (met walk.now) }
 {
-    rows.iter().any(|row| is_long(row.as_slice()))
+    for step in walk {
+        if crowded_in(&objects[step.node], gained, lost) {
+            return true;
+        }
+    }
+    false
 }
 
-fn is_long(cells: &[PropCell]) -> bool
-    ensures { result ≡ row_is_long cells.now }
+fn crowded_in(slot: &Option<Object>, gained: &[PropCell], lost: &[PropCell]) -> bool
+    ensures { result ≡ nat_lt (most + length lost.now) (length (unwrap_or slot.now nothing).cells + length gained.now) }
 {
-    cells.len() > MOST
+    cells_in(slot).len() + gained.len() > MOST + lost.len()
 }

@@ -2,7 +2,7 @@
 
 ghost use Rattle.std.specs.Prelude.{◌≡◌, ◌<◌, None, length, vec_len, ℕ};
 ghost use Rattle.moo_forest.specs.Walk.{met, step_at};
-ghost use Rattle.moo_table.specs.Changes.{changed_along};
+ghost use Rattle.moo_table.specs.Steps.{changed_along};
 ghost use Rattle.moo_table.specs.Recycling.{without_cells_of};
 
 use moo_forest::Step;

@@ -12,7 +12,8 @@ use Rattle.moo_object.proofs.Names.{eq-same_name}
 use Rattle.std.specs.Option.{unwrap_or}
 use Rattle.moo_table.specs.World.{World, nothing, object_of, thing_of, clashes, crowds, with_cells, fitted_along, refitted, IsWellFormed}
 use Rattle.moo_table.specs.Changes.{after_chparent, after_define, with_definition, with_definition_on, would_loop}
-use Rattle.moo_table.specs.Properties.{has_name, IsDefinable}
+use Rattle.moo_table.specs.Properties.{has_name}
+use Rattle.moo_table.specs.Steps.{IsDefinable}
 use Rattle.moo_table.proofs.FittedRows.{own_exact, already_fitted}
 use Rattle.moo_table.proofs.Refitting.{IsFreeTree, object_refitted, cells_stay, fails, none_passes}
 use Rattle.moo_table.proofs.Changing.{IsValidPlace, parent_free, parent_changed, rejoined, valid_within}

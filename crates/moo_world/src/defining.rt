@@ -9,7 +9,7 @@ ghost use Rattle.moo_table.specs.World.{object_of};
 ghost use Rattle.moo_table.specs.Changes.{after_define};
 ghost use Rattle.moo_world.specs.PropertyCalls.{name_raises, define_raises, add_property_raises, world_define};
 ghost use Rattle.moo_world.specs.Calls.{Answers, Changes, Tests, number_of, RaisesFirst};
-ghost use Rattle.moo_table.specs.Properties.{IsDefinable};
+ghost use Rattle.moo_table.specs.Steps.{IsDefinable};
 
 use crate::World;
 use crate::fault::WorldFault;

@@ -18,7 +18,6 @@ mod players;
 mod programs;
 mod properties;
 mod property_info;
-mod ranges;
 mod recycling;
 mod restoring;
 mod setting;

@@ -1,17 +1,18 @@
 //! What objects inherit from.
 
-ghost use Rattle.std.specs.Prelude.{◌≡◌, ◌<◌, IsSome, Option, Some};
+ghost use Rattle.std.specs.Prelude.{◌≡◌, IsSome, Some};
 ghost use Rattle.std.specs.Option.{ForSome};
-ghost use Rattle.moo_forest.specs.Forest.{above_of, moved};
+ghost use Rattle.moo_forest.specs.Forest.{above_of};
+ghost use Rattle.moo_forest.specs.Walk.{IsWalkDown};
 ghost use Rattle.moo_table.specs.World.{object_of};
-ghost use Rattle.moo_table.specs.Rows.{AreReady};
 ghost use Rattle.moo_table.specs.Changes.{after_chparent};
 ghost use Rattle.moo_world.specs.Calls.{Changes, Tests, Answers, number_of, place_of, parent_raises, chparent_raises, world_chparent, TakesNoMemory, RaisesFirst, numbers_raise, IsThere};
 
 use crate::World;
 use crate::fault::WorldFault;
+use moo_forest::Step;
 use moo_table::clashing::names_clash;
-use moo_table::fitting::{NewRows, put_rows, rows_below, rows_crowd};
+use moo_table::fitting::{put_rows, rows_below, some_crowded};
 use moo_table::places::would_loop;
 use moo_table::properties::cells_of;
 use moo_value::ErrorCode;
@@ -25,10 +26,7 @@ impl World {
         ensures first { RaisesFirst result (numbers_raise self.now (number_of self.now.objects o) (place_of self.now.objects p)) }
     {
         match (self.number(o), self.place(p)) {
-            (Some(x), Some(p)) => {
-                let _rows = self.rows_under(alloc, x, p)?;
-                Ok(())
-            }
+            (Some(x), Some(p)) => self.test_parent(alloc, x, p),
             _ => Err(WorldFault::Raise(ErrorCode::InvalidArgument)),
         }
     }
@@ -47,30 +45,47 @@ impl World {
         }
     }
 
-    // The rows of an object and its descendants, once its parent is `p`.
-    fn rows_under(&self, alloc: Global, x: usize, p: Option<usize>) -> Result<NewRows, WorldFault>
+    // What changing the parent of a valid object raises.
+    fn test_parent(&self, alloc: Global, x: usize, p: Option<usize>) -> Result<(), WorldFault>
         requires object { IsSome (object_of self.now.objects x) }
         requires parent { ForSome p (λ up. IsSome (object_of self.now.objects up)) }
-        ensures rows { Answers result (parent_raises self.now x p)
-            (λ new. AreReady self.now.objects (moved self.now.inheritance x p) new.walk.items new.rows.items) }
+        ensures raises { Tests result (parent_raises self.now x p) }
         ensures memory { above_of self.now.inheritance x ≡ p → TakesNoMemory result }
         ensures first { RaisesFirst result (numbers_raise self.now (Some x) (Some p)) }
     {
         if self.inheritance.above(x) == p {
-            return Ok(NewRows::none(alloc));
+            return Ok(());
         }
+        let _walk = self.walk_to_join(alloc, x, p)?;
+        Ok(())
+    }
+
+    // An object whose parent may become `p`, and what inherits from it. No row of cells is made for the
+    // tests: they ask for names, and for how many cells each would have.
+    fn walk_to_join(
+        &self,
+        alloc: Global,
+        x: usize,
+        p: Option<usize>,
+    ) -> Result<Vec<Step>, WorldFault>
+        requires object { IsSome (object_of self.now.objects x) }
+        requires parent { ForSome p (λ up. IsSome (object_of self.now.objects up)) }
+        ensures walk { Answers result (parent_raises self.now x p) (λ walk. IsWalkDown self.now.inheritance x walk.items) }
+        ensures first { RaisesFirst result (numbers_raise self.now (Some x) (Some p)) }
+    {
         if would_loop(&self.inheritance, x, p) {
             return Err(WorldFault::Raise(ErrorCode::RecursiveMove));
         }
         let walk = self.inheritance.walk_down(alloc, x)?;
-        if names_clash(&self.objects, &walk, cells_of(&self.objects, p)) {
+        let gained = cells_of(&self.objects, p);
+        if names_clash(&self.objects, &walk, gained) {
             return Err(WorldFault::Raise(ErrorCode::InvalidArgument));
         }
-        let rows = rows_below(&self.objects, alloc, &walk, p)?;
-        if rows_crowd(&rows) {
+        let lost = cells_of(&self.objects, self.inheritance.above(x));
+        if some_crowded(&self.objects, &walk, gained, lost) {
             return Err(WorldFault::Raise(ErrorCode::Quota));
         }
-        Ok(NewRows { walk, rows })
+        Ok(walk)
     }
 
     // Changes the parent of a valid object.
@@ -81,7 +96,11 @@ impl World {
         ensures memory { above_of self.old.inheritance x ≡ p → TakesNoMemory result }
         ensures first { RaisesFirst result (numbers_raise self.old (Some x) (Some p)) }
     {
-        let NewRows { walk, rows } = self.rows_under(alloc, x, p)?;
+        if self.inheritance.above(x) == p {
+            return Ok(());
+        }
+        let walk = self.walk_to_join(alloc, x, p)?;
+        let rows = rows_below(&self.objects, alloc, &walk, p)?;
         self.inheritance.move_to(x, p)?;
         put_rows(&mut self.objects, &walk, rows);
         Ok(())

@@ -7,7 +7,8 @@ ghost use Rattle.moo_table.specs.World.{object_of};
 ghost use Rattle.moo_table.specs.Changes.{with_object};
 ghost use Rattle.moo_table.specs.Properties.{definition_named};
 ghost use Rattle.moo_table.specs.Edits.{with_cell_info};
-ghost use Rattle.moo_table.specs.Renames.{after_rename, IsRenamable};
+ghost use Rattle.moo_table.specs.Renames.{after_rename};
+ghost use Rattle.moo_table.specs.Steps.{IsRenamable};
 ghost use Rattle.moo_world.specs.InfoCalls.{taken_raises, rename_raises, info_change_raises, set_info_raises, after_info, world_set_info};
 ghost use Rattle.moo_world.specs.Calls.{Answers, Changes, Tests, number_of, TakesNoMemory};
 

@@ -1,6 +1,7 @@
 //! The verbs of objects.
 
-ghost use Rattle.std.specs.Prelude.{◌≡◌, ◌<◌, length, IsSome, IfOk, OnOk, Option, Some, None, slice_get};
+ghost use Rattle.std.specs.Prelude.{◌≡◌, ◌<◌, length, IsSome, IfOk, OnOk, Option, Some, None, slice_get, FitsSigned};
+ghost use Rattle.std.specs.Int.{w32};
 ghost use Rattle.std.specs.Option.{option_copied, option_map, option_and_then};
 ghost use Rattle.moo_value.specs.Size.{IsString};
 ghost use Rattle.moo_object.specs.Verbs.{with_verb_info, with_args};
@@ -79,6 +80,7 @@ impl World {
     fn put_verb(&mut self, x: usize, verb: Verb) -> Result<usize, WorldFault>
         requires object { IsSome (object_of self.old.objects x) }
         requires bare { verb.program ≡ None }
+        requires owner { FitsSigned w32 verb.owner }
         ensures world { Changes result self.old self.new (add_verb_raises self.old (Some x) verb.names) (with_object self.old x (with_verb verb)) }
         ensures place { IfOk result (λ i. i ≡ length (thing_of self.old.objects x).verbs) }
         ensures memory { RaisesFirst result (add_verb_raises self.old (Some x) verb.names) }

@@ -1,4 +1,5 @@
-use Rattle.std.proofs.Common.{subst, ◌∙◌}
+use Rattle.std.proofs.Common.{subst, ◌∙◌, FitsSigned, w32}
+use Rattle.std.specs.List.{All}
 use Rattle.std.proofs.lemmas.Result.{err_from_is_err_and}
 use Rattle.moo_restore.specs.Links.{IsTreeOf}
 use Rattle.moo_restore.specs.Plain.{programs_by_object}
@@ -19,7 +20,7 @@ forest_in-requires-2 c = places_sound c.args.objects.now c.deref-5.result.now (c
 pub from_parts-requires : goal.from_parts-requires
 from_parts-requires c =
     let objects = c.args.objects.now in
-    world_is_formed objects (programs_by_object c.args.programs.now) c.args.players.items c.requires c.in_ok-check.ensures.placed c.in_ok-check.ensures.counted
+    world_is_formed objects (programs_by_object c.args.programs.now) c.args.players.items c.requires (subst (All (FitsSigned w32)) c.deref-6.ensures.value c.players_fit.ensures) c.in_ok-check.ensures.placed c.in_ok-check.ensures.counted
     c.in_ok-made.made.items c.in_ok-inheritance.inheritance c.in_ok-containment.containment c.in_ok-made.ensures c.in_ok-inheritance.ensures.forest c.in_ok-containment.ensures.forest
     (subst (λ l. IsTreeOf l c.in_ok-inheritance.inheritance) (c.deref-4.ensures.value ∙ c.in_ok-parents.ensures) c.in_ok-inheritance.ensures.tree)
     (subst (λ l. IsTreeOf l c.in_ok-containment.containment) (c.deref-5.ensures.value ∙ c.in_ok-places.ensures) c.in_ok-containment.ensures.tree)
@@ -28,7 +29,7 @@ pub returns-clause-world : goal.returns-clause-world
 returns-clause-world c =
     let objects = c.args.objects.now in
     rw c.from_parts.ensures
-    (world_is_said objects (programs_by_object c.args.programs.now) c.args.players.items c.requires c.in_ok-check.ensures.placed c.in_ok-check.ensures.counted
+    (world_is_said objects (programs_by_object c.args.programs.now) c.args.players.items c.requires (subst (All (FitsSigned w32)) c.deref-6.ensures.value c.players_fit.ensures) c.in_ok-check.ensures.placed c.in_ok-check.ensures.counted
     c.in_ok-made.made.items c.in_ok-inheritance.inheritance c.in_ok-containment.containment c.in_ok-made.ensures c.in_ok-inheritance.ensures.forest c.in_ok-containment.ensures.forest
     (subst (λ l. IsTreeOf l c.in_ok-inheritance.inheritance) (c.deref-4.ensures.value ∙ c.in_ok-parents.ensures) c.in_ok-inheritance.ensures.tree)
     (subst (λ l. IsTreeOf l c.in_ok-containment.containment) (c.deref-5.ensures.value ∙ c.in_ok-places.ensures) c.in_ok-containment.ensures.tree))

@@ -1,7 +1,8 @@
 use Rattle.std.proofs.Common.{◌≡◌, drop, vec_len}
 use Rattle.moo_value.specs.Compare.{folded}
 use Rattle.moo_forest.specs.Walk.{met}
-use Rattle.moo_table.specs.Changes.{changed_along, without_cell}
+use Rattle.moo_table.specs.Changes.{without_cell}
+use Rattle.moo_table.specs.Steps.{changed_along}
 use Rattle.moo_table.proofs.deleting.lose_along.Given as goal
 
 abbrev pub invariant-loop-step : goal.invariant-loop-step

@@ -1,6 +1,6 @@
 use Rattle.std.proofs.Common.{◌≡◌, ◌≤◌, take, drop, length, vec_len}
 use Rattle.moo_forest.specs.Walk.{met}
-use Rattle.moo_table.specs.Rows.{with_rows}
+use Rattle.moo_table.specs.Steps.{with_rows}
 use Rattle.moo_table.proofs.fitting.put_rows.Given as goal
 
 -- from the last on, each object has its new row

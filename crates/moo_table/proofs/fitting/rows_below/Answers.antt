@@ -1,8 +1,10 @@
-use Rattle.std.proofs.Common.{◌≡◌, [], ◌∙◌, ap, subst, arith, length, get_or, None}
+use Rattle.std.proofs.Common.{◌≡◌, [], ◌∙◌, sym, ap, subst, arith, length, get_or, None}
 use Rattle.std.proofs.lemmas.List.{get_or_read}
 use Rattle.moo_forest.specs.Walk.{step_at}
-use Rattle.moo_table.specs.World.{fitted_over, object_of, cells_of}
-use Rattle.moo_table.specs.Rows.{AreFitted}
+use Rattle.std.specs.Option.{unwrap_or}
+use Rattle.moo_object.specs.Cells.{AreDistinct}
+use Rattle.moo_table.specs.World.{nothing, fitted_over, object_of, cells_of}
+use Rattle.moo_table.specs.Steps.{AreFitted}
 use Rattle.moo_table.proofs.Changing.{valid_within}
 use Rattle.moo_table.proofs.Joining.{fitted_begun, fitted_more}
 use Rattle.moo_table.proofs.fitting.rows_below.Goals as goal
@@ -19,6 +21,13 @@ loop-i-init c =
       upto = omega (arith, c.requires.begins);
       so_far = rw (c.in_ok-push.ensures.items, c.new-rows.ensures.items) (fitted_begun objects c.args.walk.now (fitted_over node (object_of objects node) (cells_of objects c.args.p)) c.in_ok-row_over.field-0 top);
     }
+
+pub row_over-requires-in-loop-i-clause-distinct : goal.row_over-requires-in-loop-i-clause-distinct
+row_over-requires-in-loop-i-clause-distinct c =
+    let objects = c.args.objects.now in
+    let node = (step_at c.args.walk.now c.loop-i.i).node in
+    let low = valid_within objects node (c.requires.valid c.loop-i.i c.loop-i-test.true) in
+    subst (λ o. AreDistinct (unwrap_or o nothing).cells) (sym (get_or_read objects node c.index-objects-step.result low c.index-objects-step.is None)) (c.requires.distinct c.loop-i.i c.loop-i-test.true)
 
 pub index-requires : goal.index-requires
 index-requires c =

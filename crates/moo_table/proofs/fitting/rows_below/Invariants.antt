@@ -1,7 +1,7 @@
 use Rattle.std.proofs.Common.{◌≤◌, length}
 use Rattle.moo_forest.specs.Walk.{step_at}
 use Rattle.moo_table.specs.World.{fitted_over, object_of, cells_of}
-use Rattle.moo_table.specs.Rows.{AreFitted}
+use Rattle.moo_table.specs.Steps.{AreFitted}
 use Rattle.moo_table.proofs.fitting.rows_below.Given as goal
 
 abbrev pub invariant-loop-i : goal.invariant-loop-i

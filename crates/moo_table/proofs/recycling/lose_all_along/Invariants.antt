@@ -1,6 +1,6 @@
 use Rattle.std.proofs.Common.{◌≡◌, drop, vec_len}
 use Rattle.moo_forest.specs.Walk.{met}
-use Rattle.moo_table.specs.Changes.{changed_along}
+use Rattle.moo_table.specs.Steps.{changed_along}
 use Rattle.moo_table.specs.Recycling.{without_cells_of}
 use Rattle.moo_table.proofs.recycling.lose_all_along.Given as goal
 

@@ -40,4 +40,4 @@ invariant_of-self-else-is_err-2 c =
     let told : c.add_below.new.self ≡ moved (c.self.inside.inheritance ++ alone ∷ []) (length c.self.inside.inheritance) c.args.p = grind (arith, common_steps) in
     let parents : c.add_below.new.self ≡ moved (w.inheritance ++ alone ∷ []) (length w.objects) c.args.p = told ∙ ap (λ n. moved (w.inheritance ++ alone ∷ []) n c.args.p) c.self.invariant.formed.parents.many in
     let places : c.add.new.self ≡ w.containment ++ alone ∷ [] = grind (arith, common_steps) in
-    rw (objects, parents, places) (record { formed = (create_well_formed w c.self.invariant.formed c.args.p c.args.owner valid (omega (arith, c.len.ensures, c.self.inside.objects.ok.0))); counted = c.self.invariant.counted ∙ sym (programs_added w.objects (made w c.args.p c.args.owner) refl) })
+    rw (objects, parents, places) (record { formed = (create_well_formed w c.self.invariant.formed c.args.p c.args.owner c.ranges.owner valid (omega (arith, c.len.ensures, c.self.inside.objects.ok.0))); counted = c.self.invariant.counted ∙ sym (programs_added w.objects (made w c.args.p c.args.owner) refl) })

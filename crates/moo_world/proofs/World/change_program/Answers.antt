@@ -32,7 +32,7 @@ invariant_of-self c =
     let given = programs_then w c.args.x c.args.index c.in_ok-programs.programs c.self.inside.programs c.self.invariant (valid_within w.objects c.args.x valid) free.0 c.args.program
     (many ∙ ap (programs_with w c.args.x c.args.index) c.is_some.ensures) in
     let few = free.1 in
-    rw slot (object_recounted w c.args.x f c.self.inside.programs c.self.invariant valid (verb_changed c.args.x c.args.index (with_program c.args.program) (thing_of w.objects c.args.x) (λ v h. h)) c.in_ok-programs.programs given (omega (arith, many, few)))
+    rw slot (object_recounted w c.args.x f c.self.inside.programs c.self.invariant valid (verb_changed c.args.x c.args.index (with_program c.args.program) (thing_of w.objects c.args.x) (λ v h. h) (λ v h. h)) c.in_ok-programs.programs given (omega (arith, many, few)))
 
 pub returns-clause-world : goal.returns-clause-world
 returns-clause-world c =

@@ -21,7 +21,7 @@ invariant_of-self c =
     let w : World = record { objects = c.self.inside.objects.items; inheritance = c.self.inside.inheritance; containment = c.self.inside.containment; players = c.self.inside.players.items } in
     let valid = subst (λ v. IsSome (object_of v.objects c.args.x)) (sym c.self.view_is) c.requires in
     let slot = slot_changed w.objects c.args.x (with_changed_verb c.args.index (with_args c.args.args)) c.index_mut.result.now c.set_verb_args_in.new.slot valid c.index_mut.ensures.value c.set_verb_args_in.ensures in
-    rw slot (object_kept w c.args.x (with_changed_verb c.args.index (with_args c.args.args)) c.self.inside.programs c.self.invariant valid (verb_changed c.args.x c.args.index (with_args c.args.args) (thing_of w.objects c.args.x) (λ v h. h)) (programs_as_before (thing_of w.objects c.args.x).verbs c.args.index (with_args c.args.args) (λ v. refl)))
+    rw slot (object_kept w c.args.x (with_changed_verb c.args.index (with_args c.args.args)) c.self.inside.programs c.self.invariant valid (verb_changed c.args.x c.args.index (with_args c.args.args) (thing_of w.objects c.args.x) (λ v h. h) (λ v h. h)) (programs_as_before (thing_of w.objects c.args.x).verbs c.args.index (with_args c.args.args) (λ v. refl)))
 
 pub returns-clause-world : goal.returns-clause-world
 returns-clause-world c =

@@ -26,7 +26,7 @@ invariant_of-self c =
     let owner = to_z-of_z w32 c.args.owner c.ranges.owner in
     let wrote : c.set_verb_info_in.new.slot ≡ option_map (with_changed_verb c.args.index (with_verb_info c.args.names c.args.owner c.args.perms)) c.index_mut.result.now = c.set_verb_info_in.ensures ∙ ap (λ n. option_map (with_changed_verb c.args.index (with_verb_info c.args.names n c.args.perms)) c.index_mut.result.now) owner in
     let slot = slot_changed w.objects c.args.x (with_changed_verb c.args.index (with_verb_info c.args.names c.args.owner c.args.perms)) c.index_mut.result.now c.set_verb_info_in.new.slot valid c.index_mut.ensures.value wrote in
-    rw slot (object_kept w c.args.x (with_changed_verb c.args.index (with_verb_info c.args.names c.args.owner c.args.perms)) c.self.inside.programs c.self.invariant valid (verb_changed c.args.x c.args.index (with_verb_info c.args.names c.args.owner c.args.perms) (thing_of w.objects c.args.x) (λ v h. c.in_ok-test_verb_info.ensures.string)) (programs_as_before (thing_of w.objects c.args.x).verbs c.args.index (with_verb_info c.args.names c.args.owner c.args.perms) (λ v. refl)))
+    rw slot (object_kept w c.args.x (with_changed_verb c.args.index (with_verb_info c.args.names c.args.owner c.args.perms)) c.self.inside.programs c.self.invariant valid (verb_changed c.args.x c.args.index (with_verb_info c.args.names c.args.owner c.args.perms) (thing_of w.objects c.args.x) (λ v h. c.in_ok-test_verb_info.ensures.string) (λ v h. c.ranges.owner)) (programs_as_before (thing_of w.objects c.args.x).verbs c.args.index (with_verb_info c.args.names c.args.owner c.args.perms) (λ v. refl)))
 
 pub returns-clause-world : goal.returns-clause-world
 returns-clause-world c =

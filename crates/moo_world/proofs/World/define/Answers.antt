@@ -1,4 +1,4 @@
-use Rattle.std.proofs.Common.{◌≡◌, Some, None, sym, ◌∙◌, ap, subst, w32}
+use Rattle.std.proofs.Common.{◌≡◌, Some, None, sym, ◌∙◌, ap, subst, w32, FitsSigned}
 use Rattle.std.specs.Option.{is_some}
 use Rattle.std.proofs.lemmas.Int.{to_z-of_z}
 use Rattle.moo_value.specs.Compare.{folded}
@@ -18,6 +18,7 @@ use Rattle.moo_world.proofs.World.define.Goals as goal
 pub put_definition-requires : goal.put_definition-requires
 put_definition-requires c =
     let w = c.args.self.now in
+    let owner = to_z-of_z w32 c.args.owner c.ranges.owner in
     let raises : add_property_raises w (Some c.args.x) (folded c.args.name) ≡ None = ap (λ n. add_property_raises w (Some c.args.x) (folded n)) (sym c.as_bytes.ensures.value) ∙ c.in_ok-walk.ensures.walk.0 in
     let free = define_free (is_taken w.objects w.inheritance c.args.x (folded c.args.name)) (is_full w.objects w.inheritance c.args.x)
     (property_free (is_some (built_in_of (folded c.args.name))) (define_raises w c.args.x (folded c.args.name)) raises) in
@@ -28,6 +29,7 @@ put_definition-requires c =
         roomy = free.1;
         own = ap key_of c.defined-cell.ensures ∙ ap (λ n. (c.args.x, folded n)) c.in_ok-try_clone.ensures;
         filled = ap (λ (l : Cell). is_some l.value) c.defined-cell.ensures;
+        owner = subst (FitsSigned w32) (sym (ap (λ (l : Cell). l.owner) (simp owner at c.defined-cell.ensures))) c.ranges.owner;
         stored = subst (λ v. HasStored v) (sym (ap (λ (l : Cell). l.value) c.defined-cell.ensures)) (c.weight-weight.ensures.value, c.weight-weight.ensures.limits);
         string = c.as_bytes.ensures.string;
       };

@@ -18,7 +18,7 @@ invariant_of-self c =
     let owner = to_z-of_z w32 c.args.owner c.ranges.owner in
     let wrote : c.set_info_in.new.slot ≡ option_map (with_cell_info k c.args.owner c.args.perms) c.index_mut.result.now = c.set_info_in.ensures ∙ ap (λ n. option_map (with_cell_info k n c.args.perms) c.index_mut.result.now) owner in
     let slot = slot_changed w.objects c.args.x (with_cell_info k c.args.owner c.args.perms) c.index_mut.result.now c.set_info_in.new.slot valid c.index_mut.ensures.value wrote in
-    rw slot (object_kept w c.args.x (with_cell_info k c.args.owner c.args.perms) c.self.inside.programs c.self.invariant valid (info_kept c.args.x k c.args.owner c.args.perms (thing_of w.objects c.args.x)) refl)
+    rw slot (object_kept w c.args.x (with_cell_info k c.args.owner c.args.perms) c.self.inside.programs c.self.invariant valid (info_kept c.args.x k c.args.owner c.args.perms (thing_of w.objects c.args.x) c.ranges.owner) refl)
 
 pub returns : goal.returns
 returns c =

@@ -6,7 +6,7 @@ use Rattle.moo_table.specs.Changes.{with_object}
 use Rattle.moo_table.specs.Players.{players_with, as_player, after_set_player}
 use Rattle.moo_world.specs.PlayerCalls.{set_player_raises}
 use Rattle.moo_table.proofs.Single.{slot_changed, object_kept}
-use Rattle.moo_table.proofs.PlayerLists.{players_free, marked, players_counted}
+use Rattle.moo_table.proofs.PlayerLists.{players_free, marked, numbers_listed, players_counted}
 use Rattle.moo_world.proofs.World.mark_player.Goals as goal
 
 pub invariant_of-self-2 : goal.invariant_of-self-2
@@ -18,7 +18,8 @@ invariant_of-self-2 c =
     let low = valid_within w.objects c.args.x valid in
     let number : to_z w32 c.args.x ≡ pos c.args.x = to_z_pos w32 c.args.x (let few = c.self.invariant.formed.few in omega (arith, low, few)) in
     let listed = c.in_ok-list_player.ensures.ok ∙ ap (λ p. players_with w.players p c.args.on) number in
-    rw (slot, listed) (players_counted (with_object w c.args.x (as_player c.args.on)) (players_with w.players (pos c.args.x) c.args.on) c.self.inside.programs (object_kept w c.args.x (as_player c.args.on) c.self.inside.programs c.self.invariant valid (marked c.args.x c.args.on w) refl) few)
+    rw (slot, listed) (players_counted (with_object w c.args.x (as_player c.args.on)) (players_with w.players (pos c.args.x) c.args.on) c.self.inside.programs (object_kept w c.args.x (as_player c.args.on) c.self.inside.programs c.self.invariant valid (marked c.args.x c.args.on w) refl) few
+    (numbers_listed w.players (pos c.args.x) c.args.on c.self.invariant.formed.player_numbers (record { sfits = (let few = c.self.invariant.formed.few in omega (arith, low, few)) })))
 
 pub returns-clause-world : goal.returns-clause-world
 returns-clause-world c =

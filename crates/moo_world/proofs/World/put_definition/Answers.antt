@@ -1,14 +1,14 @@
 use Rattle.std.proofs.Common.{sym, ◌∙◌, ap, subst, arith, length, IsSome, refl}
 use Rattle.std.proofs.lemmas.List.{length-set}
 use Rattle.moo_forest.specs.Walk.{met, step_at, IsWalkDown}
-use Rattle.moo_table.specs.World.{World, object_of, fitted_over, cells_of}
-use Rattle.moo_table.specs.Rows.{AreFitted, with_rows}
+use Rattle.moo_object.specs.Cells.{AreDistinct}
+use Rattle.moo_table.specs.World.{World, object_of, thing_of, fitted_over, cells_of}
+use Rattle.moo_table.specs.Steps.{AreFitted, with_rows, IsDefinable}
 use Rattle.moo_table.specs.Changes.{with_definition_on, after_define}
-use Rattle.moo_table.specs.Properties.{IsDefinable}
 use Rattle.moo_table.proofs.Changing.{valid_within}
 use Rattle.moo_table.proofs.Counting.{programs_defined}
 use Rattle.moo_table.proofs.Joining.{walk_valid}
-use Rattle.moo_table.proofs.Definitions.{slot_defined, slot_restored, still_valid, defined_well_formed, ready_then}
+use Rattle.moo_table.proofs.Definitions.{slot_defined, slot_restored, still_valid, distinct_then, defined_well_formed, ready_then}
 use Rattle.moo_world.proofs.World.put_definition.Goals as goal
 
 pub rows_below-requires : goal.rows_below-requires
@@ -24,6 +24,8 @@ rows_below-requires c =
       place = λ up is. (let low = c.above-above.ensures.within up is in let len = ap length c.deref.ensures.value in let same = length-set w.objects c.args.x c.define_in.new.slot in omega (arith, low, len, same, c.self.invariant.formed.parents.many));
       valid = λ k h. subst (λ os. IsSome (object_of os (step_at c.args.walk.now k).node)) (sym lent)
           (still_valid w c.args.x c.args.name c.args.cell c.self.invariant.formed valid d (step_at c.args.walk.now k).node (walk_valid w.objects w.inheritance c.self.invariant.formed.parents c.args.x valid c.args.walk.now wd k h));
+      distinct = λ k h. subst (λ os. AreDistinct (thing_of os (step_at c.args.walk.now k).node).cells) (sym lent)
+          (distinct_then w c.args.x c.args.name c.args.cell c.self.invariant.formed valid d (step_at c.args.walk.now k).node);
       follows = wd.follows;
     }
 

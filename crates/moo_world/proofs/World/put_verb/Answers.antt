@@ -14,7 +14,7 @@ invariant_of-self-2 c =
     let valid = subst (λ v. IsSome (object_of v.objects c.args.x)) (sym c.self.view_is) c.requires.object in
     let room = room_free (length (thing_of w.objects c.args.x).verbs) (has_word c.args.verb.names) (ap (λ v. add_verb_raises v (Some c.args.x) c.args.verb.names) c.self.view_is ∙ c.in_ok-test_new_verb.ensures.raises.0) in
     let slot = slot_changed w.objects c.args.x (with_verb c.args.verb) c.index_mut.result.now c.add_verb_in.new.slot valid c.index_mut.ensures.value c.in_ok-add_verb_in.ensures.ok in
-    rw slot (object_kept w c.args.x (with_verb c.args.verb) c.self.inside.programs c.self.invariant valid (verb_added c.args.x c.args.verb (thing_of w.objects c.args.x) c.in_ok-test_new_verb.ensures.string room) (programs_with_one_more (thing_of w.objects c.args.x).verbs c.args.verb c.requires.bare))
+    rw slot (object_kept w c.args.x (with_verb c.args.verb) c.self.inside.programs c.self.invariant valid (verb_added c.args.x c.args.verb (thing_of w.objects c.args.x) c.in_ok-test_new_verb.ensures.string c.requires.owner room) (programs_with_one_more (thing_of w.objects c.args.x).verbs c.args.verb c.requires.bare))
 
 pub returns : goal.returns
 returns c =

@@ -5,7 +5,7 @@ use Rattle.moo_forest.specs.Walk.{met}
 use Rattle.moo_forest.proofs.Dissolving.{above_apart}
 use Rattle.moo_object.specs.Objects.{Object}
 use Rattle.moo_table.specs.World.{World, object_of, thing_of, programs_of}
-use Rattle.moo_table.specs.Changes.{changed_along}
+use Rattle.moo_table.specs.Steps.{changed_along}
 use Rattle.moo_table.specs.Players.{players_with}
 use Rattle.moo_table.specs.Recycling.{after_recycle, without_cells_of}
 use Rattle.moo_table.proofs.Changing.{valid_within}

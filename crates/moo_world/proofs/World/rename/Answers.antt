@@ -6,9 +6,9 @@ use Rattle.moo_forest.specs.declared.walk.Step.{Step}
 use Rattle.moo_object.specs.Cells.{Key}
 use Rattle.moo_table.specs.World.{World, object_of, thing_of}
 use Rattle.moo_table.specs.Changes.{changed_on}
-use Rattle.moo_table.specs.Rows.{with_rows}
+use Rattle.moo_table.specs.Steps.{with_rows, IsRenamable}
 use Rattle.moo_table.specs.Edits.{with_respelled, renamed_cells}
-use Rattle.moo_table.specs.Renames.{after_rename, IsRenamable}
+use Rattle.moo_table.specs.Renames.{after_rename}
 use Rattle.moo_table.proofs.Changing.{valid_within}
 use Rattle.moo_table.proofs.Counting.{programs_renamed}
 use Rattle.moo_table.proofs.Single.{slot_changed}

@@ -3,7 +3,8 @@ use Rattle.std.proofs.lemmas.List.{get_or_read}
 use Rattle.moo_value.specs.Compare.{folded}
 use Rattle.moo_forest.specs.Walk.{met, step_at}
 use Rattle.moo_table.specs.World.{World, object_of}
-use Rattle.moo_table.specs.Changes.{without_name, without_cell, after_undefine, changed_along}
+use Rattle.moo_table.specs.Changes.{without_name, without_cell, after_undefine}
+use Rattle.moo_table.specs.Steps.{changed_along}
 use Rattle.moo_table.proofs.Counting.{programs_undefined}
 use Rattle.moo_table.proofs.Changing.{valid_within}
 use Rattle.moo_table.proofs.Joining.{walk_low}

@@ -23,5 +23,6 @@ returns c =
       own = refl;
       filled = refl;
       stored = (c.weight-weight.ensures.value, c.weight-weight.ensures.limits);
+      owner = c.ranges.owner;
       string = c.as_bytes-bytes.ensures.string;
     })

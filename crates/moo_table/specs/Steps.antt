@@ -1,13 +1,16 @@
--- New rows of cells along a walk, before they are put in place.
-use Rattle.std.specs.Prelude.{◌≡◌, ℕ, ◌<◌, List, [], ◌∷◌, Option, Some, None, Bool, length, slice_index_or, slice_set, nat_lt, take, ◌-◌}
+-- The steps of changes, for the functions that changes are made of: the meaning of a change needs none of these words.
+use Rattle.std.specs.Prelude.{◌≡◌, ◌⊎◌, ℕ, ◌<◌, ◌+◌, ◌-◌, List, [], ◌∷◌, Option, Some, None, Bool, true, false, length, slice_index_or, slice_set, nat_lt, take, is_some, FitsSigned}
+use Rattle.std.specs.Int.{w32}
 use Rattle.std.specs.List.{list_any}
 use Rattle.moo_value.specs.Compare.{folded}
+use Rattle.moo_value.specs.Size.{IsString}
 use Rattle.moo_forest.specs.Forest.{Links}
 use Rattle.moo_forest.specs.Walk.{step_at, met}
 use Rattle.moo_forest.specs.declared.walk.Step.{Step}
-use Rattle.moo_object.specs.Cells.{Cell, is_named}
+use Rattle.moo_object.specs.Cells.{Cell, is_named, key_of}
 use Rattle.moo_object.specs.Objects.{Object}
-use Rattle.moo_table.specs.World.{fitted_over, with_cells, object_of, thing_of, refitted, most}
+use Rattle.moo_table.specs.World.{World, fitted_over, with_cells, object_of, thing_of, refitted, most, HasStored}
+use Rattle.moo_table.specs.Properties.{is_taken, is_full}
 
 -- the first n rows along a walk: the first is given, each other one is fitted to that of the object right above its own
 pub record AreFitted (objects : List (Option Object)) (walk : List Step) (top : List Cell) (n : ℕ) (rows : List (List Cell)) : Type 0 where
@@ -26,9 +29,9 @@ with_rows objects (y ∷ ys) (row ∷ rows) = slice_set (with_rows objects ys ro
 abbrev pub own_clash : List (Option Object) → List Cell → ℕ → Bool
 own_clash objects cells y = list_any (λ n. list_any (is_named (folded n)) cells) (thing_of objects y).defined
 
--- whether an object would have too many cells
-abbrev pub row_is_long : List Cell → Bool
-row_is_long row = nat_lt most (length row)
+-- whether an object would have too many cells, with so many more and so many fewer
+abbrev pub is_crowded_by : List (Option Object) → ℕ → ℕ → ℕ → Bool
+is_crowded_by objects gained lost y = nat_lt (most + lost) (length (thing_of objects y).cells + gained)
 
 -- an object without its last definition and its last cell
 abbrev pub without_last : Option Object → Option Object
@@ -40,3 +43,23 @@ pub record AreReady (objects : List (Option Object)) (tree : List Links) (walk :
   pub many : length rows ≡ length walk
   pub within : (k : ℕ) → k < length walk → (step_at walk k).node < length objects
   pub fit : with_rows objects (met walk) rows ≡ refitted objects tree
+
+-- the objects once each of these was changed
+abbrev pub changed_along : (Option Object → Option Object) → List (Option Object) → List ℕ → List (Option Object)
+changed_along f objects [] = objects
+changed_along f objects (y ∷ ys) = changed_along f (slice_set objects y (f (object_of objects y))) ys
+
+-- a definition that keeps a world well formed: of a name that is free, with a cell of its own, where there is room
+pub record IsDefinable (w : World) (x : ℕ) (name : List ℕ) (cell : Cell) : Type 0 where
+  pub free : is_taken w.objects w.inheritance x (folded name) ≡ false
+  pub roomy : is_full w.objects w.inheritance x ≡ false
+  pub own : key_of cell ≡ (x, folded name)
+  pub filled : is_some cell.value ≡ true
+  pub stored : HasStored cell.value
+  pub owner : FitsSigned w32 cell.owner
+  pub string : IsString name
+
+-- another name that keeps a world well formed: the same in other letters, or one that is free
+pub record IsRenamable (w : World) (x : ℕ) (name spelling : List ℕ) : Type 0 where
+  pub free : (folded spelling ≡ name) ⊎ (is_taken w.objects w.inheritance x (folded spelling) ≡ false)
+  pub string : IsString spelling

@@ -3,7 +3,7 @@ use Rattle.std.specs.Int.{w32}
 use Rattle.std.specs.List.{All}
 use Rattle.std.proofs.lemmas.List.{take_all}
 use Rattle.std.proofs.lemmas.List.Elements.{All-more}
-use Rattle.moo_world.proofs.ranges.players_fit.Goals as goal
+use Rattle.moo_restore.proofs.restoring.players_fit.Goals as goal
 
 pub loop-player-preserved : goal.loop-player-preserved
 loop-player-preserved c =

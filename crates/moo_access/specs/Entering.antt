@@ -110,7 +110,7 @@ called_variables f variables = taken_over variables command_names (value_of_name
 -- a frame that is entered from a context
 abbrev pub entered : Context → (List ℕ → Option Tree) → ℤ → Frame → Entered
 entered c variables programmer f = record {
-  context = record { frame = f; callers = entries c.frame programmer c.callers; indexed = None };
+  context = record { frame = f; callers = entries c.frame programmer c.callers; indexed = None; surroundings = c.surroundings };
   variables = called_variables f variables;
   programmer = f.programmer;
 }

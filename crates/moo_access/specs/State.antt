@@ -5,8 +5,9 @@ use Rattle.moo_table.specs.World.{World}
 use Rattle.moo_outcome.specs.Variables.{Binding, with_all}
 use Rattle.moo_outcome.specs.State.{Context, entries}
 use Rattle.moo_outcome.specs.declared.frame.TraceEntry.{TraceEntry}
+use Rattle.moo_outcome.specs.declared.notice.Notice.{Notice}
 
--- what changes while a task runs: the world and the ticks, and what the running frame has
+-- what changes while a task runs: the world, the ticks and the notices, and what the running frame has
 pub record State : Type 0 where
   -- how many are left
   pub ticks : ℕ
@@ -14,6 +15,8 @@ pub record State : Type 0 where
   -- by their folded names
   pub variables : List ℕ → Option Tree
   pub programmer : ℤ
+  -- what the task has asked for so far, in this order
+  pub notices : List Notice
 
 -- with one tick less
 abbrev pub ticked : State → State

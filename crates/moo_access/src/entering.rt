@@ -24,8 +24,8 @@ pub const MOST_FRAMES: usize = 50;
 
 /// A verb that was entered: its frame with what called it, and what changes while it runs.
 #[derive(Drop)]
-pub struct Called {
-    pub stack: CallStack,
+pub struct Called<'a> {
+    pub stack: CallStack<'a>,
     pub active: Activation,
 }
 
@@ -39,15 +39,15 @@ struct Found<'a> {
 /// Enters the verb that a call names, with its owner's rights: E_QUOTA for a list of arguments past
 /// the limits, E_TYPE for what is no object or no name, E_INVIND where the object isn't valid,
 /// E_VERBNF where it has no such verb that can be executed, E_MAXREC where no frame is left.
-pub fn enter_verb(
+pub fn enter_verb<'a>(
     alloc: Global,
     world: &World,
-    stack: &CallStack,
+    stack: &CallStack<'a>,
     active: &Activation,
     base: &Value,
     name: &Value,
     args: Vec<Value>,
-) -> Result<Called, Failure>
+) -> Result<Called<'a>, Failure>
     ensures { IsKnownFailure result → answers (entered_verb world.now (context_of stack.now None) (variables_of active.now.variables) active.now.programmer (tree base.now) (tree name.now) (trees args.items)) ≡ seen_by entered_of result }
 {
     let args = arguments(alloc, args)?;
@@ -108,7 +108,7 @@ fn verb_there(world: &World, place: VerbAt) -> Option<Found<'_>>
 }
 
 // How many frames stand, the running one among them.
-fn frames(stack: &CallStack) -> usize
+fn frames(stack: &CallStack<'_>) -> usize
     ensures { result ≡ frames stack.now.callers.items }
 {
     let below = stack
@@ -180,12 +180,12 @@ fn program_of(alloc: Global, verb: &Verb) -> Result<Program, AllocError>
     }
 }
 
-fn entered(
+fn entered<'a>(
     alloc: Global,
-    stack: &CallStack,
+    stack: &CallStack<'a>,
     active: &Activation,
     frame: Frame,
-) -> Result<Called, AllocError>
+) -> Result<Called<'a>, AllocError>
     ensures { IfOk result (λ called. entered_of called ≡ entered (context_of stack.now None) (variables_of active.now.variables) active.now.programmer frame) }
 {
     let callers = stack.trace(alloc, active)?;
@@ -195,6 +195,7 @@ fn entered(
         stack: CallStack {
             running: frame,
             callers,
+            surroundings: stack.surroundings,
         },
         active: Activation {
             variables,

@@ -1,5 +1,5 @@
 -- What a call of a built-in function gives in a task, and what it changes.
-use Rattle.std.specs.Prelude.{ℕ, Bool, List, Option, None, Some, Result, Ok, Err}
+use Rattle.std.specs.Prelude.{◌≡◌, ℕ, Bool, List, Option, None, Some, Result, Ok, Err}
 use Rattle.moo_value.specs.declared.error_code.ErrorCode.{ErrorCode}
 use Rattle.moo_value.specs.declared.error_code.ErrorCode.TheVariants.{InvalidArgument}
 use Rattle.moo_value.specs.Tree.{Tree, object}
@@ -11,29 +11,28 @@ use Rattle.moo_function.specs.Check.{mismatch}
 use Rattle.moo_builtin.specs.Calls.{Raised, answer}
 use Rattle.moo_table.specs.World.{World}
 use Rattle.moo_world_function.specs.Calls.{world_call}
-use Rattle.moo_outcome.specs.declared.frame.Frame.{Frame}
 use Rattle.moo_outcome.specs.declared.frame.TraceEntry.{TraceEntry}
 use Rattle.moo_outcome.specs.Handling.{frame_lists, listed}
 use Rattle.moo_outcome.specs.Outcome.{Failure, fails, answers}
-use Rattle.moo_outcome.specs.State.{entries}
-use Rattle.moo_access.specs.State.{State}
+use Rattle.moo_outcome.specs.State.{Context}
+use Rattle.moo_access.specs.State.{State, trace}
+use Rattle.moo_code_function.specs.Telling.{Telling}
 use Rattle.moo_call.specs.Tasks.{Reply, shown_ticks, nearest_programmer, set_task_perms, raised_here}
 
 -- what a function over values gives; others are not to be called yet
 abbrev pub valued : Bool → List TraceEntry → Option (Result Tree Raised) → Result Tree Failure
-valued d trace None = Err (fails InvalidArgument)
-valued d trace (Some (Ok v)) = Ok v
-valued d trace (Some (Err r)) = raised_here d trace r
+valued d entries None = Err (fails InvalidArgument)
+valued d entries (Some (Ok v)) = Ok v
+valued d entries (Some (Err r)) = raised_here d entries r
 
 -- What a function does that is not one over the world, for arguments that fit its row: it looks at the task or at its
--- arguments alone. A task has no clock.
-abbrev pub task_reply : Function → Frame → List TraceEntry → List Tree → State → Reply
-task_reply function.TicksLeft running callers args s = (Ok (shown_ticks s.ticks), s)
-task_reply function.Callers running callers args s = (answers (listed (frame_lists callers)), s)
-task_reply function.CallerPermissions running callers args s = (Ok (object (nearest_programmer callers)), s)
-task_reply function.SetTaskPermissions running callers args s = set_task_perms args s
-task_reply function.Time running callers args s = (Err (fails InvalidArgument), s)
-task_reply f running callers args s = (valued running.d (entries running s.programmer callers) (answer f 0 args), s)
+-- arguments alone.
+abbrev pub task_reply : Function → Context → List Tree → State → Reply
+task_reply function.TicksLeft c args s = (Ok (shown_ticks s.ticks), s)
+task_reply function.Callers c args s = (answers (listed (frame_lists c.callers)), s)
+task_reply function.CallerPermissions c args s = (Ok (object (nearest_programmer c.callers)), s)
+task_reply function.SetTaskPermissions c args s = set_task_perms args s
+task_reply f c args s = (valued c.frame.d (trace c s) (answer f c.surroundings.moment args), s)
 
 -- a wrong count or a wrong type of the arguments comes first
 abbrev pub unless_refused : State → Option ErrorCode → Reply → Reply
@@ -47,11 +46,11 @@ over_world s (Some (Ok p)) reply = (Ok p.0, record s { world = p.1 })
 over_world s (Some (Err code)) reply = (Err (fails code), s)
 
 -- a call of a function of the table; other names raise E_INVARG
-abbrev pub called : Option Function → Frame → List TraceEntry → List Tree → State → Reply
-called None running callers args s = (Err (fails InvalidArgument), s)
-called (Some f) running callers args s =
-    over_world s (world_call f s.world s.programmer args) (unless_refused s (mismatch (row f) args) (task_reply f running callers args s))
+abbrev pub called : Option Function → Context → List Tree → State → Reply
+called None c args s = (Err (fails InvalidArgument), s)
+called (Some f) c args s = over_world s (world_call f s.world s.programmer args) (unless_refused s (mismatch (row f) args) (task_reply f c args s))
 
--- a call of a built-in function by its name, in any case, from a running frame and those below it
-abbrev pub call_function : Frame → List TraceEntry → List ℕ → List Tree → State → Reply
-call_function running callers name args s = called (function_of name) running callers args s
+-- A call of a built-in function by its name, in any case: its answer and the state after it. Where it reads a text that is no program,
+-- it may tell this of it.
+abbrev pub CallsFunction : Telling → Context → List ℕ → List Tree → State → Result Tree Failure → State → Type 0
+CallsFunction T c name args s r s' = called (function_of name) c args s ≡ (r, s')

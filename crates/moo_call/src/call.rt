@@ -1,15 +1,16 @@
 //! A call of a built-in function by its name.
-ghost use Rattle.std.specs.Prelude.{◌≡◌, Some};
+ghost use Rattle.std.specs.Prelude.{◌≡◌, None, Some};
 ghost use Rattle.moo_value.specs.View.{trees};
 ghost use Rattle.moo_function.specs.Table.{row};
 ghost use Rattle.moo_function.specs.Check.{mismatch};
-ghost use Rattle.moo_outcome.specs.Seen.{seen_answer, IsKnownFailure};
-ghost use Rattle.moo_call.specs.Calls.{unless_refused, task_reply, called, call_function};
+ghost use Rattle.moo_outcome.specs.Seen.{context_of, seen_answer, IsKnownFailure};
+ghost use Rattle.moo_call.specs.Calls.{unless_refused, task_reply, called, CallsFunction};
 ghost use Rattle.moo_call.specs.Seen.{state_at};
+ghost use Rattle.moo_code_function.specs.Telling.{Faults};
 
 use crate::task::task_reply;
 use moo_function::Function;
-use moo_outcome::{Activation, CallStack, Failure};
+use moo_outcome::{Activation, CallStack, Failure, Notice};
 use moo_value::{ErrorCode, MooStr, Value};
 use moo_world::World;
 use moo_world_function::call_world;
@@ -23,15 +24,16 @@ pub fn call_function(
     alloc: Global,
     world: &mut World,
     active: &mut Activation,
-    stack: &CallStack,
+    stack: &CallStack<'_>,
     ticks: u32,
+    notices: &mut Vec<Notice>,
     name: &MooStr,
     args: Vec<Value>,
 ) -> Result<Value, Failure>
-    ensures { IsKnownFailure result → call_function stack.now.running stack.now.callers.items name.now (trees args.items) (state_at ticks world.old active.old) ≡ (seen_answer result, state_at ticks world.new active.new) }
+    ensures { IsKnownFailure result → CallsFunction Faults (context_of stack.now None) name.now (trees args.items) (state_at ticks notices.old.items world.old active.old) (seen_answer result) (state_at ticks notices.new.items world.new active.new) }
 {
     match Function::from_name(name.as_bytes()) {
-        Some(function) => called(alloc, world, active, stack, ticks, function, args),
+        Some(function) => called(alloc, world, active, stack, ticks, notices, function, args),
         None => Err(Failure::Fails(ErrorCode::InvalidArgument)),
     }
 }
@@ -40,16 +42,17 @@ fn called(
     alloc: Global,
     world: &mut World,
     active: &mut Activation,
-    stack: &CallStack,
+    stack: &CallStack<'_>,
     ticks: u32,
+    notices: &mut Vec<Notice>,
     function: Function,
     args: Vec<Value>,
 ) -> Result<Value, Failure>
-    ensures { IsKnownFailure result → called (Some function) stack.now.running stack.now.callers.items (trees args.items) (state_at ticks world.old active.old) ≡ (seen_answer result, state_at ticks world.new active.new) }
+    ensures { IsKnownFailure result → called (Some function) (context_of stack.now None) (trees args.items) (state_at ticks notices.old.items world.old active.old) ≡ (seen_answer result, state_at ticks notices.new.items world.new active.new) }
 {
     match call_world(alloc, function, &args, world, active.programmer) {
         Some(answer) => Ok(answer?),
-        None => unless_refused(alloc, world, active, stack, ticks, function, args),
+        None => unless_refused(alloc, world, active, stack, ticks, notices, function, args),
     }
 }
 
@@ -58,15 +61,16 @@ fn unless_refused(
     alloc: Global,
     world: &World,
     active: &mut Activation,
-    stack: &CallStack,
+    stack: &CallStack<'_>,
     ticks: u32,
+    notices: &mut Vec<Notice>,
     function: Function,
     args: Vec<Value>,
 ) -> Result<Value, Failure>
-    ensures { IsKnownFailure result → unless_refused (state_at ticks world.now active.old) (mismatch (row function) (trees args.items)) (task_reply function stack.now.running stack.now.callers.items (trees args.items) (state_at ticks world.now active.old)) ≡ (seen_answer result, state_at ticks world.now active.new) }
+    ensures { IsKnownFailure result → unless_refused (state_at ticks notices.old.items world.now active.old) (mismatch (row function) (trees args.items)) (task_reply function (context_of stack.now None) (trees args.items) (state_at ticks notices.old.items world.now active.old)) ≡ (seen_answer result, state_at ticks notices.new.items world.now active.new) }
 {
     match function.mismatch(&args) {
         Some(error) => Err(Failure::Fails(error)),
-        None => task_reply(alloc, world, active, stack, ticks, function, args),
+        None => task_reply(alloc, world, active, stack, ticks, notices, function, args),
     }
 }

@@ -1,10 +1,11 @@
 //! Functions that look at the running task, and those over values.
-ghost use Rattle.std.specs.Prelude.{◌≡◌, ℕ, None};
+ghost use Rattle.std.specs.Prelude.{◌≡◌, ℕ, List, None};
 ghost use Rattle.moo_value.specs.View.{tree, trees};
 ghost use Rattle.moo_builtin.specs.Calls.{answer};
+ghost use Rattle.moo_outcome.specs.declared.notice.Notice.{Notice};
 ghost use Rattle.moo_outcome.specs.Handling.{frame_lists, listed};
 ghost use Rattle.moo_outcome.specs.Outcome.{answers};
-ghost use Rattle.moo_outcome.specs.Seen.{trace_of, seen_answer, IsKnownFailure};
+ghost use Rattle.moo_outcome.specs.Seen.{context_of, trace_of, seen_answer, IsKnownFailure};
 ghost use Rattle.moo_call.specs.Tasks.{shown_ticks, nearest_programmer, set_task_perms, raised_here};
 ghost use Rattle.moo_call.specs.Calls.{valued, task_reply};
 ghost use Rattle.moo_call.specs.Seen.{state_at};
@@ -12,7 +13,7 @@ ghost use Rattle.moo_call.specs.Seen.{state_at};
 use moo_builtin::{Outcome, answer};
 use moo_function::Function;
 use moo_operation as operation;
-use moo_outcome::{Activation, CallStack, Failure, Raise, Stop, TraceEntry, frame_lists};
+use moo_outcome::{Activation, CallStack, Failure, Notice, Raise, Stop, TraceEntry, frame_lists};
 use moo_rights::Rights;
 use moo_value::{ErrorCode, MooStr, Value};
 use moo_world::World;
@@ -24,20 +25,23 @@ pub(crate) fn task_reply(
     alloc: Global,
     world: &World,
     active: &mut Activation,
-    stack: &CallStack,
+    stack: &CallStack<'_>,
     ticks: u32,
+    notices: &mut Vec<Notice>,
     function: Function,
     args: Vec<Value>,
 ) -> Result<Value, Failure>
-    ensures { IsKnownFailure result → task_reply function stack.now.running stack.now.callers.items (trees args.items) (state_at ticks world.now active.old) ≡ (seen_answer result, state_at ticks world.now active.new) }
+    ensures { IsKnownFailure result → task_reply function (context_of stack.now None) (trees args.items) (state_at ticks notices.old.items world.now active.old) ≡ (seen_answer result, state_at ticks notices.new.items world.now active.new) }
 {
     match function {
         Function::TicksLeft => Ok(shown_ticks(ticks)),
         Function::Callers => callers(alloc, stack),
         Function::CallerPermissions => Ok(Value::Obj(nearest_programmer(&stack.callers))),
         Function::SetTaskPermissions => set_task_perms(world, active, &args),
-        Function::Time => Err(Failure::Fails(ErrorCode::InvalidArgument)),
-        _ => valued(alloc, stack, active, function, args),
+        _ => {
+            let moment = stack.surroundings.moment;
+            valued(alloc, stack, active, moment, function, args)
+        }
     }
 }
 
@@ -53,7 +57,7 @@ fn shown_ticks(ticks: u32) -> Value
 }
 
 // The frames that the running one was called from.
-fn callers(alloc: Global, stack: &CallStack) -> Result<Value, Failure>
+fn callers(alloc: Global, stack: &CallStack<'_>) -> Result<Value, Failure>
     ensures { IsKnownFailure result → answers (listed (frame_lists stack.now.callers.items)) ≡ seen_answer result }
 {
     let frames = frame_lists(alloc, &stack.callers)?;
@@ -74,7 +78,7 @@ fn nearest_programmer(callers: &[TraceEntry]) -> i32
 
 // Gives the running frame another programmer, where it runs for this one or for a wizard.
 fn set_task_perms(world: &World, active: &mut Activation, args: &[Value]) -> Result<Value, Failure>
-    ensures { (ticks : ℕ) → set_task_perms (trees args.now) (state_at ticks world.now active.old) ≡ (seen_answer result, state_at ticks world.now active.new) }
+    ensures { (ticks : ℕ) (notices : List Notice) → set_task_perms (trees args.now) (state_at ticks notices world.now active.old) ≡ (seen_answer result, state_at ticks notices world.now active.new) }
 {
     let [Value::Obj(programmer)] = args else {
         return Err(Failure::Fails(ErrorCode::TypeMismatch));
@@ -89,15 +93,16 @@ fn set_task_perms(world: &World, active: &mut Activation, args: &[Value]) -> Res
 // What a function over values gives.
 fn valued(
     alloc: Global,
-    stack: &CallStack,
+    stack: &CallStack<'_>,
     active: &Activation,
+    moment: u32,
     function: Function,
     args: Vec<Value>,
 ) -> Result<Value, Failure>
-    ensures { IsKnownFailure result → valued stack.now.running.d (trace_of stack.now active.now) (answer function 0 (trees args.items)) ≡ seen_answer result }
+    ensures { IsKnownFailure result → valued stack.now.running.d (trace_of stack.now active.now) (answer function moment (trees args.items)) ≡ seen_answer result }
 {
     let mut args = args;
-    match answer(alloc, function, &mut args, 0) {
+    match answer(alloc, function, &mut args, moment) {
         Some(Outcome::Value(value)) => Ok(value),
         Some(Outcome::Raise(code, message, value)) => {
             raised_here(alloc, stack, active, code, message, value)
@@ -110,7 +115,7 @@ fn valued(
 // Raises an error where the call stands. Without the d bit it is the value of the call.
 fn raised_here(
     alloc: Global,
-    stack: &CallStack,
+    stack: &CallStack<'_>,
     active: &Activation,
     code: ErrorCode,
     message: MooStr,

@@ -16,9 +16,11 @@ use Rattle.moo_program.specs.declared.tree.Item.{Item, Element', Splice', Option
 use Rattle.moo_program.specs.Tree.{Items, Block}
 use Rattle.moo_program.specs.View.{with_item}
 use Rattle.moo_outcome.specs.declared.outcome.Failure as code_failure
+use Rattle.moo_outcome.specs.declared.notice.Notice.{Notice}
 use Rattle.moo_outcome.specs.State.{Context}
 use Rattle.moo_table.specs.World.{World}
 use Rattle.moo_access.specs.State.{State}
+use Rattle.moo_code_function.specs.Telling.{Telling}
 use Rattle.moo_access.specs.Calls.{write_property}
 use Rattle.moo_access.specs.Target.{owned}
 use Rattle.moo_outcome.specs.Handling.{Guarded, guarded_before}
@@ -52,8 +54,8 @@ goes_on-not (flow_case.Break n) h = refl
 goes_on-not (flow_case.Continue n) h = refl
 
 -- states with the same variables and programmer
-pub same_state : {n : ℕ} {w : World} {f g : List ℕ → Option Tree} {p q : ℤ} → f ≡ g → p ≡ q → ◌≡◌ {A = State} (record { ticks = n; world = w; variables = f; programmer = p }) (record { ticks = n; world = w; variables = g; programmer = q })
-same_state {n = n} {w = w} e h = λ i. record { ticks = n; world = w; variables = e i; programmer = h i }
+pub same_state : {n : ℕ} {w : World} {f g : List ℕ → Option Tree} {p q : ℤ} {ns : List Notice} → f ≡ g → p ≡ q → ◌≡◌ {A = State} (record { ticks = n; world = w; variables = f; programmer = p; notices = ns }) (record { ticks = n; world = w; variables = g; programmer = q; notices = ns })
+same_state {n = n} {w = w} {ns = ns} e h = λ i. record { ticks = n; world = w; variables = e i; programmer = h i; notices = ns }
 
 -- a name that may be left out stands in no list that is evaluated
 abbrev pub IsOptional : Item → Type 0
@@ -61,7 +63,7 @@ IsOptional (Element' p e) = ⊥
 IsOptional (Splice' p e) = ⊥
 IsOptional (Optional' x d) = Unit {0}
 
-pub optional_ends : {c : Context} {s : State} (item : Item) (xs : Items) → IsOptional item → EvaluatesAll c (with_item item xs) s (Err (fails TypeMismatch)) s
+pub optional_ends : {T : Telling} {c : Context} {s : State} (item : Item) (xs : Items) → IsOptional item → EvaluatesAll T c (with_item item xs) s (Err (fails TypeMismatch)) s
 optional_ends (Element' p e) xs h = absurd h
 optional_ends (Splice' p e) xs h = absurd h
 optional_ends (Optional' x None') xs h = optional_fails
@@ -72,9 +74,9 @@ pub guarded_on : (gs us : List Guarded) (g : Guarded) (o : Result (List Guarded)
 guarded_on gs us g (Ok hs) p = ap Ok (sym (append_assoc gs (g ∷ []) hs) ∙ ap (λ x. x ++ hs) (sym p))
 guarded_on gs us g (Err stop) p = refl
 
--- states with as many ticks and the same variables
-pub state_at : {n m : ℕ} {w : World} {f g : List ℕ → Option Tree} {p : ℤ} → n ≡ m → f ≡ g → ◌≡◌ {A = State} (record { ticks = n; world = w; variables = f; programmer = p }) (record { ticks = m; world = w; variables = g; programmer = p })
-state_at {w = w} {p = p} e h = λ i. record { ticks = e i; world = w; variables = h i; programmer = p }
+-- states with as many ticks, and with the same notices and variables
+pub state_at : {n m : ℕ} {w : World} {f g : List ℕ → Option Tree} {p : ℤ} {ns ms : List Notice} → n ≡ m → ns ≡ ms → f ≡ g → ◌≡◌ {A = State} (record { ticks = n; world = w; variables = f; programmer = p; notices = ns }) (record { ticks = m; world = w; variables = g; programmer = p; notices = ms })
+state_at {w = w} {p = p} e k h = λ i. record { ticks = e i; world = w; variables = h i; programmer = p; notices = k i }
 
 -- a turn after which the loop goes on
 pub no_flow : (o : Option code_flow.Flow) → ((flow : code_flow.Flow) → o ≡ Some flow → ⊥) → o ≡ None
@@ -82,10 +84,10 @@ no_flow None h = refl
 no_flow (Some flow) h = absurd (h flow refl)
 
 -- a property that was set, or was not and the world is as it was
-pub property_put : {c : Context} {n : ℕ} {w w' : World} {f : List ℕ → Option Tree} {p : ℤ} {base name v : Tree} (r : Result (Unit {0}) code_failure.Failure) → answers (write_property w p base name v) ≡ seen_by (λ done. w') r → IfErr r (λ failure. w' ≡ w) → Puts c (owned base name) v (record { ticks = n; world = w; variables = f; programmer = p }) (seen_done r) (record { ticks = n; world = w'; variables = f; programmer = p })
+pub property_put : {T : Telling} {c : Context} {n : ℕ} {w w' : World} {f : List ℕ → Option Tree} {p : ℤ} {ns : List Notice} {base name v : Tree} (r : Result (Unit {0}) code_failure.Failure) → answers (write_property w p base name v) ≡ seen_by (λ done. w') r → IfErr r (λ failure. w' ≡ w) → Puts T c (owned base name) v (record { ticks = n; world = w; variables = f; programmer = p; notices = ns }) (seen_done r) (record { ticks = n; world = w'; variables = f; programmer = p; notices = ns })
 property_put (Ok done) e h = puts_property e refl
-property_put {c = c} {n = n} {w = w} {f = f} {p = p} {base = base} {name = name} {v = v} (Err failure) e h = subst (λ x. Puts c (owned base name) v (record { ticks = n; world = w; variables = f; programmer = p }) (Err (failure_of failure)) (record { ticks = n; world = x; variables = f; programmer = p })) (sym h) (property_unset e)
+property_put {T = T} {c = c} {n = n} {w = w} {f = f} {p = p} {ns = ns} {base = base} {name = name} {v = v} (Err failure) e h = subst (λ x. Puts T c (owned base name) v (record { ticks = n; world = w; variables = f; programmer = p; notices = ns }) (Err (failure_of failure)) (record { ticks = n; world = x; variables = f; programmer = p; notices = ns })) (sym h) (property_unset e)
 
 -- statements that are these run as these do
-pub runs_at : {c : Context} {b b' : Block} {s s' : State} {o : Result Flow Stop} → b ≡ b' → RunsAll c b s o s' → RunsAll c b' s o s'
-runs_at {c = c} {s = s} {s' = s'} {o = o} q h = subst (λ x. RunsAll c x s o s') q h
+pub runs_at : {T : Telling} {c : Context} {b b' : Block} {s s' : State} {o : Result Flow Stop} → b ≡ b' → RunsAll T c b s o s' → RunsAll T c b' s o s'
+runs_at {T = T} {c = c} {s = s} {s' = s'} {o = o} q h = subst (λ x. RunsAll T c x s o s') q h

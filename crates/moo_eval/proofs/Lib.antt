@@ -1,5 +1,6 @@
 pub mod Caught
 pub mod Counting
+pub mod Ending
 pub mod Exits
 pub mod Held
 pub mod Moved

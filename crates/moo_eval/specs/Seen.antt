@@ -6,4 +6,10 @@ use Rattle.moo_access.specs.State.{State}
 use Rattle.moo_outcome.specs.Seen.{variables_of}
 
 abbrev pub state_of : Task → World → Activation → State
-state_of task world active = record { ticks = task.ticks_left; world = world; variables = variables_of active.variables; programmer = active.programmer }
+state_of task world active = record {
+  ticks = task.ticks_left;
+  world = world;
+  variables = variables_of active.variables;
+  programmer = active.programmer;
+  notices = task.notices.items;
+}

@@ -5,11 +5,14 @@ use Rattle.moo_program.specs.Tree.{Expr, Block}
 use Rattle.moo_outcome.specs.declared.frame.Frame.{Frame}
 use Rattle.moo_outcome.specs.Outcome as outcome
 use Rattle.moo_outcome.specs.Outcome.{Stop, raised, Flow, next, returned, broken, continued}
+use Rattle.moo_outcome.specs.declared.notice.Notice.{Notice}
+use Rattle.moo_outcome.specs.Surroundings.{Surroundings}
 use Rattle.moo_outcome.specs.State.{Context}
 use Rattle.moo_access.specs.State.{State}
 use Rattle.moo_outcome.specs.Variables.{first_bindings, value_of_name}
 use Rattle.moo_outcome.specs.Traceback.{traceback}
 use Rattle.moo_table.specs.World.{World}
+use Rattle.moo_code_function.specs.Telling.{Telling, Choice, PassesPrograms, chosen_by}
 use Rattle.moo_eval.specs.Meaning.{Evaluates, RunsAll}
 
 -- how a task ends: a value, or the lines of its traceback
@@ -29,26 +32,35 @@ end_of (Err (outcome.out_of_ticks trace)) = out_of_ticks (traceback (codes "Task
 abbrev pub most_ticks : ℕ
 most_ticks = 100000
 
-abbrev pub first_context : Frame → Context
-first_context start = record { frame = start; callers = []; indexed = None }
+abbrev pub first_context : Surroundings → Frame → Context
+first_context around start = record { frame = start; callers = []; indexed = None; surroundings = around }
 
 abbrev pub first_state : Frame → World → State
-first_state start world = record { ticks = most_ticks; world = world; variables = value_of_name (first_bindings start); programmer = start.programmer }
+first_state start world = record {
+  ticks = most_ticks;
+  world = world;
+  variables = value_of_name (first_bindings start);
+  programmer = start.programmer;
+  notices = [];
+}
 
--- A task that begins with this frame over a world ends so, and leaves this world: all that it changed stays, however it ends.
-pub record TaskEnds (start : Frame) (before : World) (end : End) (after : World) : Type 0 where
+-- A task that begins with this frame, in these surroundings and over a world, ends so, and leaves this world and these notices: all that
+-- it changed stays, and all that it asked for is asked for, however it ends.
+pub record TaskEnds (T : Telling) (around : Surroundings) (start : Frame) (before : World) (end : End) (after : World) (notices : List Notice) : Type 0 where
   pub outcome : Result Flow Stop
   pub last : State
-  pub runs : RunsAll (first_context start) start.program (first_state start before) outcome last
+  pub runs : RunsAll T (first_context around start) start.program (first_state start before) outcome last
   pub ends : end_of outcome ≡ end
   pub leaves : last.world ≡ after
+  pub asks : last.notices ≡ notices
 
--- for one input an expression, statements and a task have at most one result
+-- For one input an expression, statements and a task have at most one result, whatever is chosen to be told of texts that are no
+-- programs.
 abbrev pub OneResultOfExpressions : Type 0
-OneResultOfExpressions = (c : Context) (e : Expr) (s s' t : State) (o p : Result Tree Stop) → Evaluates c e s o s' → Evaluates c e s p t → (o ≡ p) × (s' ≡ t)
+OneResultOfExpressions = (choice : Choice) → PassesPrograms choice → (c : Context) (e : Expr) (s s' t : State) (o p : Result Tree Stop) → Evaluates (chosen_by choice) c e s o s' → Evaluates (chosen_by choice) c e s p t → (o ≡ p) × (s' ≡ t)
 
 abbrev pub OneResultOfStatements : Type 0
-OneResultOfStatements = (c : Context) (b : Block) (s s' t : State) (o p : Result Flow Stop) → RunsAll c b s o s' → RunsAll c b s p t → (o ≡ p) × (s' ≡ t)
+OneResultOfStatements = (choice : Choice) → PassesPrograms choice → (c : Context) (b : Block) (s s' t : State) (o p : Result Flow Stop) → RunsAll (chosen_by choice) c b s o s' → RunsAll (chosen_by choice) c b s p t → (o ≡ p) × (s' ≡ t)
 
 abbrev pub OneResultOfTasks : Type 0
-OneResultOfTasks = (start : Frame) (before after instead : World) (end other : End) → TaskEnds start before end after → TaskEnds start before other instead → (end ≡ other) × (after ≡ instead)
+OneResultOfTasks = (choice : Choice) → PassesPrograms choice → (around : Surroundings) (start : Frame) (before after instead : World) (end other : End) (notices others : List Notice) → TaskEnds (chosen_by choice) around start before end after notices → TaskEnds (chosen_by choice) around start before other instead others → (end ≡ other) × (after ≡ instead) × (notices ≡ others)

@@ -3,6 +3,7 @@ use Rattle.std.specs.Prelude.{ℕ, ℤ, negsuc, true, List, [], ◌∷◌, codes
 use Rattle.moo_value.specs.Text.{literal}
 use Rattle.moo_program.specs.Tree.{Block}
 use Rattle.moo_outcome.specs.declared.frame.Frame.{Frame}
+use Rattle.moo_outcome.specs.Surroundings.{Surroundings}
 use Rattle.moo_eval.specs.Task.{End, value, uncaught, out_of_ticks}
 
 -- the frame of a program that is typed in
@@ -25,6 +26,10 @@ typed_frame program programmer player caller = record {
   iobjstr = [];
   args = [];
 }
+
+-- nothing is round a program that is typed in by nobody: it is the moment 0, and there are no connections
+abbrev pub nowhere : Surroundings
+nowhere = record { moment = 0; connections = [] }
 
 -- what is shown of the end of a task
 abbrev pub shown : End → List (List ℕ)

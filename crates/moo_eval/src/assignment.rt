@@ -6,6 +6,7 @@ ghost use Rattle.moo_value.specs.View.{tree as value_tree};
 ghost use Rattle.moo_access.specs.Target.{Path, scattered};
 ghost use Rattle.moo_eval.specs.Meaning.{Computes, Locates, Finds, Steps, Stores, Puts, SetsDefaults};
 ghost use Rattle.moo_outcome.specs.Seen.{context_of, seen_answer, seen_by, seen_done, IsKnownFailure};
+ghost use Rattle.moo_code_function.specs.Telling.{Faults};
 ghost use Rattle.moo_eval.specs.Seen.{state_of};
 ghost use Rattle.moo_access.specs.SeenTarget.{root_seen, step_of, steps_of, path_of, spot_of};
 ghost use Rattle.moo_outcome.specs.SeenScatter.{left_out_of};
@@ -27,12 +28,12 @@ impl Task {
         &mut self,
         world: &mut World,
         active: &mut Activation,
-        stack: &CallStack,
+        stack: &CallStack<'_>,
         indexed: Option<&Value>,
         target: &Expr,
         value: &Expr,
     ) -> Result<Value, Failure>
-        ensures meaning { IsKnownFailure result → Computes (context_of stack.now indexed.entry) (assign (tree target.now) (tree value.now)) (state_of self.old world.old active.old) (seen_answer result) (state_of self.new world.new active.new) }
+        ensures meaning { IsKnownFailure result → Computes Faults (context_of stack.now indexed.entry) (assign (tree target.now) (tree value.now)) (state_of self.old world.old active.old) (seen_answer result) (state_of self.new world.new active.new) }
         ensures ticks { self.new.ticks_left ≤ self.old.ticks_left }
     {
         let path = self.locate(world, active, stack, indexed, target)?;
@@ -47,11 +48,11 @@ impl Task {
         &mut self,
         world: &mut World,
         active: &mut Activation,
-        stack: &CallStack,
+        stack: &CallStack<'_>,
         indexed: Option<&Value>,
         target: &'a Expr,
     ) -> Result<Path<'a>, Failure>
-        ensures meaning { IsKnownFailure result → Locates (context_of stack.now indexed.entry) (tree target.now) (state_of self.old world.old active.old) (seen_by path_of result) (state_of self.new world.new active.new) }
+        ensures meaning { IsKnownFailure result → Locates Faults (context_of stack.now indexed.entry) (tree target.now) (state_of self.old world.old active.old) (seen_by path_of result) (state_of self.new world.new active.new) }
         ensures ticks { self.new.ticks_left ≤ self.old.ticks_left }
     {
         let parts = taken_apart(self.alloc(), target)?;
@@ -73,11 +74,11 @@ impl Task {
         &mut self,
         world: &mut World,
         active: &mut Activation,
-        stack: &CallStack,
+        stack: &CallStack<'_>,
         indexed: Option<&Value>,
         root: &'a Expr,
     ) -> Result<Root<'a>, Failure>
-        ensures meaning { IsKnownFailure result → Finds (context_of stack.now indexed.entry) (tree root.now) (state_of self.old world.old active.old) (seen_by root_seen result) (state_of self.new world.new active.new) }
+        ensures meaning { IsKnownFailure result → Finds Faults (context_of stack.now indexed.entry) (tree root.now) (state_of self.old world.old active.old) (seen_by root_seen result) (state_of self.new world.new active.new) }
         ensures ticks { self.new.ticks_left ≤ self.old.ticks_left }
     {
         match as_property(root) {
@@ -96,12 +97,12 @@ impl Task {
         &mut self,
         world: &mut World,
         active: &mut Activation,
-        stack: &CallStack,
+        stack: &CallStack<'_>,
         indexed: Option<&Value>,
         path: &Path<'_>,
         spot: &Spot<'_>,
     ) -> Result<Step, Failure>
-        ensures meaning { IsKnownFailure result → Steps (context_of stack.now indexed.entry) (root_seen path.now.root) (steps_of path.now.steps.items) (spot_of spot.now) (state_of self.old world.old active.old) (seen_by step_of result) (state_of self.new world.new active.new) }
+        ensures meaning { IsKnownFailure result → Steps Faults (context_of stack.now indexed.entry) (root_seen path.now.root) (steps_of path.now.steps.items) (spot_of spot.now) (state_of self.old world.old active.old) (seen_by step_of result) (state_of self.new world.new active.new) }
         ensures ticks { self.new.ticks_left ≤ self.old.ticks_left }
     {
         let container = path.value(self.alloc(), world, active)?;
@@ -125,12 +126,12 @@ impl Task {
         &mut self,
         world: &mut World,
         active: &mut Activation,
-        stack: &CallStack,
+        stack: &CallStack<'_>,
         indexed: Option<&Value>,
         path: Path<'_>,
         value: &Value,
     ) -> Result<(), Failure>
-        ensures meaning { IsKnownFailure result → Stores (context_of stack.now indexed.entry) (root_seen path.entry.root) (steps_of path.entry.steps.items) (value_tree value.now) (state_of self.old world.old active.old) (seen_done result) (state_of self.new world.new active.new) }
+        ensures meaning { IsKnownFailure result → Stores Faults (context_of stack.now indexed.entry) (root_seen path.entry.root) (steps_of path.entry.steps.items) (value_tree value.now) (state_of self.old world.old active.old) (seen_done result) (state_of self.new world.new active.new) }
         ensures ticks { self.new.ticks_left ≤ self.old.ticks_left }
     {
         let Path { root, steps } = path;
@@ -157,12 +158,12 @@ impl Task {
         &mut self,
         world: &mut World,
         active: &mut Activation,
-        stack: &CallStack,
+        stack: &CallStack<'_>,
         indexed: Option<&Value>,
         items: &[Item],
         value: &Value,
     ) -> Result<(), Failure>
-        ensures meaning { IsKnownFailure result → Puts (context_of stack.now indexed.entry) (scattered (items_of items.now)) (value_tree value.now) (state_of self.old world.old active.old) (seen_done result) (state_of self.new world.new active.new) }
+        ensures meaning { IsKnownFailure result → Puts Faults (context_of stack.now indexed.entry) (scattered (items_of items.now)) (value_tree value.now) (state_of self.old world.old active.old) (seen_done result) (state_of self.new world.new active.new) }
         ensures ticks { self.new.ticks_left ≤ self.old.ticks_left }
     {
         let list = dealt(items, value)?;
@@ -176,11 +177,11 @@ impl Task {
         &mut self,
         world: &mut World,
         active: &mut Activation,
-        stack: &CallStack,
+        stack: &CallStack<'_>,
         indexed: Option<&Value>,
         defaults: &[LeftOut<'_>],
     ) -> Result<(), Failure>
-        ensures meaning { IsKnownFailure result → SetsDefaults (context_of stack.now indexed.entry) (map left_out_of defaults.now) (state_of self.old world.old active.old) (seen_done result) (state_of self.new world.new active.new) }
+        ensures meaning { IsKnownFailure result → SetsDefaults Faults (context_of stack.now indexed.entry) (map left_out_of defaults.now) (state_of self.old world.old active.old) (seen_done result) (state_of self.new world.new active.new) }
         ensures ticks { self.new.ticks_left ≤ self.old.ticks_left }
     {
         for default in defaults {

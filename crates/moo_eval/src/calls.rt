@@ -6,11 +6,11 @@ ghost use Rattle.moo_outcome.specs.Catching.{guards};
 ghost use Rattle.moo_eval.specs.Meaning.{Computes, EvaluatesAll};
 ghost use Rattle.moo_outcome.specs.Seen.{context_of, seen_answer, seen_answers, seen_flow, catch_of, IsKnown, IsKnownFailure};
 ghost use Rattle.moo_eval.specs.Operands.{answered};
+ghost use Rattle.moo_code_function.specs.Telling.{Faults};
 ghost use Rattle.moo_eval.specs.Seen.{state_of};
 
 use crate::interpreter::Task;
 use moo_access::{Called, enter_verb, read_property};
-use moo_call::call_function;
 use moo_outcome::{Activation, CallStack, Failure, Flow, Stop, caught};
 use moo_program::{Codes, Expr, Item};
 use moo_value::{MooStr, Value};
@@ -22,12 +22,12 @@ impl Task {
         &mut self,
         world: &mut World,
         active: &mut Activation,
-        stack: &CallStack,
+        stack: &CallStack<'_>,
         indexed: Option<&Value>,
         base: &Expr,
         name: &Expr,
     ) -> Result<Value, Failure>
-        ensures meaning { IsKnownFailure result → Computes (context_of stack.now indexed.entry) (property (tree base.now) (tree name.now)) (state_of self.old world.old active.old) (seen_answer result) (state_of self.new world.new active.new) }
+        ensures meaning { IsKnownFailure result → Computes Faults (context_of stack.now indexed.entry) (property (tree base.now) (tree name.now)) (state_of self.old world.old active.old) (seen_answer result) (state_of self.new world.new active.new) }
         ensures ticks { self.new.ticks_left ≤ self.old.ticks_left }
     {
         let base = self.evaluate(world, active, stack, indexed, base)?;
@@ -41,13 +41,13 @@ impl Task {
         &mut self,
         world: &mut World,
         active: &mut Activation,
-        stack: &CallStack,
+        stack: &CallStack<'_>,
         indexed: Option<&Value>,
         base: &Expr,
         name: &Expr,
         items: &[Item],
     ) -> Result<Value, Failure>
-        ensures meaning { IsKnownFailure result → Computes (context_of stack.now indexed.entry) (verb_call (tree base.now) (tree name.now) (items_of items.now)) (state_of self.old world.old active.old) (seen_answer result) (state_of self.new world.new active.new) }
+        ensures meaning { IsKnownFailure result → Computes Faults (context_of stack.now indexed.entry) (verb_call (tree base.now) (tree name.now) (items_of items.now)) (state_of self.old world.old active.old) (seen_answer result) (state_of self.new world.new active.new) }
         ensures ticks { self.new.ticks_left ≤ self.old.ticks_left }
     {
         let base = self.evaluate(world, active, stack, indexed, base)?;
@@ -68,24 +68,16 @@ impl Task {
         &mut self,
         world: &mut World,
         active: &mut Activation,
-        stack: &CallStack,
+        stack: &CallStack<'_>,
         indexed: Option<&Value>,
         name: &MooStr,
         items: &[Item],
     ) -> Result<Value, Failure>
-        ensures meaning { IsKnownFailure result → Computes (context_of stack.now indexed.entry) (call name.now (items_of items.now)) (state_of self.old world.old active.old) (seen_answer result) (state_of self.new world.new active.new) }
+        ensures meaning { IsKnownFailure result → Computes Faults (context_of stack.now indexed.entry) (call name.now (items_of items.now)) (state_of self.old world.old active.old) (seen_answer result) (state_of self.new world.new active.new) }
         ensures ticks { self.new.ticks_left ≤ self.old.ticks_left }
     {
         let args = self.evaluate_all(world, active, stack, indexed, items)?;
-        call_function(
-            self.alloc(),
-            world,
-            active,
-            stack,
-            self.ticks_left(),
-            name,
-            args,
-        )
+        self.call_function(world, active, stack, name, args)
     }
 
     // The codes come first. An error that they name is the value, or what `other` gives in its place.
@@ -94,13 +86,13 @@ impl Task {
         &mut self,
         world: &mut World,
         active: &mut Activation,
-        stack: &CallStack,
+        stack: &CallStack<'_>,
         indexed: Option<&Value>,
         body: &Expr,
         codes: &Codes,
         other: &Option<Box<Expr>>,
     ) -> Result<Value, Failure>
-        ensures meaning { IsKnownFailure result → Computes (context_of stack.now indexed.entry) (catch_of (tree body.now) (codes_of codes.now) other.now) (state_of self.old world.old active.old) (seen_answer result) (state_of self.new world.new active.new) }
+        ensures meaning { IsKnownFailure result → Computes Faults (context_of stack.now indexed.entry) (catch_of (tree body.now) (codes_of codes.now) other.now) (state_of self.old world.old active.old) (seen_answer result) (state_of self.new world.new active.new) }
         ensures ticks { self.new.ticks_left ≤ self.old.ticks_left }
     {
         let values = self.guards(world, active, stack, indexed, codes)?;
@@ -120,11 +112,11 @@ impl Task {
         &mut self,
         world: &mut World,
         active: &mut Activation,
-        stack: &CallStack,
+        stack: &CallStack<'_>,
         indexed: Option<&Value>,
         codes: &Codes,
     ) -> Result<Vec<Value>, Failure>
-        ensures meaning { IsKnownFailure result → EvaluatesAll (context_of stack.now indexed.entry) (guards (codes_of codes.now)) (state_of self.old world.old active.old) (seen_answers result) (state_of self.new world.new active.new) }
+        ensures meaning { IsKnownFailure result → EvaluatesAll Faults (context_of stack.now indexed.entry) (guards (codes_of codes.now)) (state_of self.old world.old active.old) (seen_answers result) (state_of self.new world.new active.new) }
         ensures ticks { self.new.ticks_left ≤ self.old.ticks_left }
     {
         match codes {

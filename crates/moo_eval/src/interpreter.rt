@@ -1,43 +1,61 @@
 //! Expressions.
-ghost use Rattle.std.specs.Prelude.{◌≡◌, ◌-◌, ◌<◌, ◌≤◌, IfErr, OnOk};
+ghost use Rattle.std.specs.Prelude.{◌≡◌, ◌-◌, ◌<◌, ◌≤◌, [], ◌++◌, None, IfErr, OnOk};
 ghost use Rattle.moo_program.specs.Tree.{unary, binary, logic, conditional, index, range, list};
 ghost use Rattle.moo_program.specs.View.{tree, items_of};
+ghost use Rattle.moo_value.specs.View.{trees};
 ghost use Rattle.moo_outcome.specs.Outcome.{out_of_ticks};
 ghost use Rattle.moo_eval.specs.Meaning.{Evaluates, Computes, EvaluatesAll};
 ghost use Rattle.moo_outcome.specs.Seen.{context_of, trace_of, stop_of, seen_value, seen_answer, seen_answers, HadMemory, IsKnown, IsKnownFailure};
+ghost use Rattle.moo_call.specs.Calls.{CallsFunction};
+ghost use Rattle.moo_code_function.specs.Telling.{Faults};
 ghost use Rattle.moo_eval.specs.Seen.{state_of};
 
+use moo_call::call_function;
 use moo_operation as operation;
 use moo_outcome::{
-    Activation, CallStack, Failure, Stop, literal_value, measure, push, read_variable, settle,
-    splice,
+    Activation, CallStack, Failure, Notice, Stop, literal_value, measure, push, read_variable,
+    settle, splice,
 };
 use moo_program::operator::{BinaryOperator, LogicOperator, UnaryOperator};
 use moo_program::{Expr, Item};
-use moo_value::{ErrorCode, Value};
+use moo_value::{ErrorCode, MooStr, Value};
 use moo_world::World;
-use std::alloc::Global;
+use std::alloc::{AllocError, Global};
 
-/// What a task may still use.
+/// What a task may still use, and what it has asked for so far.
 #[derive(Drop)]
 pub struct Task {
     ticks_left: u32,
+    notices: Vec<Notice>,
     alloc: Global,
 }
 
 impl Task {
     /// A task that has this many ticks.
     pub fn new(alloc: Global, ticks: u32) -> Task
-        ensures { result ≡ record { ticks_left = ticks; alloc = alloc } }
+        ensures ticks { result.ticks_left ≡ ticks }
+        ensures notices { result.notices.items ≡ [] }
     {
         Task {
             ticks_left: ticks,
+            notices: Vec::new(alloc),
             alloc,
         }
     }
 
+    /// Puts the notices behind these.
+    pub(crate) fn leave_notices(&mut self, notices: &mut Vec<Notice>) -> Result<(), AllocError>
+        ensures { OnOk result (notices.new.items ≡ notices.old.items ++ self.old.notices.items) }
+    {
+        notices.append(&mut self.notices)
+    }
+
     /// Takes a tick, where one is left.
-    pub(crate) fn take_tick(&mut self, active: &Activation, stack: &CallStack) -> Result<(), Stop>
+    pub(crate) fn take_tick(
+        &mut self,
+        active: &Activation,
+        stack: &CallStack<'_>,
+    ) -> Result<(), Stop>
         ensures taken { OnOk result (0 < self.old.ticks_left) }
         ensures left { OnOk result (self.new ≡ record self.old { ticks_left = self.old.ticks_left - 1 }) }
         ensures spent { IfErr result (λ stop. HadMemory stop → (self.old.ticks_left ≡ 0) × (stop_of stop ≡ out_of_ticks (trace_of stack.now active.now))) }
@@ -57,11 +75,11 @@ impl Task {
         &mut self,
         world: &mut World,
         active: &mut Activation,
-        stack: &CallStack,
+        stack: &CallStack<'_>,
         indexed: Option<&Value>,
         expr: &Expr,
     ) -> Result<Value, Stop>
-        ensures meaning { IsKnown result → Evaluates (context_of stack.now indexed.entry) (tree expr.now) (state_of self.old world.old active.old) (seen_value result) (state_of self.new world.new active.new) }
+        ensures meaning { IsKnown result → Evaluates Faults (context_of stack.now indexed.entry) (tree expr.now) (state_of self.old world.old active.old) (seen_value result) (state_of self.new world.new active.new) }
         ensures ticks { self.new.ticks_left ≤ self.old.ticks_left }
     {
         self.take_tick(active, stack)?;
@@ -74,11 +92,28 @@ impl Task {
         self.alloc
     }
 
-    /// How many ticks are left.
-    pub(crate) fn ticks_left(&self) -> u32
-        ensures { result ≡ self.now.ticks_left }
+    /// Calls a built-in function, which may look at the ticks that are left and leave notices.
+    pub(crate) fn call_function(
+        &mut self,
+        world: &mut World,
+        active: &mut Activation,
+        stack: &CallStack<'_>,
+        name: &MooStr,
+        args: Vec<Value>,
+    ) -> Result<Value, Failure>
+        ensures call { IsKnownFailure result → CallsFunction Faults (context_of stack.now None) name.now (trees args.items) (state_of self.old world.old active.old) (seen_answer result) (state_of self.new world.new active.new) }
+        ensures ticks { self.new.ticks_left ≡ self.old.ticks_left }
     {
-        self.ticks_left
+        call_function(
+            self.alloc,
+            world,
+            active,
+            stack,
+            self.ticks_left,
+            &mut self.notices,
+            name,
+            args,
+        )
     }
 
     #[cycle(evaluation)]
@@ -86,11 +121,11 @@ impl Task {
         &mut self,
         world: &mut World,
         active: &mut Activation,
-        stack: &CallStack,
+        stack: &CallStack<'_>,
         indexed: Option<&Value>,
         expr: &Expr,
     ) -> Result<Value, Failure>
-        ensures meaning { IsKnownFailure result → Computes (context_of stack.now indexed.entry) (tree expr.now) (state_of self.old world.old active.old) (seen_answer result) (state_of self.new world.new active.new) }
+        ensures meaning { IsKnownFailure result → Computes Faults (context_of stack.now indexed.entry) (tree expr.now) (state_of self.old world.old active.old) (seen_answer result) (state_of self.new world.new active.new) }
         ensures ticks { self.new.ticks_left ≤ self.old.ticks_left }
     {
         match expr {
@@ -134,11 +169,11 @@ impl Task {
         &mut self,
         world: &mut World,
         active: &mut Activation,
-        stack: &CallStack,
+        stack: &CallStack<'_>,
         indexed: Option<&Value>,
         items: &[Item],
     ) -> Result<Vec<Value>, Failure>
-        ensures meaning { IsKnownFailure result → EvaluatesAll (context_of stack.now indexed.entry) (items_of items.now) (state_of self.old world.old active.old) (seen_answers result) (state_of self.new world.new active.new) }
+        ensures meaning { IsKnownFailure result → EvaluatesAll Faults (context_of stack.now indexed.entry) (items_of items.now) (state_of self.old world.old active.old) (seen_answers result) (state_of self.new world.new active.new) }
         ensures ticks { self.new.ticks_left ≤ self.old.ticks_left }
     {
         let mut values = Vec::new(self.alloc);
@@ -163,12 +198,12 @@ impl Task {
         &mut self,
         world: &mut World,
         active: &mut Activation,
-        stack: &CallStack,
+        stack: &CallStack<'_>,
         indexed: Option<&Value>,
         operator: UnaryOperator,
         operand: &Expr,
     ) -> Result<Value, Failure>
-        ensures meaning { IsKnownFailure result → Computes (context_of stack.now indexed.entry) (unary operator (tree operand.now)) (state_of self.old world.old active.old) (seen_answer result) (state_of self.new world.new active.new) }
+        ensures meaning { IsKnownFailure result → Computes Faults (context_of stack.now indexed.entry) (unary operator (tree operand.now)) (state_of self.old world.old active.old) (seen_answer result) (state_of self.new world.new active.new) }
         ensures ticks { self.new.ticks_left ≤ self.old.ticks_left }
     {
         let operand = self.evaluate(world, active, stack, indexed, operand)?;
@@ -180,13 +215,13 @@ impl Task {
         &mut self,
         world: &mut World,
         active: &mut Activation,
-        stack: &CallStack,
+        stack: &CallStack<'_>,
         indexed: Option<&Value>,
         operator: BinaryOperator,
         left: &Expr,
         right: &Expr,
     ) -> Result<Value, Failure>
-        ensures meaning { IsKnownFailure result → Computes (context_of stack.now indexed.entry) (binary operator (tree left.now) (tree right.now)) (state_of self.old world.old active.old) (seen_answer result) (state_of self.new world.new active.new) }
+        ensures meaning { IsKnownFailure result → Computes Faults (context_of stack.now indexed.entry) (binary operator (tree left.now) (tree right.now)) (state_of self.old world.old active.old) (seen_answer result) (state_of self.new world.new active.new) }
         ensures ticks { self.new.ticks_left ≤ self.old.ticks_left }
     {
         let left = self.evaluate(world, active, stack, indexed, left)?;
@@ -200,13 +235,13 @@ impl Task {
         &mut self,
         world: &mut World,
         active: &mut Activation,
-        stack: &CallStack,
+        stack: &CallStack<'_>,
         indexed: Option<&Value>,
         operator: LogicOperator,
         left: &Expr,
         right: &Expr,
     ) -> Result<Value, Failure>
-        ensures meaning { IsKnownFailure result → Computes (context_of stack.now indexed.entry) (logic operator (tree left.now) (tree right.now)) (state_of self.old world.old active.old) (seen_answer result) (state_of self.new world.new active.new) }
+        ensures meaning { IsKnownFailure result → Computes Faults (context_of stack.now indexed.entry) (logic operator (tree left.now) (tree right.now)) (state_of self.old world.old active.old) (seen_answer result) (state_of self.new world.new active.new) }
         ensures ticks { self.new.ticks_left ≤ self.old.ticks_left }
     {
         let first = self.evaluate(world, active, stack, indexed, left)?;
@@ -221,13 +256,13 @@ impl Task {
         &mut self,
         world: &mut World,
         active: &mut Activation,
-        stack: &CallStack,
+        stack: &CallStack<'_>,
         indexed: Option<&Value>,
         test: &Expr,
         first: &Expr,
         second: &Expr,
     ) -> Result<Value, Failure>
-        ensures meaning { IsKnownFailure result → Computes (context_of stack.now indexed.entry) (conditional (tree test.now) (tree first.now) (tree second.now)) (state_of self.old world.old active.old) (seen_answer result) (state_of self.new world.new active.new) }
+        ensures meaning { IsKnownFailure result → Computes Faults (context_of stack.now indexed.entry) (conditional (tree test.now) (tree first.now) (tree second.now)) (state_of self.old world.old active.old) (seen_answer result) (state_of self.new world.new active.new) }
         ensures ticks { self.new.ticks_left ≤ self.old.ticks_left }
     {
         let test = self.evaluate(world, active, stack, indexed, test)?;
@@ -243,12 +278,12 @@ impl Task {
         &mut self,
         world: &mut World,
         active: &mut Activation,
-        stack: &CallStack,
+        stack: &CallStack<'_>,
         indexed: Option<&Value>,
         base: &Expr,
         place: &Expr,
     ) -> Result<Value, Failure>
-        ensures meaning { IsKnownFailure result → Computes (context_of stack.now indexed.entry) (index (tree base.now) (tree place.now)) (state_of self.old world.old active.old) (seen_answer result) (state_of self.new world.new active.new) }
+        ensures meaning { IsKnownFailure result → Computes Faults (context_of stack.now indexed.entry) (index (tree base.now) (tree place.now)) (state_of self.old world.old active.old) (seen_answer result) (state_of self.new world.new active.new) }
         ensures ticks { self.new.ticks_left ≤ self.old.ticks_left }
     {
         let base = self.evaluate(world, active, stack, indexed, base)?;
@@ -261,13 +296,13 @@ impl Task {
         &mut self,
         world: &mut World,
         active: &mut Activation,
-        stack: &CallStack,
+        stack: &CallStack<'_>,
         indexed: Option<&Value>,
         base: &Expr,
         low: &Expr,
         high: &Expr,
     ) -> Result<Value, Failure>
-        ensures meaning { IsKnownFailure result → Computes (context_of stack.now indexed.entry) (range (tree base.now) (tree low.now) (tree high.now)) (state_of self.old world.old active.old) (seen_answer result) (state_of self.new world.new active.new) }
+        ensures meaning { IsKnownFailure result → Computes Faults (context_of stack.now indexed.entry) (range (tree base.now) (tree low.now) (tree high.now)) (state_of self.old world.old active.old) (seen_answer result) (state_of self.new world.new active.new) }
         ensures ticks { self.new.ticks_left ≤ self.old.ticks_left }
     {
         let base = self.evaluate(world, active, stack, indexed, base)?;
@@ -281,11 +316,11 @@ impl Task {
         &mut self,
         world: &mut World,
         active: &mut Activation,
-        stack: &CallStack,
+        stack: &CallStack<'_>,
         indexed: Option<&Value>,
         items: &[Item],
     ) -> Result<Value, Failure>
-        ensures meaning { IsKnownFailure result → Computes (context_of stack.now indexed.entry) (list (items_of items.now)) (state_of self.old world.old active.old) (seen_answer result) (state_of self.new world.new active.new) }
+        ensures meaning { IsKnownFailure result → Computes Faults (context_of stack.now indexed.entry) (list (items_of items.now)) (state_of self.old world.old active.old) (seen_answer result) (state_of self.new world.new active.new) }
         ensures ticks { self.new.ticks_left ≤ self.old.ticks_left }
     {
         let values = self.evaluate_all(world, active, stack, indexed, items)?;

@@ -6,6 +6,7 @@ ghost use Rattle.moo_program.specs.View.{tree, block};
 ghost use Rattle.moo_eval.specs.Meaning.{Does, Turns, Loops, Visits, Counts};
 ghost use Rattle.moo_outcome.specs.Variables.{bind};
 ghost use Rattle.moo_outcome.specs.Seen.{context_of, seen_flow, seen_turn, IsKnown};
+ghost use Rattle.moo_code_function.specs.Telling.{Faults};
 ghost use Rattle.moo_eval.specs.Seen.{state_of};
 
 use crate::interpreter::Task;
@@ -22,11 +23,11 @@ impl Task {
         &mut self,
         world: &mut World,
         active: &mut Activation,
-        stack: &CallStack,
+        stack: &CallStack<'_>,
         own: &Option<MooStr>,
         body: &[Stmt],
     ) -> Result<Option<Flow>, Stop>
-        ensures meaning { IsKnown result → Turns (context_of stack.now None) own.now [] (block body.now) (state_of self.old world.old active.old) (seen_turn result) (state_of self.new world.new active.new) }
+        ensures meaning { IsKnown result → Turns Faults (context_of stack.now None) own.now [] (block body.now) (state_of self.old world.old active.old) (seen_turn result) (state_of self.new world.new active.new) }
         ensures ticks { self.new.ticks_left ≤ self.old.ticks_left }
         ensures fewer { OnOk result (self.new.ticks_left < self.old.ticks_left) }
     {
@@ -41,12 +42,12 @@ impl Task {
         &mut self,
         world: &mut World,
         active: &mut Activation,
-        stack: &CallStack,
+        stack: &CallStack<'_>,
         name: &MooStr,
         value: Value,
         body: &[Stmt],
     ) -> Result<Option<Flow>, Stop>
-        ensures meaning { IsKnown result → Turns (context_of stack.now None) (Some name.now) (bind name.now (value_tree value) ∷ []) (block body.now) (state_of self.old world.old active.old) (seen_turn result) (state_of self.new world.new active.new) }
+        ensures meaning { IsKnown result → Turns Faults (context_of stack.now None) (Some name.now) (bind name.now (value_tree value) ∷ []) (block body.now) (state_of self.old world.old active.old) (seen_turn result) (state_of self.new world.new active.new) }
         ensures ticks { self.new.ticks_left ≤ self.old.ticks_left }
         ensures fewer { OnOk result (self.new.ticks_left < self.old.ticks_left) }
     {
@@ -62,12 +63,12 @@ impl Task {
         &mut self,
         world: &mut World,
         active: &mut Activation,
-        stack: &CallStack,
+        stack: &CallStack<'_>,
         own: &Option<MooStr>,
         test: &Expr,
         body: &[Stmt],
     ) -> Result<Flow, Stop>
-        ensures meaning { IsKnown result → Loops (context_of stack.now None) own.now (tree test.now) (block body.now) (state_of self.old world.old active.old) (seen_flow result) (state_of self.new world.new active.new) }
+        ensures meaning { IsKnown result → Loops Faults (context_of stack.now None) own.now (tree test.now) (block body.now) (state_of self.old world.old active.old) (seen_flow result) (state_of self.new world.new active.new) }
         ensures ticks { self.new.ticks_left ≤ self.old.ticks_left }
     {
         'turns: loop {
@@ -86,12 +87,12 @@ impl Task {
         &mut self,
         world: &mut World,
         active: &mut Activation,
-        stack: &CallStack,
+        stack: &CallStack<'_>,
         name: &MooStr,
         list: &Expr,
         body: &[Stmt],
     ) -> Result<Flow, Stop>
-        ensures meaning { IsKnown result → Does (context_of stack.now None) (for_list name.now (tree list.now) (block body.now)) (state_of self.old world.old active.old) (seen_flow result) (state_of self.new world.new active.new) }
+        ensures meaning { IsKnown result → Does Faults (context_of stack.now None) (for_list name.now (tree list.now) (block body.now)) (state_of self.old world.old active.old) (seen_flow result) (state_of self.new world.new active.new) }
         ensures ticks { self.new.ticks_left ≤ self.old.ticks_left }
     {
         let list = self.evaluate(world, active, stack, None, list)?;
@@ -106,12 +107,12 @@ impl Task {
         &mut self,
         world: &mut World,
         active: &mut Activation,
-        stack: &CallStack,
+        stack: &CallStack<'_>,
         name: &MooStr,
         values: &[Value],
         body: &[Stmt],
     ) -> Result<Flow, Stop>
-        ensures meaning { IsKnown result → Visits (context_of stack.now None) name.now (trees values.now) (block body.now) (state_of self.old world.old active.old) (seen_flow result) (state_of self.new world.new active.new) }
+        ensures meaning { IsKnown result → Visits Faults (context_of stack.now None) name.now (trees values.now) (block body.now) (state_of self.old world.old active.old) (seen_flow result) (state_of self.new world.new active.new) }
         ensures ticks { self.new.ticks_left ≤ self.old.ticks_left }
     {
         for value in values {
@@ -128,13 +129,13 @@ impl Task {
         &mut self,
         world: &mut World,
         active: &mut Activation,
-        stack: &CallStack,
+        stack: &CallStack<'_>,
         name: &MooStr,
         low: &Expr,
         high: &Expr,
         body: &[Stmt],
     ) -> Result<Flow, Stop>
-        ensures meaning { IsKnown result → Does (context_of stack.now None) (for_range name.now (tree low.now) (tree high.now) (block body.now)) (state_of self.old world.old active.old) (seen_flow result) (state_of self.new world.new active.new) }
+        ensures meaning { IsKnown result → Does Faults (context_of stack.now None) (for_range name.now (tree low.now) (tree high.now) (block body.now)) (state_of self.old world.old active.old) (seen_flow result) (state_of self.new world.new active.new) }
         ensures ticks { self.new.ticks_left ≤ self.old.ticks_left }
     {
         let low = self.evaluate(world, active, stack, None, low)?;
@@ -151,12 +152,12 @@ impl Task {
         &mut self,
         world: &mut World,
         active: &mut Activation,
-        stack: &CallStack,
+        stack: &CallStack<'_>,
         name: &MooStr,
         span: Span,
         body: &[Stmt],
     ) -> Result<Flow, Stop>
-        ensures meaning { IsKnown result → Counts (context_of stack.now None) name.now span span.low (block body.now) (state_of self.old world.old active.old) (seen_flow result) (state_of self.new world.new active.new) }
+        ensures meaning { IsKnown result → Counts Faults (context_of stack.now None) name.now span span.low (block body.now) (state_of self.old world.old active.old) (seen_flow result) (state_of self.new world.new active.new) }
         ensures ticks { self.new.ticks_left ≤ self.old.ticks_left }
     {
         let mut number = i64::from(span.low);

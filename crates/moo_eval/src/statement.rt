@@ -5,6 +5,7 @@ ghost use Rattle.moo_program.specs.Tree.{performs, branches};
 ghost use Rattle.moo_program.specs.View.{tree, statement as statement_of, block, arms_of};
 ghost use Rattle.moo_eval.specs.Meaning.{Runs, Does, RunsAll, Selects};
 ghost use Rattle.moo_outcome.specs.Seen.{context_of, seen_flow, IsKnown};
+ghost use Rattle.moo_code_function.specs.Telling.{Faults};
 ghost use Rattle.moo_eval.specs.Seen.{state_of};
 
 use crate::interpreter::Task;
@@ -21,10 +22,10 @@ impl Task {
         &mut self,
         world: &mut World,
         active: &mut Activation,
-        stack: &CallStack,
+        stack: &CallStack<'_>,
         statement: &Stmt,
     ) -> Result<Flow, Stop>
-        ensures meaning { IsKnown result → Runs (context_of stack.now None) (statement_of statement.now) (state_of self.old world.old active.old) (seen_flow result) (state_of self.new world.new active.new) }
+        ensures meaning { IsKnown result → Runs Faults (context_of stack.now None) (statement_of statement.now) (state_of self.old world.old active.old) (seen_flow result) (state_of self.new world.new active.new) }
         ensures ticks { self.new.ticks_left ≤ self.old.ticks_left }
     {
         self.take_tick(active, stack)?;
@@ -36,10 +37,10 @@ impl Task {
         &mut self,
         world: &mut World,
         active: &mut Activation,
-        stack: &CallStack,
+        stack: &CallStack<'_>,
         statement: &Stmt,
     ) -> Result<Flow, Stop>
-        ensures meaning { IsKnown result → Does (context_of stack.now None) (statement_of statement.now) (state_of self.old world.old active.old) (seen_flow result) (state_of self.new world.new active.new) }
+        ensures meaning { IsKnown result → Does Faults (context_of stack.now None) (statement_of statement.now) (state_of self.old world.old active.old) (seen_flow result) (state_of self.new world.new active.new) }
         ensures ticks { self.new.ticks_left ≤ self.old.ticks_left }
     {
         match statement {
@@ -70,10 +71,10 @@ impl Task {
         &mut self,
         world: &mut World,
         active: &mut Activation,
-        stack: &CallStack,
+        stack: &CallStack<'_>,
         expr: &Option<Box<Expr>>,
     ) -> Result<Flow, Stop>
-        ensures meaning { IsKnown result → Does (context_of stack.now None) (statement_of (Return expr.now)) (state_of self.old world.old active.old) (seen_flow result) (state_of self.new world.new active.new) }
+        ensures meaning { IsKnown result → Does Faults (context_of stack.now None) (statement_of (Return expr.now)) (state_of self.old world.old active.old) (seen_flow result) (state_of self.new world.new active.new) }
         ensures ticks { self.new.ticks_left ≤ self.old.ticks_left }
     {
         match expr {
@@ -88,10 +89,10 @@ impl Task {
         &mut self,
         world: &mut World,
         active: &mut Activation,
-        stack: &CallStack,
+        stack: &CallStack<'_>,
         expr: &Expr,
     ) -> Result<Flow, Stop>
-        ensures meaning { IsKnown result → Does (context_of stack.now None) (performs (tree expr.now)) (state_of self.old world.old active.old) (seen_flow result) (state_of self.new world.new active.new) }
+        ensures meaning { IsKnown result → Does Faults (context_of stack.now None) (performs (tree expr.now)) (state_of self.old world.old active.old) (seen_flow result) (state_of self.new world.new active.new) }
         ensures ticks { self.new.ticks_left ≤ self.old.ticks_left }
     {
         let _value = self.evaluate(world, active, stack, None, expr)?;
@@ -104,10 +105,10 @@ impl Task {
         &mut self,
         world: &mut World,
         active: &mut Activation,
-        stack: &CallStack,
+        stack: &CallStack<'_>,
         statements: &[Stmt],
     ) -> Result<Flow, Stop>
-        ensures meaning { IsKnown result → RunsAll (context_of stack.now None) (block statements.now) (state_of self.old world.old active.old) (seen_flow result) (state_of self.new world.new active.new) }
+        ensures meaning { IsKnown result → RunsAll Faults (context_of stack.now None) (block statements.now) (state_of self.old world.old active.old) (seen_flow result) (state_of self.new world.new active.new) }
         ensures ticks { self.new.ticks_left ≤ self.old.ticks_left }
     {
         for statement in statements {
@@ -125,12 +126,12 @@ impl Task {
         &mut self,
         world: &mut World,
         active: &mut Activation,
-        stack: &CallStack,
+        stack: &CallStack<'_>,
         test: &Expr,
         body: &[Stmt],
         arms: &[Arm],
     ) -> Result<Flow, Stop>
-        ensures meaning { IsKnown result → Does (context_of stack.now None) (branches (tree test.now) (block body.now) (arms_of arms.now)) (state_of self.old world.old active.old) (seen_flow result) (state_of self.new world.new active.new) }
+        ensures meaning { IsKnown result → Does Faults (context_of stack.now None) (branches (tree test.now) (block body.now) (arms_of arms.now)) (state_of self.old world.old active.old) (seen_flow result) (state_of self.new world.new active.new) }
         ensures ticks { self.new.ticks_left ≤ self.old.ticks_left }
     {
         let value = self.evaluate(world, active, stack, None, test)?;
@@ -145,10 +146,10 @@ impl Task {
         &mut self,
         world: &mut World,
         active: &mut Activation,
-        stack: &CallStack,
+        stack: &CallStack<'_>,
         arms: &[Arm],
     ) -> Result<Flow, Stop>
-        ensures meaning { IsKnown result → Selects (context_of stack.now None) (arms_of arms.now) (state_of self.old world.old active.old) (seen_flow result) (state_of self.new world.new active.new) }
+        ensures meaning { IsKnown result → Selects Faults (context_of stack.now None) (arms_of arms.now) (state_of self.old world.old active.old) (seen_flow result) (state_of self.new world.new active.new) }
         ensures ticks { self.new.ticks_left ≤ self.old.ticks_left }
     {
         for arm in arms {

@@ -2,12 +2,13 @@
 ghost use Rattle.std.specs.Prelude.{◌≡◌};
 ghost use Rattle.moo_outcome.specs.Seen.{seen_flow, IsKnown};
 ghost use Rattle.moo_outcome.specs.Variables.{first_bindings, value_of_name};
-ghost use Rattle.moo_outcome.specs.Seen.{variables_of};
+ghost use Rattle.moo_outcome.specs.Seen.{surroundings_of, variables_of};
+ghost use Rattle.moo_code_function.specs.Telling.{Faults};
 ghost use Rattle.moo_eval.specs.Task.{TaskEnds, end_of};
-ghost use Rattle.moo_eval.specs.Ends.{IfEnded};
+ghost use Rattle.moo_eval.specs.Ends.{IfEnded, LeavesNotices};
 
 use crate::interpreter::Task;
-use moo_outcome::{Activation, CallStack, Flow, Frame, Stop, Variables, traceback_lines};
+use moo_outcome::{Activation, CallStack, Flow, Frame, Stop, TaskEnv, Variables, traceback_lines};
 use moo_value::Value;
 use moo_world::World;
 use std::alloc::{AllocError, Global};
@@ -24,19 +25,28 @@ pub enum Ended {
     Memory,
 }
 
-/// Runs the program of a frame, with a fresh budget of ticks. What it changed in the world stays, however it ends.
-pub fn run_task(alloc: Global, world: &mut World, start: Frame) -> Ended
-    ensures { IfEnded result (λ end. TaskEnds start world.old end world.new) }
+/// Runs the program of a frame, with a fresh budget of ticks, in the surroundings of `env`. What it changed in the world stays, however
+/// it ends, and its notices come behind those of `env`.
+pub fn run_task(alloc: Global, world: &mut World, start: Frame, env: &mut TaskEnv) -> Ended
+    ensures ends { IfEnded result (λ end. LeavesNotices env.old.notices.items (TaskEnds Faults (surroundings_of env.old.surroundings) start world.old end world.new) env.new.notices.items) }
+    ensures kept { env.new.surroundings ≡ env.old.surroundings }
 {
     match Variables::first(alloc, &start) {
-        Ok(variables) => run_frame(alloc, world, start, variables),
+        Ok(variables) => run_frame(alloc, world, start, variables, env),
         Err(AllocError) => Ended::Memory,
     }
 }
 
-fn run_frame(alloc: Global, world: &mut World, start: Frame, variables: Variables) -> Ended
+fn run_frame(
+    alloc: Global,
+    world: &mut World,
+    start: Frame,
+    variables: Variables,
+    env: &mut TaskEnv,
+) -> Ended
     requires { variables_of variables ≡ value_of_name (first_bindings start) }
-    ensures { IfEnded result (λ end. TaskEnds start world.old end world.new) }
+    ensures ends { IfEnded result (λ end. LeavesNotices env.old.notices.items (TaskEnds Faults (surroundings_of env.old.surroundings) start world.old end world.new) env.new.notices.items) }
+    ensures kept { env.new.surroundings ≡ env.old.surroundings }
 {
     let mut active = Activation {
         variables,
@@ -45,6 +55,7 @@ fn run_frame(alloc: Global, world: &mut World, start: Frame, variables: Variable
     let stack = CallStack {
         running: start,
         callers: Vec::new(alloc),
+        surroundings: &env.surroundings,
     };
     let mut task = Task::new(alloc, MOST_TICKS);
     let outcome = task.run_all(
@@ -53,6 +64,9 @@ fn run_frame(alloc: Global, world: &mut World, start: Frame, variables: Variable
         &stack,
         stack.running.program.statements(),
     );
+    let Ok(()) = task.leave_notices(&mut env.notices) else {
+        return Ended::Memory;
+    };
     end_of_task(alloc, outcome)
 }
 

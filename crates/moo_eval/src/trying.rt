@@ -7,6 +7,7 @@ ghost use Rattle.moo_eval.specs.Meaning.{Does, Prepares, Handles, Takes};
 ghost use Rattle.moo_outcome.specs.Handling.{chosen};
 ghost use Rattle.moo_outcome.specs.Seen.{context_of, raise_of, seen_flow, IsKnown};
 ghost use Rattle.moo_outcome.specs.SeenHandling.{guarded_of, seen_guarded};
+ghost use Rattle.moo_code_function.specs.Telling.{Faults};
 ghost use Rattle.moo_eval.specs.Seen.{state_of};
 
 use crate::interpreter::Task;
@@ -24,11 +25,11 @@ impl Task {
         &mut self,
         world: &mut World,
         active: &mut Activation,
-        stack: &CallStack,
+        stack: &CallStack<'_>,
         body: &[Stmt],
         handlers: &[Handler],
     ) -> Result<Flow, Stop>
-        ensures meaning { IsKnown result → Does (context_of stack.now None) (try_except (block body.now) (handlers_of handlers.now)) (state_of self.old world.old active.old) (seen_flow result) (state_of self.new world.new active.new) }
+        ensures meaning { IsKnown result → Does Faults (context_of stack.now None) (try_except (block body.now) (handlers_of handlers.now)) (state_of self.old world.old active.old) (seen_flow result) (state_of self.new world.new active.new) }
         ensures ticks { self.new.ticks_left ≤ self.old.ticks_left }
     {
         let guarded = self.prepare(world, active, stack, handlers)?;
@@ -46,10 +47,10 @@ impl Task {
         &mut self,
         world: &mut World,
         active: &mut Activation,
-        stack: &CallStack,
+        stack: &CallStack<'_>,
         handlers: &'a [Handler],
     ) -> Result<Vec<Guarded<'a>>, Stop>
-        ensures meaning { IsKnown result → Prepares (context_of stack.now None) (handlers_of handlers.now) (state_of self.old world.old active.old) (seen_guarded result) (state_of self.new world.new active.new) }
+        ensures meaning { IsKnown result → Prepares Faults (context_of stack.now None) (handlers_of handlers.now) (state_of self.old world.old active.old) (seen_guarded result) (state_of self.new world.new active.new) }
         ensures ticks { self.new.ticks_left ≤ self.old.ticks_left }
     {
         let mut guarded = Vec::new(self.alloc());
@@ -68,11 +69,11 @@ impl Task {
         &mut self,
         world: &mut World,
         active: &mut Activation,
-        stack: &CallStack,
+        stack: &CallStack<'_>,
         guarded: &[Guarded<'_>],
         raise: Raise,
     ) -> Result<Flow, Stop>
-        ensures meaning { IsKnown result → Takes (context_of stack.now None) (chosen (map guarded_of guarded.now) raise.code) (raise_of raise) (state_of self.old world.old active.old) (seen_flow result) (state_of self.new world.new active.new) }
+        ensures meaning { IsKnown result → Takes Faults (context_of stack.now None) (chosen (map guarded_of guarded.now) raise.code) (raise_of raise) (state_of self.old world.old active.old) (seen_flow result) (state_of self.new world.new active.new) }
         ensures ticks { self.new.ticks_left ≤ self.old.ticks_left }
     {
         let Some(taken) = chosen(guarded, raise.code) else {
@@ -88,11 +89,11 @@ impl Task {
         &mut self,
         world: &mut World,
         active: &mut Activation,
-        stack: &CallStack,
+        stack: &CallStack<'_>,
         body: &[Stmt],
         cleanup: &[Stmt],
     ) -> Result<Flow, Stop>
-        ensures meaning { IsKnown result → Does (context_of stack.now None) (try_finally (block body.now) (block cleanup.now)) (state_of self.old world.old active.old) (seen_flow result) (state_of self.new world.new active.new) }
+        ensures meaning { IsKnown result → Does Faults (context_of stack.now None) (try_finally (block body.now) (block cleanup.now)) (state_of self.old world.old active.old) (seen_flow result) (state_of self.new world.new active.new) }
         ensures ticks { self.new.ticks_left ≤ self.old.ticks_left }
     {
         let outcome = self.run_all(world, active, stack, body);

@@ -1,12 +1,15 @@
 //! Programs that are typed in.
-ghost use Rattle.std.specs.Prelude.{◌≡◌, [], ◌∷◌, negsuc, IfOk};
+ghost use Rattle.std.specs.Prelude.{◌≡◌, List, [], ◌∷◌, negsuc, IfOk};
+ghost use Rattle.moo_outcome.specs.Seen.{surroundings_of};
+ghost use Rattle.moo_code_function.specs.Telling.{Faults};
 ghost use Rattle.moo_eval.specs.Task.{End, TaskEnds};
 ghost use Rattle.moo_eval.specs.Ends.{texts};
-ghost use Rattle.moo_eval.specs.Typed.{typed_frame, shown};
+ghost use Rattle.moo_outcome.specs.declared.notice.Notice.{Notice};
+ghost use Rattle.moo_eval.specs.Typed.{typed_frame, nowhere, shown};
 
 use crate::task::{Ended, run_task};
 use moo_grammar::Program;
-use moo_outcome::Frame;
+use moo_outcome::{Frame, Surroundings, TaskEnv};
 use moo_value::{MooList, MooStr};
 use moo_world::World;
 use std::alloc::{AllocError, Global};
@@ -17,10 +20,10 @@ pub fn run_typed(
     world: &mut World,
     program: Program,
 ) -> Result<Vec<Vec<u8>>, AllocError>
-    ensures { IfOk result (λ lines. (end : End) × TaskEnds (typed_frame program (negsuc 0) (negsuc 0) (negsuc 0)) world.old end world.new × (texts lines.items ≡ shown end)) }
+    ensures { IfOk result (λ lines. (end : End) × (notices : List Notice) × TaskEnds Faults nowhere (typed_frame program (negsuc 0) (negsuc 0) (negsuc 0)) world.old end world.new notices × (texts lines.items ≡ shown end)) }
 {
     let start = typed_frame(alloc, program, -1, -1, -1)?;
-    match run_task(alloc, world, start) {
+    match run_task(alloc, world, start, &mut nowhere(alloc)) {
         Ended::Value(value) => {
             let lines = one_line(alloc, value.to_literal(alloc)?)?;
             Ok(lines)
@@ -28,6 +31,19 @@ pub fn run_typed(
         Ended::Uncaught(lines) => Ok(lines),
         Ended::OutOfTicks(lines) => Ok(lines),
         Ended::Memory => Err(AllocError),
+    }
+}
+
+// The moment 0 without connections.
+fn nowhere(alloc: Global) -> TaskEnv
+    ensures { surroundings_of result.surroundings ≡ nowhere }
+{
+    TaskEnv {
+        surroundings: Surroundings {
+            moment: 0,
+            connections: Vec::new(alloc),
+        },
+        notices: Vec::new(alloc),
     }
 }
 

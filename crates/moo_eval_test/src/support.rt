@@ -2,7 +2,7 @@
 
 use moo_eval::{Ended, eval_line, run_task, typed_frame};
 use moo_grammar::Program;
-use moo_outcome::Frame;
+use moo_outcome::{Frame, Surroundings, TaskEnv};
 use moo_syntax::{Names, parse};
 use moo_value::{MooStr, Value};
 use moo_world::{ObjectSpecifier, PrepositionSpecifier, VerbArgs, VerbPerms, World, WorldFault};
@@ -48,10 +48,21 @@ pub fn verb(alloc: Global, source: &str) -> Result<Frame, Fail> {
 
 /// The literal of the value that a task ends with, or the lines of its traceback without their end.
 pub fn end(alloc: Global, world: &mut World, start: Frame) -> Result<Vec<u8>, Fail> {
-    match run_task(alloc, world, start) {
+    match run_task(alloc, world, start, &mut env(alloc)) {
         Ended::Value(value) => Ok(value.to_literal(alloc)?),
         Ended::Uncaught(lines) | Ended::OutOfTicks(lines) => joined(alloc, &lines),
         Ended::Memory => Err(Fail::from("no memory")),
+    }
+}
+
+// The moment 0 without connections.
+fn env(alloc: Global) -> TaskEnv {
+    TaskEnv {
+        surroundings: Surroundings {
+            moment: 0,
+            connections: Vec::new(alloc),
+        },
+        notices: Vec::new(alloc),
     }
 }
 

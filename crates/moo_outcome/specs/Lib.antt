@@ -1,4 +1,5 @@
 pub mod Variables
+pub mod Surroundings
 pub mod State
 pub mod Outcome
 pub mod Catching

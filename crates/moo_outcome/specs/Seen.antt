@@ -14,6 +14,7 @@ use Rattle.moo_program.specs.Slots.{slots}
 use Rattle.moo_program.specs.View.{root}
 use Rattle.moo_outcome.specs.declared.frame.CallStack.{CallStack}
 use Rattle.moo_outcome.specs.declared.frame.Activation.{Activation}
+use Rattle.moo_outcome.specs.declared.surroundings.Surroundings as code_surroundings
 use Rattle.moo_outcome.specs.declared.variables.Variables.{Variables}
 use Rattle.moo_outcome.specs.declared.variables.Variable.{Variable}
 use Rattle.moo_outcome.specs.declared.variables.Name.{Name}
@@ -26,6 +27,7 @@ use Rattle.moo_outcome.specs.declared.outcome.Failure.TheVariants as failure_cas
 use Rattle.moo_outcome.specs.declared.outcome.Flow as code_flow
 use Rattle.moo_outcome.specs.declared.outcome.Flow.TheVariants as flow_case
 use Rattle.moo_outcome.specs.Variables.{Binding, value_of_name}
+use Rattle.moo_outcome.specs.Surroundings.{Surroundings}
 use Rattle.moo_outcome.specs.State.{Context, entries}
 use Rattle.moo_outcome.specs.declared.frame.TraceEntry.{TraceEntry}
 use Rattle.moo_outcome.specs.Outcome.{Raise, Stop, raised, out_of_ticks, Failure, fails, stops, Flow, next, returned, broken, continued}
@@ -54,9 +56,17 @@ variables_of variables = slot_value (slots variables.program) variables.values.i
 abbrev pub indexed_of : Option (Bor Value) → Option Tree
 indexed_of indexed = option_map (λ v. tree v.now) indexed
 
+abbrev pub surroundings_of : code_surroundings.Surroundings → Surroundings
+surroundings_of s = record { moment = s.moment; connections = s.connections.items }
+
 -- what the program is given
 abbrev pub context_of : CallStack → Option (Bor Value) → Context
-context_of stack indexed = record { frame = stack.running; callers = stack.callers.items; indexed = indexed_of indexed }
+context_of stack indexed = record {
+  frame = stack.running;
+  callers = stack.callers.items;
+  indexed = indexed_of indexed;
+  surroundings = surroundings_of stack.surroundings.now;
+}
 
 -- the entries from the running frame down
 abbrev pub trace_of : CallStack → Activation → List TraceEntry

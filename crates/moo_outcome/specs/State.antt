@@ -8,6 +8,7 @@ use Rattle.moo_outcome.specs.declared.frame.Frame.{Frame}
 use Rattle.moo_outcome.specs.declared.frame.TraceFrame.{TraceFrame}
 use Rattle.moo_outcome.specs.declared.frame.TraceEntry.{TraceEntry}
 use Rattle.moo_outcome.specs.declared.frame.TraceEntry.TheVariants as entry
+use Rattle.moo_outcome.specs.Surroundings.{Surroundings}
 
 -- what stays while a frame runs
 pub record Context : Type 0 where
@@ -16,11 +17,16 @@ pub record Context : Type 0 where
   pub callers : List TraceEntry
   -- the value that `$` measures
   pub indexed : Option Tree
+  pub surroundings : Surroundings
 
 -- inside an index or a range of the first of these values
 abbrev pub within : Context → List Tree → Context
 within c [] = c
 within c (v ∷ vs) = record c { indexed = Some v }
+
+-- outside all indexes and ranges
+abbrev pub outside : Context → Context
+outside c = record c { indexed = None }
 
 -- `$`: the length of what is indexed. Outside an index no program has it.
 abbrev pub measured : Option Tree → Result Tree ErrorCode

@@ -17,7 +17,7 @@ use std::alloc::Global;
 /// The values of the codes of a handler. Without the d bit codes that fail name no error.
 pub fn settle_codes(
     alloc: Global,
-    stack: &CallStack,
+    stack: &CallStack<'_>,
     active: &Activation,
     outcome: Result<Vec<Value>, Failure>,
 ) -> Result<Vec<Value>, Stop>

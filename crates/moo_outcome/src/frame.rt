@@ -3,6 +3,7 @@ ghost use Rattle.std.specs.Prelude.{◌≡◌, ◌++◌, IfOk, OnOk};
 ghost use Rattle.moo_outcome.specs.State.{trace_frame};
 ghost use Rattle.moo_outcome.specs.Seen.{trace_of};
 
+use crate::surroundings::Surroundings;
 use crate::variables::Variables;
 use moo_grammar::Program;
 use moo_value::{MooList, MooStr};
@@ -52,11 +53,12 @@ pub enum TraceEntry {
     BuiltIn(MooStr),
 }
 
-/// The running frame and what it was called from, the nearest first.
+/// The running frame and what it was called from, the nearest first, with what is round the task.
 #[derive(Drop)]
-pub struct CallStack {
+pub struct CallStack<'a> {
     pub running: Frame,
     pub callers: Vec<TraceEntry>,
+    pub surroundings: &'a Surroundings,
 }
 
 impl TraceFrame {
@@ -101,7 +103,7 @@ impl Frame {
     }
 }
 
-impl CallStack {
+impl CallStack<'_> {
     /// The entries from the running frame down.
     pub fn trace(&self, alloc: Global, active: &Activation) -> Result<Vec<TraceEntry>, AllocError>
         ensures { IfOk result (λ all. all.items ≡ trace_of self.now active.now) }

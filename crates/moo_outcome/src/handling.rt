@@ -156,7 +156,7 @@ fn told(alloc: Global, callers: &[TraceEntry], raise: Raise) -> Result<Value, Fa
 /// to the handler's own. Past the limits E_QUOTA is raised, whatever the d bit.
 pub fn set_caught(
     alloc: Global,
-    stack: &CallStack,
+    stack: &CallStack<'_>,
     active: &mut Activation,
     name: Option<&MooStr>,
     raise: Raise,

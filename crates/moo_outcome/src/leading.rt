@@ -94,7 +94,7 @@ pub fn after_turn(own: Option<&MooStr>, flow: Flow) -> Option<Flow>
 /// Where a `for` has nothing to go through: the error is raised, or without the d bit there is no turn.
 pub fn no_turn(
     alloc: Global,
-    stack: &CallStack,
+    stack: &CallStack<'_>,
     active: &Activation,
     code: ErrorCode,
 ) -> Result<Flow, Stop>

@@ -7,8 +7,10 @@ mod catching;
 mod frame;
 mod handling;
 mod leading;
+mod notice;
 mod outcome;
 mod scatter;
+mod surroundings;
 mod traceback;
 mod variables;
 
@@ -19,7 +21,9 @@ pub use handling::{
     Guarded, HandlerParts, chosen, frame_lists, handler_parts, push_guarded, set_caught,
 };
 pub use leading::{Span, after_finally, after_turn, copied_name, no_turn, runs_finally};
+pub use notice::Notice;
 pub use outcome::{Failure, Flow, Raise, Stop, raised, settle};
 pub use scatter::{LeftOut, dealt, missing, set_shares};
+pub use surroundings::{Connection, Login, Surroundings, TaskEnv};
 pub use traceback::traceback_lines;
 pub use variables::Variables;

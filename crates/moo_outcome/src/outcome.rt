@@ -117,7 +117,7 @@ fn plain_raise(alloc: Global, code: ErrorCode, trace: Vec<TraceEntry>) -> Result
 /// With the d bit an error is raised, and without it the error is the value.
 pub fn settle(
     alloc: Global,
-    stack: &CallStack,
+    stack: &CallStack<'_>,
     active: &Activation,
     outcome: Result<Value, Failure>,
 ) -> Result<Value, Stop>
@@ -138,7 +138,7 @@ pub fn settle(
 }
 
 /// The stop of a failure: its own error is raised, whatever the d bit.
-pub fn raised(alloc: Global, stack: &CallStack, active: &Activation, failure: Failure) -> Stop
+pub fn raised(alloc: Global, stack: &CallStack<'_>, active: &Activation, failure: Failure) -> Stop
     ensures stop { HadMemory result → stop_of result ≡ raised_by (trace_of stack.now active.now) (failure_of failure) }
     ensures known { HadMemory result → HadMemoryIn failure }
 {
@@ -154,7 +154,7 @@ pub fn raised(alloc: Global, stack: &CallStack, active: &Activation, failure: Fa
 // The error as it is raised where the frame is.
 fn raise_here(
     alloc: Global,
-    stack: &CallStack,
+    stack: &CallStack<'_>,
     active: &Activation,
     code: ErrorCode,
 ) -> Result<Raise, AllocError>

@@ -4,15 +4,16 @@ use Rattle.moo_grammar.specs.Texts.{IsParsed}
 use Rattle.moo_syntax.specs.Programs.{Blames}
 use Rattle.moo_eval.specs.Line.{refused, runs}
 use Rattle.moo_eval.specs.Task.{TaskEnds}
-use Rattle.moo_eval.specs.Typed.{typed_frame}
+use Rattle.moo_code_function.specs.Telling.{Faults}
+use Rattle.moo_eval.specs.Typed.{typed_frame, nowhere}
 use Rattle.moo_eval.proofs.line.eval_line.Goals as goal
 
 pub returns-in-Ok : goal.returns-in-Ok
 returns-in-Ok c =
     let text = rw c.in-Some.is at c.in_ok-text.ensures.text in
     let ended = c.in_ok-lines-in-Ok.ensures in
-    let over = subst (λ w. TaskEnds (typed_frame c.in-Ok.program (negsuc 0) (negsuc 0) (negsuc 0)) w ended.0 c.run_typed.new.world) c.empty-world.ensures ended.1 in
-    runs (rw c.in-Some.is at c.in_ok-text.ensures.fits) ended.0 (record { program = c.in-Ok.program; after = c.run_typed.new.world; parsed = subst (λ x. IsParsed Known (x ∷ []) c.in-Ok.program) text c.in-Ok.ensures.program; ends = over }) ended.2 refl
+    let over = subst (λ w. TaskEnds Faults nowhere (typed_frame c.in-Ok.program (negsuc 0) (negsuc 0) (negsuc 0)) w ended.0 c.run_typed.new.world ended.1) c.empty-world.ensures ended.2 in
+    runs (rw c.in-Some.is at c.in_ok-text.ensures.fits) ended.0 (record { program = c.in-Ok.program; after = c.run_typed.new.world; notices = ended.1; parsed = subst (λ x. IsParsed Known (x ∷ []) c.in-Ok.program) text c.in-Ok.ensures.program; ends = over }) ended.3 refl
 
 pub returns : goal.returns
 returns c =

@@ -8,6 +8,7 @@ use Rattle.moo_value.specs.View.{tree, trees}
 use Rattle.moo_program.specs.View.{tree as expression, items_of, codes_of, block, handlers_of}
 use Rattle.moo_eval.specs.declared.interpreter.Task.{Task}
 use Rattle.moo_outcome.specs.Seen.{context_of, stop_of, failure_of, seen_value, flow_of}
+use Rattle.moo_code_function.specs.Telling.{Faults}
 use Rattle.moo_eval.specs.Seen.{state_of}
 use Rattle.moo_access.specs.Target.{named}
 use Rattle.moo_eval.specs.Meaning.{EvaluatesAll, Stores, spent, begins, operands_end, places_end, applies, no_more, element_stops, element_then, splice_stops, splice_fails, splice_then, literal_is, variable_is, length_is, unary_is, binary_is, logic_decides, logic_goes_on, conditional_true, conditional_false, index_is, range_is, list_is, property_is, verb_fails, verb_runs, call_is, assign_is, catch_gives, catch_or_goes_on, target_ends, value_stops, assigns, root_ends, locates, parts_end, finds, inside, step_ends, enters, unread, spot_ends, steps_in, no_store, stores, puts_variable, scatter_fails, scatters, none_missing, default_stops, default_then, Counts, statement_spent, statement_begins, selects, list_stops, list_fails, visits, span_stops, span_fails, counts, loops, breaks_out, continues_on, unprepared, tries, finally_skipped, finally_runs, ends, leaves, proceeds, none_selected, else_runs, test_stops, arm_runs, arm_passed, turn_spent, turns, loop_stops, loop_ends, loop_left, loop_then, all_visited, visit_left, visit_then, all_counted, count_left, count_then, nothing_raised, ticks_out, handles, untaken, untold, takes, Prepares, no_codes, codes_stop, codes_then, gives_zero, gives, evaluates}
@@ -169,7 +170,7 @@ evaluate_all-loop-item-preserved t c =
             let e = rw (w.self-is, w.world-is, w.active-is) at d in
             let more = tree w.in_ok-value-in-Element.value ∷ [] in
             let sums = trees_pushed c.loop-item.values.items c.match-item.values.items w.in_ok-value-in-Element.value (ap (λ (x : code_vec.Vec code_value.Value code_global.Global). x.items) w.values-is ∙ w.in_ok-push-in-Element.ensures) in
-            subst (λ r. EvaluatesAll (context_of c.args.stack.now c.args.indexed) (items_of c.args.items.now) (state_of c.args.self.now c.args.world.now c.args.active.now) r s)
+            subst (λ r. EvaluatesAll Faults (context_of c.args.stack.now c.args.indexed) (items_of c.args.items.now) (state_of c.args.self.now c.args.world.now c.args.active.now) r s)
             (gathered c.loop-item.values.items c.match-item.values.items more o sums)
             (c.loop-item.invariant.rest (before more o) s (rw (drop_next c.args.items.now c.loop-item.item-index c.item-item.result c.loop-item-test.true c.item-item.is, w.in-Element.is, ← w.deref.ensures) (element_then (w.in_ok-value-in-Element.ensures.meaning tt) e refl)));
       }
@@ -179,7 +180,7 @@ evaluate_all-loop-item-preserved t c =
             let e = rw (w.self-is, w.world-is, w.active-is) at d in
             let more = w.in_ok-splice-in-Splice.ensures.ok.0 in
             let sums = ap (λ (x : code_vec.Vec code_value.Value code_global.Global). trees x.items) w.values-is ∙ w.in_ok-splice-in-Splice.ensures.ok.2 in
-            subst (λ r. EvaluatesAll (context_of c.args.stack.now c.args.indexed) (items_of c.args.items.now) (state_of c.args.self.now c.args.world.now c.args.active.now) r s)
+            subst (λ r. EvaluatesAll Faults (context_of c.args.stack.now c.args.indexed) (items_of c.args.items.now) (state_of c.args.self.now c.args.world.now c.args.active.now) r s)
             (gathered c.loop-item.values.items c.match-item.values.items more o sums)
             (c.loop-item.invariant.rest (before more o) s (rw (drop_next c.args.items.now c.loop-item.item-index c.item-item.result c.loop-item-test.true c.item-item.is, w.in-Splice.is, ← w.deref-in-Splice.ensures) (splice_then (w.in_ok-value-in-Splice.ensures.meaning tt) w.in_ok-splice-in-Splice.ensures.ok.1 e refl)));
       }
@@ -231,7 +232,7 @@ call-returns-in_err-args-clause-meaning t c =
 
 pub call-returns-clause-meaning : goal.call-returns-clause-meaning
 call-returns-clause-meaning t c =
-    λ k. applies (c.in_ok-args.ensures.meaning tt) no_more (call_is (rw c.ticks_left.ensures at (c.call_function.ensures k)))
+    λ k. applies (c.in_ok-args.ensures.meaning tt) no_more (call_is (c.call_function.ensures.call k))
 
 pub property-returns-in_err-base-clause-meaning : goal.property-returns-in_err-base-clause-meaning
 property-returns-in_err-base-clause-meaning t c =
@@ -397,7 +398,7 @@ store-returns-in_ok-set_variable-in-Variable-clause-meaning t c =
 pub store-returns-in_err-set_variable-in-Variable-clause-meaning : goal.store-returns-in_err-set_variable-in-Variable-clause-meaning
 store-returns-in_err-set_variable-in-Variable-clause-meaning t c =
     let p = err_from_is_err_and c.from_residual-in_err-set_variable-in-Variable.result c.from_residual-in_err-set_variable-in-Variable.ensures.1 in
-    rw (p.1, p.2, c.in-Variable.is) (λ k. subst (λ s. Stores (context_of c.args.stack.now c.args.indexed) (named c.in-Variable.name.now) (steps_of c.args.path.steps.items) (tree c.args.value.now) (state_of c.args.self.now c.args.world.now c.args.active.now) (Err (failure_of c.in_err-set_variable-in-Variable.field-0.0)) s) (same_state (sym (c.in_err-set_variable-in-Variable.ensures.kept k)) refl) (no_store (rw c.in_ok-value.ensures.value at (c.in_err-set_variable-in-Variable.ensures.err k))))
+    rw (p.1, p.2, c.in-Variable.is) (λ k. subst (λ s. Stores Faults (context_of c.args.stack.now c.args.indexed) (named c.in-Variable.name.now) (steps_of c.args.path.steps.items) (tree c.args.value.now) (state_of c.args.self.now c.args.world.now c.args.active.now) (Err (failure_of c.in_err-set_variable-in-Variable.field-0.0)) s) (same_state (sym (c.in_err-set_variable-in-Variable.ensures.kept k)) refl) (no_store (rw c.in_ok-value.ensures.value at (c.in_err-set_variable-in-Variable.ensures.err k))))
 
 pub store-returns-in_ok-whole-in-Property-clause-meaning : goal.store-returns-in_ok-whole-in-Property-clause-meaning
 store-returns-in_ok-whole-in-Property-clause-meaning t c =
@@ -477,7 +478,7 @@ turn-returns-in_err-flow-clause-meaning t c =
 
 pub visit-returns-clause-meaning : goal.visit-returns-clause-meaning
 visit-returns-clause-meaning t c =
-    λ k. turns c.in_ok-take_tick.ensures.taken (state_at (ap (λ (x : Task). x.ticks_left) (sym c.in_ok-take_tick.ensures.left)) (sym c.in_ok-set.ensures)) (c.in_ok-flow.ensures.meaning tt) (sym c.after_turn.ensures)
+    λ k. turns c.in_ok-take_tick.ensures.taken (let left = sym c.in_ok-take_tick.ensures.left in state_at (ap (λ (x : Task). x.ticks_left) left) (ap (λ (x : Task). x.notices.items) left) (sym c.in_ok-set.ensures)) (c.in_ok-flow.ensures.meaning tt) (sym c.after_turn.ensures)
 
 pub visit-returns-in_err-take_tick-clause-meaning : goal.visit-returns-in_err-take_tick-clause-meaning
 visit-returns-in_err-take_tick-clause-meaning t c =
@@ -485,7 +486,7 @@ visit-returns-in_err-take_tick-clause-meaning t c =
 
 pub visit-returns-in_err-flow-clause-meaning : goal.visit-returns-in_err-flow-clause-meaning
 visit-returns-in_err-flow-clause-meaning t c =
-    let p = err_from_is_err_and c.from_residual-in_err-flow.result c.from_residual-in_err-flow.ensures.1 in rw (p.1, p.2) (λ k. turns c.in_ok-take_tick.ensures.taken (state_at (ap (λ (x : Task). x.ticks_left) (sym c.in_ok-take_tick.ensures.left)) (sym c.in_ok-set.ensures)) (c.in_err-flow.ensures.meaning k) refl)
+    let p = err_from_is_err_and c.from_residual-in_err-flow.result c.from_residual-in_err-flow.ensures.1 in rw (p.1, p.2) (λ k. turns c.in_ok-take_tick.ensures.taken (let left = sym c.in_ok-take_tick.ensures.left in state_at (ap (λ (x : Task). x.ticks_left) left) (ap (λ (x : Task). x.notices.items) left) (sym c.in_ok-set.ensures)) (c.in_err-flow.ensures.meaning k) refl)
 
 pub repeat-returns-then-not-is_true-clause-meaning : goal.repeat-returns-then-not-is_true-clause-meaning
 repeat-returns-then-not-is_true-clause-meaning t c =
@@ -653,7 +654,7 @@ count-returns-in-Some-clause-meaning t c =
 
 pub count-numbers-preserved : goal.count-numbers-preserved
 count-numbers-preserved t c =
-    let f : SFits w32 c.args.span.low = search rules in let g : SFits w32 c.args.span.high = search rules in let h = reached (to_z w64 c.numbers.number-bits) c.from.result c.args.span.high true g c.from.ensures c.numbers-test.true in let e = c.value-value.ensures ∙ ap (numbered c.args.span.are_objects) (narrow c.args.span.low c.args.span.high (to_z w64 c.numbers.number-bits) f g c.numbers.invariant.low h) in let q = next_number c.args.span.low c.args.span.high (to_z w64 c.numbers.number-bits) f g c.numbers.invariant.low h in record { ticks = omega arith; low = subst (λ x. c.args.span.low ≤ℤ x) (sym q) (not_below c.args.span.low (to_z w64 c.numbers.number-bits) c.numbers.invariant.low); rest = λ o s d. c.numbers.invariant.rest o s (count_then h (rw (c.in_default.is, e) at (c.in_ok-flow.ensures.meaning tt)) (subst (λ x. Counts (context_of c.args.stack.now None) c.args.name.now c.args.span x (block c.args.body.now) (state_of c.visit.new.self c.visit.new.world c.visit.new.active) o s) q d)) }
+    let f : SFits w32 c.args.span.low = search rules in let g : SFits w32 c.args.span.high = search rules in let h = reached (to_z w64 c.numbers.number-bits) c.from.result c.args.span.high true g c.from.ensures c.numbers-test.true in let e = c.value-value.ensures ∙ ap (numbered c.args.span.are_objects) (narrow c.args.span.low c.args.span.high (to_z w64 c.numbers.number-bits) f g c.numbers.invariant.low h) in let q = next_number c.args.span.low c.args.span.high (to_z w64 c.numbers.number-bits) f g c.numbers.invariant.low h in record { ticks = omega arith; low = subst (λ x. c.args.span.low ≤ℤ x) (sym q) (not_below c.args.span.low (to_z w64 c.numbers.number-bits) c.numbers.invariant.low); rest = λ o s d. c.numbers.invariant.rest o s (count_then h (rw (c.in_default.is, e) at (c.in_ok-flow.ensures.meaning tt)) (subst (λ x. Counts Faults (context_of c.args.stack.now None) c.args.name.now c.args.span x (block c.args.body.now) (state_of c.visit.new.self c.visit.new.world c.visit.new.active) o s) q d)) }
 
 pub count-returns-clause-meaning : goal.count-returns-clause-meaning
 count-returns-clause-meaning t c =
@@ -664,7 +665,7 @@ prepare-loop-handler-preserved t c = record {
   ticks = omega arith;
   rest = λ o s d.
       let g = guarded (option_copied c.handler_parts-parts.result.name) (codes_of c.handler_parts-parts.result.codes.now) (block c.handler_parts-parts.result.body.now) (trees c.in_ok-values.values.items) in
-      subst (λ r. Prepares (context_of c.args.stack.now None) (handlers_of c.args.handlers.now) (state_of c.args.self.now c.args.world.now c.args.active.now) r s)
+      subst (λ r. Prepares Faults (context_of c.args.stack.now None) (handlers_of c.args.handlers.now) (state_of c.args.self.now c.args.world.now c.args.active.now) r s)
       (guarded_on (map guarded_of c.loop-handler.guarded.items) _ g o c.in_ok-push_guarded.ensures)
       (c.loop-handler.invariant.rest _ s (rw (drop_next c.args.handlers.now c.loop-handler.handler-index c.handler-item.result c.loop-handler-test.true c.handler-item.is, c.handler_parts-parts.ensures (handlers_of (drop (c.loop-handler.handler-index + 1) c.args.handlers.now))) (codes_then (c.guards-outcome.ensures.meaning (c.in_ok-values.ensures.known tt)) (c.in_ok-values.ensures.outcome tt) d refl)));
 }

@@ -9,6 +9,7 @@ use Rattle.moo_eval.specs.Meaning.{EvaluatesAll, Locates, Enters, SetsDefaults, 
 use Rattle.moo_access.specs.SeenTarget.{root_seen, steps_of, spot_of}
 use Rattle.moo_outcome.specs.SeenScatter.{left_out_of}
 use Rattle.moo_outcome.specs.Seen.{context_of}
+use Rattle.moo_code_function.specs.Telling.{Faults}
 use Rattle.moo_eval.specs.Seen.{state_of}
 use Rattle.std.specs.Prelude.{◌≤ℤ◌}
 use Rattle.moo_outcome.specs.Handling.{Guarded, guarded_before}
@@ -88,21 +89,21 @@ decreases-set_defaults l = 6 * l.self.now.ticks_left + 1
 abbrev pub invariant-evaluate_all-loop-item : goal.invariant-evaluate_all-loop-item
 invariant-evaluate_all-loop-item l = record {
   ticks : l.self.ticks_left ≤ l.fn.self.ticks_left;
-  rest : (o : Result (List Tree) Failure) (s : State) → EvaluatesAll (context_of l.stack l.indexed) (items_of (drop l.item-index l.items)) (state_of l.self l.world l.active) o s → EvaluatesAll (context_of l.stack l.indexed) (items_of l.items) (state_of l.fn.self l.fn.world l.fn.active) (before (trees l.values.items) o) s;
+  rest : (o : Result (List Tree) Failure) (s : State) → EvaluatesAll Faults (context_of l.stack l.indexed) (items_of (drop l.item-index l.items)) (state_of l.self l.world l.active) o s → EvaluatesAll Faults (context_of l.stack l.indexed) (items_of l.items) (state_of l.fn.self l.fn.world l.fn.active) (before (trees l.values.items) o) s;
 }
 
 -- where the rest leads, the whole target leads
 abbrev pub invariant-locate-loop-spot : goal.invariant-locate-loop-spot
 invariant-locate-loop-spot l = record {
   ticks : l.self.ticks_left ≤ l.fn.self.ticks_left;
-  rest : (o : Result Path Failure) (s : State) → Enters (context_of l.stack l.indexed) (root_seen l.path.root) (steps_of l.path.steps.items) (map spot_of (drop l.spot-index l.spot-items)) (state_of l.self l.world l.active) o s → Locates (context_of l.stack l.indexed) (tree l.target) (state_of l.fn.self l.fn.world l.fn.active) o s;
+  rest : (o : Result Path Failure) (s : State) → Enters Faults (context_of l.stack l.indexed) (root_seen l.path.root) (steps_of l.path.steps.items) (map spot_of (drop l.spot-index l.spot-items)) (state_of l.self l.world l.active) o s → Locates Faults (context_of l.stack l.indexed) (tree l.target) (state_of l.fn.self l.fn.world l.fn.active) o s;
 }
 
 -- what the rest does is what all defaults do
 abbrev pub invariant-set_defaults-loop-default : goal.invariant-set_defaults-loop-default
 invariant-set_defaults-loop-default l = record {
   ticks : l.self.ticks_left ≤ l.fn.self.ticks_left;
-  rest : (o : Result (Unit {0}) Failure) (s : State) → SetsDefaults (context_of l.stack l.indexed) (map left_out_of (drop l.default-index l.defaults)) (state_of l.self l.world l.active) o s → SetsDefaults (context_of l.stack l.indexed) (map left_out_of l.defaults) (state_of l.fn.self l.fn.world l.fn.active) o s;
+  rest : (o : Result (Unit {0}) Failure) (s : State) → SetsDefaults Faults (context_of l.stack l.indexed) (map left_out_of (drop l.default-index l.defaults)) (state_of l.self l.world l.active) o s → SetsDefaults Faults (context_of l.stack l.indexed) (map left_out_of l.defaults) (state_of l.fn.self l.fn.world l.fn.active) o s;
 }
 
 abbrev pub decreases-run : goal.decreases-run
@@ -163,21 +164,21 @@ decreases-evaluate_alone l = 6 * l.self.now.ticks_left + 1
 abbrev pub invariant-run_all-loop-statement : goal.invariant-run_all-loop-statement
 invariant-run_all-loop-statement l = record {
   ticks : l.self.ticks_left ≤ l.fn.self.ticks_left;
-  rest : (o : Result Flow Stop) (s : State) → RunsAll (context_of l.stack None) (block (drop l.statement-index l.statements)) (state_of l.self l.world l.active) o s → RunsAll (context_of l.stack None) (block l.statements) (state_of l.fn.self l.fn.world l.fn.active) o s;
+  rest : (o : Result Flow Stop) (s : State) → RunsAll Faults (context_of l.stack None) (block (drop l.statement-index l.statements)) (state_of l.self l.world l.active) o s → RunsAll Faults (context_of l.stack None) (block l.statements) (state_of l.fn.self l.fn.world l.fn.active) o s;
 }
 
 -- what the rest does is what all arms do
 abbrev pub invariant-select-loop-arm : goal.invariant-select-loop-arm
 invariant-select-loop-arm l = record {
   ticks : l.self.ticks_left ≤ l.fn.self.ticks_left;
-  rest : (o : Result Flow Stop) (s : State) → Selects (context_of l.stack None) (arms_of (drop l.arm-index l.arms)) (state_of l.self l.world l.active) o s → Selects (context_of l.stack None) (arms_of l.arms) (state_of l.fn.self l.fn.world l.fn.active) o s;
+  rest : (o : Result Flow Stop) (s : State) → Selects Faults (context_of l.stack None) (arms_of (drop l.arm-index l.arms)) (state_of l.self l.world l.active) o s → Selects Faults (context_of l.stack None) (arms_of l.arms) (state_of l.fn.self l.fn.world l.fn.active) o s;
 }
 
 -- what the loop does from here is what it does from its start
 abbrev pub invariant-repeat-turns : goal.invariant-repeat-turns
 invariant-repeat-turns l = record {
   ticks : l.self.ticks_left ≤ l.fn.self.ticks_left;
-  rest : (o : Result Flow Stop) (s : State) → Loops (context_of l.stack None) l.own (tree l.test) (block l.body) (state_of l.self l.world l.active) o s → Loops (context_of l.stack None) l.own (tree l.test) (block l.body) (state_of l.fn.self l.fn.world l.fn.active) o s;
+  rest : (o : Result Flow Stop) (s : State) → Loops Faults (context_of l.stack None) l.own (tree l.test) (block l.body) (state_of l.self l.world l.active) o s → Loops Faults (context_of l.stack None) l.own (tree l.test) (block l.body) (state_of l.fn.self l.fn.world l.fn.active) o s;
 }
 
 abbrev pub decreases-repeat-turns : goal.decreases-repeat-turns
@@ -187,7 +188,7 @@ decreases-repeat-turns l = l.self.ticks_left
 abbrev pub invariant-visit_all-loop-value : goal.invariant-visit_all-loop-value
 invariant-visit_all-loop-value l = record {
   ticks : l.self.ticks_left ≤ l.fn.self.ticks_left;
-  rest : (o : Result Flow Stop) (s : State) → Visits (context_of l.stack None) l.name (trees (drop l.value-index l.values)) (block l.body) (state_of l.self l.world l.active) o s → Visits (context_of l.stack None) l.name (trees l.values) (block l.body) (state_of l.fn.self l.fn.world l.fn.active) o s;
+  rest : (o : Result Flow Stop) (s : State) → Visits Faults (context_of l.stack None) l.name (trees (drop l.value-index l.values)) (block l.body) (state_of l.self l.world l.active) o s → Visits Faults (context_of l.stack None) l.name (trees l.values) (block l.body) (state_of l.fn.self l.fn.world l.fn.active) o s;
 }
 
 -- what the loop does from here is what it does from its start
@@ -195,7 +196,7 @@ abbrev pub invariant-count-numbers : goal.invariant-count-numbers
 invariant-count-numbers l = record {
   ticks : l.self.ticks_left ≤ l.fn.self.ticks_left;
   low : l.span.low ≤ℤ l.number;
-  rest : (o : Result Flow Stop) (s : State) → Counts (context_of l.stack None) l.name l.span l.number (block l.body) (state_of l.self l.world l.active) o s → Counts (context_of l.stack None) l.name l.span l.span.low (block l.body) (state_of l.fn.self l.fn.world l.fn.active) o s;
+  rest : (o : Result Flow Stop) (s : State) → Counts Faults (context_of l.stack None) l.name l.span l.number (block l.body) (state_of l.self l.world l.active) o s → Counts Faults (context_of l.stack None) l.name l.span l.span.low (block l.body) (state_of l.fn.self l.fn.world l.fn.active) o s;
 }
 
 abbrev pub decreases-count-numbers : goal.decreases-count-numbers
@@ -205,5 +206,5 @@ decreases-count-numbers l = l.self.ticks_left
 abbrev pub invariant-prepare-loop-handler : goal.invariant-prepare-loop-handler
 invariant-prepare-loop-handler l = record {
   ticks : l.self.ticks_left ≤ l.fn.self.ticks_left;
-  rest : (o : Result (List Guarded) Stop) (s : State) → Prepares (context_of l.stack None) (handlers_of (drop l.handler-index l.handlers)) (state_of l.self l.world l.active) o s → Prepares (context_of l.stack None) (handlers_of l.handlers) (state_of l.fn.self l.fn.world l.fn.active) (guarded_before (map guarded_of l.guarded.items) o) s;
+  rest : (o : Result (List Guarded) Stop) (s : State) → Prepares Faults (context_of l.stack None) (handlers_of (drop l.handler-index l.handlers)) (state_of l.self l.world l.active) o s → Prepares Faults (context_of l.stack None) (handlers_of l.handlers) (state_of l.fn.self l.fn.world l.fn.active) (guarded_before (map guarded_of l.guarded.items) o) s;
 }

@@ -1,0 +1,38 @@
+-- A task ends as its statements lead.
+use Rattle.std.proofs.Common.{◌≡◌, ℕ, ℤ, List, [], ◌++◌, Option, None, Result, refl, subst}
+use Rattle.moo_table.specs.World.{World}
+use Rattle.moo_outcome.specs.declared.frame.Frame.{Frame}
+use Rattle.moo_outcome.specs.declared.frame.TraceEntry.{TraceEntry}
+use Rattle.moo_outcome.specs.declared.notice.Notice.{Notice}
+use Rattle.moo_outcome.specs.Surroundings.{Surroundings}
+use Rattle.moo_outcome.specs.Outcome.{Stop, Flow}
+use Rattle.moo_outcome.specs.Variables.{first_bindings, value_of_name}
+use Rattle.moo_outcome.specs.State.{Context}
+use Rattle.moo_value.specs.Tree.{Tree}
+use Rattle.moo_program.specs.Tree.{Block}
+use Rattle.moo_access.specs.State.{State}
+use Rattle.moo_code_function.specs.Telling.{Faults}
+use Rattle.moo_eval.specs.declared.task.Ended as code
+use Rattle.moo_eval.specs.declared.task.Ended.TheVariants as ended
+use Rattle.moo_eval.specs.Meaning.{RunsAll}
+use Rattle.moo_eval.specs.Ends.{IfEnded, LeavesNotices}
+use Rattle.moo_eval.specs.Task.{TaskEnds, most_ticks, first_context, first_state, end_of}
+
+pub task_ends : (around : Surroundings) (start : Frame) (before : World) (old new : List Notice) (result : code.Ended) (last : State) (outcome : Result Flow Stop) (Known : Type 0)
+    → IfEnded result (λ end. end_of outcome ≡ end) → IfEnded result (λ end. Known)
+    → (Known → RunsAll Faults (first_context around start) start.program (first_state start before) outcome last) → new ≡ old ++ last.notices
+    → IfEnded result (λ end. LeavesNotices old (TaskEnds Faults around start before end last.world) new)
+task_ends around start before old new (ended.Value v) last outcome Known end known runs asked = (last.notices, record { outcome = outcome; last = last; runs = runs known; ends = end; leaves = refl; asks = refl }, asked)
+task_ends around start before old new (ended.Uncaught lines) last outcome Known end known runs asked = (last.notices, record { outcome = outcome; last = last; runs = runs known; ends = end; leaves = refl; asks = refl }, asked)
+task_ends around start before old new (ended.OutOfTicks lines) last outcome Known end known runs asked = (last.notices, record { outcome = outcome; last = last; runs = runs known; ends = end; leaves = refl; asks = refl }, asked)
+task_ends around start before old new ended.Memory last outcome Known end known runs asked = tt
+
+-- statements that run as the first of a task do
+pub first_runs : (around : Surroundings) (start : Frame) (before : World) (callers : List TraceEntry) (ticks : ℕ) (variables : List ℕ → Option Tree) (programmer : ℤ) (notices : List Notice) (b : Block) (o : Result Flow Stop) (last : State)
+    → callers ≡ [] → ticks ≡ most_ticks → variables ≡ value_of_name (first_bindings start) → programmer ≡ start.programmer → notices ≡ [] → b ≡ start.program
+    → RunsAll Faults (record { frame = start; callers = callers; indexed = None; surroundings = around }) b (record { ticks = ticks; world = before; variables = variables; programmer = programmer; notices = notices }) o last
+    → RunsAll Faults (first_context around start) start.program (first_state start before) o last
+first_runs around start before callers ticks variables programmer notices b o last p q r v m u d =
+    let context : ◌≡◌ {A = Context} (record { frame = start; callers = callers; indexed = None; surroundings = around }) (first_context around start) = λ i. record { frame = start; callers = p i; indexed = None; surroundings = around } in
+    let state : ◌≡◌ {A = State} (record { ticks = ticks; world = before; variables = variables; programmer = programmer; notices = notices }) (first_state start before) = λ i. record { ticks = q i; world = before; variables = r i; programmer = v i; notices = m i } in
+    subst (λ x. RunsAll Faults (first_context around start) x (first_state start before) o last) u (subst (λ x. RunsAll Faults x b (first_state start before) o last) context (subst (λ x. RunsAll Faults (record { frame = start; callers = callers; indexed = None; surroundings = around }) b x o last) state d))

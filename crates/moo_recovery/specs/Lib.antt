@@ -1,0 +1,2 @@
+-- What a start reads.
+pub mod Recovering

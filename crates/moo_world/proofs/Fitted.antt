@@ -70,7 +70,7 @@ among_fitted o k (a ∷ more) =
     (λ off. let too : is_key k (fitted_cell o a) ≡ false = same ∙ off in rw too (rw off (among_fitted o k more)))
     (cases_Bool (is_key k a))
 
-elsewhere_none : (y : ℕ) (k : Key) (cells : List Cell) → All (λ (c : Cell). eqb (key_of c).0 y ≡ false) cells → k.0 ≡ y → cell_at cells k ≡ None
+pub elsewhere_none : (y : ℕ) (k : Key) (cells : List Cell) → All (λ (c : Cell). eqb (key_of c).0 y ≡ false) cells → k.0 ≡ y → cell_at cells k ≡ None
 elsewhere_none y k [] all e = refl
 elsewhere_none y k (c ∷ cs) all e =
     let P = λ (d : Cell). eqb (key_of d).0 y ≡ false in
@@ -160,7 +160,7 @@ value_step old new k z way here rest = over (value_at old k z) refl
     over None e = let now : value_at new k z ≡ None = here ∙ e in rw now (rw e rest)
     over (Some v) e = let now : value_at new k z ≡ Some v = here ∙ e in rw now (rw e (ap (λ vs. v ∷ vs) rest))
 
-values_same : (old new : List (Option Object)) (k : Key) (way : List ℕ) → ((z : ℕ) → list_any (eqb z) way ≡ true → object_of new z ≡ object_of old z) → filter_map (value_at new k) way ≡ filter_map (value_at old k) way
+pub values_same : (old new : List (Option Object)) (k : Key) (way : List ℕ) → ((z : ℕ) → list_any (eqb z) way ≡ true → object_of new z ≡ object_of old z) → filter_map (value_at new k) way ≡ filter_map (value_at old k) way
 values_same old new k [] each = refl
 values_same old new k (z ∷ way) each =
     value_step old new k z way (ap (λ o. value_in o k) (each z (first z way))) (values_same old new k way (λ q on. each q (later q z way on)))

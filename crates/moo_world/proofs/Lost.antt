@@ -23,7 +23,7 @@ mapped_at g none (o ∷ os) (suc y) = mapped_at g none os y
 pair_same : (a b : ℕ) (c d : List ℕ) → a ≡ b → c ≡ d → ◌≡◌ {A = Key} (a, c) (b, d)
 pair_same a b c d p q = cc
 
-key_is : (k : Key) (c : Cell) → is_key k c ≡ true → key_of c ≡ k
+pub key_is : (k : Key) (c : Cell) → is_key k c ≡ true → key_of c ≡ k
 key_is k c on =
     let parts = and_parts (eqb c.definer k.0) (same_name c.name k.1) on in
     pair_same c.definer k.0 c.name k.1 (eqb-true c.definer k.0 parts.0) (same_name-true c.name k.1 parts.1)

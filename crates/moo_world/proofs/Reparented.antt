@@ -1,9 +1,10 @@
 -- Cells and look-ups once an object has another parent, or one more definition.
-use Rattle.std.proofs.Common.{◌≡◌, ℕ, List, [], ◌∷◌, ◌++◌, Option, Some, None, Bool, true, false, ◌&&◌, eqb, refl, sym, ◌∙◌, ap, subst, ⊎_elim, length, map, IsSome}
-use Rattle.std.specs.List.{list_any}
+use Rattle.std.proofs.Common.{◌≡◌, ◌≢◌, ℕ, List, [], ◌∷◌, ◌++◌, Option, Some, None, Bool, true, false, ◌&&◌, eqb, refl, sym, ◌∙◌, ap, subst, ⊎_elim, length, map, IsSome, is_some}
+use Rattle.std.specs.List.{find, list_any}
 use Rattle.std.proofs.lemmas.List.{get_or-set_same, get_or-set_other}
-use Rattle.std.proofs.lemmas.Bool.{cases_Bool, eqb-false, eq-eqb, or_parts, or_left, and_parts, and_from, false≢true}
+use Rattle.std.proofs.lemmas.Bool.{cases_Bool, ne_eqb, eqb-false, eq-eqb, or_parts, or_left, and_parts, and_from, false≢true}
 use Rattle.moo_value.specs.Compare.{folded}
+use Rattle.moo_value.specs.Tree.{Tree}
 use Rattle.moo_forest.specs.Forest.{ancestors, moved, is_within}
 use Rattle.moo_object.specs.Names.{same_name}
 use Rattle.moo_object.specs.Cells.{Cell, Key, key_of, is_key, cell_at}
@@ -12,15 +13,17 @@ use Rattle.moo_object.proofs.Names.{eq-same_name}
 use Rattle.std.specs.Option.{unwrap_or}
 use Rattle.moo_table.specs.World.{World, nothing, object_of, thing_of, clashes, crowds, with_cells, fitted_along, refitted, IsWellFormed}
 use Rattle.moo_table.specs.Changes.{after_chparent, after_define, with_definition, with_definition_on, would_loop}
-use Rattle.moo_table.specs.Properties.{has_name}
+use Rattle.moo_table.specs.Properties.{has_name, definition_named, read}
 use Rattle.moo_table.specs.Steps.{IsDefinable}
 use Rattle.moo_table.proofs.FittedRows.{own_exact, already_fitted}
-use Rattle.moo_table.proofs.Refitting.{IsFreeTree, object_refitted, cells_stay, fails, none_passes}
+use Rattle.moo_table.proofs.Refitting.{IsFreeTree, object_refitted, keys_refitted, cells_stay, fails, none_passes}
 use Rattle.moo_table.proofs.Changing.{IsValidPlace, parent_free, parent_changed, rejoined, valid_within}
-use Rattle.moo_table.proofs.Definitions.{defined_well_formed, own_then}
+use Rattle.moo_table.proofs.Definitions.{defined_well_formed, own_then, still_valid, free_of}
+use Rattle.moo_table.proofs.Joining.{within_valid}
 use Rattle.moo_world.specs.Calls.{parent_raises}
 use Rattle.moo_world.specs.Lookups.{AreFitted, IsReparented, IsDefinedOn}
 use Rattle.moo_world.proofs.Fitted.{all_fitted, along_same, same_outside, found_behind}
+use Rattle.moo_world.proofs.Seen.{seen_below, named_below}
 
 module _ (w : World) (x : ℕ) (p : Option ℕ) (f : IsWellFormed w) (valid : IsSome (object_of w.objects x)) (p_valid : IsValidPlace w.objects p) (none : parent_raises w x p ≡ None) where
   apart : would_loop w.inheritance x p ≡ false
@@ -116,9 +119,28 @@ module _ (w : World) (x : ℕ) (name : List ℕ) (cell : Cell) (f : IsWellFormed
           (fitted_then x (record o { defined = o.defined ++ name ∷ []; cells = o.cells ++ cell ∷ [] }) at).own (x, folded name) refl ∙
           found_behind (x, folded name) o.cells (cell ∷ []) nothing_yet ∙ mine
 
+  unheld_below : (y : ℕ) → is_within w.inheritance y x ≡ true → y ≢ x → cell_at (thing_of with_it y).cells (x, folded name) ≡ None
+  unheld_below y on ne =
+      ap (λ o. cell_at (unwrap_or o nothing).cells (x, folded name)) (elsewhere y (ne_eqb x y (λ e. ne (sym e)))) ∙
+      none_named x (folded name) (thing_of w.objects y).cells (ap (list_any (λ (k : Key). same_name k.1 (folded name))) (f.stocked.exact_cells y) ∙ free_of w x name cell f valid d y on)
+
+  reads_below : (y : ℕ) → is_within w.inheritance y x ≡ true → read (after_define w x name cell) y (folded name) ≡ cell.value
+  reads_below y on = over cell.value refl d.filled
+    where
+      over : (r : Option Tree) → cell.value ≡ r → is_some r ≡ true → read (after_define w x name cell) y (folded name) ≡ cell.value
+      over None e some = absurd (false≢true some)
+      over (Some v) e some =
+          let way = ancestors w.inheritance y in
+          let named : definition_named (after_define w x name cell) y (folded name) ≡ Some (let k : Key = (x, folded name) in k) =
+          ap (find (λ (k : Key). same_name k.1 (folded name))) (keys_refitted with_it w.inheritance (y ∷ way)) ∙
+          named_below w x name cell f valid d y way (f.parents.forest.rooted y) on (free_of w x name cell f valid d y on) in
+          rw named (seen_below with_it (refitted with_it w.inheritance) w.inheritance f.parents.forest x (x, folded name) cell v fitted_then
+          (λ z within. still_valid w x name cell f valid d z (within_valid w.objects w.inheritance f.parents x valid z within)) unheld_below refl given_there e y on ∙ sym e)
+
   pub defined_on : IsDefinedOn w (after_define w x name cell) x name cell
   defined_on = record {
     cells = fitted_then;
     outside = same_outside w (after_define w x name cell) x f.parents.forest (λ y off. refl) outside_there;
     given = given_there;
+    reads = reads_below;
   }

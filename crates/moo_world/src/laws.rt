@@ -1,17 +1,19 @@
 //! What follows from the invariant of a world.
 
-ghost use Rattle.std.specs.Prelude.{◌≡◌, ◌<◌, length, None, Some, is_some, IsSome};
+ghost use Rattle.std.specs.Prelude.{◌≡◌, ◌<◌, length, None, Some, is_some, IsSome, true};
 ghost use Rattle.std.specs.Option.{ForSome};
 ghost use Rattle.moo_value.specs.Compare.{folded};
 ghost use Rattle.moo_forest.specs.Forest.{above_of, below_of};
 ghost use Rattle.moo_value.specs.Size.{weight_limit};
 ghost use Rattle.moo_value.specs.View.{tree};
 ghost use Rattle.moo_object.specs.Cells.{own_cell};
-ghost use Rattle.moo_table.specs.Changes.{after_chparent, after_define, after_move, after_undefine};
+ghost use Rattle.moo_table.specs.Changes.{after_chparent, after_create, after_define, after_move, after_undefine, with_object, with_value_of};
 ghost use Rattle.moo_world.specs.Calls.{parent_raises, place_raises};
 ghost use Rattle.moo_world.specs.PropertyCalls.{add_property_raises};
-ghost use Rattle.moo_world.specs.Lookups.{IsReparented, IsDefinedOn, IsWithout, IsUndefined};
+ghost use Rattle.moo_world.specs.Lookups.{IsCreated, IsReparented, IsDefinedOn, IsRenamed, IsSet, IsWithout, IsUndefined};
 ghost use Rattle.moo_table.specs.Recycling.{after_recycle};
+ghost use Rattle.moo_table.specs.Renames.{after_rename};
+ghost use Rattle.moo_world.specs.InfoCalls.{rename_raises};
 ghost use Rattle.moo_table.specs.World.{IsWellFormed, object_of};
 ghost use Rattle.moo_table.specs.Restoring.{AreParts, restored_world};
 ghost use Rattle.moo_table.specs.Properties.{definition_named, read};
@@ -58,8 +60,8 @@ pub fn another_parent_keeps_what_is_still_above(world: &World, x: usize, p: Opti
     world.is_well_formed();
 }
 
-/// A new property has its cell on the object that defines it, and a clear one on each descendant;
-/// their other cells stay. Nothing else changes, and no look-up of anything else.
+/// A new property has its cell on the object that defines it, and a clear one on each descendant,
+/// where it reads as on the object; their other cells stay. Nothing else changes, and no look-up of anything else.
 pub fn a_new_property_is_seen_below(
     world: &World,
     x: usize,
@@ -76,6 +78,36 @@ pub fn a_new_property_is_seen_below(
     world.is_well_formed();
     let _bytes = name.as_bytes();
     let _weight = value.weight();
+}
+
+/// What is set is read on the object, and on what inherits it. Every other cell stays, and no other
+/// property reads otherwise.
+pub fn a_set_value_is_read(world: &World, x: usize, name: &[u8], value: &Value)
+    requires object { IsSome (object_of world.now.objects x) }
+    requires defined { is_some (definition_named world.now x (folded name.now)) ≡ true }
+    ensures { IsSet world.now (with_object world.now x (with_value_of (folded name.now) (tree value.now))) x (folded name.now) (tree value.now) }
+{
+    world.is_well_formed();
+}
+
+/// Under its new name a property reads as it did under its old one, wherever it was found. Its cells
+/// are else as they were, and every other cell stays.
+pub fn a_renamed_property_reads_as_before(world: &World, x: usize, name: &[u8], new_name: &MooStr)
+    requires object { IsSome (object_of world.now.objects x) }
+    requires allowed { rename_raises world.now x (x, folded name.now) (folded new_name.now) ≡ None }
+    ensures { IsRenamed world.now (after_rename world.now x (folded name.now) new_name.now) x (folded name.now) (folded new_name.now) }
+{
+    world.is_well_formed();
+    let _bytes = new_name.as_bytes();
+}
+
+/// A new object has its parent's cells, clear, and its properties read as its parent's. Nothing else
+/// changes.
+pub fn a_new_object_reads_as_its_parent(world: &World, parent: Option<usize>, owner: i32)
+    requires { ForSome parent (λ up. IsSome (object_of world.now.objects up)) }
+    ensures { IsCreated world.now (after_create world.now parent owner) parent owner }
+{
+    world.is_well_formed();
 }
 
 /// Once an object is recycled nobody has a cell for what it defined. Every other cell stays.

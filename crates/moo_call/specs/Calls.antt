@@ -7,9 +7,10 @@ use Rattle.moo_function.specs.declared.function.Function.{Function}
 use Rattle.moo_function.specs.declared.function.Function.TheVariants as function
 use Rattle.moo_function.specs.Table.{row}
 use Rattle.moo_function.specs.Names.{function_of}
-use Rattle.moo_function.specs.Check.{mismatch}
+use Rattle.moo_function.specs.Check.{refusal}
 use Rattle.moo_builtin.specs.Calls.{Raised, answer}
 use Rattle.moo_table.specs.World.{World}
+use Rattle.moo_world_function.specs.Objects.{is_valid}
 use Rattle.moo_world_function.specs.Calls.{world_call}
 use Rattle.moo_outcome.specs.declared.frame.TraceEntry.{TraceEntry}
 use Rattle.moo_outcome.specs.Handling.{frame_lists, listed}
@@ -18,6 +19,8 @@ use Rattle.moo_outcome.specs.State.{Context}
 use Rattle.moo_access.specs.State.{State, trace}
 use Rattle.moo_code_function.specs.Telling.{Telling}
 use Rattle.moo_call.specs.Tasks.{Reply, shown_ticks, nearest_programmer, set_task_perms, raised_here}
+use Rattle.moo_call.specs.Connections.{connected_players, elapsed_since, last_heard, last_login}
+use Rattle.moo_call.specs.Asking.{notify, boot_player, set_player_flag, dump_database, shutdown, server_log}
 
 -- what a function over values gives; others are not to be called yet
 abbrev pub valued : Bool → List TraceEntry → Option (Result Tree Raised) → Result Tree Failure
@@ -32,9 +35,18 @@ task_reply function.TicksLeft c args s = (Ok (shown_ticks s.ticks), s)
 task_reply function.Callers c args s = (answers (listed (frame_lists c.callers)), s)
 task_reply function.CallerPermissions c args s = (Ok (object (nearest_programmer c.callers)), s)
 task_reply function.SetTaskPermissions c args s = set_task_perms args s
+task_reply function.ConnectedPlayers c args s = (answers (connected_players c.surroundings args), s)
+task_reply function.IdleSeconds c args s = (answers (elapsed_since last_heard c.surroundings args), s)
+task_reply function.ConnectedSeconds c args s = (answers (elapsed_since last_login c.surroundings args), s)
+task_reply function.Notify c args s = notify args s
+task_reply function.BootPlayer c args s = boot_player args s
+task_reply function.SetPlayerFlag c args s = set_player_flag args s
+task_reply function.DumpDatabase c args s = dump_database args s
+task_reply function.Shutdown c args s = shutdown args s
+task_reply function.ServerLog c args s = server_log args s
 task_reply f c args s = (valued c.frame.d (trace c s) (answer f c.surroundings.moment args), s)
 
--- a wrong count or a wrong type of the arguments comes first
+-- a wrong count of the arguments comes first, then a wrong type, then an object that isn't valid
 abbrev pub unless_refused : State → Option ErrorCode → Reply → Reply
 unless_refused s None reply = reply
 unless_refused s (Some code) reply = (Err (fails code), s)
@@ -48,7 +60,7 @@ over_world s (Some (Err code)) reply = (Err (fails code), s)
 -- a call of a function of the table; other names raise E_INVARG
 abbrev pub called : Option Function → Context → List Tree → State → Reply
 called None c args s = (Err (fails InvalidArgument), s)
-called (Some f) c args s = over_world s (world_call f s.world s.programmer args) (unless_refused s (mismatch (row f) args) (task_reply f c args s))
+called (Some f) c args s = over_world s (world_call f s.world s.programmer args) (unless_refused s (refusal (is_valid s.world) (row f) args) (task_reply f c args s))
 
 -- A call of a built-in function by its name, in any case: its answer and the state after it. Where it reads a text that is no program,
 -- it may tell this of it.

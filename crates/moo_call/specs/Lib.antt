@@ -1,3 +1,5 @@
 pub mod Tasks
+pub mod Connections
+pub mod Asking
 pub mod Calls
 pub mod Seen

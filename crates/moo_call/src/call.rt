@@ -2,7 +2,8 @@
 ghost use Rattle.std.specs.Prelude.{◌≡◌, None, Some};
 ghost use Rattle.moo_value.specs.View.{trees};
 ghost use Rattle.moo_function.specs.Table.{row};
-ghost use Rattle.moo_function.specs.Check.{mismatch};
+ghost use Rattle.moo_function.specs.Check.{refusal};
+ghost use Rattle.moo_world_function.specs.Objects.{is_valid};
 ghost use Rattle.moo_outcome.specs.Seen.{context_of, seen_answer, IsKnownFailure};
 ghost use Rattle.moo_call.specs.Calls.{unless_refused, task_reply, called, CallsFunction};
 ghost use Rattle.moo_call.specs.Seen.{state_at};
@@ -13,13 +14,14 @@ use moo_function::Function;
 use moo_outcome::{Activation, CallStack, Failure, Notice};
 use moo_value::{ErrorCode, MooStr, Value};
 use moo_world::World;
-use moo_world_function::call_world;
+use moo_world_function::{call_world, refusal};
 use std::alloc::Global;
 
 /// Calls a built-in function by its name, letters folded, for the running frame and its programmer: one over the
-/// world, one that looks at the task, of which so many ticks are left, or one over values. A wrong number of arguments
-/// raises E_ARGS, then one of a wrong type E_TYPE, then comes what the function itself looks at. Names of no function,
-/// and functions that can't be called yet, raise E_INVARG.
+/// world, one that looks at the task, of which so many ticks are left, or that leaves a notice, or one over values. A
+/// wrong number of arguments raises E_ARGS, then one of a wrong type E_TYPE, then an object that isn't valid E_INVARG,
+/// then comes what the function itself looks at, and the programmer's right last. Names of no function, and functions
+/// that can't be called yet, raise E_INVARG.
 pub fn call_function(
     alloc: Global,
     world: &mut World,
@@ -59,7 +61,7 @@ fn called(
 // A call of a function that is not one over the world.
 fn unless_refused(
     alloc: Global,
-    world: &World,
+    world: &mut World,
     active: &mut Activation,
     stack: &CallStack<'_>,
     ticks: u32,
@@ -67,9 +69,9 @@ fn unless_refused(
     function: Function,
     args: Vec<Value>,
 ) -> Result<Value, Failure>
-    ensures { IsKnownFailure result → unless_refused (state_at ticks notices.old.items world.now active.old) (mismatch (row function) (trees args.items)) (task_reply function (context_of stack.now None) (trees args.items) (state_at ticks notices.old.items world.now active.old)) ≡ (seen_answer result, state_at ticks notices.new.items world.now active.new) }
+    ensures { IsKnownFailure result → unless_refused (state_at ticks notices.old.items world.old active.old) (refusal (is_valid world.old) (row function) (trees args.items)) (task_reply function (context_of stack.now None) (trees args.items) (state_at ticks notices.old.items world.old active.old)) ≡ (seen_answer result, state_at ticks notices.new.items world.new active.new) }
 {
-    match function.mismatch(&args) {
+    match refusal(function, &args, world) {
         Some(error) => Err(Failure::Fails(error)),
         None => task_reply(alloc, world, active, stack, ticks, notices, function, args),
     }

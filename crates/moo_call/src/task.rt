@@ -10,6 +10,8 @@ ghost use Rattle.moo_call.specs.Tasks.{shown_ticks, nearest_programmer, set_task
 ghost use Rattle.moo_call.specs.Calls.{valued, task_reply};
 ghost use Rattle.moo_call.specs.Seen.{state_at};
 
+use crate::asking::{boot_player, dump_database, notify, server_log, set_player_flag, shutdown};
+use crate::connections::{connected_players, connected_seconds, idle_seconds};
 use moo_builtin::{Outcome, answer};
 use moo_function::Function;
 use moo_operation as operation;
@@ -19,11 +21,10 @@ use moo_value::{ErrorCode, MooStr, Value};
 use moo_world::World;
 use std::alloc::Global;
 
-/// What a function gives that is not one over the world, for arguments that fit its row of the table. Of these
-/// `set_task_perms` alone changes something: the programmer of the running frame.
+/// What a function gives that is not one over the world alone, for arguments that fit its row of the table.
 pub(crate) fn task_reply(
     alloc: Global,
-    world: &World,
+    world: &mut World,
     active: &mut Activation,
     stack: &CallStack<'_>,
     ticks: u32,
@@ -31,13 +32,22 @@ pub(crate) fn task_reply(
     function: Function,
     args: Vec<Value>,
 ) -> Result<Value, Failure>
-    ensures { IsKnownFailure result → task_reply function (context_of stack.now None) (trees args.items) (state_at ticks notices.old.items world.now active.old) ≡ (seen_answer result, state_at ticks notices.new.items world.now active.new) }
+    ensures { IsKnownFailure result → task_reply function (context_of stack.now None) (trees args.items) (state_at ticks notices.old.items world.old active.old) ≡ (seen_answer result, state_at ticks notices.new.items world.new active.new) }
 {
     match function {
         Function::TicksLeft => Ok(shown_ticks(ticks)),
         Function::Callers => callers(alloc, stack),
         Function::CallerPermissions => Ok(Value::Obj(nearest_programmer(&stack.callers))),
         Function::SetTaskPermissions => set_task_perms(world, active, &args),
+        Function::ConnectedPlayers => connected_players(alloc, stack.surroundings, &args),
+        Function::IdleSeconds => idle_seconds(stack.surroundings, &args),
+        Function::ConnectedSeconds => connected_seconds(stack.surroundings, &args),
+        Function::Notify => notify(world, active, notices, &args),
+        Function::BootPlayer => boot_player(world, active, notices, &args),
+        Function::SetPlayerFlag => set_player_flag(world, active, notices, &args),
+        Function::DumpDatabase => dump_database(world, active, notices, &args),
+        Function::Shutdown => shutdown(world, active, notices, &args),
+        Function::ServerLog => server_log(world, active, notices, &args),
         _ => {
             let moment = stack.surroundings.moment;
             valued(alloc, stack, active, moment, function, args)

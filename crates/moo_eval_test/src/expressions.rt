@@ -104,7 +104,7 @@ tostr(1, "x", #2, E_DIV, {1}) --> "1x#2Division by zero{list}"
 {setremove({1, "A", "a"}, "a"), is_member("a", {"A", "a"}), setadd({1}, 2)} --> {{1, "a"}, 2, {1, 2}}
 {ticks_left(), valid(#0)} --> {99997, 0}
 ticks_left() --> 99998
-notify(#1, "x") --> Invalid argument
+notify(#1, "x") --> Permission denied
 notify("x", 1) --> Type mismatch
 ticks_left() --> 99998
 {valid(#0), max_object(), callers(), caller_perms()} --> {0, #-1, {}, #-1}

@@ -13,4 +13,6 @@ mod statements;
 #[cfg(test)]
 mod support;
 #[cfg(test)]
+mod tasks;
+#[cfg(test)]
 mod verbs;

@@ -48,7 +48,12 @@ pub fn verb(alloc: Global, source: &str) -> Result<Frame, Fail> {
 
 /// The literal of the value that a task ends with, or the lines of its traceback without their end.
 pub fn end(alloc: Global, world: &mut World, start: Frame) -> Result<Vec<u8>, Fail> {
-    match run_task(alloc, world, start, &mut env(alloc)) {
+    shown(alloc, run_task(alloc, world, start, &mut env(alloc)))
+}
+
+/// The literal of the value, or the lines of the traceback without their end.
+pub fn shown(alloc: Global, ended: Ended) -> Result<Vec<u8>, Fail> {
+    match ended {
         Ended::Value(value) => Ok(value.to_literal(alloc)?),
         Ended::Uncaught(lines) | Ended::OutOfTicks(lines) => joined(alloc, &lines),
         Ended::Memory => Err(Fail::from("no memory")),
@@ -145,8 +150,8 @@ fn done<T>(answer: Result<T, WorldFault>) -> Result<T, Fail> {
     Ok(answer.map_err(|_| "the call was refused")?)
 }
 
-// A system object, a root, a room and a wizard, and #4, who is nobody: all but the root are under the root.
-fn five_objects(alloc: Global) -> Result<World, Fail> {
+/// A system object, a root, a room and a wizard, and #4, who is nobody: all but the root are under the root.
+pub fn five_objects(alloc: Global) -> Result<World, Fail> {
     let mut world = World::empty(alloc);
     for name in [
         "System Object",

@@ -1,0 +1,106 @@
+//! Functions that look at the open connections.
+ghost use Rattle.std.specs.Prelude.{◌≡◌, ◌++◌, OnOk};
+ghost use Rattle.moo_value.specs.View.{tree, trees};
+ghost use Rattle.moo_outcome.specs.Outcome.{answers};
+ghost use Rattle.moo_outcome.specs.Seen.{surroundings_of, seen_answer, IsKnownFailure};
+ghost use Rattle.moo_call.specs.Connections.{own_number, who, is_asked, connected_players, connected, elapsed, elapsed_since, last_heard, last_login};
+
+use moo_operation::{self as operation, is_true};
+use moo_outcome::{Connection, Failure, Login, Surroundings, push};
+use moo_value::{ErrorCode, Value};
+use std::alloc::{AllocError, Global};
+
+/// `connected_players`: who is connected, in the order of the connections. Where the argument is there and true, so are
+/// the numbers of connections on which nobody is.
+pub(crate) fn connected_players(
+    alloc: Global,
+    around: &Surroundings,
+    args: &[Value],
+) -> Result<Value, Failure>
+    ensures { IsKnownFailure result → answers (connected_players (surroundings_of around.now) (trees args.now)) ≡ seen_answer result }
+{
+    let all = is_asked(args);
+    let connections = around.connections.as_slice();
+    let mut players = Vec::new(alloc);
+    for connection in connections {
+        push_who(&mut players, all, connection)?;
+    }
+    Ok(operation::list(alloc, players)?)
+}
+
+// The argument that may be left out is there and true.
+fn is_asked(args: &[Value]) -> bool
+    ensures { result ≡ is_asked (trees args.now) }
+{
+    match args {
+        [] => false,
+        [first, ..] => is_true(first),
+    }
+}
+
+// Puts the player on a connection at the end, or where nobody is its own number, if those are asked for too.
+fn push_who(players: &mut Vec<Value>, all: bool, connection: &Connection) -> Result<(), AllocError>
+    ensures { OnOk result (trees players.new.items ≡ trees players.old.items ++ who all connection.now.number connection.now.login) }
+{
+    match connection.login {
+        Some(login) => push(players, Value::Obj(login.player)),
+        None if all => push(players, Value::Obj(own_number(connection.number))),
+        None => Ok(()),
+    }
+}
+
+// The number that a connection goes by while nobody is connected on it.
+fn own_number(number: u16) -> i32
+    ensures { result ≡ own_number number }
+{
+    -2 - i32::from(number)
+}
+
+/// `idle_seconds`: the seconds since bytes came last on a player's connection, or where none have come since it was
+/// opened. E_INVARG where nobody is connected by this number.
+pub(crate) fn idle_seconds(around: &Surroundings, args: &[Value]) -> Result<Value, Failure>
+    ensures { answers (elapsed_since last_heard (surroundings_of around.now) (trees args.now)) ≡ seen_answer result }
+{
+    let [Value::Obj(player)] = args else {
+        return Err(Failure::Fails(ErrorCode::TypeMismatch));
+    };
+    let Some((connection, _)) = connected(*player, &around.connections) else {
+        return Err(Failure::Fails(ErrorCode::InvalidArgument));
+    };
+    let heard = connection.heard.unwrap_or(connection.opened);
+    Ok(elapsed(heard, around.moment))
+}
+
+/// `connected_seconds`: the seconds since a player's login. E_INVARG where nobody is connected by this number.
+pub(crate) fn connected_seconds(around: &Surroundings, args: &[Value]) -> Result<Value, Failure>
+    ensures { answers (elapsed_since last_login (surroundings_of around.now) (trees args.now)) ≡ seen_answer result }
+{
+    let [Value::Obj(player)] = args else {
+        return Err(Failure::Fails(ErrorCode::TypeMismatch));
+    };
+    let Some((_, login)) = connected(*player, &around.connections) else {
+        return Err(Failure::Fails(ErrorCode::InvalidArgument));
+    };
+    Ok(elapsed(login.moment, around.moment))
+}
+
+// The connection of a player, with the login.
+fn connected(player: i32, connections: &[Connection]) -> Option<(Connection, Login)>
+    ensures { result ≡ connected player connections.now }
+{
+    for connection in connections {
+        if let Some(login) = connection.login
+            && login.player == player
+        {
+            return Some((*connection, login));
+        }
+    }
+    None
+}
+
+// The seconds from one moment to another, in 32 bits with a sign.
+fn elapsed(from: u32, to: u32) -> Value
+    ensures { tree result ≡ elapsed from to }
+{
+    Value::Int(to.wrapping_sub(from).cast_signed())
+}

@@ -1,0 +1,76 @@
+//! Databases that are cut, and those with a byte that is another.
+use crate::databases::{SMALL, copy_of, read_as, with_line};
+use moo_dbtext::{DbFaultKind, copy_db, read_db};
+use std::alloc::Global;
+use std::test::Fail;
+
+#[test]
+fn a_text_that_is_cut_is_truncated(rt: HostRuntime) -> Result<(), Fail> {
+    let alloc = rt.alloc();
+    let mut lines: u64 = 1;
+    for (end, byte) in SMALL.iter().enumerate() {
+        let told = read_as(alloc, read_db(alloc, &SMALL[..end]))?;
+        let expected = format!(in alloc; "line {lines}: Truncated")?;
+        assert!(rt; told.as_slice() == expected.as_bytes());
+        if *byte == b'\n' {
+            lines = lines.saturating_add(1);
+        }
+    }
+    Ok(())
+}
+
+/// Whether a text is refused, and not for want of memory, or its copy is copied as it is.
+fn is_refused_or_read(alloc: Global, text: &[u8]) -> bool {
+    match copy_db(alloc, text) {
+        Ok(first) => match copy_db(alloc, &first) {
+            Ok(second) => first.as_slice() == second.as_slice(),
+            Err(_) => false,
+        },
+        Err(fault) => !matches!(fault.kind, DbFaultKind::Memory),
+    }
+}
+
+/// Whether that holds with each other byte in this place.
+fn stands_each_byte(alloc: Global, text: &mut [u8], at: usize) -> bool {
+    let Some(old) = text.get(at).copied() else {
+        return true;
+    };
+    for byte in 0..=255 {
+        text[at] = byte;
+        if !is_refused_or_read(alloc, text) {
+            return false;
+        }
+    }
+    text[at] = old;
+    true
+}
+
+/// Whether that holds of every place.
+fn stands_each_change(alloc: Global, text: &mut [u8]) -> bool {
+    for at in 0..text.len() {
+        if !stands_each_byte(alloc, text, at) {
+            return false;
+        }
+    }
+    true
+}
+
+#[test]
+fn a_changed_byte_is_refused_or_read(rt: HostRuntime) -> Result<(), Fail> {
+    let alloc = rt.alloc();
+    let mut text = copy_of(alloc, SMALL)?;
+    assert!(rt; stands_each_change(alloc, &mut text));
+    assert!(rt; text.as_slice() == SMALL.as_slice());
+    Ok(())
+}
+
+#[test]
+fn so_it_is_in_a_text_of_version_1(rt: HostRuntime) -> Result<(), Fail> {
+    let alloc = rt.alloc();
+    let header = b"** LambdaMOO Database, Format Version 1 **\n";
+    let first = with_line(alloc, SMALL, 1, header)?;
+    let mut text = with_line(alloc, &first, 73, b"")?;
+    assert!(rt; copy_db(alloc, &text)?.as_slice() == SMALL.as_slice());
+    assert!(rt; stands_each_change(alloc, &mut text));
+    Ok(())
+}

@@ -1,9 +1,9 @@
 -- What stands right behind a number in the lists of a tree, put down list after list.
-use Rattle.std.proofs.Common.{◌≡◌, ℕ, zero, suc, ◌+◌, ◌<◌, List, [], ◌∷◌, length, Option, Some, None, nat_lt, cond, eqb, refl, sym, ap, subst, ◌∙◌, ⊎_elim, arith, get_or}
-use Rattle.std.specs.List.{All, count_by}
-use Rattle.std.proofs.lemmas.Bool.{cases_Bool, cases_lt, cases_eq, eq-eqb, ne_eqb, lt-ltb, le-ltb}
-use Rattle.std.proofs.lemmas.List.{get_or_past}
-use Rattle.std.proofs.lemmas.List.Elements.{All-tail}
+use Rattle.std.proofs.Common.{◌≡◌, ℕ, zero, suc, ◌+◌, ◌<◌, List, [], ◌∷◌, ◌++◌, length, Option, Some, None, nat_lt, cond, eqb, refl, sym, ap, subst, ◌∙◌, ⊎_elim, arith, get_or, set}
+use Rattle.std.specs.List.{All, count_by, slice_get}
+use Rattle.std.proofs.lemmas.Bool.{cases_Bool, cases_lt, cases_eq, eq-eqb, eqb-true, eqb-false, ne_eqb, lt-ltb, le-ltb}
+use Rattle.std.proofs.lemmas.List.{get_or_past, get_or-set_same, get_or-set_other}
+use Rattle.std.proofs.lemmas.List.Elements.{All-head, All-tail}
 use Rattle.moo_forest.specs.Forest.{Links, alone, above_of, below_of, times_below, IsForest}
 use Rattle.moo_forest.proofs.Counting.{count-cons}
 use Rattle.moo_restore.specs.Recorded.{first_in, next_in, next_below}
@@ -143,3 +143,20 @@ first_inside tree f x z is = first_low (λ y. y < length tree) (below_of tree x)
 pub next_inside : (tree : List Links) → IsForest tree → (x z : ℕ) (up : Option ℕ) → next_below tree up x ≡ Some z → z < length tree
 next_inside tree f x z None is = absurd (none_is_no z is)
 next_inside tree f x z (Some up) is = next_low (λ y. y < length tree) (below_of tree up) x z (below_low tree f up) is
+
+-- a number among others is as low as they are
+pub among : (n : ℕ) (left done : List ℕ) (x : ℕ) → All (λ y. y < n) (left ++ x ∷ done) → x < n
+among n [] done x all = All-head (λ y. y < n) x done all
+among n (z ∷ left) done x all = among n left done x (All-tail (λ y. y < n) z (left ++ x ∷ done) all)
+
+-- what stands behind one number more is put down
+pub put_one : (next old : List (Option ℕ)) (behind : Option ℕ) (x : ℕ) (done : List ℕ) → x < length next → behind ≡ first_in done →
+    ((y : ℕ) → get_or next y None ≡ next_or done (get_or old y None) y) → (y : ℕ) → get_or (set next x behind) y None ≡ next_or (x ∷ done) (get_or old y None) y
+put_one next old behind x done low is each y = ⊎_elim
+    (λ e. rw e (ap (λ k. get_or (set next x behind) k None) (sym (eqb-true x y e)) ∙ get_or-set_same next x behind None low ∙ is))
+    (λ e. rw e (get_or-set_other next x y behind None (λ same. eqb-false x y e (sym same)) ∙ each y))
+    (cases_Bool (eqb x y))
+
+pub first_got : (ys : List ℕ) → slice_get ys 0 ≡ first_in ys
+first_got [] = refl
+first_got (y ∷ ys) = refl

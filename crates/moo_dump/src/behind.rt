@@ -4,7 +4,7 @@ ghost use Rattle.std.specs.Prelude.{◌≡◌, ◌<◌, ℕ, length, IfOk, None,
 ghost use Rattle.std.specs.List.{All};
 ghost use Rattle.moo_dump.specs.Behind.{next_or, AreNexts};
 
-use moo_forest::Forest;
+use moo_forest::{Below, Forest};
 use std::alloc::{AllocError, Global};
 
 /// For each number of a tree what stands right behind it among those right below the same.
@@ -28,11 +28,14 @@ fn put_nexts(tree: &Forest, next: &mut [Option<usize>])
 }
 
 // Puts down for each number of a list what stands right behind it.
-fn put_behind(list: &[usize], next: &mut [Option<usize>])
-    requires { All (λ y. y < length next.old) list.now }
-    ensures { (y : ℕ) → slice_index_or next.new y None ≡ next_or list.now (slice_index_or next.old y None) y }
+fn put_behind(list: Below<'_>, next: &mut [Option<usize>])
+    requires { All (λ y. y < length next.old) list }
+    ensures { (y : ℕ) → slice_index_or next.new y None ≡ next_or list.entry (slice_index_or next.old y None) y }
 {
-    for i in (0..list.len()).rev() {
-        next[list[i]] = list.get(i + 1).copied();
+    let mut left = list;
+    let mut behind = None;
+    while let Some(x) = left.take_last() {
+        next[x] = behind;
+        behind = Some(x);
     }
 }

@@ -20,7 +20,7 @@ pub(crate) fn link_in(tree: &Forest, next: &[Option<usize>], x: usize) -> Link
     tree.is_forest();
     Link {
         above: place_number(tree.above(x)),
-        first: place_number(tree.below(x).first().copied()),
+        first: place_number(tree.below(x).first()),
         next: place_number(next[x]),
     }
 }

@@ -9,10 +9,10 @@ use Rattle.moo_forest.specs.Forest.{without}
 pub count-cons : (x y : ℕ) (ys : List ℕ) → count_by (eqb x) (y ∷ ys) ≡ cond (eqb x y) 1 0 + count_by (eqb x) ys
 count-cons x y ys = sum_by-cons (λ z. cond (eqb x z) 1 0) y ys
 
-zero_if : (b : Bool) → b ≡ false → ◌≡◌ {A = ℕ} (cond b 1 0) 0
+pub zero_if : (b : Bool) → b ≡ false → ◌≡◌ {A = ℕ} (cond b 1 0) 0
 zero_if b e = rw e refl
 
-one_if : (b : Bool) → b ≡ true → ◌≡◌ {A = ℕ} (cond b 1 0) 1
+pub one_if : (b : Bool) → b ≡ true → ◌≡◌ {A = ℕ} (cond b 1 0) 1
 one_if b e = rw e refl
 
 -- x is not in the list without it

@@ -11,7 +11,7 @@ use Rattle.moo_forest.specs.Forest.{Links, alone, above_of, below_of, IsWayUp, a
 use Rattle.moo_forest.specs.Steps.{with_taken_out, with_all_newest, with_all_joined}
 use Rattle.moo_forest.proofs.Counting.{count_without_itself, count_without_other, counted_if_any}
 use Rattle.moo_forest.proofs.Climbing.{IsExact, above_within, not_met, way_up_is_ancestors, forest_from}
-use Rattle.moo_forest.proofs.Moving.{IsPlace, links_same, above_with, below_with, above_set, above_taken_out, length_taken_out, absent_elsewhere}
+use Rattle.moo_forest.proofs.Moving.{IsPlace, links_same, above_with, below_with, above_set, above_taken_out, length_taken_out, absent_elsewhere, once_at_most}
 use Rattle.moo_forest.proofs.Walking.{any_counted, none_counted, counts_at}
 
 -- no node stands right above itself
@@ -341,6 +341,22 @@ dissolved_so nodes x heir from ys zs put joined out last f node place is ys_are 
     let out_so : out ≡ with_taken_out (with_all_joined (with_all_newest nodes (below_of nodes x) heir) (below_of nodes x) heir) x from = out_is ∙ ap (λ js. with_taken_out js x from) joined_so in
     ap (λ os. set os x last) out_so ∙ ap (λ l. set (with_taken_out (with_all_joined (with_all_newest nodes (below_of nodes x) heir) (below_of nodes x) heir) x from) x l) last_is ∙
     dissolved_by_steps nodes x heir from f node place is
+
+-- then a node stands in the list of the one above it once at most
+pub once_so : (nodes : List Links) (x : ℕ) (heir : Option ℕ) (ys zs : List ℕ) (put joined : List Links) → IsForest nodes → IsPlace nodes heir →
+    ys ≡ below_of nodes x → zs ≡ below_of nodes x → put ≡ with_all_newest nodes ys heir → joined ≡ with_all_joined put zs heir → (up : ℕ) → count_by (eqb x) (below_of joined up) ≤ 1
+once_so nodes x heir ys zs put joined f place ys_are zs_are put_is joined_is up =
+    let newest = with_all_newest nodes (below_of nodes x) heir in
+    let newest_len = length_all_newest nodes (below_of nodes x) heir in
+    let put_so : put ≡ newest = put_is ∙ ap (λ ns. with_all_newest nodes ns heir) ys_are in
+    let joined_so : joined ≡ with_all_joined newest (below_of nodes x) heir =
+    joined_is ∙ ap (λ ns. with_all_joined put ns heir) zs_are ∙ ap (λ ps. with_all_joined ps (below_of nodes x) heir) put_so in
+    let members : All (λ y. y < length newest) (below_of nodes x) = subst (λ n. All (λ y. y < n) (below_of nodes x)) (sym newest_len) (listed_within nodes f.exact x) in
+    let there = ap (λ ns. below_of ns up) joined_so ∙ below_joined newest (below_of nodes x) heir up members ∙ below_all_newest nodes x heir up place in
+    let parts = sum_by-append (λ k. cond (eqb x k) 1 0) (below_of nodes up) (taken_over nodes x heir up) in
+    let none : count_by (eqb x) (taken_over nodes x heir up) ≡ 0 = ap (count_by (eqb x)) (sym (taken_kept nodes x heir up f)) ∙ count_without_itself x (taken_over nodes x heir up) in
+    let once = once_at_most nodes f.exact up x in
+    subst (λ ns. count_by (eqb x) ns ≤ 1) (sym there) (omega (arith, parts, none, once))
 
 -- the list that the code read
 pub below_read : (nodes : List Links) (x : ℕ) (read : Links) (ys : List ℕ) → x < length nodes → read ≡ get_or nodes x read → ys ≡ read.below → ys ≡ below_of nodes x

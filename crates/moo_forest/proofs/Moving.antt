@@ -1,5 +1,5 @@
 -- What a move leaves.
-use Rattle.std.proofs.Common.{◌≡◌, ◌≢◌, ℕ, ◌<◌, ◌≤◌, List, [], ◌∷◌, ◌++◌, Option, Some, None, true, false, cond, eqb, refl, sym, ◌∙◌, ap, ⊎_elim, arith, length, get_or, set, map}
+use Rattle.std.proofs.Common.{◌≡◌, ◌≢◌, ℕ, ◌<◌, ◌≤◌, List, [], ◌∷◌, ◌++◌, Option, Some, None, true, false, cond, eqb, refl, sym, ◌∙◌, ap, subst, ⊎_elim, arith, length, get_or, set, map}
 use Rattle.std.specs.List.{count_by, list_any, range_with_len}
 use Rattle.std.specs.Option.{option_eq}
 use Rattle.std.proofs.lemmas.List.{get_or_read, get_or_past, get_or-set_same, get_or-set_other, length-set, append-nil}
@@ -176,6 +176,22 @@ below_newest nodes x (Some up) y place =
 -- x stands in no list but that of the node above it
 pub absent_elsewhere : (nodes : List Links) (x y : ℕ) → IsExact nodes → times_below (above_of nodes x) y ≡ 0 → without x (below_of nodes y) ≡ below_of nodes y
 absent_elsewhere nodes x y exact none = without_absent x (below_of nodes y) (exact y x ∙ none)
+
+times_at_most : (above : Option ℕ) (x : ℕ) → times_below above x ≤ 1
+times_at_most None x = omega arith
+times_at_most (Some up) x = ⊎_elim (λ e. rw e (omega arith)) (λ e. rw e (omega arith)) (cases_Bool (eqb x up))
+
+-- a node stands in a list once at most
+pub once_at_most : (nodes : List Links) → IsExact nodes → (x y : ℕ) → count_by (eqb y) (below_of nodes x) ≤ 1
+once_at_most nodes exact x y = let most = times_at_most (above_of nodes y) x in omega (arith, exact x y, most)
+
+-- also in that of its old place, once it stands in that of the new one
+pub once_moved : (nodes put : List Links) (x : ℕ) (to from : Option ℕ) → IsExact nodes → IsPlace nodes to → option_eq eqb from to ≡ false → put ≡ with_newest nodes x to →
+    (up : ℕ) → from ≡ Some up → count_by (eqb x) (below_of put up) ≤ 1
+once_moved nodes put x to from exact place ne put_is up is =
+    let none : newest_at to x up ≡ [] = newest_elsewhere to x up (λ q isq same. false≢true (sym ne ∙ (let at : eqb up q ≡ true = eq-eqb up q same in rw (is, isq, at) refl))) in
+    let there : below_of put up ≡ below_of nodes up = ap (λ ns. below_of ns up) put_is ∙ below_newest nodes x to up place ∙ ap (λ xs. below_of nodes up ++ xs) none ∙ append-nil (below_of nodes up) in
+    subst (λ ys. count_by (eqb x) ys ≤ 1) (sym there) (once_at_most nodes exact up x)
 
 -- after both steps each list is as the move has it
 below_steps : (nodes : List Links) (x : ℕ) (to from : Option ℕ) (y : ℕ) → IsExact nodes → IsPlace nodes to → IsPlace nodes from → from ≡ above_of nodes x → option_eq eqb from to ≡ false →

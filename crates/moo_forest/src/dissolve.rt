@@ -4,10 +4,11 @@ ghost use Rattle.std.specs.Prelude.{◌≡◌, ◌<◌, OnOk, OnErr, length, vec
 ghost use Rattle.std.specs.Option.{ForSome};
 ghost use Rattle.std.specs.List.{All};
 ghost use Rattle.moo_forest.specs.Forest.{is_within, dissolved};
-ghost use Rattle.moo_forest.specs.Steps.{with_all_newest, with_all_joined};
+ghost use Rattle.moo_forest.specs.Steps.{with_all_joined};
 
+use crate::Forest;
 use crate::node::Node;
-use crate::{Forest, take_out};
+use crate::places::{put_all_below, take_out};
 use std::alloc::{AllocError, Global};
 
 impl Forest {
@@ -26,25 +27,14 @@ impl Forest {
         ensures err { OnErr result (self.new ≡ self.old) }
     {
         let from = self.nodes[x].above();
-        let below = Vec::from_slice(alloc, self.nodes[x].below())?;
+        let place = self.nodes[x].place();
+        let below = self.nodes[x].below().to_vec(alloc)?;
         put_all_below(&mut self.nodes, &below, heir)?;
         join_all(&mut self.nodes, &below, heir);
-        take_out(&mut self.nodes, x, from);
+        take_out(&mut self.nodes, x, from, place);
         self.nodes[x].leave_all();
         Ok(())
     }
-}
-
-// Puts nodes last in the list of another.
-fn put_all_below(nodes: &mut Vec<Node>, xs: &[usize], to: Option<usize>) -> Result<(), AllocError>
-    requires { ForSome to (λ up. up < vec_len nodes.old) }
-    ensures ok { OnOk result (nodes.new.items ≡ with_all_newest nodes.old.items xs.now to) }
-    ensures err { OnErr result (nodes.new.items ≡ nodes.old.items) }
-{
-    if let Some(up) = to {
-        nodes[up].add_all_below(xs)?;
-    }
-    Ok(())
 }
 
 /// Puts another node right above each of these.

@@ -5,17 +5,23 @@
 ghost use Rattle.std.specs.Prelude.{◌≡◌, ◌≢◌, ◌+◌, ◌<◌, ◌++◌, ◌∷◌, [], ◌↔◌, Option, length, IsTrue, IfOk, OnOk, OnErr, IsOk, true, false, vec_len, slice_index_or, take, ◌-◌};
 ghost use Rattle.std.specs.Option.{ForSome};
 ghost use Rattle.moo_forest.specs.Forest.{Links, alone, above_of, below_of, is_within, moved, IsForest};
-ghost use Rattle.moo_forest.specs.Steps.{with_newest, with_taken_out};
 
+mod below;
 mod dissolve;
+mod gapped;
 mod listed;
 mod node;
+mod places;
 mod rooted;
 mod scatter;
+#[cfg(test)]
+mod tests;
 mod walk;
 
+pub use below::Below;
 pub use listed::first_unlisted;
 pub use node::Node;
+use places::{note_all, put_below, take_out};
 pub use rooted::first_endless;
 use std::alloc::{AllocError, Global};
 use std::marker::Model;
@@ -54,6 +60,8 @@ impl Forest {
         requires { IsForest nodes.items }
         ensures { result ≡ nodes.items }
     {
+        let mut nodes = nodes;
+        note_all(&mut nodes);
         Forest { nodes }
     }
 
@@ -90,9 +98,9 @@ impl Forest {
     }
 
     /// The nodes right below, the newest last.
-    pub fn below(&self, x: usize) -> &[usize]
+    pub fn below(&self, x: usize) -> Below<'_>
         requires { x < length self.now }
-        ensures { result.now ≡ below_of self.now x }
+        ensures { result ≡ below_of self.now x }
     {
         self.nodes[x].below()
     }
@@ -132,8 +140,9 @@ impl Forest {
         if from == to {
             return Ok(());
         }
+        let place = self.nodes[x].place();
         put_below(&mut self.nodes, x, to)?;
-        take_out(&mut self.nodes, x, from);
+        take_out(&mut self.nodes, x, from, place);
         self.nodes[x].set_above(to);
         Ok(())
     }
@@ -159,27 +168,5 @@ impl Forest {
         ensures { self.new ≡ take (length self.old - 1) self.old }
     {
         let _last = self.nodes.pop();
-    }
-}
-
-// Puts a node last in the list of another.
-fn put_below(nodes: &mut Vec<Node>, x: usize, to: Option<usize>) -> Result<(), AllocError>
-    requires { ForSome to (λ up. up < vec_len nodes.old) }
-    ensures ok { OnOk result (nodes.new.items ≡ with_newest nodes.old.items x to) }
-    ensures err { OnErr result (nodes.new.items ≡ nodes.old.items) }
-{
-    if let Some(up) = to {
-        nodes[up].add_below(x)?;
-    }
-    Ok(())
-}
-
-// Takes a node out of the list of another.
-fn take_out(nodes: &mut Vec<Node>, x: usize, from: Option<usize>)
-    requires { ForSome from (λ up. up < vec_len nodes.old) }
-    ensures { nodes.new.items ≡ with_taken_out nodes.old.items x from }
-{
-    if let Some(up) = from {
-        nodes[up].remove_below(x);
     }
 }

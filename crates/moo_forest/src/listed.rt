@@ -40,10 +40,10 @@ fn mark_list(nodes: &[Node], listed: &mut [bool], x: usize) -> bool
 {
     let below = nodes[x].below();
     for y in below {
-        if !is_fresh(nodes, listed, x, *y) {
+        if !is_fresh(nodes, listed, x, y) {
             return false;
         }
-        listed[*y] = true;
+        listed[y] = true;
     }
     true
 }

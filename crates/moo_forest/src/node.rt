@@ -1,6 +1,8 @@
-ghost use Rattle.std.specs.Prelude.{◌≡◌, ◌∷◌, ◌++◌, [], OnOk, OnErr};
+ghost use Rattle.std.specs.Prelude.{◌≡◌, ◌∷◌, ◌++◌, ◌≤◌, [], IfOk, OnOk, OnErr, count_by, nat_eq};
 ghost use Rattle.moo_forest.specs.Forest.{Links, alone, without};
 
+use crate::below::Below;
+use crate::gapped::Gapped;
 use std::alloc::{AllocError, Global};
 use std::marker::Model;
 
@@ -8,7 +10,10 @@ use std::marker::Model;
 #[derive(Drop)]
 pub struct Node {
     above: Option<usize>,
-    below: Vec<usize>,
+    below: Gapped,
+    // The slot in which the node stands in the list of the one right above it, which its leaving
+    // begins to look at.
+    place: usize,
 }
 
 impl Model for Node {
@@ -16,15 +21,18 @@ impl Model for Node {
 
     ghost Value = { Links };
 
-    ghost view = { λ n. record { above = n.above; below = n.below.items } };
+    ghost view = { λ n. record { above = n.above; below = n.below } };
 }
 
 impl Node {
     /// A node with the one right above it, and those right below it in order.
-    pub fn new(above: Option<usize>, below: Vec<usize>) -> Self
-        ensures { result ≡ record { above = above; below = below.items } }
+    pub fn new(alloc: Global, above: Option<usize>, below: &[usize]) -> Result<Self, AllocError>
+        ensures { IfOk result (λ node. node ≡ record { above = above; below = below.now }) }
     {
-        Node { above, below }
+        let mut node = Node::alone(alloc);
+        node.set_above(above);
+        node.add_all_below(below)?;
+        Ok(node)
     }
 
     /// A node that is joined to none.
@@ -33,7 +41,8 @@ impl Node {
     {
         Node {
             above: None,
-            below: Vec::new(alloc),
+            below: Gapped::new(alloc),
+            place: 0,
         }
     }
 
@@ -45,10 +54,10 @@ impl Node {
     }
 
     /// The nodes right below, the newest last.
-    pub fn below(&self) -> &[usize]
-        ensures { result.now ≡ self.now.below }
+    pub fn below(&self) -> Below<'_>
+        ensures { result ≡ self.now.below }
     {
-        &self.below
+        self.below.below()
     }
 
     /// Joins the node to another one above it, or to none. The list of that one is not changed.
@@ -63,17 +72,15 @@ impl Node {
         ensures ok { OnOk result (self.new ≡ record self.old { below = self.old.below ++ x ∷ [] }) }
         ensures err { OnErr result (self.new ≡ self.old) }
     {
-        self.below.push(x)?;
-        Ok(())
+        self.below.push(x)
     }
 
-    /// Adds several, in their order.
+    /// Adds several, in their order. Where memory is short, nothing changes.
     pub fn add_all_below(&mut self, xs: &[usize]) -> Result<(), AllocError>
         ensures ok { OnOk result (self.new ≡ record self.old { below = self.old.below ++ xs.now }) }
         ensures err { OnErr result (self.new ≡ self.old) }
     {
-        self.below.extend_from_slice(xs)?;
-        Ok(())
+        self.below.push_all(xs)
     }
 
     /// Joins the node to none.
@@ -84,16 +91,45 @@ impl Node {
         self.below.clear();
     }
 
-    /// Takes every entry of a node out of those below.
-    pub fn remove_below(&mut self, x: usize)
+    /// Takes a node out of those below, among which it is at most once. It costs constant time
+    /// where the node stands at `place`.
+    pub(crate) fn remove_below(&mut self, x: usize, place: usize)
+        requires { count_by (nat_eq x) self.old.below ≤ 1 }
         ensures { self.new ≡ record self.old { below = without x self.old.below } }
     {
-        remove_all(&mut self.below, x);
+        self.below.remove(x, place);
     }
-}
 
-fn remove_all(xs: &mut Vec<usize>, x: usize)
-    ensures { xs.new.items ≡ without x xs.old.items }
-{
-    xs.retain(|y| x != *y);
+    /// Whether the list of those below is to be packed.
+    pub(crate) fn is_sparse(&self) -> bool {
+        self.below.is_sparse()
+    }
+
+    /// Takes the gaps out of the list of those below, in which they change their places.
+    pub(crate) fn pack(&mut self)
+        ensures { self.new ≡ self.old }
+    {
+        self.below.pack();
+    }
+
+    /// How many places there are in the list of those below.
+    pub(crate) fn places(&self) -> usize {
+        self.below.slots()
+    }
+
+    /// Who stands at a place in the list of those below.
+    pub(crate) fn at(&self, place: usize) -> Option<usize> {
+        self.below.slot(place)
+    }
+
+    /// Where the node stands in the list of the one right above it.
+    pub(crate) fn place(&self) -> usize {
+        self.place
+    }
+
+    pub(crate) fn set_place(&mut self, place: usize)
+        ensures { self.new ≡ self.old }
+    {
+        self.place = place;
+    }
 }

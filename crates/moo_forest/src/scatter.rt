@@ -3,8 +3,9 @@
 ghost use Rattle.std.specs.Prelude.{◌≡◌, ◌<◌, None, length};
 ghost use Rattle.moo_forest.specs.Forest.{below_of, dissolved};
 
+use crate::Forest;
 use crate::dissolve::join_all;
-use crate::{Forest, take_out};
+use crate::places::take_out;
 
 impl Forest {
     /// Joins a node, and those right below it, to none. Hand in a copy of its list: then the call
@@ -15,8 +16,9 @@ impl Forest {
         ensures { self.new ≡ dissolved self.old x None }
     {
         let from = self.nodes[x].above();
+        let place = self.nodes[x].place();
         join_all(&mut self.nodes, below, None);
-        take_out(&mut self.nodes, x, from);
+        take_out(&mut self.nodes, x, from, place);
         self.nodes[x].leave_all();
     }
 }

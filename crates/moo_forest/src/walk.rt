@@ -3,7 +3,7 @@
 ghost use Rattle.std.specs.Prelude.{◌≡◌, ◌++◌, ◌<◌, IfOk, OnOk, length, map};
 ghost use Rattle.moo_forest.specs.Walk.{IsWalkDown};
 
-use crate::Forest;
+use crate::{Below, Forest};
 use std::alloc::{AllocError, Global};
 
 /// A node met on a walk down, and the place in the walk of the node right above it.
@@ -33,11 +33,11 @@ impl Forest {
 }
 
 // Adds the nodes right below one of the walk.
-fn add_steps(walk: &mut Vec<Step>, below: &[usize], from: usize) -> Result<(), AllocError>
-    ensures { OnOk result (walk.new.items ≡ walk.old.items ++ map (λ node. record { node = node; from = from }) below.now) }
+fn add_steps(walk: &mut Vec<Step>, below: Below<'_>, from: usize) -> Result<(), AllocError>
+    ensures { OnOk result (walk.new.items ≡ walk.old.items ++ map (λ node. record { node = node; from = from }) below.entry) }
 {
     for node in below {
-        walk.push(Step { node: *node, from })?;
+        walk.push(Step { node, from })?;
     }
     Ok(())
 }

@@ -31,7 +31,8 @@ fn nodes_along(
     let mut nodes = Vec::new(alloc);
     for x in 0..links.len() {
         let below = list_below(alloc, links, taken, x)?;
-        nodes.push(Node::new(above_in(links, x), below))?;
+        let node = Node::new(alloc, above_in(links, x), &below)?;
+        nodes.push(node)?;
     }
     Ok(nodes)
 }

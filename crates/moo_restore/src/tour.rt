@@ -9,7 +9,7 @@ ghost use Rattle.moo_restore.specs.Links.{above_in};
 ghost use Rattle.moo_restore.specs.Tours.{IsTour, AreListsBelow, Awaits, times_entered};
 
 use crate::link::{Link, above_in};
-use moo_forest::Node;
+use moo_forest::{Below, Node};
 use std::alloc::{AllocError, Global};
 
 /// A step of a walk: an object is entered, and left once all that is below it has been.
@@ -100,12 +100,12 @@ fn mark(seen: &mut Vec<bool>, x: usize) -> bool
 }
 
 // Visits to those right below an object, and then out of it: the last is the next one.
-fn add_visits(todo: &mut Vec<Visit>, x: usize, below: &[usize]) -> Result<(), AllocError>
-    ensures { OnOk result (todo.new.items ≡ (todo.old.items ++ Leave x ∷ []) ++ map Enter below.now) }
+fn add_visits(todo: &mut Vec<Visit>, x: usize, below: Below<'_>) -> Result<(), AllocError>
+    ensures { OnOk result (todo.new.items ≡ (todo.old.items ++ Leave x ∷ []) ++ map Enter below.entry) }
 {
     todo.push(Visit::Leave(x))?;
     for y in below {
-        todo.push(Visit::Enter(*y))?;
+        todo.push(Visit::Enter(y))?;
     }
     Ok(())
 }

@@ -12,7 +12,7 @@ ghost use Rattle.moo_world.specs.Calls.{number_of};
 
 use crate::World;
 use crate::named::place_number;
-use moo_forest::Forest;
+use moo_forest::{Below, Forest};
 use moo_object::Object;
 
 impl World {
@@ -77,35 +77,35 @@ impl World {
     }
 
     /// The numbers of a valid object's children, the newest last; each is below `MOST`.
-    pub fn children(&self, o: i32) -> Option<&[usize]>
-        ensures list { option_map (λ (r : Bor (List ℕ)). r.now) result ≡ option_map (λ x. below_of self.now.inheritance x) (number_of self.now.objects o) }
-        ensures low { IfSome result (λ r. All (λ y. y < most) r.now) }
+    pub fn children(&self, o: i32) -> Option<Below<'_>>
+        ensures list { result ≡ option_map (λ x. below_of self.now.inheritance x) (number_of self.now.objects o) }
+        ensures low { IfSome result (λ r. All (λ y. y < most) r) }
     {
         let x = self.number(o)?;
         Some(self.children_of(x))
     }
 
-    fn children_of(&self, x: usize) -> &[usize]
+    fn children_of(&self, x: usize) -> Below<'_>
         requires { IsSome (object_of self.now.objects x) }
-        ensures list { result.now ≡ below_of self.now.inheritance x }
-        ensures low { All (λ y. y < most) result.now }
+        ensures list { result ≡ below_of self.now.inheritance x }
+        ensures low { All (λ y. y < most) result }
     {
         self.inheritance.below(x)
     }
 
     /// The numbers of what is in a valid object, the newest last; each is below `MOST`.
-    pub fn contents(&self, o: i32) -> Option<&[usize]>
-        ensures list { option_map (λ (r : Bor (List ℕ)). r.now) result ≡ option_map (λ x. below_of self.now.containment x) (number_of self.now.objects o) }
-        ensures low { IfSome result (λ r. All (λ y. y < most) r.now) }
+    pub fn contents(&self, o: i32) -> Option<Below<'_>>
+        ensures list { result ≡ option_map (λ x. below_of self.now.containment x) (number_of self.now.objects o) }
+        ensures low { IfSome result (λ r. All (λ y. y < most) r) }
     {
         let x = self.number(o)?;
         Some(self.contents_of(x))
     }
 
-    fn contents_of(&self, x: usize) -> &[usize]
+    fn contents_of(&self, x: usize) -> Below<'_>
         requires { IsSome (object_of self.now.objects x) }
-        ensures list { result.now ≡ below_of self.now.containment x }
-        ensures low { All (λ y. y < most) result.now }
+        ensures list { result ≡ below_of self.now.containment x }
+        ensures low { All (λ y. y < most) result }
     {
         self.containment.below(x)
     }

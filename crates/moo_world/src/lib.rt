@@ -25,6 +25,7 @@ mod verbs;
 
 pub use fault::WorldFault;
 pub use looking::VerbAt;
+pub use moo_forest::Below;
 use moo_forest::Forest;
 pub use moo_object::{
     BuiltInProperty, Flags, Need, Object, ObjectSpecifier, Preposition, PrepositionSpecifier,

@@ -14,6 +14,7 @@ ghost use Rattle.moo_value.specs.Tree.{object};
 
 use crate::World;
 use crate::fault::WorldFault;
+use moo_forest::Below;
 use moo_object::{BuiltInProperty, Object, built_in};
 use moo_value::{ErrorCode, MooList, Value};
 use std::alloc::{AllocError, Global};
@@ -91,13 +92,13 @@ pub(crate) fn place_number(place: Option<usize>) -> i32
 }
 
 // The objects in a place, as a list of their numbers.
-fn contents_value(alloc: Global, below: &[usize]) -> Result<Value, AllocError>
-    requires { All (λ y. y < most) below.now }
-    ensures { IfOk result (λ v. tree v ≡ objects_list below.now) }
+fn contents_value(alloc: Global, below: Below<'_>) -> Result<Value, AllocError>
+    requires { All (λ y. y < most) below }
+    ensures { IfOk result (λ v. tree v ≡ objects_list below.entry) }
 {
     let mut values = Vec::new(alloc);
     for y in below {
-        values.push(Value::Obj(*y as i32))?;
+        values.push(Value::Obj(y as i32))?;
     }
     // What is in an object is always within the limits of a list.
     match MooList::try_from_vec(alloc, values) {

@@ -46,7 +46,7 @@ impl World {
         ensures { Changes result self.old self.new None (after_recycle self.old x) }
     {
         let walk = self.inheritance.walk_down(alloc, x)?;
-        let contents = Vec::from_slice(alloc, self.containment.below(x))?;
+        let contents = self.containment.below(x).to_vec(alloc)?;
         let parent = self.inheritance.above(x);
         let programs = programs_on(&self.objects[x]);
         self.inheritance.dissolve(alloc, x, parent)?;

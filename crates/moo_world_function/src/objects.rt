@@ -9,6 +9,7 @@ ghost use Rattle.moo_world_function.specs.Answers.{Does};
 
 use crate::allowed::may_reparent;
 use crate::made::{INVALID_ARGUMENT, TYPE_MISMATCH, changed, listed, permitted, truth};
+use moo_forest::Below;
 use moo_operation::OperationFault;
 use moo_value::Value;
 use moo_world::World;
@@ -59,13 +60,13 @@ fn children_of(alloc: Global, o: i32, world: &World) -> Result<Value, OperationF
     }
 }
 
-fn numbered(alloc: Global, numbers: &[usize]) -> Result<Vec<Value>, AllocError>
-    requires { All (λ y. y < most) numbers.now }
-    ensures { IfOk result (λ v. trees v.items ≡ map (λ y. object (pos y)) numbers.now) }
+fn numbered(alloc: Global, numbers: Below<'_>) -> Result<Vec<Value>, AllocError>
+    requires { All (λ y. y < most) numbers }
+    ensures { IfOk result (λ v. trees v.items ≡ map (λ y. object (pos y)) numbers.entry) }
 {
     let mut values = Vec::new(alloc);
     for number in numbers {
-        values.push(Value::Obj(*number as i32))?;
+        values.push(Value::Obj(number as i32))?;
     }
     Ok(values)
 }

@@ -1,7 +1,7 @@
 // What is seen of a world, by the names of the calls.
 use crate::args::{Args, list, string};
 use moo_value::{ErrorCode, Value};
-use moo_world::{Need, VerbArgs, World, WorldFault};
+use moo_world::{Below, Need, VerbArgs, World, WorldFault};
 use moo_world_text::{
     object_specifier_text, preposition_specifier_text, prop_perms_text, verb_perms_text,
 };
@@ -90,10 +90,10 @@ fn number(found: Option<i32>) -> Result<Value, WorldFault> {
     }
 }
 
-fn places(alloc: Global, found: Option<&[usize]>) -> Result<Value, WorldFault> {
+fn places(alloc: Global, found: Option<Below<'_>>) -> Result<Value, WorldFault> {
     let mut values = Vec::new(alloc);
     for place in found.ok_or(NOT_VALID)? {
-        values.push(Value::Obj(i32::try_from(*place).unwrap_or(-1)))?;
+        values.push(Value::Obj(i32::try_from(place).unwrap_or(-1)))?;
     }
     list(alloc, values)
 }

@@ -1,6 +1,6 @@
 // Whether two worlds are the same, told without memory.
 use moo_value::same;
-use moo_world::{Object, PropCell, Verb, World};
+use moo_world::{Below, Object, PropCell, Verb, World};
 
 pub fn is_same(one: &World, other: &World) -> bool {
     if one.max_object() != other.max_object() || one.players() != other.players() {
@@ -17,8 +17,16 @@ pub fn is_same(one: &World, other: &World) -> bool {
 fn is_joined_alike(one: &World, other: &World, o: i32) -> bool {
     one.parent(o) == other.parent(o)
         && one.location(o) == other.location(o)
-        && one.children(o) == other.children(o)
-        && one.contents(o) == other.contents(o)
+        && is_same_list(one.children(o), other.children(o))
+        && is_same_list(one.contents(o), other.contents(o))
+}
+
+fn is_same_list(one: Option<Below<'_>>, other: Option<Below<'_>>) -> bool {
+    match (one, other) {
+        (Some(a), Some(b)) => a.eq(b),
+        (None, None) => true,
+        _ => false,
+    }
 }
 
 fn is_same_slot(one: Option<&Object>, other: Option<&Object>) -> bool {

@@ -1,7 +1,12 @@
-use Rattle.std.proofs.Common.{◌≡◌, ℕ, None, drop, get_or}
+use Rattle.std.proofs.Common.{◌≡◌, ◌++◌, ℕ, List, None, get_or, length}
+use Rattle.moo_restore.specs.Recorded.{first_in}
 use Rattle.moo_dump.specs.Behind.{next_or}
 use Rattle.moo_dump.proofs.behind.put_behind.Given as goal
 
--- the numbers of the list from i on are done
-abbrev pub invariant-loop-i : goal.invariant-loop-i
-invariant-loop-i l = (y : ℕ) → get_or l.next y None ≡ next_or (drop l.i l.list) (get_or l.initial.next y None) y
+-- the numbers of the list behind those that are left are done
+abbrev pub invariant-loop-x : goal.invariant-loop-x
+invariant-loop-x l = (done : List ℕ) × (l.left ++ done ≡ l.fn.list) × (l.behind ≡ first_in done) × (length l.next ≡ length l.initial.next)
+    × ((y : ℕ) → get_or l.next y None ≡ next_or done (get_or l.initial.next y None) y)
+
+abbrev pub decreases-loop-x : goal.decreases-loop-x
+decreases-loop-x l = length l.left

@@ -7,7 +7,7 @@ use Rattle.moo_dump.proofs.behind.put_nexts.Goals as goal
 
 pub put_behind-requires : goal.put_behind-requires
 put_behind-requires c = λ k d low.
-    let inside : All (λ y. y < length c.args.tree.now) c.below.result.now = subst (All (λ y. y < length c.args.tree.now)) (sym c.below.ensures) (below_low c.args.tree.now c.is_forest.ensures c.loop-x.x) in
+    let inside : All (λ y. y < length c.args.tree.now) c.below.result = subst (All (λ y. y < length c.args.tree.now)) (sym c.below.ensures) (below_low c.args.tree.now c.is_forest.ensures c.loop-x.x) in
     let below = inside k d low in
     omega (arith, below, c.loop-x.auto.next, c.requires.len)
 

@@ -1,13 +1,13 @@
-use Rattle.std.proofs.Common.{◌≡◌, sym, ◌∙◌, arith, rules}
+use Rattle.std.proofs.Common.{ap, sym, ◌∙◌, arith}
+use Rattle.std.specs.List.{slice_get}
 use Rattle.moo_forest.specs.Forest.{above_of, below_of}
-use Rattle.moo_restore.specs.Recorded.{first_in}
-use Rattle.moo_dump.proofs.Behinds.{first_inside, next_inside}
+use Rattle.moo_dump.proofs.Behinds.{first_inside, next_inside, first_got}
 use Rattle.moo_dump.proofs.link.link_in.Goals as goal
 
 pub place_number-requires-2 : goal.place_number-requires-2
 place_number-requires-2 c = λ z is.
     let tree = c.args.tree.now in
-    let first : c.copied.result ≡ first_in (below_of tree c.args.x) = search rules in
+    let first = c.first.ensures ∙ ap (λ ys. slice_get ys 0) c.below.ensures ∙ first_got (below_of tree c.args.x) in
     let inside = first_inside tree c.is_forest.ensures c.args.x z (sym first ∙ is) in
     omega (arith, inside, c.requires.few)
 

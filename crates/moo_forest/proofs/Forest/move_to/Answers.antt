@@ -1,17 +1,23 @@
 use Rattle.std.proofs.Common.{◌≡◌, sym, ◌∙◌, ap, arith, length, set}
 use Rattle.moo_forest.specs.Forest.{moved}
 use Rattle.moo_forest.proofs.Climbing.{above_within}
-use Rattle.moo_forest.proofs.Moving.{moved_in_steps, moved_elsewhere, forest_relinked, relinked, length_newest, above_read}
+use Rattle.moo_forest.proofs.Moving.{moved_in_steps, moved_elsewhere, forest_relinked, relinked, length_newest, above_read, once_moved}
 use Rattle.moo_forest.proofs.Forest.move_to.Goals as goal
 use Rattle.moo_forest.proofs.Forest.move_to.Goals.{After-self-1}
 
-pub take_out-requires : goal.take_out-requires
-take_out-requires c up is =
+pub take_out-requires-clause-node : goal.take_out-requires-clause-node
+take_out-requires-clause-node c up is =
     let nodes = c.self.inside.nodes.items in
     let from = above_read nodes c.args.x c.index.result.now c.above-from.result (rw c.self.view_is c.requires.node) c.index.ensures c.above-from.ensures in
     let within = above_within nodes c.self.invariant.exact c.args.x up (sym from ∙ is) in
     let len = ap length c.in_ok-put_below.ensures.ok ∙ length_newest nodes c.args.x c.args.to in
     omega (arith, within, len, c.put_below.new.nodes.ok.0)
+
+pub take_out-requires-clause-once : goal.take_out-requires-clause-once
+take_out-requires-clause-once c up is =
+    let nodes = c.self.inside.nodes.items in
+    once_moved nodes c.put_below.new.nodes.items c.args.x c.args.to c.above-from.result c.self.invariant.exact (rw c.self.view_is c.requires.place)
+    (sym c.eq.ensures ∙ c.if-eq.false) c.in_ok-put_below.ensures.ok up is
 
 -- the nodes at the end
 comes_to : (c : After-self-1) → set c.take_out.new.nodes.items c.args.x c.set_above.new.self ≡ relinked c.self.inside.nodes.items c.args.x c.args.to

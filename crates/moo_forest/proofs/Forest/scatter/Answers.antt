@@ -3,7 +3,7 @@ use Rattle.std.specs.List.{All}
 use Rattle.moo_forest.specs.Forest.{below_of, dissolved, is_within}
 use Rattle.moo_forest.proofs.Climbing.{above_within}
 use Rattle.moo_forest.proofs.Moving.{above_read, IsPlace}
-use Rattle.moo_forest.proofs.Dissolving.{dissolved_so, listed_within, length_joined_so, length_out_so, forest_dissolved}
+use Rattle.moo_forest.proofs.Dissolving.{dissolved_so, listed_within, length_joined_so, length_out_so, forest_dissolved, once_so}
 use Rattle.moo_forest.proofs.Forest.scatter.Goals as goal
 
 pub join_all-requires : goal.join_all-requires
@@ -12,14 +12,21 @@ join_all-requires c =
     let listed : c.args.below.now ≡ below_of nodes c.args.x = c.requires.all ∙ ap (λ ns. below_of ns c.args.x) (sym c.self.view_is) in
     λ k d h. (let low = subst (λ ys. All (λ y. y < length nodes) ys) (sym listed) (listed_within nodes c.self.invariant.exact c.args.x) k d h in omega (arith, low, c.self.inside.nodes.ok.0))
 
-pub take_out-requires : goal.take_out-requires
-take_out-requires c up is =
+pub take_out-requires-clause-node : goal.take_out-requires-clause-node
+take_out-requires-clause-node c up is =
     let nodes = c.self.inside.nodes.items in
     let node : c.args.x < length nodes = rw c.self.view_is c.requires.node in
     let from = above_read nodes c.args.x c.index.result.now c.above-from.result node c.index.ensures c.above-from.ensures in
     let within = above_within nodes c.self.invariant.exact c.args.x up (sym from ∙ is) in
     let joined = length_joined_so nodes c.args.below.now None c.join_all.new.nodes.items c.join_all.ensures in
     omega (arith, within, joined, c.join_all.new.nodes.ok.0)
+
+pub take_out-requires-clause-once : goal.take_out-requires-clause-once
+take_out-requires-clause-once c up is =
+    let nodes = c.self.inside.nodes.items in
+    let place : IsPlace nodes None = λ q isq. cc in
+    let listed : c.args.below.now ≡ below_of nodes c.args.x = c.requires.all ∙ ap (λ ns. below_of ns c.args.x) (sym c.self.view_is) in
+    once_so nodes c.args.x None c.args.below.now c.args.below.now nodes c.join_all.new.nodes.items c.self.invariant place listed listed refl c.join_all.ensures up
 
 pub index_mut-requires : goal.index_mut-requires
 index_mut-requires c =

@@ -24,7 +24,7 @@ pub loop-i-preserved : goal.loop-i-preserved
 loop-i-preserved c =
     let here : c.loop-i.i < length c.loop-i.walk.items = omega (arith, c.loop-i-test.true, c.len.ensures, c.loop-i.walk.ok.0) in
     let read = get_or_read c.loop-i.walk.items c.loop-i.i c.index.result.now here c.index.ensures (record { node = 0; from = 0 }) in
-    rw c.in_ok-add_steps.ensures (walk_more c.args.self.now c.is_forest.ensures c.args.x c.loop-i.i c.loop-i.walk.items c.loop-i.invariant c.below.result.now here
+    rw c.in_ok-add_steps.ensures (walk_more c.args.self.now c.is_forest.ensures c.args.x c.loop-i.i c.loop-i.walk.items c.loop-i.invariant c.below.result here
     (c.below.ensures ∙ ap (λ s. below_of c.args.self.now s.node) read))
 
 pub returns : goal.returns

@@ -29,7 +29,7 @@ loop-visit-preserved c =
           let e = w.if-not-mark.ensures in
           let below = w.below.ensures ∙ ap (λ (n : Links). n.below) (get_or_read c.in_ok-nodes.nodes.items x w.index.result.now (let low = e.0 in let many = c.loop-visit.invariant.many in let len = c.in_ok-nodes.ensures.len in omega (arith, low, many, len)) w.index.ensures alone) in
           rw (w.seen-is, w.todo-is, w.visit-is, e.2, w.in_ok-add_visits.ensures)
-          (walk_enters links seen rest tour x w.below.result.now
+          (walk_enters links seen rest tour x w.below.result
           (subst (λ l. IsUnderWay links seen l tour) taken c.loop-visit.invariant) e.0 e.1
           (subst (AreBelow links x) (sym below) (c.in_ok-nodes.ensures.lists x))))
       | in_default-visit w ↦ (
@@ -49,9 +49,9 @@ loop-visit-smaller c =
           let below = w.below.ensures ∙ ap (λ (n : Links). n.below) (get_or_read c.in_ok-nodes.nodes.items x w.index.result.now (let low = e.0 in let many = c.loop-visit.invariant.many in let len = c.in_ok-nodes.ensures.len in omega (arith, low, many, len)) w.index.ensures alone) in
           let same = ap length below in
           let less = unmet_set c.in_ok-nodes.nodes.items c.loop-visit.seen.items x e.0 e.1 in
-          let all = length-append (rest ++ Leave x ∷ []) (map Enter w.below.result.now) in
+          let all = length-append (rest ++ Leave x ∷ []) (map Enter w.below.result) in
           let front = length-append rest (Leave x ∷ []) in
-          let back = length-map w.below.result.now Enter in
+          let back = length-map w.below.result Enter in
           rw (w.seen-is, w.todo-is, e.2, w.in_ok-add_visits.ensures) (omega (arith, taken, same, less, all, front, back)))
       | in_default-visit w ↦ (
           let taken = ap length c.in-Some.ensures.items ∙ length-append rest (c.in-Some.visit ∷ []) in

@@ -1,0 +1,143 @@
+//! Lists of nodes from which one leaves in constant time: it leaves a gap behind.
+
+ghost use Rattle.std.specs.Prelude.{◌≡◌, ◌+◌, ◌<◌, ◌≤◌, ◌++◌, ◌∷◌, [], length, IfOk, OnOk, OnErr, MatchOption, Some, None, count_by, nat_eq, slice_index_or};
+ghost use Rattle.moo_forest.specs.Forest.{without};
+ghost use Rattle.moo_forest.specs.Gapped.{present};
+
+use crate::below::Below;
+use std::alloc::{AllocError, Global};
+use std::marker::Model;
+
+/// A list of nodes, in slots of which some may be empty.
+#[derive(Drop)]
+pub struct Gapped {
+    slots: Vec<Option<usize>>,
+    // How many slots are empty.
+    gaps: usize,
+}
+
+impl Model for Gapped {
+    ghost use Rattle.std.specs.Prelude.{List, ℕ};
+    ghost use Rattle.moo_forest.specs.Gapped.{present};
+
+    ghost Value = { List ℕ };
+
+    ghost view = { λ g. present g.slots.items };
+}
+
+impl Gapped {
+    pub fn new(alloc: Global) -> Self
+        ensures { result ≡ [] }
+    {
+        Gapped {
+            slots: Vec::new(alloc),
+            gaps: 0,
+        }
+    }
+
+    /// The nodes in their order.
+    pub fn below(&self) -> Below<'_>
+        ensures { result ≡ self.now }
+    {
+        Below::new(&self.slots)
+    }
+
+    /// How many slots there are.
+    pub fn slots(&self) -> usize {
+        self.slots.len()
+    }
+
+    /// What stands in a slot.
+    pub fn slot(&self, place: usize) -> Option<usize> {
+        if place < self.slots.len() {
+            self.slots[place]
+        } else {
+            None
+        }
+    }
+
+    /// Adds a node in a slot behind the others.
+    pub fn push(&mut self, x: usize) -> Result<(), AllocError>
+        ensures ok { OnOk result (self.new ≡ self.old ++ x ∷ []) }
+        ensures err { OnErr result (self.new ≡ self.old) }
+    {
+        self.slots.push(Some(x))?;
+        Ok(())
+    }
+
+    /// Adds nodes, in their order. Where memory is short, nothing changes.
+    pub fn push_all(&mut self, xs: &[usize]) -> Result<(), AllocError>
+        ensures ok { OnOk result (self.new ≡ self.old ++ xs.now) }
+        ensures err { OnErr result (self.new ≡ self.old) }
+    {
+        push_all(&mut self.slots, xs)
+    }
+
+    /// Takes a node out, which is there at most once. Its slot is the one at `place`, or is
+    /// searched for where another stands there.
+    pub fn remove(&mut self, x: usize, place: usize)
+        requires { count_by (nat_eq x) self.old ≤ 1 }
+        ensures { self.new ≡ without x self.old }
+    {
+        if let Some(place) = slot_of(&self.slots, x, place) {
+            self.slots[place] = None;
+            self.gaps = self.gaps.saturating_add(1);
+        }
+    }
+
+    /// Whether more than half of the slots are empty.
+    pub fn is_sparse(&self) -> bool {
+        self.gaps > self.slots.len() / 2
+    }
+
+    /// Takes the empty slots out.
+    pub fn pack(&mut self)
+        ensures { self.new ≡ self.old }
+    {
+        keep_filled(&mut self.slots);
+        self.gaps = 0;
+    }
+
+    /// Takes all out.
+    pub fn clear(&mut self)
+        ensures { self.new ≡ [] }
+    {
+        self.slots.clear();
+        self.gaps = 0;
+    }
+}
+
+fn push_all(slots: &mut Vec<Option<usize>>, xs: &[usize]) -> Result<(), AllocError>
+    ensures ok { OnOk result (present slots.new.items ≡ present slots.old.items ++ xs.now) }
+    ensures err { OnErr result (slots.new.items ≡ slots.old.items) }
+{
+    let before = slots.len();
+    for x in xs {
+        if let Err(fault) = slots.push(Some(*x)) {
+            slots.truncate(before);
+            return Err(fault.into());
+        }
+    }
+    Ok(())
+}
+
+// The slot in which a node stands: the one at this place, if it does.
+fn slot_of(slots: &[Option<usize>], x: usize, place: usize) -> Option<usize>
+    ensures { MatchOption result (count_by (nat_eq x) (present slots.now) ≡ 0) (λ i. (i < length slots.now) × (slice_index_or slots.now i None ≡ Some x)) }
+{
+    if place < slots.len() && slots[place] == Some(x) {
+        return Some(place);
+    }
+    for i in 0..slots.len() {
+        if slots[i] == Some(x) {
+            return Some(i);
+        }
+    }
+    None
+}
+
+fn keep_filled(slots: &mut Vec<Option<usize>>)
+    ensures { present slots.new.items ≡ present slots.old.items }
+{
+    slots.retain(|slot| slot.is_some());
+}

@@ -17,6 +17,7 @@ use Rattle.moo_outcome.specs.Handling.{frame_lists, listed}
 use Rattle.moo_outcome.specs.Outcome.{Failure, fails, answers}
 use Rattle.moo_outcome.specs.State.{Context}
 use Rattle.moo_access.specs.State.{State, trace}
+use Rattle.moo_code_function.specs.Listed.{verb_code}
 use Rattle.moo_code_function.specs.Telling.{Telling}
 use Rattle.moo_call.specs.Tasks.{Reply, shown_ticks, nearest_programmer, set_task_perms, raised_here}
 use Rattle.moo_call.specs.Connections.{connected_players, elapsed_since, last_heard, last_login}
@@ -35,6 +36,7 @@ task_reply function.TicksLeft c args s = (Ok (shown_ticks s.ticks), s)
 task_reply function.Callers c args s = (answers (listed (frame_lists c.callers)), s)
 task_reply function.CallerPermissions c args s = (Ok (object (nearest_programmer c.callers)), s)
 task_reply function.SetTaskPermissions c args s = set_task_perms args s
+task_reply function.VerbCode c args s = (answers (verb_code s.world s.programmer args), s)
 task_reply function.ConnectedPlayers c args s = (answers (connected_players c.surroundings args), s)
 task_reply function.IdleSeconds c args s = (answers (elapsed_since last_heard c.surroundings args), s)
 task_reply function.ConnectedSeconds c args s = (answers (elapsed_since last_login c.surroundings args), s)

@@ -2,6 +2,7 @@
 ghost use Rattle.std.specs.Prelude.{◌≡◌, ℕ, List, None};
 ghost use Rattle.moo_value.specs.View.{tree, trees};
 ghost use Rattle.moo_builtin.specs.Calls.{answer};
+ghost use Rattle.moo_code_function.specs.Listed.{verb_code};
 ghost use Rattle.moo_outcome.specs.declared.notice.Notice.{Notice};
 ghost use Rattle.moo_outcome.specs.Handling.{frame_lists, listed};
 ghost use Rattle.moo_outcome.specs.Outcome.{answers};
@@ -13,8 +14,9 @@ ghost use Rattle.moo_call.specs.Seen.{state_at};
 use crate::asking::{boot_player, dump_database, notify, server_log, set_player_flag, shutdown};
 use crate::connections::{connected_players, connected_seconds, idle_seconds};
 use moo_builtin::{Outcome, answer};
+use moo_code_function::verb_code;
 use moo_function::Function;
-use moo_operation as operation;
+use moo_operation::{self as operation, OperationFault};
 use moo_outcome::{Activation, CallStack, Failure, Notice, Raise, Stop, TraceEntry, frame_lists};
 use moo_rights::Rights;
 use moo_value::{ErrorCode, MooStr, Value};
@@ -39,6 +41,7 @@ pub(crate) fn task_reply(
         Function::Callers => callers(alloc, stack),
         Function::CallerPermissions => Ok(Value::Obj(nearest_programmer(&stack.callers))),
         Function::SetTaskPermissions => set_task_perms(world, active, &args),
+        Function::VerbCode => listed_code(alloc, world, active, &args),
         Function::ConnectedPlayers => connected_players(alloc, stack.surroundings, &args),
         Function::IdleSeconds => idle_seconds(stack.surroundings, &args),
         Function::ConnectedSeconds => connected_seconds(stack.surroundings, &args),
@@ -52,6 +55,22 @@ pub(crate) fn task_reply(
             let moment = stack.surroundings.moment;
             valued(alloc, stack, active, moment, function, args)
         }
+    }
+}
+
+// `verb_code`, for the programmer of the running frame.
+fn listed_code(
+    alloc: Global,
+    world: &World,
+    active: &Activation,
+    args: &[Value],
+) -> Result<Value, Failure>
+    ensures { IsKnownFailure result → answers (verb_code world.now active.now.programmer (trees args.now)) ≡ seen_answer result }
+{
+    match verb_code(alloc, args, world, active.programmer) {
+        Ok(code) => Ok(code),
+        Err(OperationFault::Raise(error)) => Err(Failure::Fails(error)),
+        Err(OperationFault::Memory) => Err(Failure::Stops(Stop::Memory)),
     }
 }
 

@@ -7,3 +7,4 @@ mod listing;
 mod setting;
 
 pub use call::call_code;
+pub use listing::verb_code;

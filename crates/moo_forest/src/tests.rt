@@ -1,4 +1,8 @@
 // The places at which leaving begins to look.
+ghost use Rattle.std.specs.Prelude.{◌≡◌, ◌<◌, IsTrue, false, length};
+ghost use Rattle.std.specs.Option.{ForSome};
+ghost use Rattle.moo_forest.specs.Forest.{is_within};
+
 use crate::Forest;
 use std::alloc::{AllocError, Global};
 
@@ -24,7 +28,11 @@ fn are_in_place(forest: &Forest) -> bool {
 }
 
 // Whether a node may be moved to a place, or leave what stands below it to it.
-fn may_join(forest: &Forest, x: usize, to: Option<usize>) -> bool {
+fn may_join(forest: &Forest, x: usize, to: Option<usize>) -> bool
+    ensures node { IsTrue result → x < length forest.now }
+    ensures place { IsTrue result → ForSome to (λ up. up < length forest.now) }
+    ensures apart { IsTrue result → ForSome to (λ up. is_within forest.now up x ≡ false) }
+{
     match to {
         Some(up) => x < forest.len() && up < forest.len() && !forest.is_within(up, x),
         None => x < forest.len(),

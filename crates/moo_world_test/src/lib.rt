@@ -6,6 +6,8 @@
 #[cfg(test)]
 mod args;
 #[cfg(test)]
+mod built_in_names;
+#[cfg(test)]
 mod built_ins;
 #[cfg(test)]
 mod calls;

@@ -3,6 +3,8 @@
 #![tactic(auto)]
 
 #[cfg(test)]
+mod boastful;
+#[cfg(test)]
 mod damage;
 #[cfg(test)]
 mod databases;

@@ -1,14 +1,15 @@
 -- What an entered verb begins with, step by step.
-use Rattle.std.proofs.Common.{◌≡◌, ℕ, ℤ, List, codes, Option, Ok, Err, true, nat_lt, if◌then◌else◌, sym, ap, ◌∙◌}
+use Rattle.std.proofs.Common.{◌≡◌, ℕ, ℤ, List, codes, Option, Result, Ok, Err, true, nat_lt, if◌then◌else◌, sym, ap, ◌∙◌}
+use Rattle.moo_value.specs.declared.error_code.ErrorCode.{ErrorCode}
 use Rattle.moo_value.specs.declared.error_code.ErrorCode.TheVariants.{MaximumRecursion}
 use Rattle.moo_value.specs.Tree.{Tree, object, string}
 use Rattle.moo_operation.specs.Places.{made_list}
 use Rattle.moo_object.specs.declared.verb.Verb.{Verb}
 use Rattle.moo_table.specs.World.{World}
 use Rattle.moo_outcome.specs.State.{Context}
-use Rattle.moo_outcome.specs.Outcome.{answers}
+use Rattle.moo_outcome.specs.Outcome.{Failure, answers}
 use Rattle.moo_outcome.specs.declared.frame.Frame.{Frame}
-use Rattle.moo_access.specs.Entering.{Entered, found_verb, frames, most_frames, player_of_call, called_frame, command_names, with_taken, taken_over, entered, entered_found, entered_by, after_list, entered_verb}
+use Rattle.moo_access.specs.Entering.{Entered, found_verb, frames, most_frames, player_of_call, called_frame, command_names, with_taken, taken_over, entered, entered_found, after_list, entered_from}
 
 -- The variables that tell of the command are taken over one after another.
 pub taken : (e v0 v1 v2 v3 v4 v5 v6 : List ℕ → Option Tree) →
@@ -28,14 +29,21 @@ taken e v0 v1 v2 v3 v4 v5 v6 p1 p2 p3 p4 p5 p6 =
     ∙ ap (λ v. with_taken v (codes "dobj") (e (codes "dobj"))) p1))))
 
 -- A verb that is found is entered where a frame is left for it.
-pub enters : (w : World) (c : Context) (vars : List ℕ → Option Tree) (p this other : ℤ) (name : List ℕ) (vs : List Tree) {args : List Tree} {whole : Tree} {found : ℤ × Verb} {player : ℤ} {f : Frame} {e : Entered} →
-    other ≡ this → made_list vs ≡ Ok whole → args ≡ vs → found_verb w other name ≡ Ok found → nat_lt (frames c.callers) most_frames ≡ true →
-    player ≡ player_of_call w c.frame vars p → f ≡ called_frame c.frame player other found name args → e ≡ entered c vars p f →
-    answers (entered_verb w c vars p (object this) (string name) vs) ≡ Ok e
-enters w c vars p this other name vs {args} {whole} {found} {player} one made same there left whose framed was =
-    let there' = ap (λ o. found_verb w o name) (sym one) ∙ there in
-    let framed' = framed ∙ ap (λ o. called_frame c.frame player o found name args) one in
-    ap (λ m. answers (after_list m (entered_by w c vars p (object this) (string name) vs))) made
-    ∙ ap (λ r. answers (entered_found w c vars p this name vs r)) there'
+pub enters : (w : World) (c : Context) (vars : List ℕ → Option Tree) (p this other : ℤ) (name : List ℕ) (vs : List Tree) (r : Result (ℤ × Verb) ErrorCode) {found : ℤ × Verb} {player : ℤ} {f : Frame} {e : Entered} →
+    other ≡ this → r ≡ Ok found → nat_lt (frames c.callers) most_frames ≡ true →
+    player ≡ player_of_call w c.frame vars p → f ≡ called_frame c.frame player other found name vs → e ≡ entered c vars p f →
+    answers (entered_found w c vars p this name vs r) ≡ Ok e
+enters w c vars p this other name vs r {found} {player} one there left whose framed was =
+    let framed' = framed ∙ ap (λ o. called_frame c.frame player o found name vs) one in
+    ap (λ x. answers (entered_found w c vars p this name vs x)) there
     ∙ ap (λ b. answers (if b then Ok (entered c vars p (called_frame c.frame (player_of_call w c.frame vars p) this found name vs)) else Err MaximumRecursion)) left
-    ∙ ap Ok (sym (was ∙ ap (entered c vars p) (framed' ∙ ap (λ x. called_frame c.frame x this found name args) whose ∙ ap (called_frame c.frame (player_of_call w c.frame vars p) this found name) same)))
+    ∙ ap Ok (sym (was ∙ ap (entered c vars p) (framed' ∙ ap (λ x. called_frame c.frame x this found name vs) whose)))
+
+-- The list of the arguments comes first.
+pub listed : (w : World) (c : Context) (vars : List ℕ → Option Tree) (p this from : ℤ) (name : List ℕ) (vs args : List Tree) {whole : Tree} (r : Result Entered Failure) →
+    made_list vs ≡ Ok whole → args ≡ vs → answers (entered_found w c vars p this name args (found_verb w from name)) ≡ r →
+    answers (entered_from w c vars p this from name vs) ≡ r
+listed w c vars p this from name vs args r made same gives =
+    ap (λ m. answers (after_list m (entered_found w c vars p this name vs (found_verb w from name)))) made
+    ∙ ap (λ xs. answers (entered_found w c vars p this name xs (found_verb w from name))) (sym same)
+    ∙ gives

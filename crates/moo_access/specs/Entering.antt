@@ -136,3 +136,7 @@ after_list (Err code) r = Err code
 -- that name that can be executed, and a frame has to be left.
 abbrev pub entered_verb : World → Context → (List ℕ → Option Tree) → ℤ → Tree → Tree → List Tree → Result Entered ErrorCode
 entered_verb w c variables programmer base name vs = after_list (made_list vs) (entered_by w c variables programmer base name vs)
+
+-- the same for a verb that is looked for from an object on, and runs on another
+abbrev pub entered_from : World → Context → (List ℕ → Option Tree) → ℤ → ℤ → ℤ → List ℕ → List Tree → Result Entered ErrorCode
+entered_from w c variables programmer this from name vs = after_list (made_list vs) (entered_found w c variables programmer this name vs (found_verb w from name))

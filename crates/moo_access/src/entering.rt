@@ -6,7 +6,7 @@ ghost use Rattle.moo_value.specs.Compare.{folded};
 ghost use Rattle.moo_value.specs.View.{tree, trees};
 ghost use Rattle.moo_program.specs.Tree.{no_statement};
 ghost use Rattle.moo_operation.specs.Places.{made_list};
-ghost use Rattle.moo_access.specs.Entering.{entered_verb, found_verb, verb_there, called_verb, frames, object_or, player_of_call, called_frame, is_frame, with_taken, called_variables, entered};
+ghost use Rattle.moo_access.specs.Entering.{entered_verb, entered_from, entered_found, found_verb, verb_there, called_verb, frames, object_or, player_of_call, called_frame, is_frame, with_taken, called_variables, entered};
 ghost use Rattle.moo_access.specs.SeenCalled.{entered_of, found_of};
 ghost use Rattle.moo_outcome.specs.Outcome.{answers};
 ghost use Rattle.moo_outcome.specs.Seen.{context_of, variables_of, failure_of, seen_by, IsKnownFailure, HadMemoryIn};
@@ -54,12 +54,46 @@ pub fn enter_verb<'a>(
     let (Value::Obj(this), Value::Str(name)) = (base, name) else {
         return Err(Failure::Fails(ErrorCode::TypeMismatch));
     };
-    let found = found_verb(world, *this, name)?;
+    enter_found(alloc, world, stack, active, *this, *this, name, args)
+}
+
+/// Enters the verb of a name that is found from an object on, to run on another object, with its owner's rights: E_QUOTA
+/// for a list of arguments past the limits, E_INVIND where the object that it is looked for on isn't valid, E_VERBNF
+/// where there is no such verb that can be executed, E_MAXREC where no frame is left.
+pub fn enter_verb_from<'a>(
+    alloc: Global,
+    world: &World,
+    stack: &CallStack<'a>,
+    active: &Activation,
+    this: i32,
+    from: i32,
+    name: &MooStr,
+    args: Vec<Value>,
+) -> Result<Called<'a>, Failure>
+    ensures { IsKnownFailure result → answers (entered_from world.now (context_of stack.now None) (variables_of active.now.variables) active.now.programmer this from name.now (trees args.items)) ≡ seen_by entered_of result }
+{
+    let args = arguments(alloc, args)?;
+    enter_found(alloc, world, stack, active, this, from, name, args)
+}
+
+fn enter_found<'a>(
+    alloc: Global,
+    world: &World,
+    stack: &CallStack<'a>,
+    active: &Activation,
+    this: i32,
+    from: i32,
+    name: &MooStr,
+    args: MooList,
+) -> Result<Called<'a>, Failure>
+    ensures { IsKnownFailure result → answers (entered_found world.now (context_of stack.now None) (variables_of active.now.variables) active.now.programmer this name.now args (found_verb world.now from name.now)) ≡ seen_by entered_of result }
+{
+    let found = found_verb(world, from, name)?;
     if frames(stack) >= MOST_FRAMES {
         return Err(Failure::Fails(ErrorCode::MaximumRecursion));
     }
     let player = player_of_call(world, &stack.running, active);
-    let frame = called_frame(alloc, &stack.running, player, *this, found, name, args)?;
+    let frame = called_frame(alloc, &stack.running, player, this, found, name, args)?;
     Ok(entered(alloc, stack, active, frame)?)
 }
 

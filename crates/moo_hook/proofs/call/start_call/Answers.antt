@@ -1,0 +1,14 @@
+use Rattle.std.proofs.Common.{◌≡◌, ◌∙◌, refl, sym, ap, codes, pos, negsuc, true, false, None, rules, w32, to_z, of_z}
+use mir.Val.{SFits}
+use Rattle.std.proofs.lemmas.Int.{to_z-of_z}
+use Rattle.std.proofs.lemmas.Result.{err_from_is_err_and}
+use Rattle.moo_hook.specs.Calls.{refused, starts}
+use Rattle.moo_hook.proofs.call.start_call.Goals as goal
+
+pub returns-in-Some : goal.returns-in-Some
+returns-in-Some c =
+    λ ticks notices k. refused (rw c.deref.ensures.value at (sym c.refusal.ensures ∙ c.in-Some.is))
+
+pub returns : goal.returns
+returns c =
+    λ ticks notices k. starts (rw c.deref.ensures.value at (sym c.refusal.ensures ∙ c.in-None.is)) (c.first_progress.ensures k) refl

@@ -1,0 +1,22 @@
+use Rattle.std.proofs.Common.{◌≡◌, ◌∙◌, refl, sym, ap, codes, pos, negsuc, true, false, None, rules, w32, to_z, of_z}
+use mir.Val.{SFits}
+use Rattle.std.proofs.lemmas.Int.{to_z-of_z}
+use Rattle.std.proofs.lemmas.Result.{err_from_is_err_and}
+use Rattle.std.proofs.Common.{Err}
+use Rattle.moo_hook.specs.Quota.{quota}
+use Rattle.moo_hook.proofs.Quotas.{was_read, was_raised}
+use Rattle.moo_hook.proofs.quota.quota.Goals as goal
+
+pub returns-in-Ok : goal.returns-in-Ok
+unfolding quota
+returns-in-Ok c =
+    let owner = to_z-of_z w32 c.args.owner c.ranges.owner in
+    let read = was_read c.get.result _ _ c.in-Ok.value (simp owner at c.get.ensures.value) c.in-Ok.is in
+    rw (read.0, read.1) c.integer_in.ensures
+
+pub returns-in-Err-Raise : goal.returns-in-Err-Raise
+unfolding quota
+returns-in-Err-Raise c =
+    let owner = to_z-of_z w32 c.args.owner c.ranges.owner in
+    let raises = was_raised c.get.result _ _ c.in-Err-Raise.field-0-0 (simp owner at c.get.ensures.value) (c.in-Err-Raise.is ∙ ap Err c.in-Err-Raise.field-0-is) in
+    rw raises refl

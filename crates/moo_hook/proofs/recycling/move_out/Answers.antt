@@ -1,0 +1,25 @@
+use Rattle.std.proofs.Common.{◌≡◌, ◌∙◌, refl, sym, ap, codes, pos, negsuc, true, false, None, rules, w32, to_z, of_z}
+use mir.Val.{SFits}
+use Rattle.std.proofs.lemmas.Int.{to_z-of_z}
+use Rattle.std.proofs.lemmas.Result.{err_from_is_err_and}
+use Rattle.std.proofs.Common.{[], ◌∷◌}
+use Rattle.moo_value.specs.Tree.{object}
+use Rattle.moo_hook.specs.Recycling.{recycle_calls, moved_out}
+use Rattle.moo_hook.specs.Seen.{calling_of}
+use Rattle.moo_hook.proofs.Raised.{refused, changed}
+use Rattle.moo_hook.proofs.recycling.move_out.Goals as goal
+
+pub returns-in_err-told : goal.returns-in_err-told
+unfolding moved_out
+returns-in_err-told c =
+    let inside = to_z-of_z w32 c.args.inside c.ranges.inside in
+    let p = err_from_is_err_and c.from_residual.result c.from_residual.ensures.1 in
+    rw (p.1, p.2) (λ k. refused c.move_bare.result _ _ _ _ _ _ (simp inside at c.move_bare.ensures.world) (sym c.in_err-told.ensures) k)
+
+pub returns : goal.returns
+unfolding moved_out
+returns c =
+    let inside = to_z-of_z w32 c.args.inside c.ranges.inside in
+    let o = to_z-of_z w32 c.args.o c.ranges.o in
+    let args = simp inside at c.in_ok-args.ensures in
+    λ k. changed c.move_bare.result c.in_ok-told.field-0 _ _ _ _ (λ x. recycle_calls (calling_of c.args.stack.now c.args.active.now) x c.args.o (codes "exitfunc") (object c.args.inside ∷ [])) _ (simp inside at c.move_bare.ensures.world) (sym c.in_ok-told.ensures) (simp (o, args) at (c.call_verb.ensures k))

@@ -1,0 +1,67 @@
+-- Calls of the functions that call verbs.
+use Rattle.std.specs.Prelude.{◌≡◌, ℕ, List, [], ◌∷◌, Bool, true, false, Option, Some, None, if◌then◌else◌}
+use Rattle.moo_value.specs.declared.error_code.ErrorCode.{ErrorCode}
+use Rattle.moo_value.specs.declared.error_code.ErrorCode.TheVariants.{TypeMismatch}
+use Rattle.moo_value.specs.Tree.{Tree, object}
+use Rattle.moo_function.specs.declared.function.Function.{Function}
+use Rattle.moo_function.specs.declared.function.Function.TheVariants as function
+use Rattle.moo_function.specs.Table.{row}
+use Rattle.moo_function.specs.Names.{function_of}
+use Rattle.moo_function.specs.Check.{refusal}
+use Rattle.moo_table.specs.World.{World}
+use Rattle.moo_outcome.specs.State.{Context}
+use Rattle.moo_access.specs.State.{State}
+use Rattle.moo_code_function.specs.Telling.{Telling}
+use Rattle.moo_hook.specs.Progressing.{Calling, calling, Progress, refuses}
+use Rattle.moo_hook.specs.Objects.{is_object}
+use Rattle.moo_hook.specs.Passing.{passing}
+use Rattle.moo_hook.specs.Moving.{moving}
+use Rattle.moo_hook.specs.Creating.{creating}
+use Rattle.moo_hook.specs.Recycling.{recycling}
+
+abbrev pub calls_verbs : Function → Bool
+calls_verbs function.Pass = true
+calls_verbs function.Move = true
+calls_verbs function.Create = true
+calls_verbs function.Recycle = true
+calls_verbs _ = false
+
+abbrev pub verb_caller : Option Function → Option Function
+verb_caller None = None
+verb_caller (Some f) = if calls_verbs f then Some f else None
+
+-- the function that a name calls, where it is one that calls verbs
+abbrev pub caller_of : List ℕ → Option Function
+caller_of name = verb_caller (function_of name)
+
+abbrev pub move_begins : Calling → World → List Tree → Progress × World
+move_begins k w (object what ∷ object to ∷ []) = moving k w what to
+move_begins k w _ = (refuses TypeMismatch, w)
+
+-- the owner is the programmer, where no other is given
+abbrev pub create_begins : Calling → World → List Tree → Progress × World
+create_begins k w (object up ∷ []) = creating k w up k.programmer
+create_begins k w (object up ∷ object owner ∷ []) = creating k w up owner
+create_begins k w _ = (refuses TypeMismatch, w)
+
+abbrev pub recycle_begins : Calling → World → List Tree → Progress × World
+recycle_begins k w (object o ∷ []) = recycling k w o
+recycle_begins k w _ = (refuses TypeMismatch, w)
+
+-- the first step of a function, for arguments that fit
+abbrev pub first_progress : Function → Calling → World → List Tree → Progress × World
+first_progress function.Pass k w vs = (passing k w vs, w)
+first_progress function.Move k w vs = move_begins k w vs
+first_progress function.Create k w vs = create_begins k w vs
+first_progress function.Recycle k w vs = recycle_begins k w vs
+first_progress _ k w vs = (refuses TypeMismatch, w)
+
+-- A call begins with the number of its arguments, then their types, then whether their objects are valid. Of a text that is no
+-- program it may tell this.
+pub data Starts (T : Telling) : Context → Function → List Tree → State → Progress → State → Type 0 where
+  refused : {c : Context} {f : Function} {vs : List Tree} {s : State} {code : ErrorCode} →
+      refusal (is_object s.world) (row f) vs ≡ Some code →
+      Starts T c f vs s (refuses code) s
+  starts : {c : Context} {f : Function} {vs : List Tree} {s s' : State} {step : Progress} {w : World} →
+      refusal (is_object s.world) (row f) vs ≡ None → first_progress f (calling c s) s.world vs ≡ (step, w) → record s { world = w } ≡ s' →
+      Starts T c f vs s step s'

@@ -1,0 +1,11 @@
+pub mod Progressing
+pub mod Objects
+pub mod Quota
+pub mod Passing
+pub mod Moving
+pub mod Creating
+pub mod Recycling
+pub mod Stages
+pub mod Calls
+pub mod Seen
+pub mod Turns

@@ -1,0 +1,33 @@
+-- What the program's steps stand for.
+use Rattle.std.specs.Prelude.{None, Result, Ok, Err}
+use Rattle.moo_value.specs.View.{tree}
+use Rattle.moo_outcome.specs.declared.frame.CallStack.{CallStack}
+use Rattle.moo_outcome.specs.declared.frame.Activation.{Activation}
+use Rattle.moo_outcome.specs.declared.outcome.Failure as code_failure
+use Rattle.moo_outcome.specs.declared.outcome.Failure.TheVariants as failure
+use Rattle.moo_outcome.specs.declared.outcome.Stop.TheVariants as stop
+use Rattle.moo_world.specs.declared.fault.WorldFault.{WorldFault}
+use Rattle.moo_world.specs.declared.fault.WorldFault.TheVariants as fault
+use Rattle.moo_outcome.specs.Seen.{context_of, variables_of, failure_of}
+use Rattle.moo_access.specs.SeenCalled.{entered_of}
+use Rattle.moo_hook.specs.declared.progress.Progress as code_progress
+use Rattle.moo_hook.specs.declared.progress.Progress.TheVariants as progress_case
+use Rattle.moo_hook.specs.Progressing.{Calling, Progress, done, verb_next, stage_next}
+
+abbrev pub calling_of : CallStack → Activation → Calling
+calling_of stack active = record { context = context_of stack None; variables = variables_of active.variables; programmer = active.programmer }
+
+abbrev pub progress_of : code_progress.Progress → Progress
+progress_of (progress_case.Done v) = done (Ok (tree v))
+progress_of (progress_case.VerbNext called stage) = verb_next (entered_of called) stage
+progress_of (progress_case.StageNext stage) = stage_next stage
+
+abbrev pub seen_progress : Result code_progress.Progress code_failure.Failure → Progress
+seen_progress (Ok step) = progress_of step
+seen_progress (Err failure) = done (Err (failure_of failure))
+
+-- For private clauses: an answer of the world, as one of a function.
+abbrev pub told : {T : Type 0} → Result T WorldFault → Result T code_failure.Failure
+told (Ok v) = Ok v
+told (Err (fault.Raise code)) = Err (failure.Fails code)
+told (Err fault.Memory) = Err (failure.Stops stop.Memory)

@@ -1,0 +1,71 @@
+//! `create`.
+ghost use Rattle.std.specs.Prelude.{◌≡◌};
+ghost use Rattle.moo_outcome.specs.Seen.{IsKnownFailure};
+ghost use Rattle.moo_hook.specs.Creating.{may_be_parent, owner_of_new, creating};
+ghost use Rattle.moo_hook.specs.Seen.{calling_of, seen_progress};
+
+use crate::hook::hook;
+use crate::progress::{Progress, Stage, told};
+use crate::quota::{change_quota, is_used_up, quota};
+use moo_outcome::{Activation, CallStack, Failure};
+use moo_rights::Rights;
+use moo_value::ErrorCode;
+use moo_world::World;
+use std::alloc::Global;
+
+/// Makes an object: E_PERM where the parent isn't fertile, then E_QUOTA where the owner may not own more or there is no
+/// number left, then E_PERM where the owner isn't the programmer. The object is told.
+pub(crate) fn create<'a>(
+    alloc: Global,
+    world: &mut World,
+    stack: &CallStack<'a>,
+    active: &Activation,
+    up: i32,
+    owner: i32,
+) -> Result<Progress<'a>, Failure>
+    ensures { IsKnownFailure result → creating (calling_of stack.now active.now) world.old up owner ≡ (seen_progress result, world.new) }
+{
+    if !may_be_parent(world, active.programmer, up) {
+        return Err(Failure::Fails(ErrorCode::Permission));
+    }
+    let left = quota(alloc, world, owner)?;
+    if is_used_up(left) {
+        return Err(Failure::Fails(ErrorCode::Quota));
+    }
+    told(world.try_create(up))?;
+    if !Rights::controls(world, active.programmer, owner) {
+        return Err(Failure::Fails(ErrorCode::Permission));
+    }
+    let owner_of_new = owner_of_new(world, owner);
+    let o = told(world.create(alloc, up, owner_of_new))?;
+    change_quota(world, owner, left, -1);
+    hook(
+        alloc,
+        world,
+        stack,
+        active,
+        "create",
+        o,
+        "initialize",
+        Vec::new(alloc),
+        Stage::Created(o),
+    )
+}
+
+// Whether the programmer may make an object inherit from another, or from none.
+fn may_be_parent(world: &World, programmer: i32, to: i32) -> bool
+    ensures { result ≡ may_be_parent world.now programmer to }
+{
+    to == -1 || Rights::may_inherit_from(world, programmer, to)
+}
+
+// #-1 as the owner stands for the new object itself.
+fn owner_of_new(world: &World, owner: i32) -> i32
+    ensures { result ≡ owner_of_new world.now owner }
+{
+    if owner != -1 {
+        return owner;
+    }
+    world.is_well_formed();
+    world.objects().len() as i32
+}

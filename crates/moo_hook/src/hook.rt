@@ -1,0 +1,82 @@
+//! Verbs that a function calls.
+ghost use Rattle.std.specs.Prelude.{◌≡◌, ◌∷◌, [], IfOk};
+ghost use Rattle.moo_value.specs.Tree.{object};
+ghost use Rattle.moo_value.specs.View.{tree, trees};
+ghost use Rattle.moo_outcome.specs.Seen.{IsKnownFailure};
+ghost use Rattle.moo_access.specs.SeenCalled.{entered_of};
+ghost use Rattle.moo_hook.specs.Progressing.{hook, through, is_missing, or_passed_over};
+ghost use Rattle.moo_hook.specs.Seen.{calling_of, seen_progress};
+
+use crate::progress::{Progress, Stage};
+use moo_access::{Called, enter_verb};
+use moo_outcome::{Activation, CallStack, Failure, TraceEntry};
+use moo_value::{ErrorCode, MooStr, Value};
+use moo_world::World;
+use std::alloc::{AllocError, Global};
+
+/// Calls a verb of an object for a function: E_MAXREC where no frame is left. Where there is no such verb that can be
+/// executed, the stage comes at once.
+pub(crate) fn hook<'a>(
+    alloc: Global,
+    world: &World,
+    stack: &CallStack<'a>,
+    active: &Activation,
+    function: &str,
+    o: i32,
+    name: &str,
+    args: Vec<Value>,
+    stage: Stage,
+) -> Result<Progress<'a>, Failure>
+    ensures { IsKnownFailure result → hook (calling_of stack.now active.now) world.now function.now o name.now (trees args.items) stage ≡ seen_progress result }
+{
+    let base = Value::Obj(o);
+    let verb = Value::Str(text(alloc, name)?);
+    match enter_verb(alloc, world, stack, active, &base, &verb, args) {
+        Ok(called) => Ok(Progress::VerbNext(through(alloc, function, called)?, stage)),
+        Err(Failure::Fails(code)) => or_passed_over(stage, code),
+        Err(Failure::Stops(stop)) => Err(Failure::Stops(stop)),
+    }
+}
+
+fn or_passed_over<'a>(stage: Stage, code: ErrorCode) -> Result<Progress<'a>, Failure>
+    ensures { or_passed_over stage code ≡ seen_progress result }
+{
+    if is_missing(code) {
+        return Ok(Progress::StageNext(stage));
+    }
+    Err(Failure::Fails(code))
+}
+
+fn is_missing(code: ErrorCode) -> bool
+    ensures { result ≡ is_missing code }
+{
+    matches!(
+        code,
+        ErrorCode::InvalidIndirection | ErrorCode::VerbNotFound
+    )
+}
+
+// The verb is entered by a function, which stands between it and its caller.
+fn through<'a>(alloc: Global, function: &str, called: Called<'a>) -> Result<Called<'a>, AllocError>
+    ensures { IfOk result (λ hooked. entered_of hooked ≡ through function.now (entered_of called.entry)) }
+{
+    let mut called = called;
+    let entry = TraceEntry::BuiltIn(text(alloc, function)?);
+    called.stack.callers.insert(0, entry)?;
+    Ok(called)
+}
+
+fn text(alloc: Global, bytes: &str) -> Result<MooStr, AllocError>
+    ensures { IfOk result (λ s. s ≡ bytes.now) }
+{
+    MooStr::try_from_bytes(alloc, bytes.as_bytes()).map_err(|_| AllocError)
+}
+
+/// The arguments of a verb that is told of one object.
+pub(crate) fn one_object(alloc: Global, o: i32) -> Result<Vec<Value>, AllocError>
+    ensures { IfOk result (λ args. trees args.items ≡ object o ∷ []) }
+{
+    let mut args = Vec::new(alloc);
+    args.push(Value::Obj(o))?;
+    Ok(args)
+}

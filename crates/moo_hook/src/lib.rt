@@ -1,0 +1,17 @@
+//! The built-in functions that call verbs, stage by stage: what each does between two verbs, and which verb comes next.
+#![tactic(auto)]
+
+mod call;
+mod creating;
+mod hook;
+mod moving;
+mod objects;
+mod passing;
+mod progress;
+mod quota;
+mod recycling;
+mod stages;
+
+pub use call::{start_call, verb_caller};
+pub use progress::{Progress, Stage};
+pub use stages::resume_call;

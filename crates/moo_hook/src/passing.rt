@@ -1,0 +1,41 @@
+//! `pass`.
+ghost use Rattle.std.specs.Prelude.{◌≡◌};
+ghost use Rattle.moo_value.specs.View.{trees};
+ghost use Rattle.moo_outcome.specs.Seen.{IsKnownFailure};
+ghost use Rattle.moo_hook.specs.Passing.{passing};
+ghost use Rattle.moo_hook.specs.Seen.{calling_of, seen_progress};
+
+use crate::objects::parent;
+use crate::progress::{Progress, Stage};
+use moo_access::enter_verb_from;
+use moo_outcome::{Activation, CallStack, Failure};
+use moo_value::Value;
+use moo_world::World;
+use std::alloc::Global;
+
+/// Calls the verb of the running one's name that is found from the parent of its object on: E_QUOTA for a list of
+/// arguments past the limits, E_INVIND where there is no parent, E_VERBNF where it has no such verb that can be
+/// executed, E_MAXREC where no frame is left.
+pub(crate) fn pass<'a>(
+    alloc: Global,
+    world: &World,
+    stack: &CallStack<'a>,
+    active: &Activation,
+    args: Vec<Value>,
+) -> Result<Progress<'a>, Failure>
+    ensures { IsKnownFailure result → passing (calling_of stack.now active.now) world.now (trees args.items) ≡ seen_progress result }
+{
+    let frame = &stack.running;
+    let from = parent(world, frame.definer);
+    let called = enter_verb_from(
+        alloc,
+        world,
+        stack,
+        active,
+        frame.this,
+        from,
+        &frame.verb,
+        args,
+    )?;
+    Ok(Progress::VerbNext(called, Stage::Passed))
+}

@@ -1,0 +1,49 @@
+//! Steps and stages of a function.
+ghost use Rattle.std.specs.Prelude.{◌≡◌};
+ghost use Rattle.moo_hook.specs.Seen.{told};
+
+use moo_access::Called;
+use moo_outcome::{Failure, Stop};
+use moo_value::Value;
+use moo_world::WorldFault;
+
+/// What comes once a verb that a function called has answered.
+#[derive(Clone, Copy)]
+pub enum Stage {
+    /// The verb that `pass` called: its answer is that of the function.
+    Passed,
+    /// `initialize` of this object, which was made.
+    Created(i32),
+    /// `accept` of the second object, to which the first is to move.
+    Accepting(i32, i32),
+    /// `exitfunc` of the place that the first object left for the second.
+    Leaving(i32, i32),
+    /// `enterfunc` of the place that the object came to.
+    Entering,
+    /// A verb of this object, which is to be recycled once nothing is in it.
+    Emptying(i32),
+    /// Nothing: this object was taken away.
+    Recycled(i32),
+}
+
+/// What a function does next.
+#[derive(Drop)]
+pub enum Progress<'a> {
+    /// It answers.
+    Done(Value),
+    /// A verb runs, and what it answers goes to the stage.
+    VerbNext(Called<'a>, Stage),
+    /// The stage comes at once, as after a verb that answers 0.
+    StageNext(Stage),
+}
+
+/// An answer of the world, as one of a function.
+pub(crate) fn told<T: Drop>(answer: Result<T, WorldFault>) -> Result<T, Failure>
+    ensures { result ≡ told answer }
+{
+    match answer {
+        Ok(value) => Ok(value),
+        Err(WorldFault::Raise(code)) => Err(Failure::Fails(code)),
+        Err(WorldFault::Memory) => Err(Failure::Stops(Stop::Memory)),
+    }
+}

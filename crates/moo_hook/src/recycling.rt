@@ -1,0 +1,101 @@
+//! `recycle`.
+ghost use Rattle.std.specs.Prelude.{◌≡◌};
+ghost use Rattle.moo_value.specs.View.{trees};
+ghost use Rattle.moo_outcome.specs.Seen.{IsKnownFailure};
+ghost use Rattle.moo_hook.specs.Objects.{first_inside};
+ghost use Rattle.moo_hook.specs.Recycling.{recycle_calls, recycling, owner_of, taken_away, moved_out, emptied};
+ghost use Rattle.moo_hook.specs.Seen.{calling_of, seen_progress};
+
+use crate::hook::{hook, one_object};
+use crate::objects::first_inside;
+use crate::progress::{Progress, Stage, told};
+use crate::quota::{change_quota, quota};
+use moo_outcome::{Activation, CallStack, Failure};
+use moo_rights::Rights;
+use moo_value::{ErrorCode, Value};
+use moo_world::World;
+use std::alloc::Global;
+
+/// Begins to take an object away: E_PERM where it isn't the programmer's. It is told.
+pub(crate) fn begin_recycling<'a>(
+    alloc: Global,
+    world: &World,
+    stack: &CallStack<'a>,
+    active: &Activation,
+    o: i32,
+) -> Result<Progress<'a>, Failure>
+    ensures { IsKnownFailure result → recycling (calling_of stack.now active.now) world.now o ≡ (seen_progress result, world.now) }
+{
+    if !Rights::may_own(world, active.programmer, o) {
+        return Err(Failure::Fails(ErrorCode::Permission));
+    }
+    call_verb(alloc, world, stack, active, o, "recycle", Vec::new(alloc))
+}
+
+/// Moves the first of what is in the object out, or takes the object away where nothing is in it: E_INVARG where a verb
+/// has done so.
+pub(crate) fn empty<'a>(
+    alloc: Global,
+    world: &mut World,
+    stack: &CallStack<'a>,
+    active: &Activation,
+    o: i32,
+) -> Result<Progress<'a>, Failure>
+    ensures { IsKnownFailure result → emptied (calling_of stack.now active.now) world.old o (first_inside world.old o) ≡ (seen_progress result, world.new) }
+{
+    match first_inside(world, o) {
+        Some(inside) => move_out(alloc, world, stack, active, o, inside),
+        None => take_away(alloc, world, o),
+    }
+}
+
+fn move_out<'a>(
+    alloc: Global,
+    world: &mut World,
+    stack: &CallStack<'a>,
+    active: &Activation,
+    o: i32,
+    inside: i32,
+) -> Result<Progress<'a>, Failure>
+    ensures { IsKnownFailure result → moved_out (calling_of stack.now active.now) world.old o inside ≡ (seen_progress result, world.new) }
+{
+    told(world.move_bare(inside, -1))?;
+    let args = one_object(alloc, inside)?;
+    call_verb(alloc, world, stack, active, o, "exitfunc", args)
+}
+
+// The object no longer counts for its owner.
+fn take_away<'a>(alloc: Global, world: &mut World, o: i32) -> Result<Progress<'a>, Failure>
+    ensures { IsKnownFailure result → taken_away world.old o ≡ (seen_progress result, world.new) }
+{
+    let owner = owner_of(world, o);
+    let left = quota(alloc, world, owner)?;
+    told(world.recycle_bare(alloc, o))?;
+    change_quota(world, owner, left, 1);
+    Ok(Progress::StageNext(Stage::Recycled(o)))
+}
+
+fn owner_of(world: &World, o: i32) -> i32
+    ensures { result ≡ owner_of world.now o }
+{
+    match world.object(o) {
+        Some(object) => object.owner(),
+        None => 0,
+    }
+}
+
+// A verb of the object is called, after which its contents come.
+fn call_verb<'a>(
+    alloc: Global,
+    world: &World,
+    stack: &CallStack<'a>,
+    active: &Activation,
+    o: i32,
+    name: &str,
+    args: Vec<Value>,
+) -> Result<Progress<'a>, Failure>
+    ensures { IsKnownFailure result → recycle_calls (calling_of stack.now active.now) world.now o name.now (trees args.items) ≡ (seen_progress result, world.now) }
+{
+    let stage = Stage::Emptying(o);
+    hook(alloc, world, stack, active, "recycle", o, name, args, stage)
+}

@@ -1,0 +1,69 @@
+//! What comes once a verb has answered.
+ghost use Rattle.std.specs.Prelude.{◌≡◌, ◌≤◌, ℕ, None, IfOk, OnOk};
+ghost use Rattle.moo_value.specs.View.{tree};
+ghost use Rattle.moo_outcome.specs.Seen.{context_of, IsKnownFailure};
+ghost use Rattle.moo_call.specs.Seen.{state_at};
+ghost use Rattle.moo_hook.specs.Stages.{next_progress, noticed, resumed};
+ghost use Rattle.moo_hook.specs.Seen.{calling_of, progress_of, seen_progress};
+ghost use Rattle.moo_hook.specs.Turns.{stage_turns, progress_turns};
+
+use crate::moving::{accept, leave};
+use crate::progress::{Progress, Stage};
+use crate::recycling::empty;
+use moo_operation::is_true;
+use moo_outcome::{Activation, CallStack, Failure, Notice};
+use moo_value::Value;
+use moo_world::World;
+use std::alloc::{AllocError, Global};
+
+/// Goes on with a function at a stage, with what the verb before it answered.
+pub fn resume_call<'a>(
+    alloc: Global,
+    world: &mut World,
+    stack: &CallStack<'a>,
+    active: &Activation,
+    notices: &mut Vec<Notice>,
+    stage: Stage,
+    answer: Value,
+) -> Result<Progress<'a>, Failure>
+    ensures meaning { (ticks : ℕ) → IsKnownFailure result → resumed (context_of stack.now None) stage (tree answer) (state_at ticks notices.old.items world.old active.now) ≡ (seen_progress result, state_at ticks notices.new.items world.new active.now) }
+    ensures fewer { IfOk result (λ next. progress_turns world.new (progress_of next) ≤ stage_turns world.old stage) }
+{
+    world.is_well_formed();
+    notice(notices, stage)?;
+    next_progress(alloc, world, stack, active, stage, answer)
+}
+
+// That an object was taken away is told once its verbs have run.
+fn notice(notices: &mut Vec<Notice>, stage: Stage) -> Result<(), AllocError>
+    ensures { OnOk result (notices.new.items ≡ noticed stage notices.old.items) }
+{
+    if let Stage::Recycled(o) = stage {
+        notices.push(Notice::Recycle(o))?;
+    }
+    Ok(())
+}
+
+fn next_progress<'a>(
+    alloc: Global,
+    world: &mut World,
+    stack: &CallStack<'a>,
+    active: &Activation,
+    stage: Stage,
+    answer: Value,
+) -> Result<Progress<'a>, Failure>
+    ensures { IsKnownFailure result → next_progress (calling_of stack.now active.now) world.old stage (tree answer) ≡ (seen_progress result, world.new) }
+{
+    match stage {
+        Stage::Passed => Ok(Progress::Done(answer)),
+        Stage::Created(o) => Ok(Progress::Done(Value::Obj(o))),
+        Stage::Accepting(what, to) => {
+            let answer = is_true(&answer);
+            accept(alloc, world, stack, active, what, to, answer)
+        }
+        Stage::Leaving(what, to) => leave(alloc, world, stack, active, what, to),
+        Stage::Entering => Ok(Progress::Done(Value::Int(0))),
+        Stage::Emptying(o) => empty(alloc, world, stack, active, o),
+        Stage::Recycled(_) => Ok(Progress::Done(Value::Int(0))),
+    }
+}

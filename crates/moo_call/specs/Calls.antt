@@ -19,6 +19,8 @@ use Rattle.moo_outcome.specs.State.{Context}
 use Rattle.moo_access.specs.State.{State, trace}
 use Rattle.moo_code_function.specs.Listed.{verb_code}
 use Rattle.moo_code_function.specs.Telling.{Telling}
+use Rattle.moo_code_function.specs.Answers.{Outcomes}
+use Rattle.moo_code_function.specs.Calls.{IsCodeCall}
 use Rattle.moo_call.specs.Tasks.{Reply, shown_ticks, nearest_programmer, set_task_perms, raised_here}
 use Rattle.moo_call.specs.Connections.{connected_players, elapsed_since, last_heard, last_login}
 use Rattle.moo_call.specs.Asking.{notify, boot_player, set_player_flag, dump_database, shutdown, server_log}
@@ -64,7 +66,15 @@ abbrev pub called : Option Function → Context → List Tree → State → Repl
 called None c args s = (Err (fails InvalidArgument), s)
 called (Some f) c args s = over_world s (world_call f s.world s.programmer args) (unless_refused s (refusal (is_valid s.world) (row f) args) (task_reply f c args s))
 
+-- what a call on the code of a verb comes to, in a task
+abbrev pub ComesTo : Outcomes → State → Result Tree Failure → State → Type 0
+ComesTo Such s r s' = (answer : Result Tree ErrorCode) × (w : World) × Such answer w × (r ≡ answers answer) × (s' ≡ record s { world = w })
+
+abbrev pub CallsAs : Telling → Option Function → Context → List Tree → State → Result Tree Failure → State → Type 0
+CallsAs T (Some function.SetVerbCode) c args s r s' = ComesTo (IsCodeCall T function.SetVerbCode s.world s.programmer args) s r s'
+CallsAs T f c args s r s' = called f c args s ≡ (r, s')
+
 -- A call of a built-in function by its name, in any case: its answer and the state after it. Where it reads a text that is no program,
--- it may tell this of it.
+-- it tells a fault that T lets it tell.
 abbrev pub CallsFunction : Telling → Context → List ℕ → List Tree → State → Result Tree Failure → State → Type 0
-CallsFunction T c name args s r s' = called (function_of name) c args s ≡ (r, s')
+CallsFunction T c name args s r s' = CallsAs T (function_of name) c args s r s'

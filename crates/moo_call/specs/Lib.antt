@@ -3,3 +3,4 @@ pub mod Connections
 pub mod Asking
 pub mod Calls
 pub mod Seen
+pub mod Laws

@@ -4,6 +4,7 @@
 mod asking;
 mod call;
 mod connections;
+pub mod laws;
 mod task;
 
 pub use call::call_function;

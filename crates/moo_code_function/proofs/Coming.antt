@@ -1,5 +1,5 @@
 -- What a call comes to, from what its parts come to.
-use Rattle.std.proofs.Common.{◌≡◌, ℕ, Bool, true, false, refl, subst, []}
+use Rattle.std.proofs.Common.{◌≡◌, ◌≢◌, ℕ, Bool, true, false, refl, subst, []}
 use Rattle.std.specs.Prelude.{ℤ, List, Option, None, Some, Result, Ok, Err, IfOk, IfErr}
 use Rattle.moo_value.specs.declared.error_code.ErrorCode.{ErrorCode}
 use Rattle.moo_value.specs.declared.value.Value.{Value}
@@ -12,12 +12,15 @@ use Rattle.moo_program.specs.Tree.{Block}
 use Rattle.moo_grammar.specs.declared.names.Names.TheVariants.{Known}
 use Rattle.moo_grammar.specs.Texts.{IsParsed}
 use Rattle.moo_syntax.specs.declared.syntax_fault.SyntaxFault.{SyntaxFault}
+use Rattle.moo_syntax.specs.declared.syntax_fault.SyntaxFaultKind.{SyntaxFaultKind}
+use Rattle.moo_syntax.specs.declared.syntax_fault.SyntaxFaultKind.TheVariants.{Memory as Memory'}
 use Rattle.moo_syntax.specs.Programs.{Blames}
 use Rattle.moo_table.specs.World.{World}
 use Rattle.moo_world.specs.Calls.{number_of}
 use Rattle.moo_world.specs.VerbCalls.{program_raises}
 use Rattle.moo_world_function.specs.Order.{asked}
 use Rattle.moo_world_function.specs.Verbs.{chosen, on_verb}
+use Rattle.moo_code_function.specs.Telling.{Faults}
 use Rattle.moo_code_function.specs.Answers.{Outcomes, Comes, Then, IsAnswered}
 use Rattle.moo_code_function.specs.Setting.{may_program, verb_to_set, with_code, is_of_text, told_fault, IsSet}
 
@@ -36,16 +39,19 @@ stopped r e w next is = rw is ((refl, refl), refl)
 -- a program that was set
 pub set_done : (a : Result Value OperationFault) (old new : World) (o : ℤ) (i : ℕ) (lines : List (List ℕ)) (b : Block) → IsParsed Known lines b
     → IfOk a (λ v. (tree v ≡ list_of []) × (new ≡ with_code old o i b)) → IfErr a (λ fault. (fault ≡ Memory) × (new ≡ old))
-    → Comes a old new (IsSet old o i lines)
+    → Comes a old new (IsSet Faults old o i lines)
 set_done (Ok v) old new o i lines b parsed ok err = rw (ok.0, ok.1) (IsSet.set parsed)
 set_done (Err (Raise e)) old new o i lines b parsed ok err = let same : Raise e ≡ Memory = err.0 in absurd (cc)
 set_done (Err Memory) old new o i lines b parsed ok err = err.1
 
+not_memory : (kind : SyntaxFaultKind) → is_of_text kind ≡ true → kind ≢ Memory'
+not_memory kind is same = let no : false ≡ true = subst (λ k. is_of_text k ≡ true) same is in absurd cc
+
 -- a fault that was told
 pub set_told : (a : Result Value OperationFault) (w : World) (o : ℤ) (i : ℕ) (lines : List (List ℕ)) (f : SyntaxFault) → Blames Known lines f.line f.kind
-    → Gives a (told_fault f) → (IsAnswered a → is_of_text f.kind ≡ true) → Comes a w w (IsSet w o i lines)
-set_told (Ok v) w o i lines f blames gives kind = subst (λ (r : Result Tree ErrorCode). IsSet w o i lines r w) gives (IsSet.told f blames (kind tt))
-set_told (Err (Raise e)) w o i lines f blames gives kind = (subst (λ (r : Result Tree ErrorCode). IsSet w o i lines r w) gives (IsSet.told f blames (kind tt)), refl)
+    → Gives a (told_fault f) → (IsAnswered a → is_of_text f.kind ≡ true) → Comes a w w (IsSet Faults w o i lines)
+set_told (Ok v) w o i lines f blames gives kind = subst (λ (r : Result Tree ErrorCode). IsSet Faults w o i lines r w) gives (IsSet.told f (blames, not_memory f.kind (kind tt)))
+set_told (Err (Raise e)) w o i lines f blames gives kind = (subst (λ (r : Result Tree ErrorCode). IsSet Faults w o i lines r w) gives (IsSet.told f (blames, not_memory f.kind (kind tt))), refl)
 set_told (Err Memory) w o i lines f blames gives kind = refl
 
 asked_at : (r : Option ErrorCode) (b : Bool) (i j : ℕ) → asked r b (Ok i) ≡ Ok j → (r ≡ None) × (i ≡ j)

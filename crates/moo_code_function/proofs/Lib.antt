@@ -1,3 +1,4 @@
 pub mod Heavy
 pub mod Lines
 pub mod Coming
+pub mod Once

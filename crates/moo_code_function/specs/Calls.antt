@@ -8,6 +8,7 @@ use Rattle.moo_function.specs.Check.{refusal}
 use Rattle.moo_table.specs.World.{World}
 use Rattle.moo_world_function.specs.Objects.{is_valid}
 use Rattle.moo_code_function.specs.Answers.{Outcomes, Only, Unless}
+use Rattle.moo_code_function.specs.Telling.{Telling}
 use Rattle.moo_code_function.specs.Listed.{verb_code}
 use Rattle.moo_code_function.specs.Setting.{SetsCode}
 
@@ -18,12 +19,12 @@ is_of_code SetVerbCode = true
 is_of_code _ = false
 
 -- what each of them comes to for arguments that fit
-abbrev pub Answers : Function → World → ℤ → List Tree → Outcomes
-Answers VerbCode w p args r after = Only (verb_code w p args) w r after
-Answers SetVerbCode w p args r after = SetsCode w p args r after
-Answers _ w p args r after = ⊥
+abbrev pub Answers : Telling → Function → World → ℤ → List Tree → Outcomes
+Answers T VerbCode w p args r after = Only (verb_code w p args) w r after
+Answers T SetVerbCode w p args r after = SetsCode T w p args r after
+Answers T _ w p args r after = ⊥
 
 -- A call: the number of the arguments, then their types, then whether their objects are valid, come before what the function
 -- itself looks at.
-abbrev pub IsCodeCall : Function → World → ℤ → List Tree → Outcomes
-IsCodeCall f w p args = Unless (refusal (is_valid w) (row f) args) w (Answers f w p args)
+abbrev pub IsCodeCall : Telling → Function → World → ℤ → List Tree → Outcomes
+IsCodeCall T f w p args = Unless (refusal (is_valid w) (row f) args) w (Answers T f w p args)

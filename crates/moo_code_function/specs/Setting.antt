@@ -12,7 +12,6 @@ use Rattle.moo_syntax.specs.declared.syntax_fault.SyntaxFault.{SyntaxFault}
 use Rattle.moo_syntax.specs.declared.syntax_fault.SyntaxFaultKind.{SyntaxFaultKind}
 use Rattle.moo_syntax.specs.declared.syntax_fault.SyntaxFaultKind.TheVariants.{Memory}
 use Rattle.moo_syntax.specs.FaultText.{fault_text}
-use Rattle.moo_syntax.specs.Programs.{Blames}
 use Rattle.moo_object.specs.Verbs.{with_program}
 use Rattle.moo_table.specs.Changes.{with_changed_verb}
 use Rattle.moo_table.specs.World.{World, nothing}
@@ -23,6 +22,7 @@ use Rattle.moo_rights.specs.Rights.{may_write_this_verb}
 use Rattle.moo_world_function.specs.Order.{asked}
 use Rattle.moo_world_function.specs.Verbs.{chosen, on_verb}
 use Rattle.moo_code_function.specs.Answers.{Outcomes, Only, Then}
+use Rattle.moo_code_function.specs.Telling.{Telling}
 
 -- the flag of programmers, which wizards need too
 abbrev pub is_programmer : World → ℤ → Bool
@@ -66,15 +66,15 @@ abbrev pub told_fault : SyntaxFault → Result Tree ErrorCode
 told_fault f = limited (list_of (string (fault_text f) ∷ []))
 
 -- Lines for a verb: a program of known functions becomes the verb's program, and the answer is {}. Any other text changes nothing,
--- and a fault of it is told.
-pub data IsSet (w : World) (o : ℤ) (i : ℕ) (lines : List (List ℕ)) : Result Tree ErrorCode → World → Type 0 where
-  set : {b : Block} → IsParsed Known lines b → IsSet w o i lines (Ok (list_of [])) (with_code w o i b)
-  told : (f : SyntaxFault) → Blames Known lines f.line f.kind → is_of_text f.kind ≡ true → IsSet w o i lines (told_fault f) w
+-- and a fault that may be told of it is told.
+pub data IsSet (T : Telling) (w : World) (o : ℤ) (i : ℕ) (lines : List (List ℕ)) : Result Tree ErrorCode → World → Type 0 where
+  set : {b : Block} → IsParsed Known lines b → IsSet T w o i lines (Ok (list_of [])) (with_code w o i b)
+  told : (f : SyntaxFault) → T lines f → IsSet T w o i lines (told_fault f) w
 
 -- what becomes of a verb that may have another program
-abbrev pub SetsText : World → ℤ → Tree → ℕ → Outcomes
-SetsText w o text i = Then (given_lines text) w (IsSet w o i)
+abbrev pub SetsText : Telling → World → ℤ → Tree → ℕ → Outcomes
+SetsText T w o text i = Then (given_lines text) w (IsSet T w o i)
 
-abbrev pub SetsCode : World → ℤ → List Tree → Outcomes
-SetsCode w p (object o ∷ t ∷ text ∷ []) r after = Then (verb_to_set w p o t) w (SetsText w o text) r after
-SetsCode w p _ r after = Only (Err TypeMismatch) w r after
+abbrev pub SetsCode : Telling → World → ℤ → List Tree → Outcomes
+SetsCode T w p (object o ∷ t ∷ text ∷ []) r after = Then (verb_to_set w p o t) w (SetsText T w o text) r after
+SetsCode T w p _ r after = Only (Err TypeMismatch) w r after

@@ -5,6 +5,7 @@ ghost use Rattle.moo_function.specs.Table.{row};
 ghost use Rattle.moo_function.specs.Check.{refusal};
 ghost use Rattle.moo_world_function.specs.Answers.{RefusesFirst};
 ghost use Rattle.moo_world_function.specs.Objects.{is_valid};
+ghost use Rattle.moo_code_function.specs.Telling.{Faults};
 ghost use Rattle.moo_code_function.specs.Answers.{Comes, ComesSome};
 ghost use Rattle.moo_code_function.specs.Calls.{is_of_code, Answers, IsCodeCall};
 
@@ -28,7 +29,7 @@ pub fn call_code(
     world: &mut World,
     programmer: i32,
 ) -> Option<Result<Value, OperationFault>>
-    ensures answer { ComesSome result world.old world.new (is_of_code function) (IsCodeCall function world.old programmer (trees args.now)) }
+    ensures answer { ComesSome result world.old world.new (is_of_code function) (IsCodeCall Faults function world.old programmer (trees args.now)) }
     ensures memory { RefusesFirst result (refusal (is_valid world.old) (row function) (trees args.now)) }
 {
     if !is_of_code(function) {
@@ -54,7 +55,7 @@ fn answer(
     programmer: i32,
 ) -> Result<Value, OperationFault>
     requires { is_of_code function ≡ true }
-    ensures { Comes result world.old world.new (Answers function world.old programmer (trees args.now)) }
+    ensures { Comes result world.old world.new (Answers Faults function world.old programmer (trees args.now)) }
 {
     match function {
         Function::VerbCode => verb_code(alloc, args, world, programmer),

@@ -8,6 +8,7 @@ ghost use Rattle.moo_operation.specs.Answer.{limited};
 ghost use Rattle.moo_text_function.specs.Answers.{Gives};
 ghost use Rattle.moo_world.specs.Calls.{number_of};
 ghost use Rattle.moo_world.specs.VerbCalls.{program_raises};
+ghost use Rattle.moo_code_function.specs.Telling.{Faults};
 ghost use Rattle.moo_code_function.specs.Answers.{Comes, IsAnswered};
 ghost use Rattle.moo_code_function.specs.Setting.{is_programmer, may_program, place_to_set, verb_to_set, lines_in, given_lines, with_code, is_of_text, told_fault, IsSet, SetsText, SetsCode};
 
@@ -29,7 +30,7 @@ pub fn set_verb_code(
     world: &mut World,
     programmer: i32,
 ) -> Result<Value, OperationFault>
-    ensures { Comes result world.old world.new (SetsCode world.old programmer (trees args.now)) }
+    ensures { Comes result world.old world.new (SetsCode Faults world.old programmer (trees args.now)) }
 {
     match args {
         [Value::Obj(o), choice, text] => set_chosen(alloc, *o, choice, text, world, programmer),
@@ -45,7 +46,7 @@ fn set_chosen(
     world: &mut World,
     programmer: i32,
 ) -> Result<Value, OperationFault>
-    ensures { Comes result world.old world.new (SetsCode world.old programmer (object o ∷ tree choice.now ∷ tree text.now ∷ [])) }
+    ensures { Comes result world.old world.new (SetsCode Faults world.old programmer (object o ∷ tree choice.now ∷ tree text.now ∷ [])) }
 {
     match verb_to_set(o, choice, world, programmer) {
         Ok(index) => set_text(alloc, o, index, text, world),
@@ -102,7 +103,7 @@ fn set_text(
     world: &mut World,
 ) -> Result<Value, OperationFault>
     requires { program_raises world.old (number_of world.old.objects o) index true ≡ None }
-    ensures { Comes result world.old world.new (SetsText world.old o (tree text.now) index) }
+    ensures { Comes result world.old world.new (SetsText Faults world.old o (tree text.now) index) }
 {
     let lines = given_lines(alloc, text)?;
     set_lines(alloc, o, index, &lines, world)
@@ -116,7 +117,7 @@ fn set_lines(
     world: &mut World,
 ) -> Result<Value, OperationFault>
     requires { program_raises world.old (number_of world.old.objects o) index true ≡ None }
-    ensures { Comes result world.old world.new (IsSet world.old o index lines.now) }
+    ensures { Comes result world.old world.new (IsSet Faults world.old o index lines.now) }
 {
     match parse(alloc, lines, Names::Known) {
         Ok(program) => set_program(alloc, o, index, program, world),

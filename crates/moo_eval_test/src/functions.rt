@@ -46,7 +46,11 @@ return {verb_code(#1, "t1"), verb_code(#1, 1, 1), verb_code(#1, 1, 0, 0)}; --> {
 return {`verb_code(#1) ! ANY', `verb_code(#1, #1) ! ANY', `verb_code(#9, 1) ! ANY', `verb_code(#1, "no") ! ANY'}; --> {E_ARGS, E_TYPE, E_INVARG, E_VERBNF}
 set_task_perms(#4); return {`verb_code(#1, "no") ! ANY', length(verb_code(#1, "t1"))}; --> {E_VERBNF, 3}
 return set_verb_info(#1, 1, {#3, "xd", "t1"}); --> 0
-set_task_perms(#4); return {`verb_code(#1, "no") ! ANY', `verb_code(#1, "t1") ! ANY'}; --> {E_VERBNF, E_PERM}"#;
+set_task_perms(#4); return {`verb_code(#1, "no") ! ANY', `verb_code(#1, "t1") ! ANY'}; --> {E_VERBNF, E_PERM}
+return {set_verb_code(#1, "t1", {"return 7;"}), #1:t1(), set_verb_code(#1, 1, {"return 8;", "return (;"}), set_verb_code(#1, 1, {"return nothing();"}), #1:t1()}; --> {{}, 7, {"Line 2:  Parse error"}, {"Line 1:  Unknown built-in function: nothing"}, 7}
+return {`set_verb_code(#1, "t1") ! ANY', `set_verb_code(#1, "t1", "") ! ANY', `set_verb_code(#1, "t1", {1}) ! ANY', `set_verb_code(#9, 1, {}) ! ANY', `set_verb_code(#1, 2, {}) ! ANY'}; --> {E_ARGS, E_TYPE, E_TYPE, E_INVARG, E_VERBNF}
+set_task_perms(#4); return {`set_verb_code(#1, "no", {}) ! ANY', `set_verb_code(#1, "t1", {}) ! ANY'}; --> {E_VERBNF, E_PERM}
+return {set_verb_code(#1, "t1", {}), #1:t1(), verb_code(#1, "t1")}; --> {{}, 0, {}}"#;
 
 #[test]
 fn functions_look_at_the_world_and_change_it(rt: HostRuntime) -> Result<(), Fail> {

@@ -40,8 +40,7 @@ set_task_perms(#4); return {`verbs(#2) ! ANY', `verb_info(#2, 1) ! ANY', `verb_a
 set_task_perms(#4); return {`set_verb_info(#2, 1, {#3, "d", "x"}) ! ANY', `set_verb_args(#2, 1, {"any", "none", "none"}) ! ANY', `delete_verb(#2, 1) ! ANY', `delete_verb(#2, 2) ! ANY'}; --> {E_PERM, E_PERM, E_PERM, E_VERBNF}
 return {`delete_verb(#2) ! ANY', `delete_verb(2, 1) ! ANY', `delete_verb(#9, 1) ! ANY', delete_verb(#2, "see"), verbs(#2)}; --> {E_ARGS, E_TYPE, E_INVARG, 0, {}}"#;
 
-const CODE: &str =
-    r#"t1 := if (player) return (1 - 2) - 3; endif
+const CODE: &str = r#"t1 := if (player) return (1 - 2) - 3; endif
 return {verb_code(#1, "t1"), verb_code(#1, 1, 1), verb_code(#1, 1, 0, 0)}; --> {{"if (player)", "  return 1 - 2 - 3;", "endif"}, {"if (player)", "  return (1 - 2) - 3;", "endif"}, {"if (player)", "return 1 - 2 - 3;", "endif"}}
 return {`verb_code(#1) ! ANY', `verb_code(#1, #1) ! ANY', `verb_code(#9, 1) ! ANY', `verb_code(#1, "no") ! ANY'}; --> {E_ARGS, E_TYPE, E_INVARG, E_VERBNF}
 set_task_perms(#4); return {`verb_code(#1, "no") ! ANY', length(verb_code(#1, "t1"))}; --> {E_VERBNF, 3}

@@ -12,7 +12,8 @@ use Rattle.moo_dbvalue.proofs.ValueFound.{flat_map_push}
 use Rattle.moo_grammar.specs.declared.names.Names.TheVariants.{Any}
 use Rattle.moo_syntax.specs.declared.syntax_fault.SyntaxFaultKind.{SyntaxFaultKind}
 use Rattle.moo_syntax.specs.Programs.{Blames}
-use Rattle.moo_dbrecord.specs.Programs.{Table, entry_at, program_line, program_lines}
+use Rattle.moo_dbrecord.specs.Sparing.{AreAlike, AreAlikeTaken, IsAt}
+use Rattle.moo_dbrecord.specs.Programs.{Table, entry_at, is_open, program_line, program_lines}
 use Rattle.moo_dbrecord.specs.Texts.{Text, Slack, Spells, header_line, objects_lines}
 use Rattle.moo_dbrecord.specs.declared.fault.DbFault.{DbFault}
 use Rattle.moo_dbrecord.specs.declared.fault.ProgramFaultKind.{ProgramFaultKind}
@@ -25,10 +26,12 @@ use Rattle.moo_dbrecord.specs.declared.dump_reader.Section.TheVariants as sectio
 use Rattle.moo_dbrecord.proofs.TakenLaws.{taken_on-append, rest_taken}
 use Rattle.moo_dbrecord.proofs.AnswerFound.{IsTaken}
 use Rattle.moo_dbrecord.proofs.DumpProgress.{progress_read, programmed}
-use Rattle.moo_dbrecord.proofs.Sources.{SameSources, EndsSource, Does, none_read, reads_on, ends, IsPast, line_past, line_does, taken_so, source_of_text}
+use Rattle.moo_dbrecord.proofs.Sources.{SameSources, EndsSource, Does, none_read, reads_on, ends, IsPast, line_past, line_does, taken_so, source_of_text, free_in, dot_puts}
+use Rattle.moo_dbrecord.proofs.Sparing.{open_alike, reads_alike, alike_self, alike_then, at_on}
 use Rattle.moo_dbprogram.specs.Says.{Programs, programs_of, IsParsedAs, AreParsedAs}
 use Rattle.moo_dbprogram.specs.Faults.{told_kind, source_kind_of, HasProgramAt, through_program}
-use Rattle.moo_dbprogram.specs.Reading.{IsWholeLine, IsRefused, IsSourceRefused, ended_between, verb_at, sources_at}
+use Rattle.moo_dbprogram.specs.declared.program_reader.ProgramReader.{ProgramReader}
+use Rattle.moo_dbprogram.specs.Reading.{IsWholeLine, IsBehind, IsRefused, IsSourceRefused, ended_between, verb_at, sources_at}
 
 -- ---- the records
 
@@ -65,6 +68,7 @@ part_sources bytes part s t clean a b =
 pub record Passes (s : Taken) (bytes line : List ℕ) (t : Taken) : Type 0 where
   pub front : Line
   pub is : line ≡ front ++ 10 ∷ []
+  pub clean : HasNoEnd front
   pub past : IsPast s front t
   pub before : IsTaken s bytes
   pub does : Does s.progress.section s.progress (s.rest ++ front) t.progress
@@ -74,7 +78,7 @@ line_passes bytes line s t whole a b =
     let on = taken_between bytes line s t a b in
     let past = line_past s whole.line t whole.clean (ap (taken_on limited s) (sym whole.is) ∙ on) in
     let before = taken_so limited bytes s a in
-    record { front = whole.line; is = whole.is; past = past; before = before; does = line_does limited s bytes (s.rest ++ whole.line) t.progress before past.step }
+    record { front = whole.line; is = whole.is; clean = whole.clean; past = past; before = before; does = line_does limited s bytes (s.rest ++ whole.line) t.progress before past.step }
 
 -- where no program ends, no source comes
 pub still_sources : (s t : Taken) (bytes line : List ℕ) → Passes s bytes line t → ended_between (verb_read s.progress.section s.progress) (verb_read t.progress.section t.progress) ≡ None → SameSources s.progress t.progress
@@ -170,30 +174,47 @@ program_stands s t bytes line h o v taken e =
 
 -- ---- the programs that are kept
 
-abbrev pub stays_parsed : (old new : Taken) (ps : Programs) → SameSources old.progress new.progress → AreParsedAs old.progress.text.programs ps → AreParsedAs new.progress.text.programs ps
+stays_parsed : (old new : Taken) (ps : Programs) → SameSources old.progress new.progress → AreParsedAs old.progress.text.programs ps → AreParsedAs new.progress.text.programs ps
 stays_parsed old new ps same h o v = subst (λ (x : Option (List Line)). IsParsedAs x (entry_at ps o v)) (sym (same o v)) (h o v)
 
-pub behind_nothing : (r : DbReader) (rows : Vec (Vec (Option Block))) → IsGoing r → HasTaken r [] → rows.items ≡ [] → AreParsedAs (sources_at r) (programs_of rows)
+pub behind_nothing : (r : ProgramReader) → IsGoing r.records → HasTaken r.records [] → r.programs.items ≡ [] → IsBehind r []
 unfolding taken_on
-behind_nothing r rows going taken none o v =
-    let ok : Taken → Result Taken Told = λ x. Ok x in
-    let e : ok begin ≡ ok (taken_of r) = taken_going r [] going taken in
-    let same : begin ≡ taken_of r = cc in
-    let blank : [] ≡ sources_at r = ap (λ (t : Taken). t.progress.text.programs) same in
-    subst (λ (t : Table). IsParsedAs (entry_at t o v) (entry_at (programs_of rows) o v)) blank (subst (λ (ps : Programs). IsParsedAs (entry_at [] o v) (entry_at ps o v)) (sym (ap (map (λ row. row.items)) none)) tt)
+behind_nothing r going taken none = record {
+  going = going;
+  at = record { state = begin; leads = refl; alike = subst (AreAlikeTaken begin) same (alike_self begin) };
+  parsed = λ o v. subst (λ (ps : Programs). IsParsedAs (entry_at [] o v) (entry_at ps o v)) (sym (ap (map (λ row. row.items)) none)) tt;
+}
+  where
+    same : begin ≡ taken_of r.records
+    same = let ok : Taken → Result Taken Told = λ x. Ok x in let e : ok begin ≡ ok (taken_of r.records) = taken_going r.records [] going taken in cc
 
-pub behind_part : (old new : DbReader) (ps : Programs) (bytes part : List ℕ) → HasNoEnd part → IsGoing old → HasTaken old bytes → IsGoing new → HasTaken new (bytes ++ part) → AreParsedAs (sources_at old) ps → AreParsedAs (sources_at new) ps
-behind_part old new ps bytes part clean going taken on then h =
-    let e = part_sources bytes part (taken_of old) (taken_of new) clean (taken_going old bytes going taken) (taken_going new (bytes ++ part) on then) in
-    stays_parsed (taken_of old) (taken_of new) ps (λ o v. ap (λ (p : Progress). entry_at p.text.programs o v) e) h
+-- a piece that ends no source
+pub behind_part : (old new : ProgramReader) (bytes part : List ℕ) → HasNoEnd part → IsBehind old bytes → IsGoing new.records → taken_on limited (taken_of old.records) part ≡ Ok (taken_of new.records) → new.programs ≡ old.programs → IsBehind new (bytes ++ part)
+behind_part old new bytes part clean h on e kept =
+    let at = at_on old.records new.records bytes part h.at e in
+    let same = part_sources bytes part h.at.state at.state clean h.at.leads at.leads in
+    record {
+      going = on;
+      at = at;
+      parsed = subst (λ (rows : Vec (Vec (Option Block))). AreParsedAs at.state.progress.text.programs (programs_of rows)) (sym kept)
+          (stays_parsed h.at.state at.state (programs_of old.programs) (λ o v. ap (λ (p : Progress). entry_at p.text.programs o v) same) h.parsed);
+    }
 
-pub passes : (old new : DbReader) (bytes line : List ℕ) → IsWholeLine line → IsGoing old → HasTaken old bytes → IsGoing new → HasTaken new (bytes ++ line) → Passes (taken_of old) bytes line (taken_of new)
-passes old new bytes line whole going taken on then = line_passes bytes line (taken_of old) (taken_of new) whole (taken_going old bytes going taken) (taken_going new (bytes ++ line) on then)
+ended_alike : (s t l m : Progress) → AreAlike s l → AreAlike t m → ended_between (verb_read s.section s) (verb_read t.section t) ≡ ended_between (verb_read l.section l) (verb_read m.section m)
+ended_alike s t l m h k = ap (λ (x : Option (ℕ × ℕ)). ended_between x (verb_read t.section t)) (reads_alike s l h) ∙ ap (ended_between (verb_read l.section l)) (reads_alike t m k)
 
-pub behind_still : (old new : DbReader) (ps : Programs) (bytes line : List ℕ) → IsWholeLine line → IsGoing old → HasTaken old bytes → IsGoing new → HasTaken new (bytes ++ line) → ended_between (verb_at old) (verb_at new) ≡ None → AreParsedAs (sources_at old) ps → AreParsedAs (sources_at new) ps
-behind_still old new ps bytes line whole going taken on then none h =
-    let p = passes old new bytes line whole going taken on then in
-    stays_parsed (taken_of old) (taken_of new) ps (still_sources (taken_of old) (taken_of new) bytes line p none) h
+pub behind_still : (old new : ProgramReader) (bytes line : List ℕ) → IsWholeLine line → IsBehind old bytes → IsGoing new.records → taken_on limited (taken_of old.records) line ≡ Ok (taken_of new.records) → ended_between (verb_at old.records) (verb_at new.records) ≡ None → new.programs ≡ old.programs → IsBehind new (bytes ++ line)
+behind_still old new bytes line whole h on e none kept =
+    let at = at_on old.records new.records bytes line h.at e in
+    let s = h.at.state in
+    let t = at.state in
+    let p = line_passes bytes line s t whole h.at.leads at.leads in
+    let still = ended_alike s.progress t.progress (taken_of old.records).progress (taken_of new.records).progress h.at.alike.progress at.alike.progress ∙ none in
+    record {
+      going = on;
+      at = at;
+      parsed = subst (λ (rows : Vec (Vec (Option Block))). AreParsedAs t.progress.text.programs (programs_of rows)) (sym kept) (stays_parsed s t (programs_of old.programs) (still_sources s t bytes line p still) h.parsed);
+    }
 
 same_or_apart : (i o j v : ℕ) → ((i ≡ o) × (j ≡ v)) ⊎ (i ≡ o → j ≡ v → ⊥)
 same_or_apart i o j v = decide (eqb i o) refl (eqb j v) refl
@@ -203,25 +224,79 @@ same_or_apart i o j v = decide (eqb i o) refl (eqb j v) refl
     decide true a false b = inr (λ e f. let g = eq-eqb j v f in cc)
     decide false a b is = inr (λ e f. let g = eq-eqb i o e in cc)
 
-pub behind_ended : (old new : DbReader) (ps qs : Programs) (bytes line : List ℕ) (o v : ℕ) → IsWholeLine line → IsGoing old → HasTaken old bytes → IsGoing new → HasTaken new (bytes ++ line) → ended_between (verb_at old) (verb_at new) ≡ Some (o, v)
-    → ((source : List Line) → entry_at (sources_at new) o v ≡ Some source → IsParsedAs (Some source) (entry_at qs o v)) → ((i j : ℕ) → (i ≡ o → j ≡ v → ⊥) → entry_at qs i j ≡ entry_at ps i j)
-    → AreParsedAs (sources_at old) ps → AreParsedAs (sources_at new) qs
-behind_ended old new ps qs bytes line o v whole going taken on then some there others h =
-    let s = taken_of old in
-    let t = taken_of new in
-    let p = passes old new bytes line whole going taken on then in
-    let e = ends_source s t bytes line p o v some in
-    λ i j. elim (same_or_apart i o j v) [
-      | inl same ↦
-          let here : entry_at (sources_at new) o v ≡ Some s.progress.source =
-          ap (λ (k : ℕ). entry_at (sources_at new) k v) (sym e.object) ∙ ap (λ (k : ℕ). entry_at (sources_at new) s.progress.object k) (sym e.verb) ∙ e.ended.there in
-          subst (λ (k : ℕ). IsParsedAs (entry_at (sources_at new) k j) (entry_at qs k j)) (sym same.0)
-          (subst (λ (k : ℕ). IsParsedAs (entry_at (sources_at new) o k) (entry_at qs o k)) (sym same.1)
-          (subst (λ (x : Option (List Line)). IsParsedAs x (entry_at qs o v)) (sym here) (there s.progress.source here)))
-      | inr apart ↦
-          let kept : entry_at (sources_at new) i j ≡ entry_at (sources_at old) i j = e.ended.others i j (λ a b. apart (a ∙ e.object) (b ∙ e.verb)) in
-          subst (λ (x : Option (List Line)). IsParsedAs x (entry_at qs i j)) (sym kept) (subst (IsParsedAs (entry_at (sources_at old) i j)) (sym (others i j apart)) (h i j))
-    ]
+-- ---- the dot that ends a program
+
+-- the states behind the line before and behind the dot, and the source between them, which the reader has
+pub record IsAtDot (old new : DbReader) (bytes line : List ℕ) (before : IsAt old bytes) (o v : ℕ) : Type 0 where
+  pub after : IsAt new (bytes ++ line)
+  pub passes : Passes before.state bytes line after.state
+  pub ends : Ends before.state bytes line after.state passes o v
+  pub there : entry_at after.state.progress.text.programs o v ≡ Some before.state.progress.source
+  pub had : entry_at (sources_at new) o v ≡ Some before.state.progress.source
+
+pub at_dot : (old new : DbReader) (bytes line : List ℕ) (o v : ℕ) → IsWholeLine line → (before : IsAt old bytes) → taken_on limited (taken_of old) line ≡ Ok (taken_of new) → ended_between (verb_at old) (verb_at new) ≡ Some (o, v) → IsAtDot old new bytes line before o v
+at_dot old new bytes line o v whole before e some = record { after = after; passes = p; ends = d; there = there; had = had }
+  where
+    l : Taken
+    l = taken_of old
+
+    after : IsAt new (bytes ++ line)
+    after = at_on old new bytes line before e
+
+    s : Taken
+    s = before.state
+
+    t : Taken
+    t = after.state
+
+    p : Passes s bytes line t
+    p = line_passes bytes line s t whole before.leads after.leads
+
+    d : Ends s bytes line t p o v
+    d = ends_source s t bytes line p o v (ended_alike s.progress t.progress l.progress (taken_of new).progress before.alike.progress after.alike.progress ∙ some)
+
+    there : entry_at t.progress.text.programs o v ≡ Some s.progress.source
+    there = ap (λ (k : ℕ). entry_at t.progress.text.programs k v) (sym d.object) ∙ ap (λ (k : ℕ). entry_at t.progress.text.programs s.progress.object k) (sym d.verb) ∙ d.ended.there
+
+    past : IsPast l p.front (taken_of new)
+    past = line_past l p.front (taken_of new) p.clean (ap (taken_on limited l) (sym p.is) ∙ e)
+
+    free : is_open l.progress.object l.progress.verb l.progress.text.programs ≡ true
+    free = sym (ap (λ (r : Progress). is_open r.object r.verb l.progress.text.programs) before.alike.progress.rest) ∙ sym (open_alike s.progress.text.programs l.progress.text.programs s.progress.object s.progress.verb before.alike.progress.same) ∙ free_in s.progress.section s.progress p.before.slack p.before.is.keeps d.section
+
+    had : entry_at (sources_at new) o v ≡ Some s.progress.source
+    had =
+        ap (λ (k : ℕ). entry_at (sources_at new) k v) (sym d.object ∙ ap (λ (r : Progress). r.object) before.alike.progress.rest)
+        ∙ ap (λ (k : ℕ). entry_at (sources_at new) l.progress.object k) (sym d.verb ∙ ap (λ (r : Progress). r.verb) before.alike.progress.rest)
+        ∙ dot_puts l.progress (l.rest ++ p.front) (taken_of new).progress free (sym (ap (λ (r : Progress). r.section) before.alike.progress.rest) ∙ d.section)
+        (ap (λ (r : Line). r ++ p.front) (sym before.alike.rest) ∙ d.dot) past.step
+        ∙ ap (λ (r : Progress). Some r.source) (sym before.alike.progress.rest)
+
+pub behind_ended : (old new : ProgramReader) (bytes line : List ℕ) (o v : ℕ) (middle : DbReader) (h : IsBehind old bytes) (d : IsAtDot old.records middle bytes line h.at o v)
+    → IsGoing new.records → AreAlikeTaken (taken_of middle) (taken_of new.records) → IsParsedAs (Some h.at.state.progress.source) (entry_at (programs_of new.programs) o v)
+    → ((i j : ℕ) → (i ≡ o → j ≡ v → ⊥) → entry_at (programs_of new.programs) i j ≡ entry_at (programs_of old.programs) i j) → IsBehind new (bytes ++ line)
+behind_ended old new bytes line o v middle h d on dropped there others = record {
+  going = on;
+  at = record { state = t; leads = d.after.leads; alike = alike_then t (taken_of middle) (taken_of new.records) d.after.alike dropped };
+  parsed = λ i j. elim (same_or_apart i o j v) [
+    | inl is ↦
+        subst (λ (k : ℕ). IsParsedAs (entry_at t.progress.text.programs k j) (entry_at qs k j)) (sym is.0)
+        (subst (λ (k : ℕ). IsParsedAs (entry_at t.progress.text.programs o k) (entry_at qs o k)) (sym is.1)
+        (subst (λ (x : Option (List Line)). IsParsedAs x (entry_at qs o v)) (sym d.there) there))
+    | inr apart ↦
+        let kept : entry_at t.progress.text.programs i j ≡ entry_at s.progress.text.programs i j = d.ends.ended.others i j (λ a b. apart (a ∙ d.ends.object) (b ∙ d.ends.verb)) in
+        subst (λ (x : Option (List Line)). IsParsedAs x (entry_at qs i j)) (sym kept) (subst (IsParsedAs (entry_at s.progress.text.programs i j)) (sym (others i j apart)) (h.parsed i j))
+  ];
+}
+  where
+    s : Taken
+    s = h.at.state
+
+    t : Taken
+    t = d.after.state
+
+    qs : Programs
+    qs = programs_of new.programs
 
 -- ---- a source that is refused
 
@@ -235,18 +310,15 @@ told_source bytes o v source e at k (Some x) told is blames place = inr (inr (re
   is = record { source = source; place = place; blamed = record { kind = k; told = told; blames = blames } };
 }))
 
-pub source_refused : (old new : DbReader) (bytes line : List ℕ) (o v : ℕ) (e : DbFault) → IsWholeLine line → IsGoing old → HasTaken old bytes → IsGoing new → HasTaken new (bytes ++ line) → ended_between (verb_at old) (verb_at new) ≡ Some (o, v)
+pub source_refused : (old new : DbReader) (bytes line : List ℕ) (o v : ℕ) (e : DbFault) (before : IsAt old bytes) → IsAtDot old new bytes line before o v
     → ((source : List Line) → entry_at (sources_at new) o v ≡ Some source → IsSourceRefused (taken_of new).lines o v source e) → IsRefused (bytes ++ line) (taken_on limited begin (bytes ++ line)) e
-source_refused old new bytes line o v e whole going taken on then some refused =
-    let s = taken_of old in
-    let t = taken_of new in
-    let p = passes old new bytes line whole going taken on then in
-    let d = ends_source s t bytes line p o v some in
+source_refused old new bytes line o v e before d refused =
+    let s = before.state in
+    let t = d.after.state in
     let source = s.progress.source in
-    let here : entry_at (sources_at new) o v ≡ Some source = ap (λ (k : ℕ). entry_at (sources_at new) k v) (sym d.object) ∙ ap (λ (k : ℕ). entry_at (sources_at new) s.progress.object k) (sym d.verb) ∙ d.ended.there in
-    let place = program_stands s t bytes line p o v (taken_going new (bytes ++ line) on then) d in
-    elim (refused source here) [
+    let place = program_stands s t bytes line d.passes o v d.after.leads d.ends in
+    elim (refused source d.had) [
       | inl memory ↦ inl memory
       | inr fault ↦ told_source (bytes ++ line) o v source e fault.at fault.fault (told_kind fault.fault) refl fault.kind fault.blames
-          (subst (λ (n : ℕ). HasProgramAt (bytes ++ line) n o v source) (sym fault.line) place)
+          (subst (λ (n : ℕ). HasProgramAt (bytes ++ line) n o v source) (ap (λ (n : ℕ). n - length source - 1) d.after.alike.lines ∙ sym fault.line) place)
     ]

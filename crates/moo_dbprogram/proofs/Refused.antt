@@ -4,18 +4,23 @@ use Rattle.std.proofs.Common.{◌≡◌, ℕ, ◌-◌, List, ◌++◌, length, t
 use Rattle.moo_dbvalue.specs.Lines.{limited}
 use Rattle.moo_dbrecord.specs.Texts.{Text, text_of}
 use Rattle.moo_dbrecord.specs.declared.dump.Dump.{Dump}
-use Rattle.moo_dbrecord.specs.Answer.{Told, Taken, taken_of, taken_on, begin, and_then, answer_to, finished}
+use Rattle.moo_dbrecord.specs.Sparing.{outline}
+use Rattle.moo_dbrecord.specs.Answer.{Told, Taken, taken_on, begin, Stops, and_then, answer_to, finished}
+use Rattle.moo_dbrecord.specs.Faults.{fault_of}
+use Rattle.moo_dbrecord.specs.declared.db_reader.RecordFault.{RecordFault}
 use Rattle.moo_dbrecord.specs.declared.fault.DbFault.{DbFault}
 use Rattle.moo_dbrecord.proofs.TakenLaws.{taken_on-append, stops_then}
 use Rattle.moo_dbrecord.proofs.Sources.{finished_text}
 use Rattle.moo_dbprogram.specs.Says.{AreParsedAs, programs_of}
-use Rattle.moo_dbprogram.proofs.Behind.{taken_going}
 use Rattle.moo_dbprogram.specs.declared.program_reader.ProgramReader.{ProgramReader}
 use Rattle.moo_dbprogram.specs.Faults.{through_program}
 use Rattle.moo_dbprogram.specs.Reading.{IsRecordFault, IsToldProgram, IsRefused, IsBehind, HasRead, IsWell, HasRefused, IsRead}
 
 record_then : {A B : Type 0} (r : Result A Told) (f : A → Result B Told) (e : DbFault) → IsRecordFault r e → IsRecordFault (and_then r f) e
 record_then r f e h = record { fault = h.fault; told = h.told; stops = stops_then h.fault.kind h.fault.line r f h.stops }
+
+pub record_refused : (bytes : List ℕ) (answer : Result Taken Told) (f : RecordFault) → Stops f answer → IsRefused bytes answer (fault_of f)
+record_refused bytes answer f h = inr (inl (record { fault = f; told = refl; stops = h }))
 
 program_then : (bytes more : List ℕ) (e : DbFault) → IsToldProgram bytes e → IsToldProgram (bytes ++ more) e
 program_then bytes more e h =
@@ -72,17 +77,17 @@ pub answered_text : (bytes : List ℕ) (s : Taken) (t : Text) → taken_on limit
 unfolding answer_to
 answered_text bytes s t a b = finished_text s t (sym (ap (λ (r : Result Taken Told). and_then r finished) a) ∙ b)
 
-pub read_says : (r : ProgramReader) (bytes : List ℕ) (dump : Dump) → IsBehind r bytes → answer_to limited bytes ≡ Ok (text_of dump) → IsRead bytes (record { players = dump.players; objects = dump.objects; programs = r.programs; connections = dump.connections })
-read_says r bytes dump h a =
-    let text = answered_text bytes (taken_of r.records) (text_of dump) (taken_going r.records bytes h.going h.taken) a in
+pub read_says : (r : ProgramReader) (bytes : List ℕ) (dump : Dump) → IsBehind r bytes → (t : Text) → answer_to limited bytes ≡ Ok t → outline t ≡ outline (text_of dump) → IsRead bytes (record { players = dump.players; objects = dump.objects; programs = r.programs; connections = dump.connections })
+read_says r bytes dump h t a same =
+    let text = answered_text bytes h.at.state t h.at.leads a in
     record {
-      text = text_of dump;
+      text = t;
       records = a;
       says = record {
-        players = refl;
-        objects = refl;
-        programs = subst (λ (t : Text). AreParsedAs t.programs (programs_of r.programs)) text h.parsed;
-        links = refl;
+        players = sym (ap (λ (u : Text). u.players) same);
+        objects = sym (ap (λ (u : Text). u.objects) same);
+        programs = subst (λ (u : Text). AreParsedAs u.programs (programs_of r.programs)) text h.parsed;
+        links = sym (ap (λ (u : Text). u.links) same);
       };
     }
 

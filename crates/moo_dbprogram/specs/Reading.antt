@@ -6,8 +6,9 @@ use Rattle.moo_syntax.specs.Programs.{Blames}
 use Rattle.moo_dbvalue.specs.Lines.{Line, limited}
 use Rattle.moo_dbrecord.specs.Programs.{Table}
 use Rattle.moo_dbrecord.specs.Texts.{Text}
-use Rattle.moo_dbrecord.specs.DumpReading.{verb_read}
-use Rattle.moo_dbrecord.specs.Answer.{Told, Stops, HasTaken, IsGoing, HasNoEnd, taken_of, taken_on, begin, answer_to}
+use Rattle.moo_dbrecord.specs.DumpReading.{Progress, verb_read}
+use Rattle.moo_dbrecord.specs.Sparing.{IsAt}
+use Rattle.moo_dbrecord.specs.Answer.{Told, Stops, IsGoing, HasNoEnd, taken_of, taken_on, begin, answer_to}
 use Rattle.moo_dbrecord.specs.Faults.{fault_of}
 use Rattle.moo_dbrecord.specs.declared.db_reader.RecordFault.{RecordFault}
 use Rattle.moo_dbrecord.specs.declared.db_reader.DbReader.{DbReader}
@@ -25,11 +26,15 @@ pub record IsWholeLine (bytes : List ℕ) : Type 0 where
   pub is : bytes ≡ line ++ 10 ∷ []
   pub clean : HasNoEnd line
 
--- The bytes are taken, and each source among them that has its dot has its program.
+-- The bytes are taken, and each source among them that has its dot has its program. The sources may be dropped by then.
 pub record IsBehind (r : ProgramReader) (bytes : List ℕ) : Type 0 where
   pub going : IsGoing r.records
-  pub taken : HasTaken r.records bytes
-  pub parsed : AreParsedAs (taken_of r.records).progress.text.programs (programs_of r.programs)
+  pub at : IsAt r.records bytes
+  pub parsed : AreParsedAs at.state.progress.text.programs (programs_of r.programs)
+
+-- where a reader stands in the text, but for sources that were dropped
+abbrev pub place_of : ProgramReader → Progress
+place_of r = (taken_of r.records).progress
 
 -- the fault is that of the records, whose answer this is
 pub record IsRecordFault {A : Type 0} (answer : Result A Told) (e : DbFault) : Type 0 where

@@ -1,14 +1,15 @@
 //! A text that comes in pieces, and the programs in it.
-ghost use Rattle.std.specs.Prelude.{◌≡◌, ◌++◌, ◌≤◌, ℕ, List, [], Some, take, length, OnOk, IfErr, IfOk, IsErrOf, MatchOption, MatchResult};
+ghost use Rattle.std.specs.Prelude.{◌≡◌, ◌++◌, ◌≤◌, ℕ, List, [], Some, Ok, take, length, OnOk, IfErr, IfOk, IsErrOf, MatchOption, MatchResult};
 ghost use Rattle.moo_dbvalue.specs.Lines.{Line, limited};
 ghost use Rattle.moo_dbrecord.specs.Programs.{entry_at};
-ghost use Rattle.moo_dbrecord.specs.Texts.{Text, Spells, SpellsWithin};
-ghost use Rattle.moo_dbrecord.specs.Answer.{HasTaken, IsGoing, HasFailed, HasNoEnd, taken_of, taken_on, begin, front_lines, StandWithoutLimits};
+ghost use Rattle.moo_dbrecord.specs.Texts.{Text, Spells, SpellsWithin, text_of};
+ghost use Rattle.moo_dbrecord.specs.Sparing.{AreAlikeTaken, has_objects};
+ghost use Rattle.moo_dbrecord.specs.Answer.{IsGoing, Stops, HasNoEnd, taken_of, taken_on, begin, front_lines, StandWithoutLimits};
 ghost use Rattle.moo_dbrecord.specs.declared.fault.ProgramFault.{ProgramFault};
 ghost use Rattle.moo_dbrecord.specs.declared.fault.DbFault.{DbFault};
 ghost use Rattle.moo_dbprogram.specs.Says.{IsParsedAs, programs_of, Says, HasPrograms, HasProgramsWithin};
 ghost use Rattle.moo_dbprogram.specs.Faults.{IsProgramFault, IsOfLine, IsOfLimits};
-ghost use Rattle.moo_dbprogram.specs.Reading.{IsWholeLine, IsBehind, IsRefused, HasRead, IsWell, HasRefused, Answers, lines_of, ended_between, verb_at, sources_at, IsSourceRefused};
+ghost use Rattle.moo_dbprogram.specs.Reading.{IsWholeLine, IsBehind, IsRefused, HasRead, IsWell, HasRefused, Answers, lines_of, ended_between, verb_at, sources_at, place_of, IsSourceRefused};
 
 use crate::database::Database;
 use crate::fault::kind_of_source;
@@ -33,9 +34,9 @@ fn take_line(
     records: &mut DbReader,
     line: &[u8],
 ) -> Result<Option<(u32, u32)>, RecordFault>
-    ensures taken { (bytes : List ℕ) → HasTaken records.old bytes → HasTaken records.new (bytes ++ line.now) }
+    ensures steps { IsGoing records.old → OnOk result (taken_on limited (taken_of records.old) line.now ≡ Ok (taken_of records.new)) }
+    ensures stops { IsGoing records.old → IfErr result (λ e. Stops e (taken_on limited (taken_of records.old) line.now)) }
     ensures ok { OnOk result (IsGoing records.new) }
-    ensures failed { IfErr result (HasFailed records.new) }
     ensures ended { IfOk result (λ verb. verb ≡ ended_between (verb_at records.old) (verb_at records.new)) }
 {
     let verb = records.verb();
@@ -111,12 +112,14 @@ impl ProgramReader {
         self.records.lines()
     }
 
-    /// Parses and keeps the program of a verb, whose dot has come.
+    /// Parses and keeps the program of a verb, whose dot has come, and drops its lines.
     fn keep(&mut self, alloc: Global, object: u32, verb: u32) -> Result<(), DbFault>
         ensures there { OnOk result ((source : List Line) → entry_at (sources_at self.old.records) object verb ≡ Some source → IsParsedAs (Some source) (entry_at (programs_of self.new.programs) object verb)) }
         ensures others { OnOk result ((o v : ℕ) → (o ≡ object → v ≡ verb → ⊥) → entry_at (programs_of self.new.programs) o v ≡ entry_at (programs_of self.old.programs) o v) }
         ensures refused { IfErr result (λ e. (source : List Line) → entry_at (sources_at self.old.records) object verb ≡ Some source → IsSourceRefused (taken_of self.old.records).lines object verb source e) }
-        ensures same { (self.new.records ≡ self.old.records) × (self.new.failed ≡ self.old.failed) }
+        ensures alike { AreAlikeTaken (taken_of self.old.records) (taken_of self.new.records) }
+        ensures going { IsGoing self.old.records → IsGoing self.new.records }
+        ensures same { self.new.failed ≡ self.old.failed }
     {
         let Some(program) = program_of(alloc, &self.records, object, verb)? else {
             return Ok(());
@@ -128,7 +131,10 @@ impl ProgramReader {
             verb as usize,
             program,
         ) {
-            Ok(()) => Ok(()),
+            Ok(()) => {
+                self.records.drop_source(alloc, object, verb);
+                Ok(())
+            }
             Err(_) => Err(DbFault {
                 line: self.records.lines(),
                 kind: DbFaultKind::Memory,
@@ -188,6 +194,20 @@ impl ProgramReader {
             self.failed = Some(fault);
         }
         taken
+    }
+
+    /// What the lines say that have come, but for the lines of programs, which are dropped at their dots.
+    pub fn dump(&self) -> &Dump
+        ensures { text_of result.now ≡ (place_of self.now).text }
+    {
+        self.records.dump()
+    }
+
+    /// Whether all objects have come.
+    pub fn has_objects(&self) -> bool
+        ensures { result ≡ has_objects (place_of self.now).section }
+    {
+        self.records.has_objects()
     }
 
     /// What is kept of the whole text, once all of it has been fed.

@@ -18,4 +18,6 @@ pub mod Canonical
 pub mod CanonicalText
 pub mod WriteLaws
 pub mod Sources
+pub mod Sparing
+pub mod Placed
 pub mod DumpSmall

@@ -95,7 +95,7 @@ pub data Does (x : Section) (p : Progress) (line : Line) (q : Progress) : Type 0
   reads_on : (verb : ℕ × ℕ) → verb_read q.section q ≡ Some verb → SameSources p q → Does x p line q
   ends : x ≡ section.Source → line ≡ codes "." → verb_read q.section q ≡ None → EndsSource p q → Does x p line q
 
-after_programs_text : (p : Progress) (t : Text) (n : ℕ) → (after_programs p t n).text ≡ t
+pub after_programs_text : (p : Progress) (t : Text) (n : ℕ) → (after_programs p t n).text ≡ t
 after_programs_text p t zero = refl
 after_programs_text p t (suc n) = refl
 
@@ -107,7 +107,7 @@ after_players_text : (p : Progress) (t : Text) (n : ℕ) → (after_players p t 
 after_players_text p t zero = after_objects_text p t p.objects_left
 after_players_text p t (suc n) = refl
 
-after_connections_text : (p : Progress) (t : Text) (n : ℕ) → (after_connections p t n).text ≡ t
+pub after_connections_text : (p : Progress) (t : Text) (n : ℕ) → (after_connections p t n).text ≡ t
 after_connections_text p t zero = refl
 after_connections_text p t (suc n) = refl
 
@@ -117,7 +117,7 @@ same_text p q t e f o v = ap (λ (u : Text). entry_at u.programs o v) e ∙ ap (
 pushed_text : (p q : Progress) (e : Option Object) → q.text ≡ with_object p.text e → SameSources p q
 pushed_text p q e f o v = ap (λ (u : Text). entry_at u.programs o v) f ∙ entry_push p.text.programs e o v
 
-by_step : {A : Type 0} (P : Progress → Type 0) (found : Result A LineFault) (f : A → Progress) (q : Progress) → ((x : A) → P (f x)) → (found >>= λ x. Ok (f x)) ≡ Ok q → P q
+pub by_step : {A : Type 0} (P : Progress → Type 0) (found : Result A LineFault) (f : A → Progress) (q : Progress) → ((x : A) → P (f x)) → (found >>= λ x. Ok (f x)) ≡ Ok q → P q
 by_step P (Ok x) f q h e = subst P (ok_is (f x) q e) (h x)
 by_step P (Err d) f q h e = absurd cc
 
@@ -144,6 +144,13 @@ source_ends p free =
       there = ap (λ (u : Text). entry_at u.programs p.object p.verb) is ∙ entry_there p.text.programs p.object p.verb p.source free;
       others = λ o v h. ap (λ (u : Text). entry_at u.programs o v) is ∙ entry_other p.text.programs p.object p.verb p.source o v h;
     }
+
+-- a dot puts the source that was being read
+pub dot_puts : (p : Progress) (line : Line) (q : Progress) → is_open p.object p.verb p.text.programs ≡ true → p.section ≡ section.Source → line ≡ codes "." → dump_step limited p.section p line ≡ Ok q → entry_at q.text.programs p.object p.verb ≡ Some p.source
+unfolding dump_step
+dot_puts p line q free is dot e =
+    let at_dot : dump_step limited section.Source p (codes ".") ≡ Ok q = subst (λ (x : Section). dump_step limited x p (codes ".") ≡ Ok q) is (subst (λ (l : Line). dump_step limited p.section p l ≡ Ok q) dot e) in
+    subst (λ (r : Progress). entry_at r.text.programs p.object p.verb ≡ Some p.source) (ok_is (after_source p) q at_dot) (source_ends p free).there
 
 source_does : (s : Sizes) (p : Progress) (line : Line) (q : Progress) → is_open p.object p.verb p.text.programs ≡ true → (dot : Bool) → bytes_eq line (codes ".") ≡ dot
     → cond dot (Ok (after_source p)) (text_of s line >>= λ x. Ok (record p { section = section.Source; source = p.source ++ x ∷ [] })) ≡ Ok q → Does section.Source p line q
@@ -178,7 +185,7 @@ step_does s section.Connection p line q free e = none_read refl (by_step (SameSo
 step_does s section.End p line q free e = absurd cc
 
 -- the verb whose program is read has none
-free_in : (x : Section) (p : Progress) (k : Slack) → Keeps x p k → x ≡ section.Source → is_open p.object p.verb p.text.programs ≡ true
+pub free_in : (x : Section) (p : Progress) (k : Slack) → Keeps x p k → x ≡ section.Source → is_open p.object p.verb p.text.programs ≡ true
 free_in section.Source p k h e = h.1.free
 free_in section.Header p k h e = absurd cc
 free_in section.ObjectCount p k h e = absurd cc
@@ -273,7 +280,7 @@ finished_text s t e = last s.rest e
 pub taken_so : (z : Sizes) (bytes : List ℕ) (s : Taken) → taken_on z begin bytes ≡ Ok s → IsTaken s bytes
 taken_so z bytes s e = taken_found z bytes begin s [] begins e
 
-taken_unlimited : (bytes : List ℕ) (s : Taken) → taken_on limited begin bytes ≡ Ok s → taken_on unlimited begin bytes ≡ Ok s
+pub taken_unlimited : (bytes : List ℕ) (s : Taken) → taken_on limited begin bytes ≡ Ok s → taken_on unlimited begin bytes ≡ Ok s
 taken_unlimited bytes s e = elim (taken_cut begin bytes) [
   | inl same ↦ sym same ∙ e
   | inr large ↦ absurd (let f = sym large.1 ∙ e in cc)

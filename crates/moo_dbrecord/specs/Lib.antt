@@ -6,6 +6,8 @@ pub mod Texts
 pub mod Headings
 pub mod DumpReading
 pub mod Answer
+pub mod Sparing
+pub mod Placing
 -- Writing a text.
 pub mod Writing
 -- What a refusal tells.

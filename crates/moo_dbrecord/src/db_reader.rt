@@ -5,6 +5,7 @@ ghost use Rattle.moo_dbrecord.specs.Texts.{Text, Spells, SpellsWithin, text_of};
 ghost use Rattle.moo_dbrecord.specs.declared.db_reader.RecordFault.{RecordFault};
 ghost use Rattle.moo_dbrecord.specs.DumpReading.{progress_of, verb_read, dump_step};
 ghost use Rattle.moo_dbrecord.specs.Programs.{entry_at};
+ghost use Rattle.moo_dbrecord.specs.Sparing.{AreAlikeTaken, IsAt, AnswersBut, has_objects};
 ghost use Rattle.moo_dbrecord.specs.Answer.{Answers, HasTaken, IsGoing, HasFailed, StandWithoutLimits, taken_of, taken_on, line_ended, finished, answer_to, HasNoEnd, BeginsWithLine, IsOfLine, IsOfSize, IsReadOrTooLarge, front_lines};
 
 use crate::dump::Dump;
@@ -77,6 +78,28 @@ impl DbReader {
         self.reader.source(object, verb)
     }
 
+    /// What has come so far.
+    pub fn dump(&self) -> &Dump
+        ensures { text_of result.now ≡ (taken_of self.now).progress.text }
+    {
+        self.reader.dump()
+    }
+
+    /// Whether all objects have come.
+    pub fn has_objects(&self) -> bool
+        ensures { result ≡ has_objects (taken_of self.now).progress.section }
+    {
+        self.reader.has_objects()
+    }
+
+    /// Drops the lines of a verb's program, once they are of no more use. That it has one stays known.
+    pub fn drop_source(&mut self, alloc: Global, object: u32, verb: u32)
+        ensures alike { AreAlikeTaken (taken_of self.old) (taken_of self.new) }
+        ensures going { IsGoing self.old → IsGoing self.new }
+    {
+        self.reader.drop_source(alloc, object, verb);
+    }
+
     /// Ends the line that the bytes end.
     fn line(&mut self, alloc: Global, tail: &[u8]) -> Result<(), Refusal>
         ensures steps { Gives (λ _. progress_of self.new.reader) result (dump_step limited self.old.reader.section (progress_of self.old.reader) (self.old.rest.items ++ tail.now)) }
@@ -132,6 +155,8 @@ impl DbReader {
     /// Takes the next piece of the text.
     pub fn feed(&mut self, alloc: Global, piece: &[u8]) -> Result<(), RecordFault>
         ensures taken { (text : List ℕ) → HasTaken self.old text → HasTaken self.new (text ++ piece.now) }
+        // From any place: that of a reader which has dropped sources, too.
+        ensures steps { IsGoing self.old → Answers (λ _. taken_of self.new) result (taken_on limited (taken_of self.old) piece.now) }
         ensures ok { OnOk result (IsGoing self.new) }
         ensures failed { IfErr result (HasFailed self.new) }
         ensures again { (e : RecordFault) → HasFailed self.old e → IsErrOf result e }
@@ -169,6 +194,8 @@ impl DbReader {
     /// The records of the whole text, once all of it has been fed.
     pub fn finish(self) -> Result<Dump, RecordFault>
         ensures answer { (text : List ℕ) → HasTaken self text → Answers text_of result (answer_to limited text) }
+        // Where sources were dropped, the rest is that of the text.
+        ensures spare { IsGoing self → (text : List ℕ) → IsAt self text → AnswersBut result (answer_to limited text) }
         ensures again { (e : RecordFault) → HasFailed self e → IsErrOf result e }
     {
         if let Some(fault) = self.failed {

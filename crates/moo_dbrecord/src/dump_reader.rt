@@ -7,13 +7,14 @@ ghost use Rattle.moo_dbrecord.specs.Programs.{table_of, entry_at, with_source};
 ghost use Rattle.moo_dbrecord.specs.Texts.{text_of, link_of};
 ghost use Rattle.moo_dbrecord.specs.DumpReading.{progress_of, verb_read, with_object, after_programs, after_objects, after_players, after_connections, after_source, dump_step, ended, start};
 ghost use Rattle.moo_dbrecord.specs.Answer.{unended};
+ghost use Rattle.moo_dbrecord.specs.Sparing.{AreAlike, has_objects};
 
 use crate::dump::{Dump, Form};
 use crate::heading::{
     clocks, connection, connection_count, head, program_head, queued_tasks, suspended_tasks,
     version,
 };
-use crate::program_table::{Source, no_programs, put_source, source_at};
+use crate::program_table::{Source, drop_source, no_programs, put_source, source_at};
 use moo_dbobject::{ObjectReader, ObjectRecord};
 use moo_dbvalue::{LineFault, Refusal, bounded_count, number, text};
 use moo_value::MooStr;
@@ -109,6 +110,42 @@ impl DumpReader {
             MatchOption result (entry_at table object verb ≡ None) (λ s. entry_at table object verb ≡ Some s.now) }
     {
         source_at(&self.dump.programs, object as usize, verb as usize)
+    }
+
+    /// What has come so far.
+    pub(crate) fn dump(&self) -> &Dump
+        ensures { result.now ≡ self.now.dump }
+    {
+        &self.dump
+    }
+
+    /// Whether all objects have come.
+    pub(crate) fn has_objects(&self) -> bool
+        ensures { result ≡ has_objects self.now.section }
+    {
+        match self.section {
+            Section::Header => false,
+            Section::ObjectCount => false,
+            Section::ProgramCount => false,
+            Section::Unused => false,
+            Section::PlayerCount => false,
+            Section::Player => false,
+            Section::Head => false,
+            Section::Object => false,
+            _ => true,
+        }
+    }
+
+    /// Drops the lines of a verb's program. That it has one stays known.
+    pub(crate) fn drop_source(&mut self, alloc: Global, object: u32, verb: u32)
+        ensures { AreAlike (progress_of self.old) (progress_of self.new) }
+    {
+        drop_source(
+            alloc,
+            &mut self.dump.programs,
+            object as usize,
+            verb as usize,
+        );
     }
 
     fn expect_programs(&mut self, left: u32)

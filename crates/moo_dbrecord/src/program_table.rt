@@ -1,6 +1,7 @@
 //! The programs of verbs, by object and verb.
 ghost use Rattle.std.specs.Prelude.{◌≡◌, map, slice_index_or, Some, None, OnOk, IfOk, MatchOption};
 ghost use Rattle.moo_dbobject.specs.Objects.{object_of};
+ghost use Rattle.moo_dbrecord.specs.Sparing.{marks_of};
 ghost use Rattle.moo_dbrecord.specs.Programs.{entry_at, source_of, row_of, table_of, blank_row, is_open_in, is_open, with_source_in, with_source};
 
 use moo_dbobject::ObjectRecord;
@@ -88,4 +89,19 @@ pub(crate) fn put_source(
         return;
     }
     put_source_in(&mut table[object], verb, source);
+}
+
+/// Drops the lines of a verb's program, if it has one. That it has one stays known.
+pub(crate) fn drop_source(
+    alloc: Global,
+    table: &mut Vec<Vec<Option<Source>>>,
+    object: usize,
+    verb: usize,
+)
+    ensures { marks_of (table_of table.new) ≡ marks_of (table_of table.old) }
+{
+    let Some(_) = source_at(table, object, verb) else {
+        return;
+    };
+    put_source(table, object, verb, Vec::new(alloc));
 }

@@ -9,4 +9,5 @@ returns-in-Some-clause-answer c = λ bytes h. refused_whole bytes c.in-Some.faul
 pub returns-clause-answer : goal.returns-clause-answer
 returns-clause-answer c = λ bytes h.
     let behind = read_well c.args.self bytes c.in_default.is h in
-    subst (IsRead bytes) (sym c.with_programs.ensures) (read_says c.args.self bytes c.in_ok-dump.dump behind (c.in_ok-dump.ensures.answer bytes behind.taken))
+    let t = c.in_ok-dump.ensures.spare behind.going bytes behind.at in
+    subst (IsRead bytes) (sym c.with_programs.ensures) (read_says c.args.self bytes c.in_ok-dump.dump behind t.0 t.1 t.2)

@@ -1,34 +1,30 @@
-use Rattle.std.proofs.Common.{◌≡◌, ◌++◌, sym, subst, ◌∙◌}
-use Rattle.moo_dbrecord.specs.Answer.{HasTaken, IsGoing}
-use Rattle.moo_dbrecord.specs.declared.db_reader.DbReader.{DbReader}
-use Rattle.moo_dbprogram.specs.Says.{AreParsedAs, programs_of}
-use Rattle.moo_dbprogram.specs.Reading.{sources_at}
+use Rattle.std.proofs.Common.{◌++◌, refl, sym, ◌∙◌}
+use Rattle.std.proofs.lemmas.Result.{err_from_is_err_and}
+use Rattle.moo_dbvalue.specs.Lines.{limited}
+use Rattle.moo_dbrecord.specs.Answer.{taken_on, begin}
+use Rattle.moo_dbrecord.proofs.Sparing.{at_stops}
+use Rattle.moo_dbprogram.proofs.Refused.{record_refused}
 use Rattle.moo_dbprogram.proofs.Cases.{both_then, err_then}
-use Rattle.moo_dbprogram.proofs.Behind.{behind_still, behind_ended, source_refused}
+use Rattle.moo_dbprogram.proofs.Behind.{behind_still, at_dot, behind_ended, source_refused}
 use Rattle.moo_dbprogram.proofs.program_reader.ProgramReader.line.Goals as goal
 
 pub returns-in-None-clause-goes : goal.returns-in-None-clause-goes
 returns-in-None-clause-goes c = λ bytes h.
-    let then = c.in_ok-object.ensures.taken bytes h.taken in
-    record {
-      going = c.in_ok-object.ensures.ok;
-      taken = then;
-      parsed = behind_still c.args.self.now.records c.take_line.new.records (programs_of c.args.self.now.programs) bytes c.args.line.now c.requires h.going h.taken c.in_ok-object.ensures.ok then (sym c.in_ok-object.ensures.ended ∙ c.in-None.is) h.parsed;
-    }
+    behind_still c.args.self.now _ bytes c.args.line.now c.requires h c.in_ok-object.ensures.ok (c.in_ok-object.ensures.steps h.going) (sym c.in_ok-object.ensures.ended ∙ c.in-None.is) refl
 
 pub returns-in-Some-clause-goes : goal.returns-in-Some-clause-goes
 returns-in-Some-clause-goes c = λ bytes h.
-    let then = c.in_ok-object.ensures.taken bytes h.taken in
-    let on = c.in_ok-object.ensures.ok in
-    let same : c.keep.new.self.records ≡ c.take_line.new.records = c.keep.ensures.same.0 in
-    both_then c.keep.result _ _ _ c.keep.ensures.there c.keep.ensures.others (λ there others. record {
-      going = subst IsGoing (sym same) on;
-      taken = subst (λ (d : DbReader). HasTaken d (bytes ++ c.args.line.now)) (sym same) then;
-      parsed = subst (λ (d : DbReader). AreParsedAs (sources_at d) (programs_of c.keep.new.self.programs)) (sym same)
-          (behind_ended c.args.self.now.records c.take_line.new.records (programs_of c.args.self.now.programs) (programs_of c.keep.new.self.programs) bytes c.args.line.now c.in-Some.object c.in-Some.verb c.requires h.going h.taken on then (sym c.in_ok-object.ensures.ended ∙ c.in-Some.is) there others h.parsed);
-    })
+    let d = at_dot c.args.self.now.records c.take_line.new.records bytes c.args.line.now c.in-Some.object c.in-Some.verb c.requires h.at (c.in_ok-object.ensures.steps h.going) (sym c.in_ok-object.ensures.ended ∙ c.in-Some.is) in
+    both_then c.keep.result _ _ _ c.keep.ensures.there c.keep.ensures.others (λ there others.
+    behind_ended c.args.self.now c.keep.new.self bytes c.args.line.now c.in-Some.object c.in-Some.verb c.take_line.new.records h d (c.keep.ensures.going c.in_ok-object.ensures.ok) c.keep.ensures.alike (there _ d.had) others)
 
 pub returns-in-Some-clause-stops : goal.returns-in-Some-clause-stops
 returns-in-Some-clause-stops c = λ bytes h.
-    err_then c.keep.result _ _ c.keep.ensures.refused (λ e refused.
-    source_refused c.args.self.now.records c.take_line.new.records bytes c.args.line.now c.in-Some.object c.in-Some.verb e c.requires h.going h.taken c.in_ok-object.ensures.ok (c.in_ok-object.ensures.taken bytes h.taken) (sym c.in_ok-object.ensures.ended ∙ c.in-Some.is) refused)
+    let d = at_dot c.args.self.now.records c.take_line.new.records bytes c.args.line.now c.in-Some.object c.in-Some.verb c.requires h.at (c.in_ok-object.ensures.steps h.going) (sym c.in_ok-object.ensures.ended ∙ c.in-Some.is) in
+    err_then c.keep.result _ _ c.keep.ensures.refused (λ e refused. source_refused c.args.self.now.records c.take_line.new.records bytes c.args.line.now c.in-Some.object c.in-Some.verb e h.at d refused)
+
+pub returns-in_err-object-clause-stops : goal.returns-in_err-object-clause-stops
+returns-in_err-object-clause-stops c = λ bytes h.
+    let e = c.in_err-object.field-0.0 in
+    let p = err_from_is_err_and c.from_residual.result c.from_residual.ensures.1 in
+    rw (p.1, p.2) (record_refused (bytes ++ c.args.line.now) (taken_on limited begin (bytes ++ c.args.line.now)) e (at_stops c.args.self.now.records bytes c.args.line.now e h.at (c.in_err-object.ensures.stops h.going)))

@@ -1,4 +1,8 @@
-use Rattle.std.proofs.Common.{◌∙◌}
+use Rattle.std.proofs.Common.{◌∙◌, ℕ, List, sym, subst}
+use Rattle.std.specs.Prelude.{IfErr, OnOk}
+use Rattle.moo_dbvalue.specs.Lines.{limited}
+use Rattle.moo_dbrecord.specs.Answer.{taken_on, begin}
+use Rattle.moo_dbprogram.specs.Reading.{IsBehind, IsRefused}
 use Rattle.std.proofs.lemmas.Result.{err_from_is_err_and}
 use Rattle.moo_dbprogram.proofs.Refused.{refused_at, front_grows}
 use Rattle.moo_dbprogram.proofs.program_reader.ProgramReader.take.Goals as goal
@@ -16,3 +20,13 @@ loop-size-preserved c = record {
       (_, front_grows bytes c.args.piece.now i.0 c.loop-size.more.now c.in-Some.size i.1, c.in_ok-line.ensures.goes i.0 i.2);
   failed = c.in_ok-line.ensures.same ∙ c.loop-size.invariant.failed;
 }
+
+pub returns-clause-goes : goal.returns-clause-goes
+returns-clause-goes c = λ bytes h.
+    let i = c.loop-size.invariant.behind bytes h in
+    subst (λ (b : List ℕ). OnOk c.part.result (IsBehind c.part.new.self b)) (sym i.1) (c.part.ensures.goes i.0 i.2)
+
+pub returns-clause-stops : goal.returns-clause-stops
+returns-clause-stops c = λ bytes h.
+    let i = c.loop-size.invariant.behind bytes h in
+    subst (λ (b : List ℕ). IfErr c.part.result (IsRefused b (taken_on limited begin b))) (sym i.1) (c.part.ensures.stops i.0 i.2)

@@ -13,6 +13,7 @@ use Rattle.moo_dbprogram.specs.Says.{HasSource}
 use Rattle.moo_restore.specs.Records.{program_at}
 use Rattle.moo_restore.specs.Recorded.{records_of}
 use Rattle.moo_restore.proofs.Writing.{says_itself}
+use Rattle.moo_restore.proofs.Worlds.{shaped}
 use Rattle.moo_dump.specs.Held.{IsHeldBlock, IsHeldProgram, IsHeld}
 use Rattle.moo_dump.specs.Texts.{source_of, link_to, text_of_world, canonical_bytes}
 use Rattle.moo_dump.proofs.Sources.{source_at, held_at}
@@ -44,6 +45,7 @@ module _ (w : World) (whos : List ℤ) (formed : IsWellFormed w) (held : IsHeld 
     text = text_of_world w whos;
     spelled = record { slack = slack_of (text_of_world w whos).programs; written = written; lines = refl };
     says = text_says (IsProgramOf Any) (λ b h. listing_is_program Any h.text.lines b h.text.program);
+    shaped = shaped w formed;
   }
 
   pub spelled_within : IsWritable limited (text_of_world w whos) → SpellsSavedWithin (canonical_bytes w whos) (record { world = w; connected = whos })
@@ -51,4 +53,5 @@ module _ (w : World) (whos : List ℤ) (formed : IsWellFormed w) (held : IsHeld 
     text = text_of_world w whos;
     spelled = record { slack = slack_of (text_of_world w whos).programs; written = written; lines = refl };
     says = text_says (IsParsed Any) (λ b h. listing_is_parsed Any h.text.lines b h.text.program h.limits);
+    formed = formed;
   }

@@ -1,7 +1,6 @@
 //! A database text in its canonical form.
 
 ghost use Rattle.std.specs.Prelude.{◌≡◌, length, IfOk, IfErr, MatchResult};
-ghost use Rattle.moo_table.specs.World.{IsWellFormed};
 ghost use Rattle.moo_dbvalue.specs.Lines.{IsCountOf, limited};
 ghost use Rattle.moo_saved.specs.Saved as saving;
 ghost use Rattle.moo_saved.specs.Saved.{saved_of, SpellsSaved, SpellsSavedWithin};
@@ -17,7 +16,7 @@ pub fn copy_db(alloc: Global, bytes: &[u8]) -> Result<Vec<u8>, DbFault>
     // It is that of what the bytes spell.
     ensures copied { IfOk result (λ text. (s : saving.Saved) × (SpellsSaved bytes.now s × (text.items ≡ canonical s))) }
     // What is within the limits is refused for want of memory alone.
-    ensures refused { IfErr result (λ e. (s : saving.Saved) → IsWellFormed s.world → SpellsSavedWithin bytes.now s → e.kind ≡ DbFaultKind.Memory) }
+    ensures refused { IfErr result (λ e. (s : saving.Saved) → SpellsSavedWithin bytes.now s → e.kind ≡ DbFaultKind.Memory) }
 {
     let saved = read_db(alloc, bytes)?;
     written(alloc, &saved)

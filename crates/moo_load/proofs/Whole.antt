@@ -1,5 +1,5 @@
 -- What an answer says of the bytes of a whole text.
-use Rattle.std.proofs.Common.{◌≡◌, ℕ, ℤ, suc, ◌+◌, ◌≤◌, Bool, true, false, List, [], ◌∷◌, ◌++◌, length, take, arith, Option, Some, None, Result, Ok, Err, ◌⊎◌, inl, inr, refl, sym, ap, subst, ◌∙◌}
+use Rattle.std.proofs.Common.{◌≡◌, ℕ, ℤ, suc, ◌+◌, ◌≤◌, Bool, true, false, List, [], ◌∷◌, ◌++◌, length, take, arith, Option, Some, None, Result, Ok, Err, ◌⊎◌, inl, inr, refl, sym, ap, subst, ◌∙◌, append-nil}
 use Rattle.std.specs.Prelude.{IfOk, IfErr, MatchResult, map, slice_index_or, count_by, is_some}
 use Rattle.std.specs.List.{sum_by, AllByRecursion}
 use Rattle.moo_program.specs.Tree.{Block}
@@ -14,7 +14,9 @@ use Rattle.moo_dbrecord.specs.Programs.{Table, entry_at}
 use Rattle.moo_table.specs.World.{most, IsWellFormed}
 use Rattle.moo_dbobject.specs.Objects as recorded
 use Rattle.moo_dbrecord.specs.Texts.{Text, IsEntry, objects_lines, Spells, SpellsWithin}
+use Rattle.moo_dbrecord.specs.Placing.{BeginsWithObjects}
 use Rattle.moo_dbrecord.specs.Writing.{no_notes}
+use Rattle.moo_dbrecord.proofs.Placed.{whole_begins}
 use Rattle.moo_dbrecord.specs.Answer.{answer_to, front_lines, StandWithoutLimits}
 use Rattle.moo_dbrecord.specs.Faults.{kind_of, kind_of_refusal}
 use Rattle.moo_dbrecord.specs.declared.fault.DbFault.{DbFault}
@@ -30,17 +32,17 @@ use Rattle.moo_dbprogram.specs.Reading.{IsRefused, IsRead}
 use Rattle.moo_dbprogram.specs.declared.database.Database.{Database}
 use Rattle.moo_dbprogram.proofs.Whole.{is_read_only, is_read_within, is_placed, is_sized, is_told_large}
 use Rattle.moo_restore.specs.Records.{Records}
-use Rattle.moo_restore.specs.Faults.{IsHierarchyFault, IsCountFault}
+use Rattle.moo_restore.specs.Faults.{IsWellPlaced, HasItsCells, IsHierarchyFault, IsCountFault}
 use Rattle.moo_restore.specs.Restoring.{IsEntryWithin, AreWithinLimits, IsFaultOf}
 use Rattle.moo_restore.specs.Says.{Says}
 use Rattle.moo_restore.specs.declared.fault.RestoreFault.{RestoreFault}
 use Rattle.moo_restore.specs.declared.fault.RestoreFault.TheVariants as restoring
-use Rattle.moo_restore.proofs.Worlds.{well_placed, has_its_cells}
+use Rattle.moo_restore.proofs.Worlds.{shaped, well_placed, has_its_cells}
 use Rattle.moo_saved.specs.Saved.{Saved, saved_of, IsTextOf, SpellsSaved, SpellsSavedWithin}
-use Rattle.moo_load.specs.Objects.{AreRecordsOf, HasObjectFault}
+use Rattle.moo_load.specs.Objects.{of_objects, HasObjectFault}
 use Rattle.moo_load.specs.Loading.{records_kept, who_of, IsLineOf, IsTold, IsUntold, IsSavedFrom, IsLoaded, HasToldObject, LoadAnswers}
 use Rattle.moo_saved.specs.declared.saved.Saved as stored
-use Rattle.moo_load.proofs.Worlds.{says_of, loose_records, loose_text, one_spelled, spelled_within}
+use Rattle.moo_load.proofs.Worlds.{placed_as, cells_as, fault_as, loose_text, one_spelled, spelled_within}
 
 -- ---- kinds of faults
 
@@ -158,9 +160,6 @@ kept_within bytes d h =
 
 -- ---- from what is kept
 
-kept_records : (bytes : List ℕ) (d : Database) (h : IsRead bytes d) → AreRecordsOf (IsParsed Any) h.text (records_kept d)
-kept_records bytes d h = record { objects = h.says.objects; players = h.says.players; sources = h.says.programs }
-
 pub saved_loaded : (bytes : List ℕ) (d : Database) (s : stored.Saved) → IsRead bytes d → IsSavedFrom d s → IsLoaded bytes (saved_of s)
 saved_loaded bytes d s h k = record {
   text = h.text;
@@ -169,20 +168,19 @@ saved_loaded bytes d s h k = record {
   sound = k.sound;
 }
 
-object_fault : (Fault : Records → ℕ → Type 0) (bytes : List ℕ) (d : Database) (x n : ℕ) → IsRead bytes d → Fault (records_kept d) x → IsLineOf (length (records_kept d).players) (records_kept d).objects x n → HasObjectFault Fault bytes n x
-object_fault Fault bytes d x n h fault line = record {
-  text = h.text;
-  spells = answer_found limited bytes h.text h.records;
-  records = records_kept d;
-  are = kept_records bytes d h;
-  fault = fault;
-  line = line ∙ ap (λ (ps : List ℤ). 6 + length ps + length (objects_lines 0 (take x (records_kept d).objects) no_notes)) h.says.players ∙ ap (λ (os : List (Option recorded.Object)). 6 + length h.text.players + length (objects_lines 0 (take x os) no_notes)) h.says.objects;
-}
+-- an object is told where the bytes begin a text
+pub told_begun : (bytes : List ℕ) (players : List ℤ) (objects : List (Option recorded.Object)) (e : DbFault) (f : RestoreFault) → BeginsWithObjects bytes players objects → IsFaultOf (of_objects objects) f → IsTold (length players) objects f e
+    → IsRefused bytes (answer_to limited bytes) e ⊎ HasToldObject bytes e
+told_begun bytes players objects e (restoring.Hierarchy x) begins fault told = inr (record { object = x; is = inl (told.0, record { players = players; objects = objects; begins = begins; fault = fault; line = told.1 }) })
+told_begun bytes players objects e (restoring.PropertyCount x) begins fault told = inr (record { object = x; is = inr (told.0, record { players = players; objects = objects; begins = begins; fault = fault; line = told.1 }) })
+told_begun bytes players objects e restoring.Memory begins fault told = inl (inl told)
 
 told_loaded : (bytes : List ℕ) (d : Database) (e : DbFault) (f : RestoreFault) → IsRead bytes d → IsFaultOf (records_kept d) f → IsTold (length (records_kept d).players) (records_kept d).objects f e → IsRefused bytes (answer_to limited bytes) e ⊎ HasToldObject bytes e
-told_loaded bytes d e (restoring.Hierarchy x) h fault told = inr (record { object = x; is = inl (told.0, object_fault IsHierarchyFault bytes d x e.line h fault told.1) })
-told_loaded bytes d e (restoring.PropertyCount x) h fault told = inr (record { object = x; is = inr (told.0, object_fault IsCountFault bytes d x e.line h fault told.1) })
-told_loaded bytes d e restoring.Memory h fault told = inl (inl told)
+told_loaded bytes d e f h fault told =
+    let r = records_kept d in
+    told_begun bytes r.players r.objects e f
+    (subst (λ (os : List (Option recorded.Object)). BeginsWithObjects bytes r.players os) (sym h.says.objects) (subst (λ (ps : List ℤ). BeginsWithObjects bytes ps h.text.objects) (sym h.says.players) (whole_begins bytes h.text h.records)))
+    (fault_as r f fault) told
 
 pub untold_loaded : (bytes : List ℕ) (d : Database) (e : DbFault) → IsRead bytes d → IsUntold (records_kept d) e → IsRefused bytes (answer_to limited bytes) e ⊎ HasToldObject bytes e
 untold_loaded bytes d e h (inl memory) = inl (inl memory)
@@ -191,39 +189,39 @@ untold_loaded bytes d e h (inr told) = told_loaded bytes d e told.fault h told.i
 -- ---- what is read
 
 pub is_found : (bytes : List ℕ) (r : Result stored.Saved DbFault) → LoadAnswers r bytes → IfOk r (λ s. SpellsSaved bytes (saved_of s))
-is_found bytes (Ok s) h = record { text = h.text; spelled = answer_found limited bytes h.text h.answer; says = loose_text h.text (saved_of s) h.is }
+is_found bytes (Ok s) h = record { text = h.text; spelled = answer_found limited bytes h.text h.answer; says = loose_text h.text (saved_of s) h.is; shaped = shaped s.world h.sound }
 is_found bytes (Err e) h = tt
 
 some_source : (P : List Line → Block → Type 0) (b : Option Block) (s : List Line) → HasSource P (Some s) b → (c : Block) × P s c
 some_source P None s h = absurd h
 some_source P (Some b) s h = (b, h)
 
-has_source : (P : List Line → Block → Type 0) (t : Text) (r : Records) → AreRecordsOf P t r → (o v : ℕ) (s : List Line) → entry_at t.programs o v ≡ Some s → (b : Block) × P s b
-has_source P t r h o v s e = some_source P (entry_at r.programs o v) s (subst (λ (x : Option (List Line)). HasSource P x (entry_at r.programs o v)) e (h.sources o v))
+has_source : (P : List Line → Block → Type 0) (t : Text) (s : Saved) (k : IsTextOf P t s) → (o v : ℕ) (x : List Line) → entry_at t.programs o v ≡ Some x → (b : Block) × P x b
+has_source P t s k o v x e = some_source P (entry_at k.records.programs o v) x (subst (λ (y : Option (List Line)). HasSource P y (entry_at k.records.programs o v)) e (k.sources o v))
 
 -- where an object is at fault no saved world is spelled
-text_records : (P : List Line → Block → Type 0) (t : Text) (s : Saved) (k : IsTextOf P t s) → AreRecordsOf P t k.records
-text_records P t s k = record { objects = k.objects; players = k.players; sources = k.sources }
-
-no_saved : (bytes : List ℕ) (e : DbFault) (s : Saved) → IsWellFormed s.world → HasToldObject bytes e → SpellsSaved bytes s → ⊥
-no_saved bytes e s sound h k = at h.is
+no_saved : (bytes : List ℕ) (e : DbFault) (s : Saved) → HasToldObject bytes e → SpellsSaved bytes s → ⊥
+no_saved bytes e s h k = at h.is
   where
-    says : (Fault : Records → ℕ → Type 0) (n x : ℕ) (f : HasObjectFault Fault bytes n x) → Says f.records s.world
-    says Fault n x f = says_of f.text k.says.records f.records s.world (subst (λ (t : Text). AreRecordsOf (IsProgramOf Any) t k.says.records) (one_text bytes k.text f.text k.spelled f.spells) (text_records (IsProgramOf Any) k.text s k.says)) (loose_records f.text f.records f.are) k.says.says
+    r : Records
+    r = k.says.records
+
+    same : (players : List ℤ) (objects : List (Option recorded.Object)) → BeginsWithObjects bytes players objects → r.objects ≡ objects
+    same players objects begins = k.says.objects ∙ begins.objects_there [] k.text (subst (λ (b : List ℕ). Spells b k.text) (sym (append-nil bytes)) k.spelled)
 
     at : ((e.kind ≡ kind.BadHierarchy h.object) × HasObjectFault IsHierarchyFault bytes e.line h.object) ⊎ ((e.kind ≡ kind.PropertyCount h.object) × HasObjectFault IsCountFault bytes e.line h.object) → ⊥
-    at (inl p) = p.1.fault.1 (well_placed p.1.records s.world (says IsHierarchyFault e.line h.object p.1) sound h.object)
-    at (inr p) = p.1.fault.1.1 (has_its_cells p.1.records s.world (says IsCountFault e.line h.object p.1) sound h.object)
+    at (inl p) = p.1.fault.1 (subst (λ (os : List (Option recorded.Object)). IsWellPlaced (of_objects os) h.object) (same p.1.players p.1.objects p.1.begins) (placed_as r h.object (well_placed r s.world k.says.says k.shaped h.object)))
+    at (inr p) = p.1.fault.1.1 (subst (λ (os : List (Option recorded.Object)). HasItsCells (of_objects os) h.object) (same p.1.players p.1.objects p.1.begins) (cells_as r h.object (has_its_cells r s.world k.says.says k.shaped h.object)))
 
-pub is_loaded_only : (bytes : List ℕ) (r : Result stored.Saved DbFault) → LoadAnswers r bytes → (s : Saved) → IsWellFormed s.world → SpellsSaved bytes s → MatchResult r (λ x. saved_of x ≡ s) (λ e. IsOfLimits e.kind)
-is_loaded_only bytes (Ok x) h s sound k = one_spelled bytes (saved_of x) s (is_found bytes (Ok x) h) k
-is_loaded_only bytes (Err e) (inl refused) s sound k = is_read_only bytes (Err e) refused k.text k.spelled (has_source (IsProgramOf Any) k.text k.says.records (text_records (IsProgramOf Any) k.text s k.says))
-is_loaded_only bytes (Err e) (inr told) s sound k = absurd (no_saved bytes e s sound told k)
+pub is_loaded_only : (bytes : List ℕ) (r : Result stored.Saved DbFault) → LoadAnswers r bytes → (s : Saved) → SpellsSaved bytes s → MatchResult r (λ x. saved_of x ≡ s) (λ e. IsOfLimits e.kind)
+is_loaded_only bytes (Ok x) h s k = one_spelled bytes (saved_of x) s (is_found bytes (Ok x) h) k
+is_loaded_only bytes (Err e) (inl refused) s k = is_read_only bytes (Err e) refused k.text k.spelled (has_source (IsProgramOf Any) k.text s k.says)
+is_loaded_only bytes (Err e) (inr told) s k = absurd (no_saved bytes e s told k)
 
-pub is_loaded_within : (bytes : List ℕ) (r : Result stored.Saved DbFault) → LoadAnswers r bytes → (s : Saved) → IsWellFormed s.world → SpellsSavedWithin bytes s → MatchResult r (λ x. saved_of x ≡ s) (λ e. e.kind ≡ kind.Memory)
-is_loaded_within bytes (Ok x) h s sound k = one_spelled bytes (saved_of x) s (is_found bytes (Ok x) h) (spelled_within bytes s k)
-is_loaded_within bytes (Err e) (inl refused) s sound k = is_read_within bytes (Err e) refused k.text k.spelled (has_source (IsParsed Any) k.text k.says.records (text_records (IsParsed Any) k.text s k.says))
-is_loaded_within bytes (Err e) (inr told) s sound k = absurd (no_saved bytes e s sound told (spelled_within bytes s k))
+pub is_loaded_within : (bytes : List ℕ) (r : Result stored.Saved DbFault) → LoadAnswers r bytes → (s : Saved) → SpellsSavedWithin bytes s → MatchResult r (λ x. saved_of x ≡ s) (λ e. e.kind ≡ kind.Memory)
+is_loaded_within bytes (Ok x) h s k = one_spelled bytes (saved_of x) s (is_found bytes (Ok x) h) (spelled_within bytes s k)
+is_loaded_within bytes (Err e) (inl refused) s k = is_read_within bytes (Err e) refused k.text k.spelled (has_source (IsParsed Any) k.text s k.says)
+is_loaded_within bytes (Err e) (inr told) s k = absurd (no_saved bytes e s told (spelled_within bytes s k))
 
 -- ---- what is refused
 

@@ -1,17 +1,17 @@
 -- A reader of worlds between two pieces.
 use Rattle.std.specs.Prelude.{ℕ, List}
 use Rattle.moo_dbrecord.specs.declared.fault.DbFault.{DbFault}
-use Rattle.moo_dbprogram.specs.Reading as reading
+use Rattle.moo_load.specs.Taking as taking
 use Rattle.moo_load.specs.declared.db_reader.DbReader.{DbReader}
 
 -- The reader has taken these bytes, in whatever pieces, or has refused them.
 abbrev pub HasFed : DbReader → List ℕ → Type 0
-HasFed r bytes = reading.HasRead r bytes
+HasFed r bytes = taking.HasTaken r bytes
 
 -- No fault has come yet.
 abbrev pub IsWell : DbReader → Type 0
-IsWell r = reading.IsWell r
+IsWell r = taking.IsGoing r
 
 -- This fault has come.
 abbrev pub HasRefused : DbReader → DbFault → Type 0
-HasRefused r e = reading.HasRefused r e
+HasRefused r e = taking.HasFailed r e

@@ -19,7 +19,7 @@ use Rattle.moo_restore.specs.Restoring.{records_from, IsFaultOf}
 use Rattle.moo_restore.specs.declared.fault.RestoreFault.{RestoreFault}
 use Rattle.moo_restore.specs.declared.fault.RestoreFault.TheVariants as restoring
 use Rattle.moo_saved.specs.Saved.{Saved, saved_of, IsTextOf}
-use Rattle.moo_load.specs.Objects.{HasObjectFault}
+use Rattle.moo_load.specs.Objects.{of_objects, HasObjectFault}
 use Rattle.moo_saved.specs.declared.saved.Saved as stored
 
 -- ---- what is kept of a text
@@ -48,6 +48,15 @@ pub record IsObjectTold (r : Records) (e : DbFault) : Type 0 where
 abbrev pub IsUntold : Records → DbFault → Type 0
 IsUntold r e = (e.kind ≡ kind.Memory) ⊎ IsObjectTold r e
 
+-- of a text that has these players and these objects, an object is at fault, and that is told
+pub record IsTextTold (players : List ℤ) (objects : List (Option Object)) (e : DbFault) : Type 0 where
+  pub fault : RestoreFault
+  pub is : IsFaultOf (of_objects objects) fault
+  pub told : IsTold (length players) objects fault e
+
+abbrev pub IsTextUntold : List ℤ → List (Option Object) → DbFault → Type 0
+IsTextUntold players objects e = (e.kind ≡ kind.Memory) ⊎ IsTextTold players objects e
+
 -- what is saved says what is kept
 pub record IsSavedFrom (d : Database) (s : stored.Saved) : Type 0 where
   pub says : Says (records_kept d) s.world
@@ -63,7 +72,7 @@ pub record IsLoaded (bytes : List ℕ) (s : Saved) : Type 0 where
   pub is : IsTextOf (IsParsed Any) text s
   pub sound : IsWellFormed s.world
 
--- an object is told of the bytes' text
+-- an object is told of the text that the bytes begin
 pub record HasToldObject (bytes : List ℕ) (e : DbFault) : Type 0 where
   pub object : ℕ
   pub is : ((e.kind ≡ kind.BadHierarchy object) × HasObjectFault IsHierarchyFault bytes e.line object) ⊎ ((e.kind ≡ kind.PropertyCount object) × HasObjectFault IsCountFault bytes e.line object)

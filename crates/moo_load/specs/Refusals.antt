@@ -1,6 +1,5 @@
 -- Why bytes are refused.
 use Rattle.std.specs.Prelude.{◌≡◌, ℕ, List, ◌++◌}
-use Rattle.moo_table.specs.World.{IsWellFormed}
 use Rattle.moo_dbrecord.specs.Texts.{Text, Spells, SpellsWithin}
 use Rattle.moo_dbrecord.specs.Answer.{front_lines, StandWithoutLimits}
 use Rattle.moo_dbrecord.specs.declared.fault.DbFault.{DbFault}
@@ -14,9 +13,9 @@ use Rattle.moo_load.specs.Objects.{HasObjectFault}
 -- The bytes of a whole text are refused, and this is told.
 pub record Refuses (bytes : List ℕ) (e : DbFault) : Type 0 where
   -- a saved world that they spell is past a limit, or memory ended it
-  pub only : (s : Saved) → IsWellFormed s.world → SpellsSaved bytes s → IsOfLimits e.kind
+  pub only : (s : Saved) → SpellsSaved bytes s → IsOfLimits e.kind
   -- one within the limits they spell only where memory ended it
-  pub within : (s : Saved) → IsWellFormed s.world → SpellsSavedWithin bytes s → e.kind ≡ kind.Memory
+  pub within : (s : Saved) → SpellsSavedWithin bytes s → e.kind ≡ kind.Memory
   -- no text begins with the lines up to the one that is told
   pub place : IsOfLine e.kind → (more : List ℕ) (t : Text) → ¬ (Spells (front_lines e.line bytes ++ more) t)
   -- where a program is told, the bytes have it there, and its source is none

@@ -6,33 +6,33 @@ ghost use Rattle.moo_load.specs.Loading.{LoadAnswers, IsRefusedFrom};
 ghost use Rattle.moo_load.specs.Refusals.{Refuses};
 ghost use Rattle.moo_load.specs.Feeding.{HasFed, IsWell, HasRefused};
 
-use crate::loading::load;
-use moo_dbprogram::ProgramReader;
+use crate::world_reader::WorldReader;
 use moo_dbrecord::DbFault;
 use moo_saved::Saved;
 use std::alloc::Global;
 use std::marker::Model;
 
-/// Reads a database text in pieces. After a fault each call answers that fault.
+/// Reads a database text in pieces. What its objects have wrong is told as soon as the last of them has come. After a fault
+/// each call answers that fault.
 #[derive(Drop)]
 pub struct DbReader {
-    programs: ProgramReader,
+    reader: WorldReader,
 }
 
 impl Model for DbReader {
     ghost use Rattle.std.specs.Prelude.{ℕ, List};
-    ghost use Rattle.moo_dbprogram.specs.Reading.{HasRead};
-    ghost use Rattle.moo_dbprogram.specs.declared.program_reader.ProgramReader.{ProgramReader};
-    ghost use Rattle.moo_dbprogram.specs.contracts.program_reader.ProgramReader as reader;
+    ghost use Rattle.moo_load.specs.Taking.{HasTaken};
+    ghost use Rattle.moo_load.specs.declared.world_reader.WorldReader.{WorldReader};
+    ghost use Rattle.moo_load.specs.contracts.world_reader.WorldReader as worlds;
 
-    ghost Value = { ProgramReader };
+    ghost Value = { WorldReader };
 
-    ghost coded = { reader.the_row.coded };
+    ghost coded = { worlds.the_row.coded };
 
-    ghost view = { λ r. r.programs };
+    ghost view = { λ r. r.reader };
 
     // Some bytes, perhaps none, have been fed.
-    ghost invariant = { λ r. (bytes : List ℕ) × HasRead r.programs bytes };
+    ghost invariant = { λ r. (bytes : List ℕ) × HasTaken r.reader bytes };
 }
 
 impl DbReader {
@@ -41,7 +41,7 @@ impl DbReader {
         ensures { HasFed result [] }
     {
         DbReader {
-            programs: ProgramReader::new(alloc),
+            reader: WorldReader::new(alloc),
         }
     }
 
@@ -53,16 +53,14 @@ impl DbReader {
         ensures refused { (bytes : List ℕ) → HasFed self.old bytes → IfErr result (IsRefusedFrom (bytes ++ piece.now)) }
         ensures again { (e : DbFault) → HasRefused self.old e → IsErrOf result e }
     {
-        self.programs.feed(alloc, piece)
+        self.reader.feed(alloc, piece)
     }
 
     fn end(self, alloc: Global) -> Result<Saved, DbFault>
         ensures answer { (bytes : List ℕ) → HasFed self bytes → LoadAnswers result bytes }
         ensures again { (e : DbFault) → HasRefused self e → IsErrOf result e }
     {
-        let lines = self.programs.lines();
-        let database = self.programs.finish()?;
-        load(alloc, lines, database)
+        self.reader.finish(alloc)
     }
 
     /// The saved world of the whole text, once all of it has been fed.

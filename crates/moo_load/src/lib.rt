@@ -8,6 +8,7 @@ mod object_line;
 #[cfg(test)]
 mod tests;
 mod text;
+mod world_reader;
 
 pub use db_reader::DbReader;
 pub use moo_dbrecord::{DbFault, DbFaultKind, ProgramFault, ProgramFaultKind};

@@ -55,7 +55,7 @@ fn told_object(
 }
 
 /// How it is told why no world was restored.
-fn told(
+pub(crate) fn told(
     lines: u64,
     players: usize,
     objects: &[Option<ObjectRecord>],

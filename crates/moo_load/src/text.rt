@@ -5,7 +5,6 @@ ghost use Rattle.moo_dbrecord.specs.Answer.{front_lines, StandWithoutLimits};
 ghost use Rattle.moo_dbrecord.specs.declared.fault.ProgramFault.{ProgramFault};
 ghost use Rattle.moo_dbprogram.specs.Faults.{IsProgramFault, IsOfLine, IsOfLimits};
 ghost use Rattle.moo_restore.specs.Faults.{IsHierarchyFault, IsCountFault};
-ghost use Rattle.moo_table.specs.World.{IsWellFormed};
 ghost use Rattle.moo_saved.specs.Saved as saving;
 ghost use Rattle.moo_saved.specs.Saved.{saved_of, SpellsSaved, SpellsSavedWithin};
 ghost use Rattle.moo_load.specs.Objects.{HasObjectFault};
@@ -29,9 +28,9 @@ pub fn read_db(alloc: Global, bytes: &[u8]) -> Result<Saved, DbFault>
     // What is read is spelled so.
     ensures found { IfOk result (λ s. SpellsSaved bytes.now (saved_of s)) }
     // What is spelled so is read, unless memory ends it or it is past a limit.
-    ensures only { (s : saving.Saved) → IsWellFormed s.world → SpellsSaved bytes.now s → MatchResult result (λ r. saved_of r ≡ s) (λ e. IsOfLimits e.kind) }
+    ensures only { (s : saving.Saved) → SpellsSaved bytes.now s → MatchResult result (λ r. saved_of r ≡ s) (λ e. IsOfLimits e.kind) }
     // What is within the limits is read, unless memory ends it.
-    ensures within { (s : saving.Saved) → IsWellFormed s.world → SpellsSavedWithin bytes.now s → MatchResult result (λ r. saved_of r ≡ s) (λ e. e.kind ≡ DbFaultKind.Memory) }
+    ensures within { (s : saving.Saved) → SpellsSavedWithin bytes.now s → MatchResult result (λ r. saved_of r ≡ s) (λ e. e.kind ≡ DbFaultKind.Memory) }
     // No text begins with the lines up to the one that is told.
     ensures place { IfErr result (λ e. IsOfLine e.kind → (more : List ℕ) (t : Text) → ¬ (Spells (front_lines e.line bytes.now ++ more) t)) }
     // Where a program is told, the bytes have it there, and its source is none.

@@ -7,7 +7,6 @@ use Rattle.moo_dbrecord.specs.declared.fault.DbFault.{DbFault}
 use Rattle.moo_dbrecord.specs.declared.fault.DbFaultKind.TheVariants as kind
 use Rattle.moo_disk.specs.Disk.{DiskView, HasRisen, NoText, KeepsMain, KeepsSpare, Reads}
 use Rattle.moo_disk.proofs.GainsLemmas.{gains_join, gains_less, gains_none}
-use Rattle.moo_table.specs.World.{IsWellFormed}
 use Rattle.moo_saved.specs.Saved.{Saved, saved_of, SpellsSaved, SpellsSavedWithin}
 use Rattle.moo_saved.specs.declared.saved.Saved as stored
 use Rattle.moo_load.specs.declared.db_reader.DbReader.{DbReader}
@@ -99,12 +98,12 @@ pub recovers_found : (text : List ℕ) (r : Result stored.Saved OpenFault) → R
 recovers_found text (Ok s) h = is_found text (Ok s) h
 recovers_found text (Err e) h = tt
 
-pub recovers_within : (text : List ℕ) (r : Result stored.Saved OpenFault) → Recovers text r → (s : Saved) → IsWellFormed s.world → SpellsSavedWithin text s
+pub recovers_within : (text : List ℕ) (r : Result stored.Saved OpenFault) → Recovers text r → (s : Saved) → SpellsSavedWithin text s
     → MatchResult r (λ x. saved_of x ≡ s) (λ e. (e ≡ Device) ⊎ (e ≡ Memory))
-recovers_within text (Ok x) h s sound k = is_loaded_within text (Ok x) h s sound k
-recovers_within text (Err Device) h s sound k = inl refl
-recovers_within text (Err (Db f)) h s sound k = absurd (h.1 (is_loaded_within text (Err f) h.0 s sound k))
-recovers_within text (Err Memory) h s sound k = inr refl
+recovers_within text (Ok x) h s k = is_loaded_within text (Ok x) h s k
+recovers_within text (Err Device) h s k = inl refl
+recovers_within text (Err (Db f)) h s k = absurd (h.1 (is_loaded_within text (Err f) h.0 s k))
+recovers_within text (Err Memory) h s k = inr refl
 
 pub recovers_refused : (text : List ℕ) (r : Result stored.Saved OpenFault) → Recovers text r
     → IfErr r (λ e. (f : DbFault) → e ≡ Db f → Refuses text f × (f.kind ≢ kind.Memory))

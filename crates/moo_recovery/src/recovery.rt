@@ -1,6 +1,5 @@
 //! Reading the main text of a disk, a buffer at a time.
 ghost use Rattle.std.specs.Prelude.{◌≡◌, ◌≢◌, ◌⊎◌, ◌↔◌, ◌+◌, ◌<◌, ◌≤◌, ◌^◌, [], length, take, IfOk, IfErr, IfSome, OnOk, MatchResult};
-ghost use Rattle.moo_table.specs.World.{IsWellFormed};
 ghost use Rattle.moo_dbrecord.specs.declared.fault.DbFault.{DbFault};
 ghost use Rattle.moo_dbrecord.specs.declared.fault.DbFaultKind.TheVariants as kind;
 ghost use Rattle.moo_disk.specs.Disk.{KeepsMain, KeepsSpare, Reads};
@@ -104,7 +103,7 @@ pub fn recover<D: Disk>(alloc: Global, disk: &mut D) -> Result<Saved, OpenFault>
     // What is answered is spelled by the main text.
     ensures found { D.honest disk.old → IfOk result (λ s. SpellsSaved (D.view disk.old).main_text (saved_of s)) }
     // What it spells within the limits is answered, unless the device fails or memory ends it.
-    ensures within { D.honest disk.old → (s : saving.Saved) → IsWellFormed s.world → SpellsSavedWithin (D.view disk.old).main_text s
+    ensures within { D.honest disk.old → (s : saving.Saved) → SpellsSavedWithin (D.view disk.old).main_text s
         → MatchResult result (λ r. saved_of r ≡ s) (λ e. (e ≡ OpenFault.Device) ⊎ (e ≡ OpenFault.Memory)) }
     // Where the text is refused, this is what is told of it; want of memory is told by itself.
     ensures refused { D.honest disk.old → IfErr result (λ e. (f : DbFault) → e ≡ OpenFault.Db f

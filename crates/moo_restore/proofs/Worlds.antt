@@ -11,6 +11,7 @@ use Rattle.moo_object.specs.Names.{same_name}
 use Rattle.moo_object.specs.Cells.{Key, key_of}
 use Rattle.moo_object.specs.Objects.{Object}
 use Rattle.moo_table.specs.World.{World, nothing, object_of, thing_of, keys_defined_on, keys_along, definitions, has_twice, IsWellFormed}
+use Rattle.moo_restore.specs.Shapes.{IsShaped}
 use Rattle.moo_dbobject.specs.Objects as recorded
 use Rattle.moo_restore.specs.declared.link.Link.{Link}
 use Rattle.moo_restore.specs.Links.{above_in, IsLineage}
@@ -72,8 +73,18 @@ module _ (r : Records) (objects : List (Option Object)) (said : (x : ℕ) → Sa
       map-append (λ (k : Key). k.1) (keys_defined_on objects x) (keys_along objects way)
       ∙ (ap (λ l. l ++ map (λ (k : Key). k.1) (keys_along objects way)) (names_here x) ∙ ap (λ l. names_at r x ++ l) (names_of way))
 
+-- a well formed world has the shape of one
+pub shaped : (w : World) → IsWellFormed w → IsShaped w
+shaped w f = record {
+  parents = f.parents;
+  places = f.places;
+  exact_cells = f.stocked.exact_cells;
+  names_once = f.stocked.names_once;
+  own_filled = f.stocked.own_filled;
+}
+
 module _ (r : Records) (w : World) (s : Says r w) where
-  module _ (f : IsWellFormed w) where
+  module _ (f : IsShaped w) where
     own_names : (x : ℕ) → HasOwnNames r x
     own_names x = record {
       once = once_front (names_at r x) (names_along r (ancestors w.inheritance x)) whole;
@@ -83,7 +94,7 @@ module _ (r : Records) (w : World) (s : Says r w) where
     }
       where
         whole : has_twice (names_at r x ++ names_along r (ancestors w.inheritance x)) ≡ false
-        whole = ap has_twice (sym (names_of r w.objects s.objects (x ∷ ancestors w.inheritance x))) ∙ f.stocked.names_once x
+        whole = ap has_twice (sym (names_of r w.objects s.objects (x ∷ ancestors w.inheritance x))) ∙ f.names_once x
 
     pub well_placed : (x : ℕ) → IsWellPlaced r x
     well_placed x = record {

@@ -3,6 +3,7 @@ pub mod Links
 pub mod Lists
 pub mod Records
 pub mod Says
+pub mod Shapes
 pub mod Faults
 pub mod Recorded
 pub mod Made

@@ -14,6 +14,7 @@ ghost use Rattle.moo_restore.specs.Links.{IsSound, IsTreeOf};
 ghost use Rattle.moo_restore.specs.Recorded.{records_of};
 ghost use Rattle.moo_restore.specs.Records.{Records};
 ghost use Rattle.moo_restore.specs.Says.{Says};
+ghost use Rattle.moo_restore.specs.Shapes.{IsShaped};
 
 use crate::link::Link;
 
@@ -28,15 +29,20 @@ pub fn links_of_a_forest_are_sound(_links: &[Option<Link>])
     ensures { (tree : List Links) (x : ℕ) → IsForest tree → IsTreeOf _links.now tree → IsSound _links.now x }
 {}
 
-/// Where an object is at fault, the records say no world that is well formed.
+/// Where an object is at fault, the records say nothing that has the shape of a world, whatever its sizes are.
 pub fn records_at_fault_say_no_world()
-    ensures hierarchy { (r : Records) (w : World) (x : ℕ) → IsHierarchyFault r x → Says r w → ¬ (IsWellFormed w) }
-    ensures count { (r : Records) (w : World) (x : ℕ) → IsCountFault r x → Says r w → ¬ (IsWellFormed w) }
+    ensures hierarchy { (r : Records) (w : World) (x : ℕ) → IsHierarchyFault r x → Says r w → ¬ (IsShaped w) }
+    ensures count { (r : Records) (w : World) (x : ℕ) → IsCountFault r x → Says r w → ¬ (IsShaped w) }
 {}
 
 /// Records say one world at most.
 pub fn records_say_one_world()
     ensures { (r : Records) (v w : World) → Says r v → Says r w → v ≡ w }
+{}
+
+/// A well formed world has the shape of one.
+pub fn well_formed_worlds_are_shaped()
+    ensures { (w : World) → IsWellFormed w → IsShaped w }
 {}
 
 /// The records of a well formed world say it.

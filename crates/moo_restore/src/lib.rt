@@ -20,4 +20,4 @@ mod tour;
 
 pub use fault::RestoreFault;
 pub use link::Link;
-pub use restoring::restore;
+pub use restoring::{check_objects, restore};

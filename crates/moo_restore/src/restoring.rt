@@ -52,6 +52,18 @@ pub fn restore(
     Ok(World::from_parts(made, inheritance, containment, players))
 }
 
+/// Looks for the first fault of the records of objects, which `restore` would tell.
+pub fn check_objects(alloc: Global, objects: &[Option<ObjectRecord>]) -> Result<(), RestoreFault>
+    // Else none is at fault.
+    ensures placed { OnOk result (IsFirst (IsWellPlaced (with_objects objects.now)) (length objects.now) None) }
+    ensures counted { OnOk result (IsFirst (HasItsCells (with_objects objects.now)) (length objects.now) None) }
+    ensures fault { IfErr result (IsFaultOf (with_objects objects.now)) }
+{
+    let parents = parent_links(alloc, objects)?;
+    let tour = tour_of(alloc, &parents)?;
+    check(alloc, objects, &tour)
+}
+
 // The first fault of the records of objects.
 pub(crate) fn check(
     alloc: Global,

@@ -3,12 +3,13 @@ use Rattle.std.specs.Prelude.{◌≡◌, ℕ, ℤ, List, map}
 use Rattle.moo_program.specs.Tree.{Block}
 use Rattle.moo_grammar.specs.declared.names.Names.TheVariants.{Any}
 use Rattle.moo_grammar.specs.Texts.{IsProgramOf, IsParsed}
-use Rattle.moo_table.specs.World.{World}
+use Rattle.moo_table.specs.World.{World, IsWellFormed}
 use Rattle.moo_dbvalue.specs.Lines.{Line}
 use Rattle.moo_dbprogram.specs.Says.{HaveSources}
 use Rattle.moo_dbrecord.specs.Texts.{Text, Link, Spells, SpellsWithin}
 use Rattle.moo_restore.specs.Records.{Records}
 use Rattle.moo_restore.specs.Says.{Says}
+use Rattle.moo_restore.specs.Shapes.{IsShaped}
 use Rattle.moo_saved.specs.declared.saved.Saved as declared
 
 -- a world, and who was connected
@@ -33,9 +34,11 @@ pub record SpellsSaved (bytes : List ℕ) (s : Saved) : Type 0 where
   pub text : Text
   pub spelled : Spells bytes text
   pub says : IsTextOf (IsProgramOf Any) text s
+  pub shaped : IsShaped s.world
 
 -- The bytes spell this saved world, within the limits on sizes.
 pub record SpellsSavedWithin (bytes : List ℕ) (s : Saved) : Type 0 where
   pub text : Text
   pub spelled : SpellsWithin bytes text
   pub says : IsTextOf (IsParsed Any) text s
+  pub formed : IsWellFormed s.world

@@ -2,7 +2,7 @@
 use Rattle.std.specs.Prelude.{◌≡◌, ◌⊎◌, ℕ, List, ◌++◌, codes, length, Option, IfSome}
 use Rattle.std.specs.Fmt.{decimal}
 use Rattle.std.specs.Io.KnownBytes.{Appends}
-use Rattle.moo_table.specs.World.{programs_in, IsWellFormed}
+use Rattle.moo_table.specs.World.{programs_in}
 use Rattle.moo_saved.specs.Saved.{Saved, SpellsSaved, SpellsSavedWithin}
 
 -- how many objects, programs and connections there are; a recycled object counts
@@ -18,7 +18,7 @@ pub record HasShown (show : Saved → List ℕ) (bytes : List ℕ) (old new : Op
 
 -- no world within the limits is spelled by the bytes
 abbrev pub SpellsNone : List ℕ → Type 0
-SpellsNone bytes = (s : Saved) → IsWellFormed s.world → ¬ (SpellsSavedWithin bytes s)
+SpellsNone bytes = (s : Saved) → ¬ (SpellsSavedWithin bytes s)
 
 -- The status is 0, and the input's saved world was shown, or it is 1, and the input has none within the limits.
 pub record ShowsDatabase (show : Saved → List ℕ) (input old new : Option (List ℕ)) (status : ℕ) : Type 0 where

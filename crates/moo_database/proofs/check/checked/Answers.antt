@@ -12,5 +12,5 @@ returns g c =
     let new = g.O.Write.contents c.tell.new.output in
     if_ok (λ (status : ℕ). (status ≡ 1) × (c.in-Err.fault.kind ≢ Memory)) (λ (status : ℕ). ShowsDatabase counts_line known old new status) c.tell.result
     (λ status h. refused_told counts_line known old new c.in_ok-bytes.bytes.items status c.in_ok-bytes.ensures
-    (λ s formed within. h.1 (c.in-Err.ensures.within s formed (subst (λ (l : List ℕ). SpellsSavedWithin l s) (sym c.as_slice.ensures.value) within))) h.0)
+    (λ s within. h.1 (c.in-Err.ensures.within s (subst (λ (l : List ℕ). SpellsSavedWithin l s) (sym c.as_slice.ensures.value) within))) h.0)
     c.tell.ensures

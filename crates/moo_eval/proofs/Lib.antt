@@ -3,6 +3,7 @@ pub mod Counting
 pub mod Ending
 pub mod Exits
 pub mod Held
+pub mod Hooking
 pub mod Moved
 pub mod Texts
 pub mod Unique

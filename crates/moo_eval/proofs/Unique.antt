@@ -14,8 +14,12 @@ use Rattle.moo_code_function.specs.Telling.{Telling}
 use Rattle.moo_call.proofs.Unique.{TellsOne, one_call}
 use Rattle.moo_access.specs.State.{State, bound, trace}
 use Rattle.moo_access.specs.Target.{Root, Step, Path, spots, root_from}
+use Rattle.moo_hook.specs.Progressing.{Progress}
+use Rattle.moo_hook.specs.Calls.{Starts}
+use Rattle.moo_hook.specs.Stages.{resumed}
+use Rattle.moo_hook.proofs.Unique.{one_start}
 use Rattle.moo_eval.specs.Operands.{places, before, with_value, answered, begun, left}
-use Rattle.moo_eval.specs.Meaning.{Evaluates, Computes, EvaluatesAll, Applies, Assigns, Locates, Finds, Enters, Steps, Stores, Puts, SetsDefaults, spent, begins, operands_end, places_end, applies, no_more, element_stops, element_then, splice_stops, splice_fails, splice_then, optional_fails, defaulted_fails, literal_is, variable_is, length_is, unary_is, binary_is, logic_decides, logic_goes_on, conditional_true, conditional_false, index_is, range_is, list_is, property_is, verb_fails, verb_runs, call_is, assign_is, catch_passes, catch_gives, catch_or_passes, catch_or_goes_on, target_ends, value_stops, assigns, root_ends, locates, parts_end, finds, inside, step_ends, enters, unread, spot_ends, steps_in, no_store, stores, puts_variable, property_unset, puts_property, scatter_fails, scatters, none_missing, default_stops, default_then, Prepares, Runs, Does, RunsAll, Selects, Turns, Loops, Visits, Counts, Handles, Takes, no_codes, codes_stop, codes_then, statement_spent, statement_begins, gives_zero, gives, evaluates, selects, list_stops, list_fails, visits, span_stops, span_fails, counts, loops, breaks_out, continues_on, unprepared, tries, finally_skipped, finally_runs, ends, leaves, proceeds, none_selected, else_runs, test_stops, arm_runs, arm_passed, turn_spent, turns, loop_stops, loop_ends, loop_left, loop_then, all_visited, visit_left, visit_then, all_counted, count_left, count_then, nothing_raised, ticks_out, handles, untaken, untold, takes}
+use Rattle.moo_eval.specs.Meaning.{Evaluates, Computes, EvaluatesAll, Applies, Assigns, Locates, Finds, Enters, Steps, Stores, Puts, SetsDefaults, spent, begins, operands_end, places_end, applies, no_more, element_stops, element_then, splice_stops, splice_fails, splice_then, optional_fails, defaulted_fails, literal_is, variable_is, length_is, unary_is, binary_is, logic_decides, logic_goes_on, conditional_true, conditional_false, index_is, range_is, list_is, property_is, verb_fails, verb_runs, call_is, call_runs, Proceeds, is_done, hook_stops, hook_then, at_once, assign_is, catch_passes, catch_gives, catch_or_passes, catch_or_goes_on, target_ends, value_stops, assigns, root_ends, locates, parts_end, finds, inside, step_ends, enters, unread, spot_ends, steps_in, no_store, stores, puts_variable, property_unset, puts_property, scatter_fails, scatters, none_missing, default_stops, default_then, Prepares, Runs, Does, RunsAll, Selects, Turns, Loops, Visits, Counts, Handles, Takes, no_codes, codes_stop, codes_then, statement_spent, statement_begins, gives_zero, gives, evaluates, selects, list_stops, list_fails, visits, span_stops, span_fails, counts, loops, breaks_out, continues_on, unprepared, tries, finally_skipped, finally_runs, ends, leaves, proceeds, none_selected, else_runs, test_stops, arm_runs, arm_passed, turn_spent, turns, loop_stops, loop_ends, loop_left, loop_then, all_visited, visit_left, visit_then, all_counted, count_left, count_then, nothing_raised, ticks_out, handles, untaken, untold, takes}
 use Rattle.moo_eval.proofs.Moved.{Same, moved, moved_twice, at_state, one_code, one_refusal}
 
 mutual
@@ -116,7 +120,13 @@ mutual
       let q : x ≡ y = cc in
       let h = one_block T told d (subst (λ z. RunsAll T z.context z.context.frame.program (begun z s) p t) (sym q) d') in
       (sym g ∙ ap answered h.0 ∙ g', sym l ∙ ap (left s) h.1 ∙ l')
-  one_applied T told (call_is {c = c} {s = s} {s' = s'} {name = name} {vs = vs} {r = r} f) (call_is {s' = t} {r = q} f') = one_call T told (outside c) name vs s s' t r q f f'
+  one_applied T told (call_is {c = c} {s = s} {s' = s'} {name = name} {vs = vs} {r = r} g f) (call_is {s' = t} {r = q} g' f') = one_call T told (outside c) name vs s s' t r q f f'
+  one_applied T told (call_is g f) (call_runs g' b' d') = cc
+  one_applied T told (call_runs g b d) (call_is g' f') = cc
+  one_applied T told (call_runs {c = c} {s = s} {s' = u} {vs = vs} {f = f} g b d) (call_runs {s' = v} {s'' = t} {f = f'} {p = p} {r = r} g' b' d') =
+      let q : f ≡ f' = cc in
+      let h = one_start T told b (subst (λ x. Starts T (outside c) x vs s p v) (sym q) b') in
+      one_progress T told d (moved (λ x y. Proceeds T (outside c) x y r t) h.0 h.1 d')
   one_applied T told (assign_is d) (assign_is d') = one_assigned T told d d'
   one_applied T told (catch_passes d f g) (catch_passes d' f' g') = let h = one_result T told d d' in (sym g ∙ ap passes h.0 ∙ g', h.1)
   one_applied T told (catch_passes {codes = codes} {vs = vs} d f g) (catch_gives d' f') = let h = one_result T told d d' in let q = sym f ∙ ap (caught codes vs) h.0 in cc
@@ -129,6 +139,31 @@ mutual
       let h = one_result T told d d' in
       let k = one_result T told e (at_state (λ x. Evaluates T c b x p t) h.1 e') in
       (sym g ∙ ap passes k.0 ∙ g', k.1)
+
+  one_progress : (T : Telling) (told : TellsOne T) {c : Context} {x : Progress} {s s' t : State} {o p : Result Tree Failure} → Proceeds T c x s o s' → Proceeds T c x s p t → Same o s' p t
+  one_progress T told is_done is_done = (refl, refl)
+  one_progress T told (hook_stops {s = s} d l g) (hook_stops d' l' g') =
+      let h = one_block T told d d' in
+      let q = sym g ∙ ap answered h.0 ∙ g' in
+      (cc, sym l ∙ ap (left s) h.1 ∙ l')
+  one_progress T told (hook_stops d l g) (hook_then d' l' g' f' a') =
+      let h = one_block T told d d' in
+      let q = sym g ∙ ap answered h.0 ∙ g' in
+      cc
+  one_progress T told (hook_then d l g f a) (hook_stops d' l' g') =
+      let h = one_block T told d d' in
+      let q = sym g ∙ ap answered h.0 ∙ g' in
+      cc
+  one_progress T told (hook_then {c = c} {stage = stage} {s = s} {s'' = u} {v = v} d l g f a) (hook_then {s'' = u'} {s4 = t} {v = w} {r = r} d' l' g' f' a') =
+      let h = one_block T told d d' in
+      let q = sym g ∙ ap answered h.0 ∙ g' in
+      let same : v ≡ w = cc in
+      let k : u ≡ u' = sym l ∙ ap (left s) h.1 ∙ l' in
+      let m = sym f ∙ ap (λ x. resumed c stage x u) same ∙ ap (resumed c stage w) k ∙ f' in
+      one_progress T told a (moved (λ x y. Proceeds T c x y r t) (ap (λ x. x.0) m) (ap (λ x. x.1) m) a')
+  one_progress T told (at_once {c = c} f a) (at_once {s'' = t} {r = r} f' a') =
+      let m = sym f ∙ f' in
+      one_progress T told a (moved (λ x y. Proceeds T c x y r t) (ap (λ x. x.0) m) (ap (λ x. x.1) m) a')
 
   one_assigned : (T : Telling) (told : TellsOne T) {c : Context} {a e : Expr} {s s' t : State} {o p : Result Tree Failure} → Assigns T c a e s o s' → Assigns T c a e s p t → Same o s' p t
   one_assigned T told (target_ends d) (target_ends d') = let h = one_place T told d d' in (cc, h.1)

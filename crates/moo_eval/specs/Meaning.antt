@@ -27,6 +27,11 @@ use Rattle.moo_access.specs.State.{State, ticked, bound, trace}
 use Rattle.moo_access.specs.Calls.{read_property, write_property}
 use Rattle.moo_code_function.specs.Telling.{Telling}
 use Rattle.moo_call.specs.Calls.{CallsFunction}
+use Rattle.moo_function.specs.declared.function.Function.{Function}
+use Rattle.moo_hook.specs.declared.progress.Stage.{Stage}
+use Rattle.moo_hook.specs.Progressing.{Progress, done, verb_next, stage_next}
+use Rattle.moo_hook.specs.Calls.{caller_of, Starts}
+use Rattle.moo_hook.specs.Stages.{resumed}
 use Rattle.moo_access.specs.Entering.{Entered, entered_verb}
 use Rattle.moo_access.specs.Target.{Root, named, owned, scattered, Step, Path, root_of, spots, root_parts, root_from, held, rebuilt}
 use Rattle.moo_outcome.specs.Outcome.{Raise, Stop, raised, out_of_ticks, Failure, fails, stops, Flow, next, returned, broken, continued, or_error, answers, passes, settled, raised_by, goes_out, goes_next, goes_on}
@@ -126,8 +131,11 @@ mutual
         answers (entered_verb s.world c s.variables s.programmer x y vs) ≡ Ok e → RunsAll T e.context e.context.frame.program (begun e s) o s' → left s s' ≡ s'' → answered o ≡ r →
         Applies T c (verb_call a b items) (x ∷ y ∷ vs) [] s r s''
     call_is : {c : Context} {s s' : State} {name : List ℕ} {items : Items} {vs : List Tree} {r : Result Tree Failure} →
-        CallsFunction T (outside c) name vs s r s' →
+        caller_of name ≡ None → CallsFunction T (outside c) name vs s r s' →
         Applies T c (call name items) vs [] s r s'
+    call_runs : {c : Context} {s s' s'' : State} {name : List ℕ} {items : Items} {vs : List Tree} {f : Function} {p : Progress} {r : Result Tree Failure} →
+        caller_of name ≡ Some f → Starts T (outside c) f vs s p s' → Proceeds T (outside c) p s' r s'' →
+        Applies T c (call name items) vs [] s r s''
     assign_is : {c : Context} {s s' : State} {t e : Expr} {r : Result Tree Failure} →
         Assigns T c t e s r s' →
         Applies T c (assign t e) [] [] s r s'
@@ -143,6 +151,21 @@ mutual
     catch_or_goes_on : {c : Context} {s s' s'' : State} {a b : Expr} {codes : Codes} {vs : List Tree} {o p : Result Tree Stop} {code : ErrorCode} {r : Result Tree Failure} →
         Evaluates T c a s o s' → caught codes vs o ≡ Some code → Evaluates T c b s' p s'' → passes p ≡ r →
         Applies T c (catch_or a codes b) vs [] s r s''
+
+  -- A function that calls verbs goes on: what a verb answers goes to the next stage, and where the verb stops so does the
+  -- function.
+  pub data Proceeds (T : Telling) : Context → Progress → State → Result Tree Failure → State → Type 0 where
+    is_done : {c : Context} {s : State} {r : Result Tree Failure} →
+        Proceeds T c (done r) s r s
+    hook_stops : {c : Context} {e : Entered} {stage : Stage} {s s' s'' : State} {o : Result Flow Stop} {failure : Failure} →
+        RunsAll T e.context e.context.frame.program (begun e s) o s' → left s s' ≡ s'' → answered o ≡ Err failure →
+        Proceeds T c (verb_next e stage) s (Err failure) s''
+    hook_then : {c : Context} {e : Entered} {stage : Stage} {s s' s'' s3 s4 : State} {o : Result Flow Stop} {v : Tree} {p : Progress} {r : Result Tree Failure} →
+        RunsAll T e.context e.context.frame.program (begun e s) o s' → left s s' ≡ s'' → answered o ≡ Ok v → resumed c stage v s'' ≡ (p, s3) → Proceeds T c p s3 r s4 →
+        Proceeds T c (verb_next e stage) s r s4
+    at_once : {c : Context} {stage : Stage} {s s' s'' : State} {p : Progress} {r : Result Tree Failure} →
+        resumed c stage (integer (pos 0)) s ≡ (p, s') → Proceeds T c p s' r s'' →
+        Proceeds T c (stage_next stage) s r s''
 
   -- The target is found first, then the value is evaluated, then it is stored. It is the value of the assignment.
   pub data Assigns (T : Telling) : Context → Expr → Expr → State → Result Tree Failure → State → Type 0 where

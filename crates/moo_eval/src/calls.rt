@@ -1,16 +1,23 @@
 //! Catches, and calls of verbs and functions.
-ghost use Rattle.std.specs.Prelude.{◌≡◌, ◌≤◌};
+ghost use Rattle.std.specs.Prelude.{◌≡◌, ◌≢◌, ◌≤◌, ◌<◌, None, OnOk, is_ok, IsTrue};
 ghost use Rattle.moo_program.specs.Tree.{property, verb_call, call};
 ghost use Rattle.moo_program.specs.View.{tree, items_of, codes_of};
 ghost use Rattle.moo_outcome.specs.Catching.{guards};
-ghost use Rattle.moo_eval.specs.Meaning.{Computes, EvaluatesAll};
+ghost use Rattle.moo_program.specs.Tree.{no_statement};
+ghost use Rattle.moo_outcome.specs.declared.frame.Activation.{Activation};
+ghost use Rattle.moo_access.specs.SeenCalled.{entered_of};
+ghost use Rattle.moo_hook.specs.Seen.{progress_of};
+ghost use Rattle.moo_eval.specs.Hooks.{RunsCalled};
+ghost use Rattle.moo_eval.specs.Meaning.{Computes, EvaluatesAll, Proceeds};
 ghost use Rattle.moo_outcome.specs.Seen.{context_of, seen_answer, seen_answers, seen_flow, catch_of, IsKnown, IsKnownFailure};
 ghost use Rattle.moo_eval.specs.Operands.{answered};
 ghost use Rattle.moo_code_function.specs.Telling.{Faults};
 ghost use Rattle.moo_eval.specs.Seen.{state_of};
 
+use crate::hooks::Pending;
 use crate::interpreter::Task;
 use moo_access::{Called, enter_verb, read_property};
+use moo_hook::{Progress, start_call, verb_caller};
 use moo_outcome::{Activation, CallStack, Failure, Flow, Stop, caught};
 use moo_program::{Codes, Expr, Item};
 use moo_value::{MooStr, Value};
@@ -54,6 +61,16 @@ impl Task {
         let name = self.evaluate(world, active, stack, indexed, name)?;
         let args = self.evaluate_all(world, active, stack, indexed, items)?;
         let called = enter_verb(self.alloc(), world, stack, active, &base, &name, args)?;
+        self.run_called(world, called)
+    }
+
+    // A verb that was entered runs to its end. It takes a tick where it has a statement.
+    #[cycle(evaluation)]
+    fn run_called(&mut self, world: &mut World, called: Called<'_>) -> Result<Value, Failure>
+        ensures meaning { (caller : Activation) → IsKnownFailure result → RunsCalled Faults (entered_of called.entry) (state_of self.old world.old caller) (seen_answer result) (state_of self.new world.new caller) }
+        ensures ticks { self.new.ticks_left ≤ self.old.ticks_left }
+        ensures fewer { called.entry.stack.running.program ≢ no_statement → OnOk result (self.new.ticks_left < self.old.ticks_left) }
+    {
         let Called {
             stack: callee,
             active: first,
@@ -77,7 +94,34 @@ impl Task {
         ensures ticks { self.new.ticks_left ≤ self.old.ticks_left }
     {
         let args = self.evaluate_all(world, active, stack, indexed, items)?;
-        self.call_function(world, active, stack, name, args)
+        let Some(function) = verb_caller(name) else {
+            return self.call_function(world, active, stack, name, args);
+        };
+        let first = start_call(self.alloc(), world, stack, active, function, args)?;
+        self.proceed(world, active, stack, first)
+    }
+
+    // A function that calls verbs goes on until it ends.
+    #[cycle(evaluation)]
+    fn proceed<'a>(
+        &mut self,
+        world: &mut World,
+        active: &Activation,
+        stack: &CallStack<'a>,
+        first: Progress<'a>,
+    ) -> Result<Value, Failure>
+        ensures meaning { IsKnownFailure result → Proceeds Faults (context_of stack.now None) (progress_of first.entry) (state_of self.old world.old active.now) (seen_answer result) (state_of self.new world.new active.now) }
+        ensures ticks { self.new.ticks_left ≤ self.old.ticks_left }
+    {
+        let mut pending = self.pass_over(world, active, stack, first)?;
+        'verbs: loop {
+            let (called, stage) = match pending {
+                Pending::Answer(value) => return Ok(value),
+                Pending::Verb(called, stage) => (called, stage),
+            };
+            let answer = self.run_called(world, called)?;
+            pending = self.resume(world, active, stack, stage, answer)?;
+        }
     }
 
     // The codes come first. An error that they name is the value, or what `other` gives in its place.
@@ -130,6 +174,7 @@ impl Task {
 fn answered(outcome: Result<Flow, Stop>) -> Result<Value, Failure>
     ensures answer { answered (seen_flow outcome) ≡ seen_answer result }
     ensures known { IsKnownFailure result → IsKnown outcome }
+    ensures comes { OnOk result (IsTrue (is_ok outcome)) }
 {
     match outcome? {
         Flow::Return(value) => Ok(value),

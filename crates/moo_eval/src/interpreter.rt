@@ -1,16 +1,20 @@
 //! Expressions.
-ghost use Rattle.std.specs.Prelude.{◌≡◌, ◌-◌, ◌<◌, ◌≤◌, [], ◌++◌, None, IfErr, OnOk};
+ghost use Rattle.std.specs.Prelude.{◌≡◌, ◌-◌, ◌<◌, ◌≤◌, [], ◌++◌, None, IfOk, IfErr, OnOk};
 ghost use Rattle.moo_program.specs.Tree.{unary, binary, logic, conditional, index, range, list};
 ghost use Rattle.moo_program.specs.View.{tree, items_of};
-ghost use Rattle.moo_value.specs.View.{trees};
+ghost use Rattle.moo_value.specs.View.{tree as tree_of, trees};
 ghost use Rattle.moo_outcome.specs.Outcome.{out_of_ticks};
 ghost use Rattle.moo_eval.specs.Meaning.{Evaluates, Computes, EvaluatesAll};
 ghost use Rattle.moo_outcome.specs.Seen.{context_of, trace_of, stop_of, seen_value, seen_answer, seen_answers, HadMemory, IsKnown, IsKnownFailure};
 ghost use Rattle.moo_call.specs.Calls.{CallsFunction};
 ghost use Rattle.moo_code_function.specs.Telling.{Faults};
+ghost use Rattle.moo_hook.specs.Stages.{resumed};
+ghost use Rattle.moo_hook.specs.Seen.{progress_of, seen_progress};
+ghost use Rattle.moo_hook.specs.Turns.{stage_turns, progress_turns};
 ghost use Rattle.moo_eval.specs.Seen.{state_of};
 
 use moo_call::call_function;
+use moo_hook::{Progress, Stage, resume_call};
 use moo_operation as operation;
 use moo_outcome::{
     Activation, CallStack, Failure, Notice, Stop, literal_value, measure, push, read_variable,
@@ -113,6 +117,30 @@ impl Task {
             &mut self.notices,
             name,
             args,
+        )
+    }
+
+    /// A function that calls verbs goes on at a stage, and may leave notices. It comes nearer to its end.
+    pub(crate) fn resume_call<'a>(
+        &mut self,
+        world: &mut World,
+        active: &Activation,
+        stack: &CallStack<'a>,
+        stage: Stage,
+        answer: Value,
+    ) -> Result<Progress<'a>, Failure>
+        ensures call { IsKnownFailure result → resumed (context_of stack.now None) stage (tree_of answer) (state_of self.old world.old active.now) ≡ (seen_progress result, state_of self.new world.new active.now) }
+        ensures fewer { IfOk result (λ next. progress_turns world.new (progress_of next) ≤ stage_turns world.old stage) }
+        ensures ticks { self.new.ticks_left ≡ self.old.ticks_left }
+    {
+        resume_call(
+            self.alloc,
+            world,
+            stack,
+            active,
+            &mut self.notices,
+            stage,
+            answer,
         )
     }
 

@@ -3,6 +3,7 @@
 
 mod assignment;
 mod calls;
+mod hooks;
 mod interpreter;
 pub mod laws;
 mod line;

@@ -1,7 +1,7 @@
 //! Statements.
-ghost use Rattle.std.specs.Prelude.{◌≡◌, ◌≤◌, None};
+ghost use Rattle.std.specs.Prelude.{◌≡◌, ◌≢◌, ◌≤◌, ◌<◌, None, OnOk};
 ghost use Rattle.moo_program.specs.declared.tree.Stmt.TheVariants.{Return};
-ghost use Rattle.moo_program.specs.Tree.{performs, branches};
+ghost use Rattle.moo_program.specs.Tree.{performs, branches, no_statement};
 ghost use Rattle.moo_program.specs.View.{tree, statement as statement_of, block, arms_of};
 ghost use Rattle.moo_eval.specs.Meaning.{Runs, Does, RunsAll, Selects};
 ghost use Rattle.moo_outcome.specs.Seen.{context_of, seen_flow, IsKnown};
@@ -27,6 +27,7 @@ impl Task {
     ) -> Result<Flow, Stop>
         ensures meaning { IsKnown result → Runs Faults (context_of stack.now None) (statement_of statement.now) (state_of self.old world.old active.old) (seen_flow result) (state_of self.new world.new active.new) }
         ensures ticks { self.new.ticks_left ≤ self.old.ticks_left }
+        ensures fewer { OnOk result (self.new.ticks_left < self.old.ticks_left) }
     {
         self.take_tick(active, stack)?;
         self.perform(world, active, stack, statement)
@@ -110,6 +111,7 @@ impl Task {
     ) -> Result<Flow, Stop>
         ensures meaning { IsKnown result → RunsAll Faults (context_of stack.now None) (block statements.now) (state_of self.old world.old active.old) (seen_flow result) (state_of self.new world.new active.new) }
         ensures ticks { self.new.ticks_left ≤ self.old.ticks_left }
+        ensures fewer { OnOk result (block statements.now ≢ no_statement → self.new.ticks_left < self.old.ticks_left) }
     {
         for statement in statements {
             match self.run(world, active, stack, statement)? {

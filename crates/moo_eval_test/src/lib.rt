@@ -7,6 +7,8 @@ mod expressions;
 #[cfg(test)]
 mod functions;
 #[cfg(test)]
+mod hooks;
+#[cfg(test)]
 mod limits;
 #[cfg(test)]
 mod statements;

@@ -121,8 +121,8 @@ pub fn ends(alloc: Global, d: bool, rows: &'static str) -> Result<(), Fail> {
     Ok(())
 }
 
-/// One after the other over one world: a row `NAMES := PROGRAM` makes a verb of the wizard's on #1, and each other program
-/// ends in what stands behind it, run as a verb of the wizard's on #1.
+/// One after the other over one world: a row `NAMES := PROGRAM` makes a verb of the wizard's on #1, or with `N:` before
+/// it on #N, and each other program ends in what stands behind it, run as a verb of the wizard's on #1.
 pub fn happens(alloc: Global, rows: &'static str) -> Result<(), Fail> {
     let mut world = five_objects(alloc)?;
     for row in rows.lines() {
@@ -142,8 +142,12 @@ fn add_verb(alloc: Global, world: &mut World, row: &'static str) -> Result<(), F
     let Some((names, source)) = row.split_once(" := ") else {
         return Err(Fail::from(row));
     };
-    let index = done(world.add_verb(1, text(alloc, names)?, 3, CALLED, NO_COMMAND))?;
-    done(world.set_program(1, index, Some(program(alloc, source)?)))
+    let (o, names) = match names.split_once(":") {
+        Some((o, names)) => (o.parse::<i32>().map_err(|_| "no number")?, names),
+        None => (1, names),
+    };
+    let index = done(world.add_verb(o, text(alloc, names)?, 3, CALLED, NO_COMMAND))?;
+    done(world.set_program(o, index, Some(program(alloc, source)?)))
 }
 
 fn done<T>(answer: Result<T, WorldFault>) -> Result<T, Fail> {

@@ -11,7 +11,7 @@ use Rattle.moo_outcome.specs.Seen.{context_of, stop_of, failure_of, seen_value, 
 use Rattle.moo_code_function.specs.Telling.{Faults}
 use Rattle.moo_eval.specs.Seen.{state_of}
 use Rattle.moo_access.specs.Target.{named}
-use Rattle.moo_eval.specs.Meaning.{EvaluatesAll, Stores, spent, begins, operands_end, places_end, applies, no_more, element_stops, element_then, splice_stops, splice_fails, splice_then, literal_is, variable_is, length_is, unary_is, binary_is, logic_decides, logic_goes_on, conditional_true, conditional_false, index_is, range_is, list_is, property_is, verb_fails, verb_runs, call_is, assign_is, catch_gives, catch_or_goes_on, target_ends, value_stops, assigns, root_ends, locates, parts_end, finds, inside, step_ends, enters, unread, spot_ends, steps_in, no_store, stores, puts_variable, scatter_fails, scatters, none_missing, default_stops, default_then, Counts, statement_spent, statement_begins, selects, list_stops, list_fails, visits, span_stops, span_fails, counts, loops, breaks_out, continues_on, unprepared, tries, finally_skipped, finally_runs, ends, leaves, proceeds, none_selected, else_runs, test_stops, arm_runs, arm_passed, turn_spent, turns, loop_stops, loop_ends, loop_left, loop_then, all_visited, visit_left, visit_then, all_counted, count_left, count_then, nothing_raised, ticks_out, handles, untaken, untold, takes, Prepares, no_codes, codes_stop, codes_then, gives_zero, gives, evaluates}
+use Rattle.moo_eval.specs.Meaning.{EvaluatesAll, Stores, spent, begins, operands_end, places_end, applies, no_more, element_stops, element_then, splice_stops, splice_fails, splice_then, literal_is, variable_is, length_is, unary_is, binary_is, logic_decides, logic_goes_on, conditional_true, conditional_false, index_is, range_is, list_is, property_is, verb_fails, verb_runs, call_is, call_runs, is_done, hook_stops, hook_then, assign_is, catch_gives, catch_or_goes_on, target_ends, value_stops, assigns, root_ends, locates, parts_end, finds, inside, step_ends, enters, unread, spot_ends, steps_in, no_store, stores, puts_variable, scatter_fails, scatters, none_missing, default_stops, default_then, Counts, statement_spent, statement_begins, selects, list_stops, list_fails, visits, span_stops, span_fails, counts, loops, breaks_out, continues_on, unprepared, tries, finally_skipped, finally_runs, ends, leaves, proceeds, none_selected, else_runs, test_stops, arm_runs, arm_passed, turn_spent, turns, loop_stops, loop_ends, loop_left, loop_then, all_visited, visit_left, visit_then, all_counted, count_left, count_then, nothing_raised, ticks_out, handles, untaken, untold, takes, Prepares, no_codes, codes_stop, codes_then, gives_zero, gives, evaluates}
 use Rattle.moo_value.specs.declared.error_code.ErrorCode.TheVariants.{TypeMismatch}
 use Rattle.moo_access.specs.SeenTarget.{path_of, steps_of}
 use Rattle.moo_eval.proofs.Caught.{guards_end, passes_on, none_left, known_caught}
@@ -230,9 +230,21 @@ pub call-returns-in_err-args-clause-meaning : goal.call-returns-in_err-args-clau
 call-returns-in_err-args-clause-meaning t c =
     let p = err_from_is_err_and c.from_residual.result c.from_residual.ensures.1 in rw (p.1, p.2) (λ k. operands_end (c.in_err-args.ensures.meaning k))
 
+pub call-returns-in_default-clause-meaning : goal.call-returns-in_default-clause-meaning
+call-returns-in_default-clause-meaning t c =
+    λ k. applies (c.in_ok-args.ensures.meaning tt) no_more (call_is (sym c.verb_caller.ensures ∙ none_left _ c.in_default.not-Some) (c.call_function.ensures.call k))
+
+pub call-returns-in_err-first-clause-meaning : goal.call-returns-in_err-first-clause-meaning
+call-returns-in_err-first-clause-meaning t c =
+    let p = err_from_is_err_and c.from_residual-in_err-first.result c.from_residual-in_err-first.ensures.1 in rw (p.1, p.2) (λ k. applies (c.in_ok-args.ensures.meaning tt) no_more (call_runs (sym c.verb_caller.ensures ∙ c.in-Some.is) (c.in_err-first.ensures _ _ k) is_done))
+
 pub call-returns-clause-meaning : goal.call-returns-clause-meaning
 call-returns-clause-meaning t c =
-    λ k. applies (c.in_ok-args.ensures.meaning tt) no_more (call_is (c.call_function.ensures.call k))
+    λ k. applies (c.in_ok-args.ensures.meaning tt) no_more (call_runs (sym c.verb_caller.ensures ∙ c.in-Some.is) (c.in_ok-first.ensures _ _ tt) (c.proceed.ensures.meaning k))
+
+pub proceed-returns-in_err-pending-clause-meaning : goal.proceed-returns-in_err-pending-clause-meaning
+proceed-returns-in_err-pending-clause-meaning t c =
+    let p = err_from_is_err_and c.from_residual.result c.from_residual.ensures.1 in rw (p.1, p.2) (λ k. c.in_err-pending.ensures.meaning k _ _ is_done)
 
 pub property-returns-in_err-base-clause-meaning : goal.property-returns-in_err-base-clause-meaning
 property-returns-in_err-base-clause-meaning t c =
@@ -260,7 +272,11 @@ verb_call-returns-in_err-args-clause-meaning t c =
 
 pub verb_call-returns-clause-meaning : goal.verb_call-returns-clause-meaning
 verb_call-returns-clause-meaning t c =
-    λ k. applies (element_then (c.in_ok-base.ensures.meaning tt) (element_then (c.in_ok-name.ensures.meaning tt) (c.in_ok-args.ensures.meaning tt) refl) refl) no_more (verb_runs (c.in_ok-called.ensures tt) (runs_at c.statements-statements.ensures.statements (c.run_all.ensures.meaning (c.answered.ensures.known k))) refl c.answered.ensures.answer)
+    λ k. let h = c.run_called.ensures.meaning c.evaluate_all.new.active k in applies (element_then (c.in_ok-base.ensures.meaning tt) (element_then (c.in_ok-name.ensures.meaning tt) (c.in_ok-args.ensures.meaning tt) refl) refl) no_more (verb_runs (c.in_ok-called.ensures tt) h.runs h.leaves h.gives)
+
+pub run_called-returns-clause-meaning : goal.run_called-returns-clause-meaning
+run_called-returns-clause-meaning t c =
+    λ caller k. record { outcome = _; last = _; runs = runs_at c.statements-statements.ensures.statements (c.run_all.ensures.meaning (c.answered.ensures.known k)); leaves = refl; gives = c.answered.ensures.answer }
 
 pub verb_call-returns-in_err-called-clause-meaning : goal.verb_call-returns-in_err-called-clause-meaning
 verb_call-returns-in_err-called-clause-meaning t c =
@@ -430,7 +446,7 @@ run_all-returns-in_err-flow-clause-meaning t c =
 
 pub run_all-loop-statement-preserved : goal.run_all-loop-statement-preserved
 run_all-loop-statement-preserved t c =
-    record { ticks = omega arith; rest = λ o s d. c.loop-statement.invariant.rest o s (rw (drop_next c.args.statements.now c.loop-statement.statement-index c.statement-item.result c.loop-statement-test.true c.statement-item.is) (proceeds (rw c.in-Next.is at (c.in_ok-flow.ensures.meaning tt)) d)) }
+    record { ticks = omega arith; fewer = λ z. omega (arith, c.in_ok-flow.ensures.fewer); rest = λ o s d. c.loop-statement.invariant.rest o s (rw (drop_next c.args.statements.now c.loop-statement.statement-index c.statement-item.result c.loop-statement-test.true c.statement-item.is) (proceeds (rw c.in-Next.is at (c.in_ok-flow.ensures.meaning tt)) d)) }
 
 pub run_all-returns-clause-meaning : goal.run_all-returns-clause-meaning
 run_all-returns-clause-meaning t c =
@@ -614,7 +630,7 @@ perform-returns-in-TryFinally-clause-meaning t c =
 
 pub run_all-returns-in_default : goal.run_all-returns-in_default
 run_all-returns-in_default t c =
-    record { meaning = λ k. c.loop-statement.invariant.rest (Ok (flow_of c.in_ok-flow.flow)) _ (rw (drop_next c.args.statements.now c.loop-statement.statement-index c.statement-item.result c.loop-statement-test.true c.statement-item.is) (leaves (c.in_ok-flow.ensures.meaning tt) (goes_on-not _ c.in_default.not-Next))); ticks = omega arith }
+    record { meaning = λ k. c.loop-statement.invariant.rest (Ok (flow_of c.in_ok-flow.flow)) _ (rw (drop_next c.args.statements.now c.loop-statement.statement-index c.statement-item.result c.loop-statement-test.true c.statement-item.is) (leaves (c.in_ok-flow.ensures.meaning tt) (goes_on-not _ c.in_default.not-Next))); ticks = omega arith; fewer = λ some. omega (arith, c.in_ok-flow.ensures.fewer) }
 
 pub select-returns-then-is_true-clause-meaning : goal.select-returns-then-is_true-clause-meaning
 select-returns-then-is_true-clause-meaning t c =
@@ -698,3 +714,25 @@ pub evaluate_alone-returns-in_err-_value-clause-meaning : goal.evaluate_alone-re
 evaluate_alone-returns-in_err-_value-clause-meaning t c =
     let p = err_from_is_err_and c.from_residual.result c.from_residual.ensures.1 in
     rw (p.1, p.2) (λ k. evaluates (c.in_err-_value.ensures.meaning k) refl)
+
+pub proceed-returns-in-Answer-clause-meaning : goal.proceed-returns-in-Answer-clause-meaning
+proceed-returns-in-Answer-clause-meaning t c =
+    λ k. c.verbs.invariant.rest _ _ (rw c.in-Answer.is is_done)
+
+pub proceed-returns-in_err-answer-clause-meaning : goal.proceed-returns-in_err-answer-clause-meaning
+proceed-returns-in_err-answer-clause-meaning t c =
+    let p = err_from_is_err_and c.from_residual-in_err-answer.result c.from_residual-in_err-answer.ensures.1 in rw (p.1, p.2) (λ k. let h = c.in_err-answer.ensures.meaning c.args.active.now k in c.verbs.invariant.rest _ _ (rw c.in-Verb.is (hook_stops h.runs h.leaves h.gives)))
+
+pub proceed-returns-in_err-pending-2-clause-meaning : goal.proceed-returns-in_err-pending-2-clause-meaning
+proceed-returns-in_err-pending-2-clause-meaning t c =
+    let p = err_from_is_err_and c.from_residual-in_err-pending-2.result c.from_residual-in_err-pending-2.ensures.1 in rw (p.1, p.2) (λ k. let h = c.in_ok-answer.ensures.meaning c.args.active.now tt in c.verbs.invariant.rest _ _ (rw c.in-Verb.is (hook_then h.runs h.leaves h.gives refl (c.in_err-pending-2.ensures.meaning k _ _ is_done))))
+
+pub proceed-verbs-smaller : goal.proceed-verbs-smaller
+proceed-verbs-smaller t c =
+    let some = rw c.in-Verb.is at c.verbs.invariant.statements in
+    let fewer = c.in_ok-answer.ensures.fewer some in
+    omega (arith, fewer, c.in_ok-pending-2.ensures.ticks)
+
+pub proceed-verbs-preserved : goal.proceed-verbs-preserved
+proceed-verbs-preserved t c =
+    record { ticks = omega (arith, c.in_ok-pending-2.ensures.ticks); statements = c.in_ok-pending-2.ensures.statements; rest = λ r u d. let h = c.in_ok-answer.ensures.meaning c.args.active.now tt in c.verbs.invariant.rest r u (rw c.in-Verb.is (hook_then h.runs h.leaves h.gives refl (c.in_ok-pending-2.ensures.meaning tt r u d))) }

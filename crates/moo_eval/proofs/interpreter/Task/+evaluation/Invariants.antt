@@ -1,4 +1,4 @@
-use Rattle.std.proofs.Common.{◌+◌, ◌*◌, ◌≤◌, drop, map, List, Result, ◌∙◌, Some, None}
+use Rattle.std.proofs.Common.{◌+◌, ◌*◌, ◌≤◌, ◌<◌, drop, map, List, Result, ◌∙◌, Some, None}
 use Rattle.moo_value.specs.Tree.{Tree}
 use Rattle.moo_value.specs.View.{trees}
 use Rattle.moo_program.specs.View.{tree, items_of, block, arms_of, handlers_of}
@@ -11,6 +11,8 @@ use Rattle.moo_outcome.specs.SeenScatter.{left_out_of}
 use Rattle.moo_outcome.specs.Seen.{context_of}
 use Rattle.moo_code_function.specs.Telling.{Faults}
 use Rattle.moo_eval.specs.Seen.{state_of}
+use Rattle.moo_eval.specs.Hooks.{HasStatements, LeadsTo, pending_progress}
+use Rattle.moo_hook.specs.Seen.{progress_of}
 use Rattle.std.specs.Prelude.{◌≤ℤ◌}
 use Rattle.moo_outcome.specs.Handling.{Guarded, guarded_before}
 use Rattle.moo_outcome.specs.SeenHandling.{guarded_of}
@@ -53,10 +55,16 @@ abbrev pub decreases-property : goal.decreases-property
 decreases-property l = 6 * l.self.now.ticks_left + 2
 
 abbrev pub decreases-verb_call : goal.decreases-verb_call
-decreases-verb_call l = 6 * l.self.now.ticks_left + 2
+decreases-verb_call l = 6 * l.self.now.ticks_left + 3
+
+abbrev pub decreases-run_called : goal.decreases-run_called
+decreases-run_called l = 6 * l.self.now.ticks_left + 2
+
+abbrev pub decreases-proceed : goal.decreases-proceed
+decreases-proceed l = 6 * l.self.now.ticks_left + 3
 
 abbrev pub decreases-call : goal.decreases-call
-decreases-call l = 6 * l.self.now.ticks_left + 2
+decreases-call l = 6 * l.self.now.ticks_left + 4
 
 abbrev pub decreases-catch : goal.decreases-catch
 decreases-catch l = 6 * l.self.now.ticks_left + 3
@@ -164,6 +172,7 @@ decreases-evaluate_alone l = 6 * l.self.now.ticks_left + 1
 abbrev pub invariant-run_all-loop-statement : goal.invariant-run_all-loop-statement
 invariant-run_all-loop-statement l = record {
   ticks : l.self.ticks_left ≤ l.fn.self.ticks_left;
+  fewer : 0 < l.statement-index → l.self.ticks_left < l.fn.self.ticks_left;
   rest : (o : Result Flow Stop) (s : State) → RunsAll Faults (context_of l.stack None) (block (drop l.statement-index l.statements)) (state_of l.self l.world l.active) o s → RunsAll Faults (context_of l.stack None) (block l.statements) (state_of l.fn.self l.fn.world l.fn.active) o s;
 }
 
@@ -208,3 +217,14 @@ invariant-prepare-loop-handler l = record {
   ticks : l.self.ticks_left ≤ l.fn.self.ticks_left;
   rest : (o : Result (List Guarded) Stop) (s : State) → Prepares Faults (context_of l.stack None) (handlers_of (drop l.handler-index l.handlers)) (state_of l.self l.world l.active) o s → Prepares Faults (context_of l.stack None) (handlers_of l.handlers) (state_of l.fn.self l.fn.world l.fn.active) (guarded_before (map guarded_of l.guarded.items) o) s;
 }
+
+-- what the function does from here is what it does from its first step
+abbrev pub invariant-proceed-verbs : goal.invariant-proceed-verbs
+invariant-proceed-verbs l = record {
+  ticks : l.self.ticks_left ≤ l.fn.self.ticks_left;
+  statements : HasStatements l.pending;
+  rest : LeadsTo Faults (context_of l.stack None) (progress_of l.fn.first) (state_of l.fn.self l.fn.world l.active) (pending_progress l.pending) (state_of l.self l.world l.active);
+}
+
+abbrev pub decreases-proceed-verbs : goal.decreases-proceed-verbs
+decreases-proceed-verbs l = l.self.ticks_left

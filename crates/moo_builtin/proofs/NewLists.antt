@@ -13,6 +13,7 @@ use Rattle.moo_value.specs.View.{tree, trees}
 use Rattle.moo_operation.proofs.Lists.{position-map}
 use Rattle.moo_operation.specs.Answer.{limited}
 use Rattle.moo_operation.specs.declared.fault.OperationFault.{OperationFault}
+use Rattle.moo_text_function.proofs.Making.{limited_made}
 use Rattle.moo_text_function.specs.Answers.{Gives}
 use Rattle.moo_builtin.specs.Answers.{Follows}
 use Rattle.std.specs.Prelude.{nat_le, ◌&&◌}
@@ -37,7 +38,7 @@ pub made_gives : (made : Result (List Tree) ListFault) (a : Result Value Operati
     → Follows made a → Gives a (limited (list_of ts))
 made_gives (Ok us) a ts is limits err follows = rw (follows, is, within (list_of ts) limits) refl
 made_gives (Err TooLarge) a ts is limits err follows = rw (follows, beyond (list_of ts) err) refl
-made_gives (Err ListMemory) a ts is limits err follows = rw follows tt
+made_gives (Err ListMemory) a ts is limits err follows = rw follows (limited_made (list_of ts) tt)
 
 -- the trees of values with one put in, and with one taken out
 pub trees_insert : (vs : List Value) (k : ℕ) (v : Value) → trees (insert vs k v) ≡ insert (trees vs) k (tree v)

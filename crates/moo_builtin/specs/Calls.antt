@@ -1,5 +1,5 @@
 -- What a call of a function over values alone answers.
-use Rattle.std.specs.Prelude.{◌≡◌, ℕ, pos, List, [], ◌∷◌, Option, None, Some, Result, Ok, Err}
+use Rattle.std.specs.Prelude.{◌≡◌, ℕ, pos, false, List, [], ◌∷◌, Option, None, Some, Result, Ok, Err}
 use Rattle.moo_value.specs.declared.error_code.ErrorCode.{ErrorCode}
 use Rattle.moo_value.specs.declared.error_code.ErrorCode.TheVariants.{TypeMismatch}
 use Rattle.moo_value.specs.declared.value.Value.{Value}
@@ -14,9 +14,9 @@ use Rattle.moo_function.specs.Table.{row}
 use Rattle.moo_function.specs.Check.{mismatch}
 use Rattle.moo_builtin.specs.declared.call.Outcome.{Outcome}
 use Rattle.moo_builtin.specs.declared.call.Outcome.TheVariants as outcome
-use Rattle.moo_text_function.specs.Answers.{Gives}
+use Rattle.moo_text_function.specs.Answers.{GivesUnless, IsMade}
 use Rattle.moo_text_function.specs.Conversions.{to_text, to_literal, to_integer, to_object}
-use Rattle.moo_text_function.specs.Texts.{compare, index, last_index, substitute}
+use Rattle.moo_text_function.specs.Texts.{compare, is_exact, index, last_index, substitute}
 use Rattle.moo_builtin.specs.Looks.{type_of, length_of, equal, time, server_version}
 use Rattle.moo_builtin.specs.Numbers.{absolute, least, greatest}
 use Rattle.moo_builtin.specs.Lists.{list_append, list_insert, list_set, list_delete, set_add, set_remove, is_member}
@@ -89,36 +89,55 @@ pub data Calls : Function → ℕ → List Tree → Result Tree Raised → Type 
       answer f moment args ≡ Some r →
       Calls f moment args r
 
--- the outcome is this, want of memory aside
-abbrev pub Shows : Outcome → Result Tree Raised → Type 0
-Shows (outcome.Value v) r = r ≡ Ok (tree v)
-Shows (outcome.Raise e message v) r = r ≡ Err (record { code = e; message = message; value = tree v })
-Shows outcome.Memory r = Unit {0}
+-- Memory may be wanting for a string or a list that is made, and where a search folds letters, which is done in copies.
+abbrev pub MayLack : Function → List Tree → Result Tree ErrorCode → Type 0
+MayLack function.Index args r = is_exact args ≡ false
+MayLack function.LastIndex args r = is_exact args ≡ false
+MayLack f args r = IsMade r
+
+-- the same of a call, and for the message of an error that is raised
+abbrev pub CallMayLack : Function → List Tree → Result Tree Raised → Type 0
+CallMayLack f args (Ok t) = MayLack f args (Ok t)
+CallMayLack f args (Err r) = Unit {0}
+
+-- the outcome is this, or memory is wanting where it may
+abbrev pub Shows : Function → List Tree → Outcome → Result Tree Raised → Type 0
+Shows f args (outcome.Value v) r = r ≡ Ok (tree v)
+Shows f args (outcome.Raise e message v) r = r ≡ Err (record { code = e; message = message; value = tree v })
+Shows f args outcome.Memory r = CallMayLack f args r
 
 -- the same of a function that may be another crate's: it has no outcome here
-abbrev pub ShowsSome : Option Outcome → Option (Result Tree Raised) → Type 0
-ShowsSome None r = r ≡ None
-ShowsSome (Some o) None = ⊥
-ShowsSome (Some o) (Some r) = Shows o r
+abbrev pub ShowsSome : Function → List Tree → Option Outcome → Option (Result Tree Raised) → Type 0
+ShowsSome f args None r = r ≡ None
+ShowsSome f args (Some o) None = ⊥
+ShowsSome f args (Some o) (Some r) = Shows f args o r
 
--- the outcome is that of a call, want of memory aside; none where the function is not of this crate
+-- the outcome is that of a call, or memory is wanting where it may for all that the call may come to; none where the function
+-- is not of this crate
 abbrev pub IsCall : Function → ℕ → List Tree → Option Outcome → Type 0
 IsCall f moment args None = answer f moment args ≡ None
 IsCall f moment args (Some (outcome.Value v)) = Calls f moment args (Ok (tree v))
 IsCall f moment args (Some (outcome.Raise e message v)) = Calls f moment args (Err (record { code = e; message = message; value = tree v }))
-IsCall f moment args (Some outcome.Memory) = Unit {0}
+IsCall f moment args (Some outcome.Memory) = (r : Result Tree Raised) → Calls f moment args r → CallMayLack f args r
 
 -- a call has at most one answer
 abbrev pub AtMostOneAnswer : Type 0
 AtMostOneAnswer = (f : Function) (moment : ℕ) (args : List Tree) (r s : Result Tree Raised) → Calls f moment args r → Calls f moment args s → r ≡ s
 
--- For private clauses: an answer of the program is what a function gives, and an outcome is an answer of the program.
-abbrev pub GivesSome : Option (Result Value OperationFault) → Option (Result Tree ErrorCode) → Type 0
-GivesSome None r = r ≡ None
-GivesSome (Some a) None = ⊥
-GivesSome (Some a) (Some r) = Gives a r
+-- what a function over values alone gives; none for a function of another crate
+abbrev pub GivesSome : Function → List Tree → Option (Result Value OperationFault) → Option (Result Tree ErrorCode) → Type 0
+GivesSome f args None r = r ≡ None
+GivesSome f args (Some a) None = ⊥
+GivesSome f args (Some a) (Some r) = GivesUnless (MayLack f args r) a r
+
+-- For private clauses: an outcome raises an error, or is short of memory for its message, and an outcome is an answer of the
+-- program.
+abbrev pub Raises : Outcome → Raised → Type 0
+Raises (outcome.Value v) r = ⊥
+Raises (outcome.Raise e message v) r = r ≡ record { code = e; message = message; value = tree v }
+Raises outcome.Memory r = Unit {0}
 
 abbrev pub Tells : Outcome → Result Value OperationFault → Type 0
 Tells o (Ok v) = o ≡ outcome.Value v
-Tells o (Err (fault.Raise e)) = Shows o (Err (plainly e))
+Tells o (Err (fault.Raise e)) = Raises o (plainly e)
 Tells o (Err fault.Memory) = o ≡ outcome.Memory

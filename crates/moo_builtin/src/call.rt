@@ -1,7 +1,7 @@
 //! A call of a built-in function.
-ghost use Rattle.std.specs.Prelude.{◌≡◌, Err, IfNone};
+ghost use Rattle.std.specs.Prelude.{◌≡◌, IfNone};
 ghost use Rattle.moo_value.specs.View.{tree, trees};
-ghost use Rattle.moo_builtin.specs.Calls.{plainly, plain_answer, raised_by, answer, Shows, ShowsSome, GivesSome, Tells, IsCall};
+ghost use Rattle.moo_builtin.specs.Calls.{plainly, plain_answer, raised_by, answer, ShowsSome, GivesSome, Raises, Tells, IsCall};
 
 use crate::lists::{
     is_member, list_append, list_delete, list_insert, list_set, set_add, set_remove,
@@ -47,7 +47,7 @@ pub fn call_value(
 /// What a function over values alone gives, or raises, for arguments that fit its row of the table. `None` where the
 /// function is another one; the arguments then stay as they are.
 pub fn answer(alloc: Global, function: Function, args: &mut [Value], moment: u32) -> Option<Outcome>
-    ensures value { ShowsSome result (answer function moment (trees args.old)) }
+    ensures value { ShowsSome function (trees args.old) result (answer function moment (trees args.old)) }
     ensures unchanged { IfNone result (args.new ≡ args.old) }
 {
     match function {
@@ -67,7 +67,7 @@ pub fn plain_answer(
     args: &mut [Value],
     moment: u32,
 ) -> Option<Result<Value, OperationFault>>
-    ensures value { GivesSome result (plain_answer function moment (trees args.old)) }
+    ensures value { GivesSome function (trees args.old) result (plain_answer function moment (trees args.old)) }
     ensures unchanged { IfNone result (args.new ≡ args.old) }
 {
     Some(match function {
@@ -110,7 +110,7 @@ fn settled(alloc: Global, answer: Result<Value, OperationFault>) -> Outcome
 
 // `raise`: an error with its own message and 0, or with those that are given.
 fn raise(alloc: Global, args: &[Value]) -> Outcome
-    ensures { Shows result (Err (raised_by (trees args.now))) }
+    ensures { Raises result (raised_by (trees args.now)) }
 {
     match args {
         [Value::Err(error)] => raised(alloc, *error),
@@ -121,7 +121,7 @@ fn raise(alloc: Global, args: &[Value]) -> Outcome
 }
 
 fn raised_with(error: ErrorCode, message: &MooStr, value: &Value) -> Outcome
-    ensures { Shows result (Err (record { code = error; message = message.now; value = tree value.now })) }
+    ensures { Raises result (record { code = error; message = message.now; value = tree value.now }) }
 {
     match (message.try_clone(), value.try_clone()) {
         (Ok(message), Ok(value)) => Outcome::Raise(error, message, value),
@@ -130,7 +130,7 @@ fn raised_with(error: ErrorCode, message: &MooStr, value: &Value) -> Outcome
 }
 
 fn raised(alloc: Global, error: ErrorCode) -> Outcome
-    ensures { Shows result (Err (plainly error)) }
+    ensures { Raises result (plainly error) }
 {
     match MooStr::try_from_bytes(alloc, error.message().as_bytes()) {
         Ok(message) => Outcome::Raise(error, message, Value::Int(0)),

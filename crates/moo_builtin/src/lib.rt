@@ -7,7 +7,5 @@ mod lists;
 mod looks;
 mod made;
 mod numbers;
-#[cfg(test)]
-mod tests;
 
 pub use call::{Outcome, answer, call_value, plain_answer};

@@ -294,6 +294,7 @@ fn before_place(place: i32, count: usize) -> Option<usize>
     if before < count { Some(before) } else { None }
 }
 
+#[tactic(auto, using(moo_text_function::proofs::Making::limited_made))]
 fn put_in(
     alloc: Global,
     list: MooList,
@@ -321,6 +322,7 @@ fn elements_with(list: MooList, before: usize, value: Value) -> Result<Vec<Value
     Ok(elements)
 }
 
+#[tactic(auto, using(moo_text_function::proofs::Making::limited_made))]
 fn taken_out(alloc: Global, list: MooList, before: usize) -> Result<Value, OperationFault>
     requires { before < length list }
     ensures { Gives result (taken_out list before) }

@@ -33,6 +33,7 @@ fn type_number(value: &Value) -> i32
 }
 
 /// `length` of a string or a list.
+#[tactic(auto, using(moo_text_function::proofs::Making::weaker))]
 pub fn length_of(args: &[Value]) -> Result<Value, OperationFault>
     ensures { Gives result (length_of (trees args.now)) }
 {

@@ -18,6 +18,7 @@ pub const VERB_NOT_FOUND: OperationFault = OperationFault::Raise(ErrorCode::Verb
 pub const QUOTA: OperationFault = OperationFault::Raise(ErrorCode::Quota);
 
 /// The list of these lines, or E_QUOTA past its limits.
+#[tactic(auto, using(moo_text_function::proofs::Making::limited_made))]
 pub fn listed(alloc: Global, lines: Vec<MooStr>) -> Result<Value, OperationFault>
     ensures { Gives result (limited (list_of (map (λ line. string line) lines.items))) }
 {

@@ -97,6 +97,7 @@ fn code_at(
     }
 }
 
+#[tactic(auto, using(moo_text_function::proofs::Making::limited_made))]
 fn code_value(alloc: Global, form: Form, verb: &Verb) -> Result<Value, OperationFault>
     ensures { Gives result (limited (code_of_verb form.full form.indents verb.now)) }
 {

@@ -177,6 +177,7 @@ fn set_program(
 }
 
 // The answer that tells a fault, where it is one of the text.
+#[tactic(auto, using(moo_text_function::proofs::Making::limited_made))]
 fn told_fault(alloc: Global, fault: &SyntaxFault) -> Result<Value, OperationFault>
     ensures text { Gives result (told_fault fault.now) }
     ensures kind { IsAnswered result → is_of_text fault.now.kind ≡ true }
@@ -194,6 +195,7 @@ fn told_fault(alloc: Global, fault: &SyntaxFault) -> Result<Value, OperationFaul
     }
 }
 
+#[tactic(auto, using(moo_text_function::proofs::Making::limited_made))]
 fn only(alloc: Global, line: MooStr) -> Result<Value, OperationFault>
     ensures { Gives result (limited (list_of (string line ∷ []))) }
 {

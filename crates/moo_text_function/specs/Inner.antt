@@ -4,6 +4,6 @@ use Rattle.std.proofs.Common.{Vec, Global}
 use Rattle.moo_value.specs.Size.{weight_limit}
 
 -- the text that was made, or none where it is past the limit of weight
-abbrev pub IsReplaced : Option (Vec ℕ Global) → List ℕ → Type 0
-IsReplaced (Some v) s = v.items ≡ s
-IsReplaced None s = weight_limit ≤ length s
+abbrev pub IsWritten : Option (Vec ℕ Global) → List ℕ → Type 0
+IsWritten (Some v) s = v.items ≡ s
+IsWritten None s = weight_limit ≤ length s

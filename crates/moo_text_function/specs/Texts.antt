@@ -36,6 +36,11 @@ first_place exact s t = place_value (first_of (matches (as_searched exact s) (as
 abbrev pub last_place : Bool → List ℕ → List ℕ → Tree
 last_place exact s t = place_value (first_of (rmatches (as_searched exact s) (as_searched exact t) (length (as_searched exact s))))
 
+-- a third argument that is true asks that letters are not folded
+abbrev pub is_exact : List Tree → Bool
+is_exact (s ∷ t ∷ exact ∷ []) = is_true exact
+is_exact _ = false
+
 abbrev pub index : List Tree → Result Tree ErrorCode
 index (string s ∷ string t ∷ []) = Ok (first_place false s t)
 index (string s ∷ string t ∷ exact ∷ []) = Ok (first_place (is_true exact) s t)

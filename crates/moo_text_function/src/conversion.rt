@@ -1,37 +1,44 @@
 //! Functions that make a value of one type of one of another.
-ghost use Rattle.std.specs.Prelude.{◌≡◌, ◌∷◌, [], ◌++◌, IfOk, OnOk};
+ghost use Rattle.std.specs.Prelude.{◌≡◌, ◌∷◌, [], ◌++◌, IfOk, IfSome, OnOk};
 ghost use Rattle.std.specs.List.{flat_map};
 ghost use Rattle.moo_value.specs.Text.{plain, literal};
 ghost use Rattle.moo_value.specs.Tree.{IsText};
 ghost use Rattle.moo_value.specs.View.{tree, trees};
 ghost use Rattle.moo_text_function.specs.Answers.{Gives};
 ghost use Rattle.moo_text_function.specs.Conversions.{to_text, to_literal, to_integer, to_object};
+ghost use Rattle.moo_text_function.specs.Inner.{IsWritten};
 
 use crate::made::{TYPE_MISMATCH, string_answer};
 use crate::numeral::{integer_number, object_number};
 use moo_operation::OperationFault;
-use moo_value::Value;
+use moo_value::{ErrorCode, Value, WEIGHT_LIMIT};
 use std::alloc::{AllocError, Global};
 
 /// `tostr`: the texts of its arguments as a player sees them, one behind the other.
+#[tactic(auto, using(crate::proofs::Making::limited_made))]
 pub fn to_text(alloc: Global, args: &[Value]) -> Result<Value, OperationFault>
     ensures { Gives result (to_text (trees args.now)) }
 {
     match plain_texts(alloc, args) {
-        Ok(text) => string_answer(alloc, text),
+        Ok(Some(text)) => string_answer(alloc, text),
+        Ok(None) => Err(OperationFault::Raise(ErrorCode::Quota)),
         Err(AllocError) => Err(OperationFault::Memory),
     }
 }
 
-fn plain_texts(alloc: Global, args: &[Value]) -> Result<Vec<u8>, AllocError>
-    ensures value { IfOk result (λ v. v.items ≡ flat_map plain (trees args.now)) }
-    ensures text { IfOk result (λ v. IsText v.items) }
+// `None` past the limit of weight, at which it stops.
+fn plain_texts(alloc: Global, args: &[Value]) -> Result<Option<Vec<u8>>, AllocError>
+    ensures value { IfOk result (λ made. IsWritten made (flat_map plain (trees args.now))) }
+    ensures text { IfOk result (λ made. IfSome made (λ v. IsText v.items)) }
 {
     let mut text = Vec::new(alloc);
     for value in args {
+        if text.len() >= WEIGHT_LIMIT as usize {
+            return Ok(None);
+        }
         write_plain(alloc, value, &mut text)?;
     }
-    Ok(text)
+    Ok(Some(text))
 }
 
 fn write_plain(alloc: Global, value: &Value, text: &mut Vec<u8>) -> Result<(), AllocError>
@@ -55,6 +62,7 @@ pub fn to_literal(alloc: Global, args: &[Value]) -> Result<Value, OperationFault
     }
 }
 
+#[tactic(auto, using(crate::proofs::Making::limited_made))]
 fn literal_of(alloc: Global, value: &Value) -> Result<Value, OperationFault>
     ensures { Gives result (to_literal (tree value.now ∷ [])) }
 {

@@ -7,8 +7,6 @@ mod made;
 mod numeral;
 mod place;
 mod substitution;
-#[cfg(test)]
-mod tests;
 
 pub use conversion::{to_integer, to_literal, to_object, to_text};
 pub use place::{compare, index, last_index};

@@ -10,6 +10,7 @@ use std::alloc::Global;
 pub const TYPE_MISMATCH: OperationFault = OperationFault::Raise(ErrorCode::TypeMismatch);
 
 /// The string of these bytes.
+#[tactic(auto, using(crate::proofs::Making::limited_made))]
 pub fn string_answer(alloc: Global, bytes: Vec<u8>) -> Result<Value, OperationFault>
     requires { IsText bytes.items }
     ensures { Gives result (limited (string bytes.items)) }

@@ -1,10 +1,11 @@
 //! How strings compare, and where one stands in another.
 ghost use Rattle.std.specs.Prelude.{◌≡◌, ◌<◌, Ok, IfOk, IfSome};
+ghost use Rattle.moo_value.specs.Compare.{folded};
 ghost use Rattle.moo_value.specs.Size.{weight_limit};
 ghost use Rattle.moo_value.specs.View.{tree, trees};
 ghost use Rattle.moo_operation.specs.Comparison.{place_value};
-ghost use Rattle.moo_text_function.specs.Answers.{Gives};
-ghost use Rattle.moo_text_function.specs.Texts.{sign, compare, index, first_place, last_index, last_place, as_searched};
+ghost use Rattle.moo_text_function.specs.Answers.{Gives, Finds};
+ghost use Rattle.moo_text_function.specs.Texts.{sign, compare, is_exact, index, first_place, last_index, last_place};
 
 use crate::made::TYPE_MISMATCH;
 use memchr::memmem;
@@ -35,7 +36,7 @@ fn sign(ordering: Ordering) -> i32
 
 /// `index`: the first place of a string in another, or 0. Letters are folded unless the third argument is true.
 pub fn index(alloc: Global, args: &[Value]) -> Result<Value, OperationFault>
-    ensures { Gives result (index (trees args.now)) }
+    ensures { Finds (is_exact (trees args.now)) result (index (trees args.now)) }
 {
     match args {
         [Value::Str(text), Value::Str(wanted)] => first_place(alloc, text, wanted, false),
@@ -52,10 +53,13 @@ fn first_place(
     wanted: &MooStr,
     exact: bool,
 ) -> Result<Value, OperationFault>
-    ensures { Gives result (Ok (first_place exact text.now wanted.now)) }
+    ensures { Finds exact result (Ok (first_place exact text.now wanted.now)) }
 {
-    let text = as_searched(alloc, exact, text.as_bytes());
-    let wanted = as_searched(alloc, exact, wanted.as_bytes());
+    if exact {
+        return Ok(place_value(memmem::find(text.as_bytes(), wanted.as_bytes())));
+    }
+    let text = folded(alloc, text.as_bytes());
+    let wanted = folded(alloc, wanted.as_bytes());
     match (text, wanted) {
         (Ok(text), Ok(wanted)) => Ok(place_value(memmem::find(&text, &wanted))),
         _ => Err(OperationFault::Memory),
@@ -64,7 +68,7 @@ fn first_place(
 
 /// `rindex`: the last place of a string in another, or 0. Letters are folded unless the third argument is true.
 pub fn last_index(alloc: Global, args: &[Value]) -> Result<Value, OperationFault>
-    ensures { Gives result (last_index (trees args.now)) }
+    ensures { Finds (is_exact (trees args.now)) result (last_index (trees args.now)) }
 {
     match args {
         [Value::Str(text), Value::Str(wanted)] => last_place(alloc, text, wanted, false),
@@ -81,23 +85,23 @@ fn last_place(
     wanted: &MooStr,
     exact: bool,
 ) -> Result<Value, OperationFault>
-    ensures { Gives result (Ok (last_place exact text.now wanted.now)) }
+    ensures { Finds exact result (Ok (last_place exact text.now wanted.now)) }
 {
-    let text = as_searched(alloc, exact, text.as_bytes());
-    let wanted = as_searched(alloc, exact, wanted.as_bytes());
+    if exact {
+        return Ok(place_value(memmem::rfind(text.as_bytes(), wanted.as_bytes())));
+    }
+    let text = folded(alloc, text.as_bytes());
+    let wanted = folded(alloc, wanted.as_bytes());
     match (text, wanted) {
         (Ok(text), Ok(wanted)) => Ok(place_value(memmem::rfind(&text, &wanted))),
         _ => Err(OperationFault::Memory),
     }
 }
 
-/// A copy of a text as a search sees it.
-pub fn as_searched(alloc: Global, exact: bool, bytes: &[u8]) -> Result<Vec<u8>, AllocError>
-    ensures { IfOk result (λ v. v.items ≡ as_searched exact bytes.now) }
+/// A copy of a text with its letters folded.
+pub fn folded(alloc: Global, bytes: &[u8]) -> Result<Vec<u8>, AllocError>
+    ensures { IfOk result (λ v. v.items ≡ folded bytes.now) }
 {
-    if exact {
-        return Vec::from_slice(alloc, bytes);
-    }
     let mut text = Vec::with_capacity(alloc, bytes.len())?;
     for byte in bytes {
         text.push(byte.to_ascii_lowercase())?;

@@ -5,10 +5,10 @@ ghost use Rattle.bstr.specs.Text.{replaced_at};
 ghost use Rattle.moo_value.specs.View.{trees};
 ghost use Rattle.moo_text_function.specs.Answers.{Gives};
 ghost use Rattle.moo_text_function.specs.Texts.{substituted, substitution, substitute};
-ghost use Rattle.moo_text_function.specs.Inner.{IsReplaced};
+ghost use Rattle.moo_text_function.specs.Inner.{IsWritten};
 
 use crate::made::{TYPE_MISMATCH, string_answer};
-use crate::place::as_searched;
+use crate::place::folded;
 use memchr::memmem;
 use moo_operation::{OperationFault, is_true};
 use moo_value::{ErrorCode, MooStr, Value, WEIGHT_LIMIT};
@@ -33,6 +33,7 @@ pub fn substitute(alloc: Global, args: &[Value]) -> Result<Value, OperationFault
     }
 }
 
+#[tactic(auto, using(crate::proofs::Making::limited_made))]
 fn substitution(
     alloc: Global,
     text: &MooStr,
@@ -66,10 +67,13 @@ fn substituted(
     other: &[u8],
     exact: bool,
 ) -> Result<Option<Vec<u8>>, AllocError>
-    ensures { IfOk result (λ made. IsReplaced made (substituted exact text.now wanted.now other.now)) }
+    ensures { IfOk result (λ made. IsWritten made (substituted exact text.now wanted.now other.now)) }
 {
-    let searched = as_searched(alloc, exact, text)?;
-    let wanted = as_searched(alloc, exact, wanted)?;
+    if exact {
+        return replaced(alloc, text, text, wanted, other);
+    }
+    let searched = folded(alloc, text)?;
+    let wanted = folded(alloc, wanted)?;
     replaced(alloc, text, &searched, &wanted, other)
 }
 
@@ -83,7 +87,7 @@ fn replaced(
     other: &[u8],
 ) -> Result<Option<Vec<u8>>, AllocError>
     requires { length searched.now ≡ length text.now }
-    ensures { IfOk result (λ made. IsReplaced made (replaced_at text.now (length wanted.now) other.now 0 (matches searched.now wanted.now 0))) }
+    ensures { IfOk result (λ made. IsWritten made (replaced_at text.now (length wanted.now) other.now 0 (matches searched.now wanted.now 0))) }
 {
     let mut made = Vec::new(alloc);
     let mut found = memmem::find_iter(searched, wanted);

@@ -6,18 +6,11 @@ use Rattle.moo_value.specs.declared.value.Value.{Value}
 use Rattle.moo_value.specs.Tree.{Tree}
 use Rattle.moo_operation.specs.declared.fault.OperationFault.{OperationFault}
 use Rattle.moo_operation.specs.declared.fault.OperationFault.TheVariants.{Raise, Memory}
-use Rattle.moo_operation.specs.Answer as operation
 use Rattle.moo_text_function.specs.Answers.{Gives}
 use Rattle.moo_table.specs.World.{World}
-use Rattle.moo_world_function.specs.Answers.{Does, GivesSome}
-use Rattle.moo_world_function.specs.Calls.{looked_or}
+use Rattle.moo_world_function.specs.Answers.{Does, GivesSome, LacksOnly}
+use Rattle.moo_world_function.specs.Calls.{looked_or, LookMayLack}
 use Rattle.moo_world_function.specs.Verbs.{on_verb}
-
--- where memory is wanting nothing more is said
-pub weaker : (a : Result Value OperationFault) (r : Result Tree ErrorCode) → operation.Gives a r → Gives a r
-weaker (Ok v) r gives = gives
-weaker (Err (Raise e)) r gives = gives
-weaker (Err Memory) r gives = tt
 
 -- a function that looks does what it gives, and leaves the world
 pub looked : (a : Result Value OperationFault) (r : Option (Result Tree ErrorCode)) (w : World) (changed : Result (Tree × World) ErrorCode) → GivesSome (Some a) r → Does a w w (looked_or w r changed)
@@ -33,3 +26,14 @@ on_found a place i f found gives = subst (λ (x : Option ℕ). Gives a (on_verb 
 -- one that doesn't look does what the change does
 pub unlooked : (a : Result Value OperationFault) (r : Option (Result Tree ErrorCode)) (old new : World) (changed : Result (Tree × World) ErrorCode) → r ≡ None → Does a old new changed → Does a old new (looked_or old r changed)
 unlooked a r old new changed none does = rw none does
+
+-- a function that looks is short of memory for a list or a string alone
+pub looked_lacks : (a : Result Value OperationFault) (r : Option (Result Tree ErrorCode)) (Change : Type 0) → GivesSome (Some a) r → LacksOnly a (LookMayLack r Change)
+looked_lacks a None Change gives = absurd gives
+looked_lacks (Ok v) (Some r) Change gives = tt
+looked_lacks (Err (Raise e)) (Some r) Change gives = tt
+looked_lacks (Err Memory) (Some r) Change gives = gives
+
+-- another as its change is
+pub unlooked_lacks : (a : Result Value OperationFault) (r : Option (Result Tree ErrorCode)) (Change : Type 0) → r ≡ None → LacksOnly a Change → LacksOnly a (LookMayLack r Change)
+unlooked_lacks a r Change none lacks = rw none lacks

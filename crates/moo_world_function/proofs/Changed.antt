@@ -1,6 +1,6 @@
 -- A change of the world that was tested and is permitted, and one that isn't.
 use Rattle.std.proofs.Common.{◌≡◌, Bool, true, false, refl, sym, ap, ◌∙◌, subst}
-use Rattle.std.specs.Prelude.{ℕ, List, Option, None, Some, Result, Ok, Err, is_some, if◌then◌else◌}
+use Rattle.std.specs.Prelude.{Option, None, Some, Result, Ok, Err, IsOk}
 use Rattle.moo_value.specs.declared.error_code.ErrorCode.{ErrorCode}
 use Rattle.moo_value.specs.declared.error_code.ErrorCode.TheVariants.{Permission}
 use Rattle.moo_value.specs.declared.value.Value.{Value}
@@ -8,10 +8,10 @@ use Rattle.moo_value.specs.Tree.{Tree}
 use Rattle.moo_operation.specs.declared.fault.OperationFault.{OperationFault}
 use Rattle.moo_operation.specs.declared.fault.OperationFault.TheVariants.{Raise, Memory}
 use Rattle.moo_table.specs.World.{World}
-use Rattle.moo_world.specs.Calls.{Changes, Tests}
+use Rattle.moo_world.specs.Calls.{Changes, Tests, TakesNoMemory, RaisesFirst}
 use Rattle.moo_world.specs.declared.fault.WorldFault.{WorldFault}
 use Rattle.moo_world.specs.declared.fault.WorldFault.TheVariants as world
-use Rattle.moo_world_function.specs.Answers.{Does, Reads, permitted, changed}
+use Rattle.moo_world_function.specs.Answers.{Does, Reads, IsNeverLacking, LacksOnly, permitted, changed}
 use Rattle.moo_world_function.specs.Order.{changes, given}
 
 refused_as : {T : Type 0} (tested : Result T WorldFault) (raises : Option ErrorCode) (allowed : Bool) (e : OperationFault) (w after : World)
@@ -62,3 +62,45 @@ misread Memory r f w reads = refl
 -- and one that gives something
 pub read : {X : Type 0} (x : X) (r : Result X ErrorCode) (f : X → Result (Tree × World) ErrorCode) (a : Result Value OperationFault) (old new : World) → Reads (Ok x) r → Does a old new (f x) → Does a old new (given r f)
 read x r f a old new reads does = rw reads does
+
+-- what raises isn't short of memory
+raised_never : (c : ErrorCode) (a : Result Value OperationFault) → a ≡ Err (Raise c) → IsNeverLacking a
+raised_never c a is = rw is tt
+
+-- what is refused by a test that takes no memory, or by a right, isn't short of memory
+pub refused_never : {T : Type 0} (tested : Result T WorldFault) (allowed : Bool) (e : OperationFault) (a : Result Value OperationFault)
+    → TakesNoMemory tested → Err e ≡ permitted tested allowed → a ≡ Err e → IsNeverLacking a
+refused_never (Ok v) true e a takes is same = absurd (cc)
+refused_never (Ok v) false e a takes is same = raised_never Permission a (cc)
+refused_never (Err (world.Raise c)) allowed e a takes is same = raised_never c a (cc)
+refused_never (Err world.Memory) allowed e a takes is same = absurd takes
+
+-- nor what a change tells that takes none
+pub changed_never : {T : Type 0} (made : Result T WorldFault) (a : Result Value OperationFault) → TakesNoMemory made → a ≡ changed made → IsNeverLacking a
+changed_never (Ok v) a takes is = rw is tt
+changed_never (Err (world.Raise e)) a takes is = rw is tt
+changed_never (Err world.Memory) a takes is = absurd takes
+
+pub never_lacks : (a : Result Value OperationFault) (May : Type 0) → IsNeverLacking a → LacksOnly a May
+never_lacks (Ok v) May never = tt
+never_lacks (Err (Raise e)) May never = tt
+never_lacks (Err Memory) May never = absurd never
+
+is_permitted : {T : Type 0} (tested : Result T WorldFault) (u : T) (allowed : Bool) → Ok u ≡ permitted tested allowed → allowed ≡ true
+is_permitted (Ok v) u true is = refl
+is_permitted (Ok v) u false is = absurd (cc)
+is_permitted (Err (world.Raise e)) u allowed is = absurd (cc)
+is_permitted (Err world.Memory) u allowed is = absurd (cc)
+
+is_due : (raises : Option ErrorCode) (allowed : Bool) (after : World) → raises ≡ None → allowed ≡ true → IsOk (changes raises allowed after)
+is_due None true after none is = refl
+is_due None false after none is = absurd (cc)
+is_due (Some e) allowed after none is = absurd (cc)
+
+-- a change that takes memory once nothing is to be raised is short of it only where it is due
+pub lacks_due : {S T : Type 0} (tested : Result T WorldFault) (u : T) (raises : Option ErrorCode) (is_allowed allowed : Bool) (made : Result S WorldFault) (a : Result Value OperationFault) (after : World)
+    → is_allowed ≡ allowed → Ok u ≡ permitted tested is_allowed → RaisesFirst made raises → a ≡ changed made → LacksOnly a (IsOk (changes raises allowed after))
+lacks_due tested u raises is_allowed allowed (Ok s) a after right is first made = rw made tt
+lacks_due tested u raises is_allowed allowed (Err (world.Raise e)) a after right is first made = rw made tt
+lacks_due tested u raises is_allowed allowed (Err world.Memory) a after right is first made =
+    rw made (is_due raises allowed after first (sym right ∙ is_permitted tested u is_allowed is))

@@ -1,5 +1,5 @@
 -- The info of a property that was looked up.
-use Rattle.std.proofs.Common.{◌≡◌, ℤ, [], ◌∷◌, Bool, refl, sym, subst}
+use Rattle.std.proofs.Common.{◌≡◌, ℤ, [], ◌∷◌, Bool, subst}
 use Rattle.std.specs.Prelude.{Option, None, Some, Result}
 use Rattle.std.specs.Option.{option_map}
 use Rattle.moo_value.specs.declared.error_code.ErrorCode.{ErrorCode}

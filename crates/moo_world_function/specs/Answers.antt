@@ -38,6 +38,22 @@ GivesSome None r = r ≡ None
 GivesSome (Some a) None = ⊥
 GivesSome (Some a) (Some r) = Gives a r
 
+-- where memory is wanting, it may be
+abbrev pub LacksOnly : Result Value OperationFault → Type 0 → Type 0
+LacksOnly (Ok v) May = ⊤
+LacksOnly (Err (Raise e)) May = ⊤
+LacksOnly (Err Memory) May = May
+
+abbrev pub LacksOnlySome : Option (Result Value OperationFault) → Type 0 → Type 0
+LacksOnlySome None May = ⊤
+LacksOnlySome (Some a) May = LacksOnly a May
+
+-- what takes no memory
+abbrev pub IsNeverLacking : {T : Type 0} → Result T OperationFault → Type 0
+IsNeverLacking (Ok v) = ⊤
+IsNeverLacking (Err (Raise e)) = ⊤
+IsNeverLacking (Err Memory) = ⊥
+
 -- what was read of an argument is what it gives
 abbrev pub Reads : {T : Type 0} → Result T OperationFault → Result T ErrorCode → Type 0
 Reads (Ok x) r = r ≡ Ok x

@@ -1,5 +1,5 @@
 -- What a call of a function over the world is.
-use Rattle.std.specs.Prelude.{◌≡◌, ℤ, List, Bool, true, false, Option, None, Some, Result, Ok, Err, if◌then◌else◌}
+use Rattle.std.specs.Prelude.{ℤ, List, Bool, true, false, Option, None, Some, Result, Ok, Err, IsOk, ⊤, if◌then◌else◌}
 use Rattle.moo_value.specs.declared.error_code.ErrorCode.{ErrorCode}
 use Rattle.moo_value.specs.declared.error_code.ErrorCode.TheVariants.{TypeMismatch}
 use Rattle.moo_value.specs.Tree.{Tree}
@@ -7,6 +7,7 @@ use Rattle.moo_function.specs.declared.function.Function.{Function}
 use Rattle.moo_function.specs.declared.function.Function.TheVariants as function
 use Rattle.moo_function.specs.Table.{row}
 use Rattle.moo_function.specs.Check.{refusal}
+use Rattle.moo_text_function.specs.Answers.{IsMade}
 use Rattle.moo_table.specs.World.{World}
 use Rattle.moo_world_function.specs.Order.{checked}
 use Rattle.moo_world_function.specs.Objects.{is_valid, valid, parent, children, max_object, listed_players, is_player, change_parent}
@@ -66,6 +67,22 @@ changing function.SetVerbInfo w p args = set_verb_info w p args
 changing function.SetVerbArguments w p args = set_verb_args w p args
 changing function.DeleteVerb w p args = delete_verb w p args
 changing _ w p args = Err TypeMismatch
+
+-- Where memory may be wanting for a change: never for one that takes none, and for a deletion only once it is due
+abbrev pub ChangeMayLack : Function → World → ℤ → List Tree → Type 0
+ChangeMayLack function.ClearProperty w p args = ⊥
+ChangeMayLack function.SetVerbArguments w p args = ⊥
+ChangeMayLack function.DeleteVerb w p args = ⊥
+ChangeMayLack function.DeleteProperty w p args = IsOk (delete_property w p args)
+ChangeMayLack f w p args = ⊤
+
+abbrev pub LookMayLack : Option (Result Tree ErrorCode) → Type 0 → Type 0
+LookMayLack None Change = Change
+LookMayLack (Some r) Change = IsMade r
+
+-- where memory may be wanting for arguments that fit: a function that looks takes it only for a list or a string
+abbrev pub MayLack : Function → World → ℤ → List Tree → Type 0
+MayLack f w p args = LookMayLack (looking f w p args) (ChangeMayLack f w p args)
 
 -- a function that looks leaves the world as it is
 abbrev pub looked_or : World → Option (Result Tree ErrorCode) → Result (Tree × World) ErrorCode → Result (Tree × World) ErrorCode

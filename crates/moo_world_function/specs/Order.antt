@@ -1,5 +1,5 @@
 -- The order in which a function looks at things, once its arguments are known to be fine.
-use Rattle.std.specs.Prelude.{ℤ, pos, Bool, Option, Some, None, Result, Ok, Err, if◌then◌else◌}
+use Rattle.std.specs.Prelude.{pos, Bool, Option, Some, None, Result, Ok, Err, if◌then◌else◌}
 use Rattle.moo_value.specs.declared.error_code.ErrorCode.{ErrorCode}
 use Rattle.moo_value.specs.declared.error_code.ErrorCode.TheVariants.{Permission}
 use Rattle.moo_value.specs.Tree.{Tree, integer}

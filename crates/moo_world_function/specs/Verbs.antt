@@ -1,5 +1,5 @@
 -- What the functions on verbs answer.
-use Rattle.std.specs.Prelude.{ℕ, ℤ, List, [], ◌∷◌, map, length, position, Bool, ◌&&◌, ◌||◌, Option, Some, None, Result, Ok, Err}
+use Rattle.std.specs.Prelude.{ℕ, ℤ, List, [], ◌∷◌, map, length, position, Bool, ◌&&◌, ◌||◌, Option, Some, None, Result, Err}
 use Rattle.std.specs.Option.{option_and_then}
 use Rattle.std.specs.Ordering.{int_eq}
 use Rattle.moo_value.specs.declared.error_code.ErrorCode.{ErrorCode}

@@ -1,11 +1,11 @@
 //! A call of a built-in function over the world.
 ghost use Rattle.std.specs.Prelude.{◌≡◌};
 ghost use Rattle.moo_value.specs.View.{trees};
-ghost use Rattle.moo_world_function.specs.Answers.{Does, DoesSome, GivesSome, RefusesFirst};
+ghost use Rattle.moo_world_function.specs.Answers.{Does, DoesSome, GivesSome, LacksOnly, LacksOnlySome, RefusesFirst};
 ghost use Rattle.moo_function.specs.Table.{row};
 ghost use Rattle.moo_function.specs.Check.{refusal};
 ghost use Rattle.moo_world_function.specs.Objects.{is_valid};
-ghost use Rattle.moo_world_function.specs.Calls.{is_of_world, looking, changing, answer, world_call};
+ghost use Rattle.moo_world_function.specs.Calls.{is_of_world, looking, changing, answer, world_call, ChangeMayLack, MayLack};
 
 use crate::giving::{add_property, set_property_info};
 use crate::made::TYPE_MISMATCH;
@@ -34,7 +34,8 @@ pub fn call_world(
     programmer: i32,
 ) -> Option<Result<Value, OperationFault>>
     ensures answer { DoesSome result world.old world.new (world_call function world.old programmer (trees args.now)) }
-    ensures memory { RefusesFirst result (refusal (is_valid world.old) (row function) (trees args.now)) }
+    ensures refused { RefusesFirst result (refusal (is_valid world.old) (row function) (trees args.now)) }
+    ensures memory { LacksOnlySome result (MayLack function world.old programmer (trees args.now)) }
 {
     if !is_of_world(function) {
         return None;
@@ -81,7 +82,8 @@ fn answer(
     world: &mut World,
     programmer: i32,
 ) -> Result<Value, OperationFault>
-    ensures { Does result world.old world.new (answer function world.old programmer (trees args.now)) }
+    ensures answer { Does result world.old world.new (answer function world.old programmer (trees args.now)) }
+    ensures memory { LacksOnly result (MayLack function world.old programmer (trees args.now)) }
 {
     match look(alloc, function, args, world, programmer) {
         Some(answer) => answer,
@@ -122,7 +124,8 @@ fn change(
     world: &mut World,
     programmer: i32,
 ) -> Result<Value, OperationFault>
-    ensures { Does result world.old world.new (changing function world.old programmer (trees args.now)) }
+    ensures answer { Does result world.old world.new (changing function world.old programmer (trees args.now)) }
+    ensures memory { LacksOnly result (ChangeMayLack function world.old programmer (trees args.now)) }
 {
     match function {
         Function::ChangeParent => change_parent(alloc, args, world, programmer),

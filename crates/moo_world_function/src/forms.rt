@@ -1,7 +1,7 @@
 //! Lists that give the info of a property or a verb, or the specifiers of a verb.
 ghost use Rattle.std.specs.Prelude.{◌≡◌};
 ghost use Rattle.moo_value.specs.View.{tree, trees};
-ghost use Rattle.moo_world_function.specs.Answers.{Reads};
+ghost use Rattle.moo_world_function.specs.Answers.{Reads, IsNeverLacking};
 ghost use Rattle.moo_world_function.specs.Forms.{given_property, property_in, given_verb, verb_in, given_args, args_in, specifiers};
 ghost use Rattle.moo_world_text.specs.Specifiers.{object_specifier_of, preposition_specifier_of};
 
@@ -107,7 +107,8 @@ fn verb_in(elements: &[Value]) -> Result<GivenVerb, OperationFault>
 /// `{dobj, prep, iobj}`; E_INVARG for a text that is no specifier.
 #[tactic(auto, unfolding(crate::specs::Forms::given_args))]
 pub fn given_args(value: &Value) -> Result<VerbArgs, OperationFault>
-    ensures { Reads result (given_args (tree value.now)) }
+    ensures answer { Reads result (given_args (tree value.now)) }
+    ensures memory { IsNeverLacking result }
 {
     match value {
         Value::List(list) => args_in(list.elements()),
@@ -116,7 +117,8 @@ pub fn given_args(value: &Value) -> Result<VerbArgs, OperationFault>
 }
 
 fn args_in(elements: &[Value]) -> Result<VerbArgs, OperationFault>
-    ensures { Reads result (args_in (trees elements.now)) }
+    ensures answer { Reads result (args_in (trees elements.now)) }
+    ensures memory { IsNeverLacking result }
 {
     match elements {
         [

@@ -1,12 +1,12 @@
 //! Functions on properties.
-ghost use Rattle.std.specs.Prelude.{◌≡◌, ◌∷◌, [], IfOk, None, Some, map};
+ghost use Rattle.std.specs.Prelude.{◌≡◌, ◌∷◌, [], IfOk, IsOk, None, Some, map};
 ghost use Rattle.moo_world_function.specs.Order.{asked};
 ghost use Rattle.moo_value.specs.Tree.{object, string, list_of};
 ghost use Rattle.moo_operation.specs.Answer.{limited};
 ghost use Rattle.moo_world_text.specs.Permissions.{prop_perms_text};
 ghost use Rattle.moo_value.specs.View.{tree, trees};
 ghost use Rattle.moo_text_function.specs.Answers.{Gives};
-ghost use Rattle.moo_world_function.specs.Answers.{Does};
+ghost use Rattle.moo_world_function.specs.Answers.{Does, IsNeverLacking, LacksOnly};
 ghost use Rattle.moo_world_function.specs.Properties.{properties, info_told, property_info, clearness, is_clear_property, cleared_named, clear_property, without_named, delete_property};
 
 use crate::made::{
@@ -155,7 +155,8 @@ pub fn clear_property(
     world: &mut World,
     programmer: i32,
 ) -> Result<Value, OperationFault>
-    ensures { Does result world.old world.new (clear_property world.old programmer (trees args.now)) }
+    ensures answer { Does result world.old world.new (clear_property world.old programmer (trees args.now)) }
+    ensures memory { IsNeverLacking result }
 {
     match args {
         [Value::Obj(o), Value::Str(name)] => clear(*o, name, world, programmer),
@@ -164,7 +165,8 @@ pub fn clear_property(
 }
 
 fn clear(o: i32, name: &MooStr, world: &mut World, programmer: i32) -> Result<Value, OperationFault>
-    ensures { Does result world.old world.new (cleared_named world.old programmer o name.now) }
+    ensures answer { Does result world.old world.new (cleared_named world.old programmer o name.now) }
+    ensures memory { IsNeverLacking result }
 {
     let name = name.as_bytes();
     let is_allowed = Rights::may_write_property(world, programmer, o, name);
@@ -179,7 +181,8 @@ pub fn delete_property(
     world: &mut World,
     programmer: i32,
 ) -> Result<Value, OperationFault>
-    ensures { Does result world.old world.new (delete_property world.old programmer (trees args.now)) }
+    ensures answer { Does result world.old world.new (delete_property world.old programmer (trees args.now)) }
+    ensures memory { LacksOnly result (IsOk (delete_property world.old programmer (trees args.now))) }
 {
     match args {
         [Value::Obj(o), Value::Str(name)] => delete(alloc, *o, name, world, programmer),
@@ -194,7 +197,8 @@ fn delete(
     world: &mut World,
     programmer: i32,
 ) -> Result<Value, OperationFault>
-    ensures { Does result world.old world.new (without_named world.old programmer o name.now) }
+    ensures answer { Does result world.old world.new (without_named world.old programmer o name.now) }
+    ensures memory { LacksOnly result (IsOk (without_named world.old programmer o name.now)) }
 {
     let name = name.as_bytes();
     let is_allowed = Rights::may_write_object(world, programmer, o);

@@ -2,7 +2,7 @@
 ghost use Rattle.std.specs.Prelude.{◌≡◌, ◌∷◌, []};
 ghost use Rattle.moo_value.specs.Tree.{object};
 ghost use Rattle.moo_value.specs.View.{tree, trees};
-ghost use Rattle.moo_world_function.specs.Answers.{Does};
+ghost use Rattle.moo_world_function.specs.Answers.{Does, IsNeverLacking};
 ghost use Rattle.moo_world_function.specs.Order.{given};
 ghost use Rattle.moo_world_function.specs.Forms.{given_verb, given_args};
 ghost use Rattle.moo_world_function.specs.Verbs.{without_chosen, deleted, delete_verb, with_chosen_info, info_given, set_verb_info, with_chosen_args, args_given, set_verb_args, with_new_verb, add_verb};
@@ -22,7 +22,8 @@ pub fn delete_verb(
     world: &mut World,
     programmer: i32,
 ) -> Result<Value, OperationFault>
-    ensures { Does result world.old world.new (delete_verb world.old programmer (trees args.now)) }
+    ensures answer { Does result world.old world.new (delete_verb world.old programmer (trees args.now)) }
+    ensures memory { IsNeverLacking result }
 {
     match args {
         [Value::Obj(o), choice] => delete_chosen(*o, choice, world, programmer),
@@ -37,7 +38,8 @@ fn delete_chosen(
     world: &mut World,
     programmer: i32,
 ) -> Result<Value, OperationFault>
-    ensures { Does result world.old world.new (deleted world.old programmer o (tree choice.now)) }
+    ensures answer { Does result world.old world.new (deleted world.old programmer o (tree choice.now)) }
+    ensures memory { IsNeverLacking result }
 {
     match chosen(o, choice, world) {
         Some(index) => delete_at(o, index, world, programmer),
@@ -51,7 +53,8 @@ fn delete_at(
     world: &mut World,
     programmer: i32,
 ) -> Result<Value, OperationFault>
-    ensures { Does result world.old world.new (without_chosen world.old programmer o index) }
+    ensures answer { Does result world.old world.new (without_chosen world.old programmer o index) }
+    ensures memory { IsNeverLacking result }
 {
     let is_allowed = Rights::may_write_object(world, programmer, o);
     permitted(world.try_verb(o, index), is_allowed)?;
@@ -111,7 +114,8 @@ pub fn set_verb_args(
     world: &mut World,
     programmer: i32,
 ) -> Result<Value, OperationFault>
-    ensures { Does result world.old world.new (set_verb_args world.old programmer (trees args.now)) }
+    ensures answer { Does result world.old world.new (set_verb_args world.old programmer (trees args.now)) }
+    ensures memory { IsNeverLacking result }
 {
     match args {
         [Value::Obj(o), choice, specifiers] => {
@@ -130,7 +134,8 @@ fn set_args(
     world: &mut World,
     programmer: i32,
 ) -> Result<Value, OperationFault>
-    ensures { Does result world.old world.new (args_given world.old programmer o (tree choice.now) given) }
+    ensures answer { Does result world.old world.new (args_given world.old programmer o (tree choice.now) given) }
+    ensures memory { IsNeverLacking result }
 {
     match chosen(o, choice, world) {
         Some(index) => set_args_at(o, index, given, world, programmer),
@@ -145,7 +150,8 @@ fn set_args_at(
     world: &mut World,
     programmer: i32,
 ) -> Result<Value, OperationFault>
-    ensures { Does result world.old world.new (with_chosen_args world.old programmer o given index) }
+    ensures answer { Does result world.old world.new (with_chosen_args world.old programmer o given index) }
+    ensures memory { IsNeverLacking result }
 {
     let is_allowed = Rights::may_write_verb(world, programmer, o, index);
     permitted(world.try_verb(o, index), is_allowed)?;

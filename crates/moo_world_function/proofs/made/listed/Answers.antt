@@ -1,4 +1,4 @@
-use Rattle.moo_world_function.proofs.Answered.{weaker}
+use Rattle.moo_text_function.proofs.Making.{weaker}
 use Rattle.moo_world_function.proofs.made.listed.Goals as goal
 
 pub returns : goal.returns

@@ -16,13 +16,17 @@ const LOOKS: &str = r#"
 #9 parent #9 = E_INVARG
 #9 parent #2 = #1
 #9 parent #0 = #-1
+#9 children = E_ARGS
 #9 children 1 = E_TYPE
 #9 children #-1 = E_INVARG
 #9 children #1 = {#2, #3, #4}
 #9 children #0 = {}
 #9 max_object 1 = E_ARGS
 #9 max_object = #4
+#9 players 1 = E_ARGS
 #9 players = {#3}
+#9 is_player = E_ARGS
+#9 is_player 3 = E_TYPE
 #9 is_player #5 = E_INVARG
 #9 is_player #3 = 1
 #9 is_player #4 = 0
@@ -42,6 +46,9 @@ const PARENTS: &str = r#"
 #4 parent #4 = #2
 #4 chparent #4 #-1 = 0
 #4 parent #4 = #-1
+set #2 "f" 1 = 0
+#4 chparent #3 #2 = E_PERM
+#4 chparent #4 #2 = 0
 "#;
 
 const PROPERTIES_MADE: &str = r#"
@@ -178,6 +185,7 @@ const VERBS_CHANGED: &str = r#"
 #4 set_verb_info #4 1 { #3 "w" "to" } = E_PERM
 #3 set_verb_info #4 "at" { #3 "w" "to" } = 0
 #9 verb_info #4 "to" = E_PERM
+#9 verb_args #4 "to" = E_PERM
 #3 verb_info #4 "to" = {#3, "w", "to"}
 "#;
 

@@ -17,4 +17,6 @@ mod support;
 #[cfg(test)]
 mod tasks;
 #[cfg(test)]
+mod values;
+#[cfg(test)]
 mod verbs;

@@ -130,21 +130,6 @@ fn a_child_has_clear_cells(rt: HostRuntime) -> Result<(), Fail> {
 }
 
 #[test]
-fn a_fitted_row_keeps_values(rt: HostRuntime) -> Result<(), Fail> {
-    let alloc = rt.alloc();
-    let parent = definer(alloc)?;
-    let mut child = Object::child(alloc, 7, parent.cells())?;
-    child.set_value(b"Size", Value::Int(6));
-    let row = child.fitted_row(alloc, 2, parent.cells())?;
-    child.set_cells(row);
-    let cell = cell_named(child.cells(), b"size").ok_or("no cell")?;
-    assert!(rt; matches!(cell.value(), Some(Value::Int(6))));
-    let orphan = child.fitted_row(alloc, 2, &[])?;
-    assert!(rt; orphan.as_slice().is_empty());
-    Ok(())
-}
-
-#[test]
 fn renames_and_forgets_a_definition(rt: HostRuntime) -> Result<(), Fail> {
     let alloc = rt.alloc();
     let mut object = definer(alloc)?;

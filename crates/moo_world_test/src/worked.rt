@@ -137,6 +137,21 @@ info #4 "free" = {#4, "c"}
 info #4 "fixed" = {#3, ""}
 "#;
 
+// Under another parent, below the same definer, a value stays; under none nothing is left.
+const KEPT: &str = r#"
+create #-1 #3 = #0
+add_property #0 "size" 5 #3 "c" = 0
+create #0 #7 = #1
+create #0 #7 = #2
+set #1 "Size" 6 = 0
+chparent #1 #2 = 0
+get #1 "size" = 6
+is_clear #1 "size" = 0
+chparent #1 #-1 = 0
+has_row #1 = 1
+get #1 "size" = E_PROPNF
+"#;
+
 const TREES: &str = r#"
 parent #3 = #1
 parent #0 = #-1
@@ -278,6 +293,7 @@ fn worked(rt: HostRuntime) -> Result<(), Fail> {
         [FOUR_OBJECTS, SIZED, RENAMED],
         [VERBS, "", ""],
         [OWNERS, "", ""],
+        [KEPT, "", ""],
         [FOUR_OBJECTS, VERBS_CHANGED, ""],
         [FOUR_OBJECTS, PLAYERS, ""],
         [FOUR_OBJECTS, SIZED, TRIED],

@@ -31,7 +31,7 @@ fn with_line(alloc: Global, number: usize, new: &[u8]) -> Result<Vec<u8>, Fail> 
 }
 
 /// Each row replaces a line of the text, and says what is told of it.
-const ROWS: [(usize, &[u8], &str); 12] = [
+const ROWS: [(usize, &[u8], &str); 14] = [
     (68, b"return #3;\n", "4 objects, 0 connected"),
     (73, b"1 active connections\n3\n", "4 objects, 1 connected"),
     (66, b"0\n#4 recycled\n", "line 67: BadProgramLine"),
@@ -41,6 +41,13 @@ const ROWS: [(usize, &[u8], &str); 12] = [
     (37, b"2\na\nA\n", "line 25: BadHierarchy #1"),
     (24, b"1\n0\n5\n3\n0\n", "line 7: PropertyCount #0"),
     (52, b"1\n0\n5\n3\n0\n", "line 39: PropertyCount #2"),
+    // Objects are looked at before what comes behind the last of them.
+    (
+        66,
+        b"1\n0\n5\n3\n0\n#0:0\n(\n.\n",
+        "line 53: PropertyCount #3",
+    ),
+    (66, b"1\n0\n5\n3\n0\nx\n", "line 53: PropertyCount #3"),
     (
         68,
         b"fork (1) endfork\n",

@@ -1,6 +1,6 @@
 //! What no row of programs shows: the limits of ticks, frames and values.
 
-use crate::support::{end, is, joined, typed};
+use crate::support::{end, ends, is, joined, typed};
 use moo_eval::eval_line;
 use moo_value::MooStr;
 use moo_world::World;
@@ -70,4 +70,15 @@ fn values_that_are_too_heavy_are_errors(rt: HostRuntime) -> Result<(), Fail> {
     let two = "x = verb; return {x, x};";
     assert!(rt; is(named(alloc, 500_000, two)?, "Resource limit exceeded"));
     Ok(())
+}
+
+// Values grow up to their limits, where E_QUOTA is raised and nothing is stored.
+const GROWING: &str =
+    r#"n = 0; l = {}; try while (1) l = {l, l}; n = n + 1; endwhile except (E_QUOTA) return n; endtry --> 18
+n = 0; l = 1; try while (1) l = {l}; n = n + 1; endwhile except (E_QUOTA) return n; endtry --> 200
+n = 0; s = "a"; try while (1) s = s + s; n = n + 1; endwhile except (E_QUOTA) return {n, length(s)}; endtry --> {19, 524288}"#;
+
+#[test]
+fn values_grow_up_to_their_limits(rt: HostRuntime) -> Result<(), Fail> {
+    ends(rt.alloc(), true, GROWING)
 }

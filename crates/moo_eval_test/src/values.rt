@@ -3,8 +3,7 @@
 use crate::support::ends;
 use std::test::Fail;
 
-const LOOKS: &str =
-    r#"return {"Foo" == "foo", equal("Foo", "foo")}; --> {1, 0}
+const LOOKS: &str = r#"return {"Foo" == "foo", equal("Foo", "foo")}; --> {1, 0}
 return {`typeof() ! ANY', `typeof(1, 2) ! ANY', typeof(1), typeof(#1), typeof("a"), typeof(E_DIV), typeof({})}; --> {E_ARGS, E_ARGS, 0, 1, 2, 3, 4}
 return {`length() ! ANY', `length("", 1) ! ANY', `length(1) ! ANY', `length(#1) ! ANY', `length(E_DIV) ! ANY'}; --> {E_ARGS, E_ARGS, E_TYPE, E_TYPE, E_TYPE}
 return {length("abc"), length({1, {2, 3}}), length(""), length({})}; --> {3, 2, 0, 0}

@@ -73,3 +73,21 @@ fn verbs_run_in_frames_of_their_own(rt: HostRuntime) -> Result<(), Fail> {
     happens(alloc, ENTERED)?;
     happens(alloc, FRAMES)
 }
+
+// A raise that has left a frame with d passes its callers, whatever their d, up to one that catches it; the end of the
+// ticks passes them all.
+const PASSING: &str = r#"raises := return 1 / 0;
+calls := return {this:raises(), 1};
+catches := try this:raises(); except (E_DIV) return "caught"; endtry
+spins := while (1) endwhile
+return {set_verb_info(#1, "calls", {#3, "rx", "calls"}), set_verb_info(#1, "catches", {#3, "rx", "catches"})}; --> {0, 0}
+return this:calls(); --> #1:raises:  Division by zero / ... called from #1:calls / ... called from #1:t
+return this:catches(); --> "caught"
+return `this:spins() ! ANY => 1'; --> #1:spins:  Task ran out of ticks / ... called from #1:t
+try this:spins(); finally #1.name = "cleaned"; endtry --> #1:spins:  Task ran out of ticks / ... called from #1:t
+return #1.name; --> "Root Class""#;
+
+#[test]
+fn what_is_raised_passes_callers(rt: HostRuntime) -> Result<(), Fail> {
+    happens(rt.alloc(), PASSING)
+}

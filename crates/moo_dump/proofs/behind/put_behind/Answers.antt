@@ -16,6 +16,10 @@ loop-x-preserved c =
     let done = at.invariant.0 in
     let left = c.take_last.new.self in
     let whole = sym (append_assoc left (x ∷ []) done) ∙ ap (λ ls. ls ++ done) (sym c.in-Some.ensures) ∙ at.invariant.1 in
-    let low = among (length c.args.next.now) left done x (subst (All (λ y. y < length c.args.next.now)) (sym whole) c.requires) in
-    (x ∷ done, whole, refl, length-set at.next x at.behind ∙ at.invariant.3,
-    put_one at.next c.args.next.now at.behind x done (omega (arith, low, at.invariant.3)) at.invariant.2 at.invariant.4)
+    let low = among (length c.args.next.now) left done x (subst (All (λ y. y < length c.args.next.now)) (sym whole) c.requires) in (
+      x ∷ done,
+      whole,
+      refl,
+      length-set at.next x at.behind ∙ at.invariant.3,
+      put_one at.next c.args.next.now at.behind x done (omega (arith, low, at.invariant.3)) at.invariant.2 at.invariant.4,
+    )

@@ -5,8 +5,6 @@ mod field;
 pub mod laws;
 mod object_reader;
 mod object_record;
-#[cfg(test)]
-mod tests;
 mod writing;
 
 pub use object_reader::ObjectReader;

@@ -6,8 +6,6 @@ mod fault;
 pub mod laws;
 mod program_reader;
 mod program_rows;
-#[cfg(test)]
-mod tests;
 
 pub use database::Database;
 pub use program_reader::{ProgramReader, read_programs};

@@ -9,8 +9,6 @@ mod fault;
 mod heading;
 pub mod laws;
 mod program_table;
-#[cfg(test)]
-mod tests;
 mod writing;
 
 pub use db_reader::{DbReader, RecordFault, read_records};

@@ -4,8 +4,6 @@
 mod fault;
 pub mod laws;
 mod line;
-#[cfg(test)]
-mod tests;
 mod value_reader;
 mod writing;
 

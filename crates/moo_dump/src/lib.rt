@@ -6,8 +6,6 @@ pub mod laws;
 mod link;
 mod object;
 mod program;
-#[cfg(test)]
-mod tests;
 mod world;
 
 pub use world::write_world;

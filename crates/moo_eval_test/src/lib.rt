@@ -11,6 +11,8 @@ mod hooks;
 #[cfg(test)]
 mod limits;
 #[cfg(test)]
+mod operations;
+#[cfg(test)]
 mod statements;
 #[cfg(test)]
 mod support;

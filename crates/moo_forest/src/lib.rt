@@ -14,8 +14,6 @@ mod node;
 mod places;
 mod rooted;
 mod scatter;
-#[cfg(test)]
-mod tests;
 mod walk;
 
 pub use below::Below;

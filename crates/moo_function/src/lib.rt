@@ -6,8 +6,6 @@ mod check;
 mod function;
 pub mod laws;
 mod table;
-#[cfg(test)]
-mod tests;
 
 pub use function::Function;
 pub use table::{Kind, Row};

@@ -5,8 +5,6 @@ mod db_reader;
 pub mod laws;
 mod loading;
 mod object_line;
-#[cfg(test)]
-mod tests;
 mod text;
 mod world_reader;
 

@@ -10,8 +10,6 @@ mod name;
 mod object;
 mod pattern;
 mod row;
-#[cfg(test)]
-mod tests;
 mod verb;
 mod verb_args;
 

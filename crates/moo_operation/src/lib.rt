@@ -9,8 +9,6 @@ pub mod laws;
 mod made;
 mod operator;
 mod place;
-#[cfg(test)]
-mod tests;
 
 pub use assignment::{index_refusal, with_index, with_range};
 pub use comparison::{is_decided, is_equal, is_true};

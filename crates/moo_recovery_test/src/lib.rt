@@ -1,14 +1,28 @@
-//! Databases that are recovered from disks, read in pieces, cut and damaged: tests alone, in a crate of their own, so that
-//! the crates that they are about are proved once.
+//! Databases line by line, in pieces, cut and damaged, disks and checkpoints, and what is recovered from disks: tests
+//! alone, in a crate of their own, so that the crates that they are about are proved once.
 #![tactic(auto)]
 
 #[cfg(test)]
 mod boastful;
 #[cfg(test)]
+mod checkpoints;
+#[cfg(test)]
 mod damage;
 #[cfg(test)]
 mod databases;
 #[cfg(test)]
+mod disks;
+#[cfg(test)]
+mod fields;
+#[cfg(test)]
+mod hierarchies;
+#[cfg(test)]
+mod lines;
+#[cfg(test)]
 mod pieces;
 #[cfg(test)]
+mod records;
+#[cfg(test)]
 mod recovering;
+#[cfg(test)]
+mod values;

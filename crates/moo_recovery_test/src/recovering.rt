@@ -1,23 +1,11 @@
 //! What is recovered from disks.
+use crate::checkpoints::write;
 use crate::databases::{LARGER, SMALL, copy_of, recovered_as, with_line};
-use moo_checkpoint::{Checkpoint, Turn};
+use moo_checkpoint::Turn;
 use moo_disk::{Disk, FailAt, MemoryDisk};
 use moo_recovery::recover;
 use std::alloc::Global;
 use std::test::Fail;
-
-// The first answer other than `More`, within so many turns.
-#[tactic(auto, using(moo_checkpoint::proofs::TurnLemmas::fresh_continues))]
-fn write<D: Disk>(text: Vec<u8>, disk: &mut D, turns: usize) -> Turn {
-    let mut checkpoint = Checkpoint::begin(text);
-    for _ in 0..turns {
-        let turn = checkpoint.turn(disk);
-        if !matches!(turn, Turn::More) {
-            return turn;
-        }
-    }
-    Turn::More
-}
 
 fn disk_with(alloc: Global, text: &[u8]) -> Result<MemoryDisk, Fail> {
     Ok(MemoryDisk::new(alloc, copy_of(alloc, text)?))

@@ -14,8 +14,6 @@ mod objects;
 mod records;
 mod restoring;
 mod rows;
-#[cfg(test)]
-mod tests;
 mod tour;
 
 pub use fault::RestoreFault;

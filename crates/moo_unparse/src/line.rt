@@ -134,11 +134,6 @@ impl Line {
         Ok(())
     }
 
-    #[cfg(test)]
-    pub(crate) fn as_bytes(&self) -> &[u8] {
-        &self.bytes
-    }
-
     /// The line as a string, if it is short enough for one.
     pub(crate) fn into_string(self, alloc: Global) -> Result<MooStr, ListFault>
         ensures ok { IfOk result (λ s. s ≡ self) }

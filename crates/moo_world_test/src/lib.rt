@@ -16,11 +16,15 @@ mod code;
 #[cfg(test)]
 mod functions;
 #[cfg(test)]
+mod leaving;
+#[cfg(test)]
 mod limits;
 #[cfg(test)]
 mod looks;
 #[cfg(test)]
 mod memory;
+#[cfg(test)]
+mod names;
 #[cfg(test)]
 mod raises;
 #[cfg(test)]
@@ -29,6 +33,8 @@ mod rights;
 mod same;
 #[cfg(test)]
 mod script;
+#[cfg(test)]
+mod texts;
 #[cfg(test)]
 mod worked;
 #[cfg(test)]

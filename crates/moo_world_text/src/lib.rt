@@ -4,8 +4,6 @@
 pub mod laws;
 mod permissions;
 mod specifiers;
-#[cfg(test)]
-mod tests;
 
 pub use permissions::{
     prop_perms_from_text, prop_perms_text, verb_perms_from_text, verb_perms_text,

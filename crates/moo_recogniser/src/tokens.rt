@@ -1,8 +1,34 @@
 // Texts and their tokens, printed with the line of each.
-use crate::{Spot, Token, tokens};
+use moo_token::{Spot, Token, tokens};
 use moo_value::MooStr;
 use std::alloc::Global;
 use std::test::Fail;
+
+static NUMBERS: [[&str; 2]; 12] = [
+    ["1..2", "1@1 DotDot@1 2@1 "],
+    ["1...2", "1@1 DotDot@1 Dot@1 2@1 "],
+    ["\n 1.", "Bad@2 "],
+    ["1e", "Bad@1 "],
+    ["1x", "1@1 x@1 "],
+    ["4294967295", "-1@1 "],
+    ["x\n#", "x@1 Bad@2 "],
+    ["#-", "Bad@1 "],
+    ["# 1", "Bad@1 "],
+    ["#1.x", "#1@1 Dot@1 x@1 "],
+    ["#1e5", "#1@1 e5@1 "],
+    ["#-2147483648", "#-2147483648@1 "],
+];
+
+static WORDS: [[&str; 2]; 8] = [
+    ["\"a\\\"b\\\\\"", "a\"b\\@1 "],
+    ["\"a\\", "Bad@1 "],
+    ["ab/* \n*\n */cd", "ab@1 cd@3 "],
+    ["\nab/*/\n\n", "ab@2 Bad@2 "],
+    ["ab/**/cd", "ab@1 cd@1 "],
+    ["E_Perm\tIF if_", "Permission@1 If@1 if_@1 "],
+    ["a&b", "a@1 Bad@1 "],
+    ["", ""],
+];
 
 fn write_spot(shown: &mut Vec<u8>, alloc: Global, spot: &Spot) -> Result<(), Fail> {
     let text = match &spot.token {
@@ -34,48 +60,21 @@ fn shown(alloc: Global, text: &str) -> Result<Vec<u8>, Fail> {
     Ok(shown)
 }
 
-#[test]
-fn reads_numbers(rt: HostRuntime) -> Result<(), Fail> {
-    for (text, expected) in [
-        ("1..2", "1@1 DotDot@1 2@1 "),
-        ("1...2", "1@1 DotDot@1 Dot@1 2@1 "),
-        ("\n 1.", "Bad@2 "),
-        ("1e", "Bad@1 "),
-        ("1x", "1@1 x@1 "),
-        ("4294967295", "-1@1 "),
-        ("x\n#", "x@1 Bad@2 "),
-        ("#-", "Bad@1 "),
-        ("# 1", "Bad@1 "),
-        ("#1.x", "#1@1 Dot@1 x@1 "),
-        ("#1e5", "#1@1 e5@1 "),
-        ("#-2147483648", "#-2147483648@1 "),
-    ] {
-        assert_eq!(rt;
-            shown(rt.alloc(), text)?.as_slice(),
-            expected.as_bytes(),
-            "{text}"
-        );
+fn are_read(alloc: Global, rows: &[[&'static str; 2]]) -> Result<(), Fail> {
+    for row in rows {
+        if shown(alloc, row[0])?.as_slice() != row[1].as_bytes() {
+            return Err(Fail::from(row[0]));
+        }
     }
     Ok(())
 }
 
 #[test]
-fn reads_words_strings_and_comments(rt: HostRuntime) -> Result<(), Fail> {
-    for (text, expected) in [
-        ("\"a\\\"b\\\\\"", "a\"b\\@1 "),
-        ("\"a\\", "Bad@1 "),
-        ("ab/* \n*\n */cd", "ab@1 cd@3 "),
-        ("\nab/*/\n\n", "ab@2 Bad@2 "),
-        ("ab/**/cd", "ab@1 cd@1 "),
-        ("E_Perm\tIF if_", "Permission@1 If@1 if_@1 "),
-        ("a&b", "a@1 Bad@1 "),
-        ("", ""),
-    ] {
-        assert_eq!(rt;
-            shown(rt.alloc(), text)?.as_slice(),
-            expected.as_bytes(),
-            "{text}"
-        );
-    }
-    Ok(())
+fn numbers_are_read(rt: HostRuntime) -> Result<(), Fail> {
+    are_read(rt.alloc(), &NUMBERS)
+}
+
+#[test]
+fn words_strings_and_comments_are_read(rt: HostRuntime) -> Result<(), Fail> {
+    are_read(rt.alloc(), &WORDS)
 }

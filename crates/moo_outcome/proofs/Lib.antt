@@ -1,3 +1,4 @@
+pub mod Shared
 pub mod Names
 pub mod Rest
 pub mod Scattered

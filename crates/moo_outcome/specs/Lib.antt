@@ -6,6 +6,7 @@ pub mod Catching
 pub mod Leading
 pub mod Handling
 pub mod Scatter
+pub mod Dealing
 pub mod Traceback
 pub mod Seen
 pub mod SeenScatter

@@ -6,6 +6,7 @@ mod access;
 mod catching;
 mod frame;
 mod handling;
+pub mod laws;
 mod leading;
 mod notice;
 mod outcome;

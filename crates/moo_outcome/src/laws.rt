@@ -1,0 +1,8 @@
+//! The law of scatters.
+ghost use Rattle.moo_outcome.specs.Dealing.{ValuesAreDealt};
+
+/// Where a number of values fits a scatter, each value goes to one of its names, in order; of the names with `?` the last ones get none,
+/// and the name behind `@` gets what the others leave.
+pub fn every_value_is_dealt()
+    ensures { ValuesAreDealt }
+{}

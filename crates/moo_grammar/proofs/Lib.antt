@@ -11,3 +11,5 @@ pub mod Heights
 pub mod Depths
 pub mod Endings
 pub mod Begun
+pub mod Searched
+pub mod Folded

@@ -10,3 +10,4 @@ pub mod Minuses
 pub mod Size
 pub mod Depth
 pub mod Brackets
+pub mod Order

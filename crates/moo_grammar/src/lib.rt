@@ -4,6 +4,7 @@
 pub mod laws;
 mod level;
 mod names;
+mod order;
 mod program;
 
 pub use level::{Level, Operator, operator_at};

@@ -1,22 +1,27 @@
 //! Programs.
-ghost use Rattle.std.specs.Prelude.{◌≡◌, IfOk};
+ghost use Rattle.std.specs.Prelude.{◌≡◌, position, IfOk};
+ghost use Rattle.std.specs.Str.{bytes_eq};
+ghost use Rattle.moo_value.specs.Compare.{folded};
 ghost use Rattle.moo_program.specs.Tree.{no_statement};
 ghost use Rattle.moo_program.specs.View.{block};
 ghost use Rattle.moo_program.specs.Limits.{IsWithinLimits};
 ghost use Rattle.moo_program.specs.Slots.{slots};
 ghost use Rattle.moo_grammar.specs.Texts.{HasText};
 
+use crate::order::{Slot, ordered_slots, slot_among};
 use moo_program::{Stmt, variable_names};
 use moo_value::MooStr;
 use std::alloc::{AllocError, Global};
 use std::marker::Model;
 use std::rc::Rc;
 
-/// A program of some text, within the limits, which doesn't change. A clone shares its statements.
+/// A program of some text, within the limits, which doesn't change. A clone shares its statements and its slots.
 #[derive(Drop)]
 pub struct Program {
     statements: Rc<Vec<Stmt>>,
     names: Rc<Vec<MooStr>>,
+    /// The slots of the names, by the order of the names.
+    order: Rc<Vec<Slot>>,
 }
 
 impl Model for Program {
@@ -28,6 +33,7 @@ impl Model for Program {
     ghost use Rattle.moo_program.specs.Limits.{IsWithinLimits};
     ghost use Rattle.moo_program.specs.Slots.{slots};
     ghost use Rattle.moo_grammar.specs.Texts.{HasText};
+    ghost use Rattle.moo_grammar.specs.Order.{AreOrdered};
 
     ghost Value = { Block };
 
@@ -35,7 +41,7 @@ impl Model for Program {
 
     ghost view = { λ p. block p.statements.value.items };
 
-    ghost invariant = { λ p. IsWithinLimits (block p.statements.value.items) × HasText (block p.statements.value.items) × (p.names.value.items ≡ slots (block p.statements.value.items)) };
+    ghost invariant = { λ p. IsWithinLimits (block p.statements.value.items) × HasText (block p.statements.value.items) × (p.names.value.items ≡ slots (block p.statements.value.items)) × AreOrdered p.names.value.items p.order.value.items };
 }
 
 impl Program {
@@ -46,9 +52,15 @@ impl Program {
         ensures { IfOk result (λ p. p ≡ block statements.items) }
     {
         let names = variable_names(alloc, &statements)?;
+        let order = ordered_slots(alloc, &names)?;
         let statements = Rc::new(alloc, statements)?;
         let names = Rc::new(alloc, names)?;
-        Ok(Program { statements, names })
+        let order = Rc::new(alloc, order)?;
+        Ok(Program {
+            statements,
+            names,
+            order,
+        })
     }
 
     /// The program of no lines.
@@ -58,13 +70,18 @@ impl Program {
         Program::try_new(alloc, Vec::new(alloc))
     }
 
-    /// The same program, with its statements shared.
+    /// The same program, with its statements and its slots shared.
     pub fn try_clone(&self) -> Result<Program, AllocError>
         ensures { IfOk result (λ p. p ≡ self.now) }
     {
         let statements = self.statements.clone()?;
         let names = self.names.clone()?;
-        Ok(Program { statements, names })
+        let order = self.order.clone()?;
+        Ok(Program {
+            statements,
+            names,
+            order,
+        })
     }
 
     /// The statements, one after another.
@@ -81,5 +98,11 @@ impl Program {
         ensures { result.now ≡ slots self.now }
     {
         self.names.as_slice()
+    }
+    /// The slot of a name, its letters in any case, or `None` where no variable of the program has it.
+    pub fn slot_of(&self, name: &[u8]) -> Option<usize>
+        ensures { result ≡ position (λ own. bytes_eq (folded own) (folded name.now)) (slots self.now) }
+    {
+        slot_among(self.order.as_slice(), name)
     }
 }

@@ -1,0 +1,16 @@
+use Rattle.std.proofs.Common.{◌≡◌, ◌∙◌, subst}
+use Rattle.moo_program.specs.Slots.{slots}
+use Rattle.moo_program.proofs.EachOnce.{once}
+use Rattle.moo_value.specs.Compare.{folded}
+use Rattle.moo_grammar.specs.Order.{AreOrdered}
+use Rattle.moo_grammar.proofs.Folded.{slot_folded}
+use Rattle.moo_grammar.proofs.program.Program.slot_of.Goals as goal
+
+pub returns : goal.returns
+returns c =
+    let p = c.args.self.now in
+    let inside = c.self.inside in
+    let names : inside.names.value.items ≡ slots p = cc in
+    let order : inside.order.value.items ≡ c.as_slice.result.now = cc in
+    let o : AreOrdered (slots p) c.as_slice.result.now = subst (AreOrdered (slots p)) order (subst (λ v. AreOrdered v inside.order.value.items) names c.self.invariant.3) in
+    c.slot_among.ensures (slots p) o (once p) ∙ slot_folded p (folded c.args.name.now)

@@ -1,13 +1,15 @@
--- Names of functions: each is in small letters, and no two functions have one.
-use Rattle.std.proofs.Common.{◌≡◌, ℕ, Bool, true, false, List, [], ◌∷◌, Option, refl, ap, sym, ◌∙◌}
-use Rattle.std.specs.Prelude.{find, Some, cond}
+-- Names of functions: each is in small letters, no two functions have one, and a name calls one whose name is as long.
+use Rattle.std.proofs.Common.{arith, ◌≡◌, ℕ, Bool, true, false, List, [], ◌∷◌, Option, refl, ap, sym, ◌∙◌}
+use Rattle.std.specs.Prelude.{find, filter, Some, cond, length, ◌==◌}
+use Rattle.std.proofs.lemmas.Bool.Decides.{nat_tests}
+use Rattle.std.proofs.lemmas.List.{length-map}
 use Rattle.std.specs.Str.{bytes_eq}
 use Rattle.std.proofs.lemmas.Slice.Eq.{bytes_eq-Decides}
 use Rattle.moo_value.specs.Compare.{folded}
 use Rattle.moo_function.specs.declared.function.Function.{Function}
 use Rattle.moo_function.specs.declared.function.Function.TheVariants as function
 use Rattle.moo_function.specs.Table.{function_name, all_functions}
-use Rattle.moo_function.specs.Names.{is_called, function_of}
+use Rattle.moo_function.specs.Names.{is_called, function_of, of_length}
 use Rattle.moo_function.specs.Laws.{CallsByName}
 
 pub folded-name : (f : Function) → folded (function_name f) ≡ function_name f
@@ -163,3 +165,26 @@ pub calls_by_name : CallsByName
 unfolding function_of
 calls_by_name name f =
     (λ is. sym ((bytes_eq-Decides (function_name f) (folded name)).0 (passes (is_called name) f all_functions is)), λ is. ap named is ∙ named-name f)
+
+skipped : {A : Type 0} (x : A) (t : Bool) (found later : Option A) → (t ≡ true → false ≡ true) → found ≡ later → found ≡ cond t (Some x) later
+skipped x true found later h same = let apart = h refl in cc
+skipped x false found later h same = same
+
+one_kept : {A : Type 0} (test : A → Bool) (x : A) (kept rest : List A) (b : Bool) → (test x ≡ true → b ≡ true) → find test kept ≡ find test rest → find test (cond b (x ∷ kept) kept) ≡ cond (test x) (Some x) (find test rest)
+one_kept test x kept rest true h same = ap (cond (test x) (Some x)) same
+one_kept test x kept rest false h same = skipped x (test x) (find test kept) (find test rest) h same
+
+-- what passes a test is found among those that pass one that it needs
+find-filter : {A : Type 0} (test needed : A → Bool) → ((x : A) → test x ≡ true → needed x ≡ true) → (xs : List A) → find test (filter needed xs) ≡ find test xs
+find-filter test needed h [] = refl
+find-filter test needed h (x ∷ xs) = one_kept test x (filter needed xs) xs (needed x) (h x) (find-filter test needed h xs)
+
+called_length : (name : List ℕ) (f : Function) → is_called name f ≡ true → (length (function_name f) == length name) ≡ true
+called_length name f is =
+    let same = ap length ((bytes_eq-Decides (function_name f) (folded name)).0 is) ∙ length-map name _ in
+    grind (arith, nat_tests)
+
+-- the function that a name calls is one whose name is as long
+pub found_by_length : (name : List ℕ) → find (is_called name) (of_length (length name)) ≡ function_of name
+unfolding function_of
+found_by_length name = find-filter (is_called name) (λ f. length (function_name f) == length name) (called_length name) all_functions

@@ -1,5 +1,5 @@
 -- Which function a name calls.
-use Rattle.std.specs.Prelude.{ℕ, Bool, List, Option, find}
+use Rattle.std.specs.Prelude.{ℕ, Bool, ◌==◌, List, Option, length, filter, find}
 use Rattle.std.specs.Str.{bytes_eq}
 use Rattle.moo_value.specs.Compare.{folded}
 use Rattle.moo_function.specs.declared.function.Function.{Function}
@@ -12,3 +12,7 @@ is_called name f = bytes_eq (function_name f) (folded name)
 -- the function that a name calls, in any case
 unfoldable pub function_of : List ℕ → Option Function
 function_of name = find (is_called name) all_functions
+
+-- the functions whose names are so long
+abbrev pub of_length : ℕ → List Function
+of_length count = filter (λ f. length (function_name f) == count) all_functions

@@ -1,8 +1,7 @@
 //! The names of the built-in functions.
-ghost use Rattle.std.specs.Prelude.{◌≡◌};
-ghost use Rattle.moo_function.specs.Table.{all_functions, function_name, row};
-ghost use Rattle.moo_function.specs.Names.{function_of, is_called};
-ghost use Rattle.moo_function.specs.Check.{seen};
+ghost use Rattle.std.specs.Prelude.{◌≡◌, find};
+ghost use Rattle.moo_function.specs.Table.{function_name};
+ghost use Rattle.moo_function.specs.Names.{function_of, is_called, of_length};
 
 /// A built-in function (the manual's chapter on built-in functions).
 #[derive(Clone, Copy, PartialEq, Eq, Debug)]
@@ -75,75 +74,6 @@ pub enum Function {
     ServerLog,
 }
 
-static FUNCTIONS: [Function; 66] = [
-    Function::TypeOf,
-    Function::Length,
-    Function::ToText,
-    Function::ToLiteral,
-    Function::ToInteger,
-    Function::ToNumber,
-    Function::ToObject,
-    Function::Equal,
-    Function::Compare,
-    Function::Minimum,
-    Function::Maximum,
-    Function::Absolute,
-    Function::Index,
-    Function::LastIndex,
-    Function::Substitute,
-    Function::ListAppend,
-    Function::ListInsert,
-    Function::ListSet,
-    Function::ListDelete,
-    Function::SetAdd,
-    Function::SetRemove,
-    Function::IsMember,
-    Function::Valid,
-    Function::Parent,
-    Function::Children,
-    Function::MaximumObject,
-    Function::Players,
-    Function::IsPlayer,
-    Function::SetPlayerFlag,
-    Function::Properties,
-    Function::Verbs,
-    Function::PropertyInfo,
-    Function::SetPropertyInfo,
-    Function::AddProperty,
-    Function::DeleteProperty,
-    Function::IsClearProperty,
-    Function::ClearProperty,
-    Function::VerbInfo,
-    Function::VerbArguments,
-    Function::VerbCode,
-    Function::SetVerbInfo,
-    Function::SetVerbArguments,
-    Function::SetVerbCode,
-    Function::AddVerb,
-    Function::DeleteVerb,
-    Function::ChangeParent,
-    Function::Time,
-    Function::ServerVersion,
-    Function::Create,
-    Function::Recycle,
-    Function::Move,
-    Function::Pass,
-    Function::Eval,
-    Function::Raise,
-    Function::Callers,
-    Function::CallerPermissions,
-    Function::SetTaskPermissions,
-    Function::TicksLeft,
-    Function::Notify,
-    Function::BootPlayer,
-    Function::ConnectedPlayers,
-    Function::IdleSeconds,
-    Function::ConnectedSeconds,
-    Function::DumpDatabase,
-    Function::Shutdown,
-    Function::ServerLog,
-];
-
 impl Function {
     /// How the function is called, in small letters.
     pub fn name(self) -> &'static str
@@ -153,19 +83,119 @@ impl Function {
     }
 
     /// The function of this name, in any case, or `None` where none has it.
-    #[tactic(auto, unfolding(crate::specs::Names::function_of))]
+    #[tactic(auto, using(crate::proofs::Naming::found_by_length))]
     pub fn from_name(name: &[u8]) -> Option<Function>
         ensures { result ≡ function_of name.now }
     {
-        FUNCTIONS
-            .iter()
-            .copied()
-            .find(|function| is_called(*function, name))
+        first_called(of_length(name.len()), name)
     }
+}
+
+// The first of the functions that is called so.
+fn first_called(functions: &[Function], name: &[u8]) -> Option<Function>
+    ensures { result ≡ find (is_called name.now) functions.now }
+{
+    functions
+        .iter()
+        .copied()
+        .find(|function| is_called(*function, name))
 }
 
 fn is_called(function: Function, name: &[u8]) -> bool
     ensures { result ≡ is_called name.now function }
 {
     function.name().as_bytes().eq_ignore_ascii_case(name)
+}
+
+// The functions whose names have this length.
+fn of_length(length: usize) -> &'static [Function]
+    ensures { result.now ≡ of_length length }
+{
+    match length {
+        3 => &[Function::Minimum, Function::Maximum, Function::Absolute],
+        4 => &[
+            Function::Time,
+            Function::Move,
+            Function::Pass,
+            Function::Eval,
+        ],
+        5 => &[
+            Function::ToText,
+            Function::ToInteger,
+            Function::ToNumber,
+            Function::ToObject,
+            Function::Equal,
+            Function::Index,
+            Function::Valid,
+            Function::Verbs,
+            Function::Raise,
+        ],
+        6 => &[
+            Function::TypeOf,
+            Function::Length,
+            Function::Compare,
+            Function::LastIndex,
+            Function::Substitute,
+            Function::SetAdd,
+            Function::Parent,
+            Function::Create,
+            Function::Notify,
+        ],
+        7 => &[
+            Function::ListSet,
+            Function::Players,
+            Function::Recycle,
+            Function::Callers,
+        ],
+        8 => &[
+            Function::Children,
+            Function::AddVerb,
+            Function::ChangeParent,
+            Function::Shutdown,
+        ],
+        9 => &[
+            Function::ToLiteral,
+            Function::SetRemove,
+            Function::IsMember,
+            Function::IsPlayer,
+            Function::VerbInfo,
+            Function::VerbArguments,
+            Function::VerbCode,
+        ],
+        10 => &[
+            Function::ListAppend,
+            Function::ListInsert,
+            Function::ListDelete,
+            Function::MaximumObject,
+            Function::Properties,
+            Function::TicksLeft,
+            Function::ServerLog,
+        ],
+        11 => &[Function::DeleteVerb, Function::BootPlayer],
+        12 => &[
+            Function::AddProperty,
+            Function::CallerPermissions,
+            Function::IdleSeconds,
+        ],
+        13 => &[
+            Function::PropertyInfo,
+            Function::SetVerbInfo,
+            Function::SetVerbArguments,
+            Function::SetVerbCode,
+            Function::DumpDatabase,
+        ],
+        14 => &[
+            Function::ClearProperty,
+            Function::ServerVersion,
+            Function::SetTaskPermissions,
+        ],
+        15 => &[Function::SetPlayerFlag, Function::DeleteProperty],
+        17 => &[
+            Function::SetPropertyInfo,
+            Function::IsClearProperty,
+            Function::ConnectedPlayers,
+            Function::ConnectedSeconds,
+        ],
+        _ => &[],
+    }
 }

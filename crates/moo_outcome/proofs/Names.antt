@@ -1,5 +1,5 @@
 -- How a variable is looked for.
-use Rattle.std.proofs.Common.{◌≡◌, ℕ, zero, suc, ◌+◌, ◌<◌, ◌≤◌, Bool, true, false, cond, List, [], ◌∷◌, ◌++◌, Option, Some, None, Decides, map, length, get_or, position, All, codes, option_copied, refl, sym, ap, ◌∙◌, arith}
+use Rattle.std.proofs.Common.{◌≡◌, ℕ, zero, suc, ◌<◌, ◌≤◌, Bool, true, false, cond, List, [], ◌∷◌, ◌++◌, Option, Some, None, Decides, length, get_or, position, All, codes, option_copied, refl, sym, ap, ◌∙◌, arith}
 use Rattle.std.specs.Option.{option_map}
 use Rattle.std.specs.List.{find, position_or_len}
 use Rattle.std.specs.Str.{bytes_eq}
@@ -13,10 +13,9 @@ use Rattle.std.specs.Borrow.{Bor}
 use Rattle.moo_value.specs.Tree.{Tree, list_of}
 use Rattle.moo_value.specs.Compare.{folded}
 use Rattle.moo_value.specs.View.{tree}
-use Rattle.moo_outcome.specs.declared.variables.Variable.{Variable}
 use Rattle.moo_outcome.specs.declared.frame.Frame.{Frame}
 use Rattle.moo_outcome.specs.Variables.{Binding, bind, with_variable, type_bindings, object_bindings, text_bindings, first_bindings, over, value_of_name}
-use Rattle.moo_outcome.specs.Seen.{own_name, binding_of, value_among, slot_value}
+use Rattle.moo_outcome.specs.Seen.{slot_value}
 
 -- the program's name is this one
 abbrev pub is_own : List ℕ → List ℕ → Bool

@@ -30,6 +30,9 @@ struct Variable {
     value: Value,
 }
 
+// How many names every frame has.
+const GIVEN: usize = 18;
+
 /// A name that every frame has, or another.
 #[derive(Drop)]
 enum Name {
@@ -54,12 +57,13 @@ impl Variables {
     fn unset(alloc: Global, program: &Program) -> Result<Variables, AllocError>
         ensures { IfOk result (λ v. variables_of v ≡ value_of_name []) }
     {
+        let others = Vec::with_capacity(alloc, GIVEN)?;
         let program = program.try_clone()?;
         let values = no_values(alloc, program.slots())?;
         Ok(Variables {
             program,
             values,
-            others: Vec::new(alloc),
+            others,
         })
     }
 
@@ -148,7 +152,7 @@ impl Variables {
         ensures some { IfSome result (λ i. (position (λ own. bytes_eq (folded own) (folded name.now)) (slots self.now.program) ≡ Some i) × (i < length self.now.values.items)) }
         ensures none { IfNone result ((i : ℕ) → position (λ own. bytes_eq (folded own) (folded name.now)) (slots self.now.program) ≡ Some i → length self.now.values.items ≤ i) }
     {
-        match place(self.program.slots(), name) {
+        match self.program.slot_of(name) {
             Some(slot) if slot < self.values.len() => Some(slot),
             _ => None,
         }
@@ -179,13 +183,6 @@ impl Name {
             Name::Own(own) => is_named(own, name),
         }
     }
-}
-
-// Where a name stands first among these, but for the case of its letters.
-fn place(names: &[MooStr], name: &[u8]) -> Option<usize>
-    ensures { result ≡ position (λ own. bytes_eq (folded own) (folded name.now)) names.now }
-{
-    names.iter().position(|own| is_named(own, name))
 }
 
 // No value for each of these names.

@@ -5,4 +5,4 @@ use Rattle.moo_outcome.proofs.variables.Variables.unset.Goals as goal
 
 pub returns : goal.returns
 unfolding variables_of
-returns c = rw c.new.ensures.items (λ j n. nothing_set (slots c.in_ok-program.program) c.in_ok-values.values.items n c.in_ok-values.ensures j)
+returns c = rw c.in_ok-others.ensures.items (λ j n. nothing_set (slots c.in_ok-program.program) c.in_ok-values.values.items n c.in_ok-values.ensures j)

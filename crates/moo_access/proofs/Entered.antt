@@ -1,5 +1,5 @@
 -- What an entered verb begins with, step by step.
-use Rattle.std.proofs.Common.{◌≡◌, ℕ, ℤ, List, codes, Option, Result, Ok, Err, true, nat_lt, if◌then◌else◌, sym, ap, ◌∙◌}
+use Rattle.std.proofs.Common.{◌≡◌, ℕ, ℤ, List, codes, Option, Result, Ok, Err, true, if◌then◌else◌, sym, ap, ◌∙◌}
 use Rattle.moo_value.specs.declared.error_code.ErrorCode.{ErrorCode}
 use Rattle.moo_value.specs.declared.error_code.ErrorCode.TheVariants.{MaximumRecursion}
 use Rattle.moo_value.specs.Tree.{Tree, object, string}
@@ -9,7 +9,7 @@ use Rattle.moo_table.specs.World.{World}
 use Rattle.moo_outcome.specs.State.{Context}
 use Rattle.moo_outcome.specs.Outcome.{Failure, answers}
 use Rattle.moo_outcome.specs.declared.frame.Frame.{Frame}
-use Rattle.moo_access.specs.Entering.{Entered, found_verb, frames, most_frames, player_of_call, called_frame, command_names, with_taken, taken_over, entered, entered_found, after_list, entered_from}
+use Rattle.moo_access.specs.Entering.{Entered, found_verb, has_frame_left, player_of_call, called_frame, command_names, with_taken, taken_over, entered, entered_found, after_list, entered_from}
 
 -- The variables that tell of the command are taken over one after another.
 pub taken : (e v0 v1 v2 v3 v4 v5 v6 : List ℕ → Option Tree) →
@@ -30,7 +30,7 @@ taken e v0 v1 v2 v3 v4 v5 v6 p1 p2 p3 p4 p5 p6 =
 
 -- A verb that is found is entered where a frame is left for it.
 pub enters : (w : World) (c : Context) (vars : List ℕ → Option Tree) (p this other : ℤ) (name : List ℕ) (vs : List Tree) (r : Result (ℤ × Verb) ErrorCode) {found : ℤ × Verb} {player : ℤ} {f : Frame} {e : Entered} →
-    other ≡ this → r ≡ Ok found → nat_lt (frames c.callers) most_frames ≡ true →
+    other ≡ this → r ≡ Ok found → has_frame_left c.callers ≡ true →
     player ≡ player_of_call w c.frame vars p → f ≡ called_frame c.frame player other found name vs → e ≡ entered c vars p f →
     answers (entered_found w c vars p this name vs r) ≡ Ok e
 enters w c vars p this other name vs r {found} {player} one there left whose framed was =

@@ -54,6 +54,10 @@ frames callers = suc (count_by is_frame callers)
 abbrev pub most_frames : ℕ
 most_frames = 50
 
+-- a frame is left for what is called next
+abbrev pub has_frame_left : List TraceEntry → Bool
+has_frame_left callers = nat_lt (frames callers) most_frames
+
 -- the object that a variable holds, if it holds one
 abbrev pub object_or : ℤ → Option Tree → ℤ
 object_or other None = other
@@ -119,7 +123,7 @@ entered c variables programmer f = record {
 abbrev pub entered_found : World → Context → (List ℕ → Option Tree) → ℤ → ℤ → List ℕ → List Tree → Result (ℤ × Verb) ErrorCode → Result Entered ErrorCode
 entered_found w c variables programmer this name vs (Err code) = Err code
 entered_found w c variables programmer this name vs (Ok found) =
-    if nat_lt (frames c.callers) most_frames
+    if has_frame_left c.callers
     then Ok (entered c variables programmer (called_frame c.frame (player_of_call w c.frame variables programmer) this found name vs))
     else Err MaximumRecursion
 

@@ -6,7 +6,7 @@ ghost use Rattle.moo_value.specs.Compare.{folded};
 ghost use Rattle.moo_value.specs.View.{tree, trees};
 ghost use Rattle.moo_program.specs.Tree.{no_statement};
 ghost use Rattle.moo_operation.specs.Places.{made_list};
-ghost use Rattle.moo_access.specs.Entering.{entered_verb, entered_from, entered_found, found_verb, verb_there, called_verb, frames, object_or, player_of_call, called_frame, is_frame, with_taken, called_variables, entered};
+ghost use Rattle.moo_access.specs.Entering.{entered_verb, entered_from, entered_found, found_verb, verb_there, called_verb, frames, has_frame_left, object_or, player_of_call, called_frame, is_frame, with_taken, called_variables, entered};
 ghost use Rattle.moo_access.specs.SeenCalled.{entered_of, found_of};
 ghost use Rattle.moo_outcome.specs.Outcome.{answers};
 ghost use Rattle.moo_outcome.specs.Seen.{context_of, variables_of, failure_of, seen_by, IsKnownFailure, HadMemoryIn};
@@ -89,7 +89,7 @@ fn enter_found<'a>(
     ensures { IsKnownFailure result → answers (entered_found world.now (context_of stack.now None) (variables_of active.now.variables) active.now.programmer this name.now args (found_verb world.now from name.now)) ≡ seen_by entered_of result }
 {
     let found = found_verb(world, from, name)?;
-    if frames(stack) >= MOST_FRAMES {
+    if !has_frame_left(stack) {
         return Err(Failure::Fails(ErrorCode::MaximumRecursion));
     }
     let player = player_of_call(world, &stack.running, active);
@@ -139,6 +139,13 @@ fn verb_there(world: &World, place: VerbAt) -> Option<Found<'_>>
         definer: place.definer,
         verb,
     })
+}
+
+/// Whether a frame is left for what is called next.
+pub fn has_frame_left(stack: &CallStack<'_>) -> bool
+    ensures { result ≡ has_frame_left stack.now.callers.items }
+{
+    frames(stack) < MOST_FRAMES
 }
 
 // How many frames stand, the running one among them.

@@ -5,7 +5,7 @@ mod entering;
 mod object;
 mod target;
 
-pub use entering::{Called, MOST_FRAMES, enter_verb, enter_verb_from};
+pub use entering::{Called, MOST_FRAMES, enter_verb, enter_verb_from, has_frame_left};
 pub use object::{read_property, write_property};
 pub use target::{
     Path, Places, Root, Spot, Step, Target, as_property, push_step, rebuilt, root_alone,

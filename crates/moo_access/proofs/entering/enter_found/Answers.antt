@@ -1,15 +1,14 @@
-use Rattle.std.proofs.Common.{None, ◌≡◌, ◌∙◌, sym, ap, true, nat_lt, arith, rules, to_z, of_z, w32}
+use Rattle.std.proofs.Common.{None, ◌≡◌, ◌∙◌, sym, ap, true, rules, to_z, of_z, w32}
 use mir.Val.{SFits}
-use Rattle.std.proofs.lemmas.Bool.{lt-ltb}
 use Rattle.std.proofs.lemmas.Int.{to_z-of_z}
 use Rattle.moo_outcome.specs.Seen.{context_of, variables_of}
-use Rattle.moo_access.specs.Entering.{frames, most_frames, found_verb}
+use Rattle.moo_access.specs.Entering.{has_frame_left, found_verb}
 use Rattle.moo_access.proofs.Entered.{enters}
 use Rattle.moo_access.proofs.entering.enter_found.Goals as goal
 
 pub returns : goal.returns
 returns c =
-    let left : nat_lt (frames c.args.stack.now.callers.items) most_frames ≡ true = lt-ltb _ _ (omega (arith, c.frames.ensures, c.if-frames-ge-MOST_FRAMES.false)) in
+    let left : has_frame_left c.args.stack.now.callers.items ≡ true = sym c.has_frame_left.ensures ∙ c.if-not-has_frame_left.false in
     let player_fits : SFits w32 c.player_of_call-player.result = search rules in
     let from = to_z-of_z w32 c.args.from c.ranges.from in
     let this = to_z-of_z w32 c.args.this c.ranges.this in

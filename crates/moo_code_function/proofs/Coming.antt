@@ -44,7 +44,7 @@ set_done (Ok v) old new o i lines b parsed ok err = rw (ok.0, ok.1) (IsSet.set p
 set_done (Err (Raise e)) old new o i lines b parsed ok err = let same : Raise e ≡ Memory = err.0 in absurd (cc)
 set_done (Err Memory) old new o i lines b parsed ok err = err.1
 
-not_memory : (kind : SyntaxFaultKind) → is_of_text kind ≡ true → kind ≢ Memory'
+pub not_memory : (kind : SyntaxFaultKind) → is_of_text kind ≡ true → kind ≢ Memory'
 not_memory kind is same = let no : false ≡ true = subst (λ k. is_of_text k ≡ true) same is in absurd cc
 
 -- a fault that was told

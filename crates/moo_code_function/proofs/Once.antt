@@ -38,7 +38,7 @@ pub unless_once : (e : Option ErrorCode) (w : World) (Such : Outcomes) → Once 
 unless_once (Some e) w Such once = only_once (Err e) w
 unless_once None w Such once = once
 
-same_program : (lines : List (List ℕ)) (b c : Block) → IsParsed Known lines b → IsParsed Known lines c → b ≡ c
+pub same_program : (lines : List (List ℕ)) (b c : Block) → IsParsed Known lines b → IsParsed Known lines c → b ≡ c
 same_program lines b c p q = one_program_of_text Known lines b c (record { spots = p.spots; tokens = p.tokens; program = p.program }) (record { spots = q.spots; tokens = q.tokens; program = q.program })
 
 pub set_once : (T : Telling) → TellsOne T → (w : World) (o : ℤ) (i : ℕ) (lines : List (List ℕ)) → Once (IsSet T w o i lines)

@@ -8,3 +8,4 @@ mod setting;
 
 pub use call::call_code;
 pub use listing::verb_code;
+pub use setting::{is_programmer, told_fault};

@@ -86,7 +86,8 @@ fn may_program(o: i32, index: usize, world: &World, programmer: i32) -> bool
     Rights::may_write_verb(world, programmer, o, index) && is_programmer(world, programmer)
 }
 
-fn is_programmer(world: &World, programmer: i32) -> bool
+/// Whether somebody has the flag of programmers, which wizards need too.
+pub fn is_programmer(world: &World, programmer: i32) -> bool
     ensures { result ≡ is_programmer world.now programmer }
 {
     match world.object(programmer) {
@@ -176,9 +177,9 @@ fn set_program(
     }
 }
 
-// The answer that tells a fault, where it is one of the text.
+/// The answer that tells a fault, where it is one of the text: a list of its line.
 #[tactic(auto, using(moo_text_function::proofs::Making::limited_made))]
-fn told_fault(alloc: Global, fault: &SyntaxFault) -> Result<Value, OperationFault>
+pub fn told_fault(alloc: Global, fault: &SyntaxFault) -> Result<Value, OperationFault>
     ensures text { Gives result (told_fault fault.now) }
     ensures kind { IsAnswered result → is_of_text fault.now.kind ≡ true }
 {

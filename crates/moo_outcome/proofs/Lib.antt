@@ -1,4 +1,5 @@
 pub mod Shared
+pub mod OneSharing
 pub mod Names
 pub mod Rest
 pub mod Scattered

@@ -10,7 +10,7 @@ use Rattle.moo_outcome.specs.Scatter.{required, optionals, takes_rest, fits, sha
 use Rattle.moo_outcome.specs.Dealing.{Deals, all_dealt, plain, others, filled, filled_default, without, takes_default}
 
 -- behind one name with `@` there is no other
-no_rest : (xs : Items) → are_names true xs ≡ true → takes_rest xs ≡ false
+pub no_rest : (xs : Items) → are_names true xs ≡ true → takes_rest xs ≡ false
 no_rest no_items h = refl
 no_rest (element (variable x) xs) h = no_rest xs h
 no_rest (element e xs) h = absurd cc

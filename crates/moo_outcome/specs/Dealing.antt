@@ -36,3 +36,7 @@ pub data Deals (lacks : Bool) : (filling : Bool) → Items → List Tree → Lis
 -- where a number of values fits the names of a scatter, they are dealt so
 abbrev pub ValuesAreDealt : Type 0
 ValuesAreDealt = (xs : Items) (vs : List Tree) → are_names false xs ≡ true → fits xs (length vs) ≡ true → (lacks : Bool) × Deals lacks true xs vs (given xs vs) (missing xs vs)
+
+-- they are dealt in this way alone
+abbrev pub DealtInOneWay : Type 0
+DealtInOneWay = (xs : Items) (vs : List Tree) (lacks : Bool) (bs : List Binding) (ds : List LeftOut) → are_names false xs ≡ true → Deals lacks true xs vs bs ds → (bs ≡ given xs vs) × (ds ≡ missing xs vs)

@@ -1,8 +1,9 @@
 //! The law of scatters.
-ghost use Rattle.moo_outcome.specs.Dealing.{ValuesAreDealt};
+ghost use Rattle.moo_outcome.specs.Dealing.{ValuesAreDealt, DealtInOneWay};
 
 /// Where a number of values fits a scatter, each value goes to one of its names, in order; of the names with `?` the last ones get none,
-/// and the name behind `@` gets what the others leave.
+/// and the name behind `@` gets what the others leave. This can be done in one way.
 pub fn every_value_is_dealt()
-    ensures { ValuesAreDealt }
+    ensures all { ValuesAreDealt }
+    ensures only { DealtInOneWay }
 {}

@@ -1,5 +1,9 @@
 use Rattle.moo_outcome.proofs.Shared.{values_are_dealt}
+use Rattle.moo_outcome.proofs.OneSharing.{dealt_so}
 use Rattle.moo_outcome.proofs.laws.every_value_is_dealt.Goals as goal
 
-pub returns : goal.returns
-returns c = values_are_dealt
+pub returns-clause-all : goal.returns-clause-all
+returns-clause-all c = values_are_dealt
+
+pub returns-clause-only : goal.returns-clause-only
+returns-clause-only c = dealt_so

@@ -1,8 +1,8 @@
 -- What a call of a built-in function gives in a task, and what it changes.
-use Rattle.std.specs.Prelude.{◌≡◌, ℕ, Bool, List, Option, None, Some, Result, Ok, Err}
+use Rattle.std.specs.Prelude.{◌≡◌, ℕ, pos, Bool, List, Option, None, Some, Result, Ok, Err}
 use Rattle.moo_value.specs.declared.error_code.ErrorCode.{ErrorCode}
 use Rattle.moo_value.specs.declared.error_code.ErrorCode.TheVariants.{InvalidArgument}
-use Rattle.moo_value.specs.Tree.{Tree, object}
+use Rattle.moo_value.specs.Tree.{Tree, integer, object}
 use Rattle.moo_function.specs.declared.function.Function.{Function}
 use Rattle.moo_function.specs.declared.function.Function.TheVariants as function
 use Rattle.moo_function.specs.Table.{row}
@@ -21,7 +21,7 @@ use Rattle.moo_code_function.specs.Listed.{verb_code}
 use Rattle.moo_code_function.specs.Telling.{Telling}
 use Rattle.moo_code_function.specs.Answers.{Outcomes}
 use Rattle.moo_code_function.specs.Calls.{IsCodeCall}
-use Rattle.moo_call.specs.Tasks.{Reply, shown_ticks, nearest_programmer, set_task_perms, raised_here}
+use Rattle.moo_call.specs.Tasks.{Reply, nearest_programmer, set_task_perms, raised_here}
 use Rattle.moo_call.specs.Connections.{connected_players, elapsed_since, last_heard, last_login}
 use Rattle.moo_call.specs.Asking.{notify, boot_player, set_player_flag, dump_database, shutdown, server_log}
 
@@ -34,7 +34,7 @@ valued d entries (Some (Err r)) = raised_here d entries r
 -- What a function does that is not one over the world, for arguments that fit its row: it looks at the task or at its
 -- arguments alone.
 abbrev pub task_reply : Function → Context → List Tree → State → Reply
-task_reply function.TicksLeft c args s = (Ok (shown_ticks s.ticks), s)
+task_reply function.TicksLeft c args s = (Ok (integer (pos s.ticks)), s)
 task_reply function.Callers c args s = (answers (listed (frame_lists c.callers)), s)
 task_reply function.CallerPermissions c args s = (Ok (object (nearest_programmer c.callers)), s)
 task_reply function.SetTaskPermissions c args s = set_task_perms args s

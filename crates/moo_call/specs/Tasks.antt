@@ -1,5 +1,5 @@
 -- What the functions that look at the running task give, and what they change.
-use Rattle.std.specs.Prelude.{ℕ, ℤ, pos, negsuc, Bool, List, [], ◌∷◌, nat_le, Result, Ok, Err, if◌then◌else◌}
+use Rattle.std.specs.Prelude.{ℕ, ℤ, pos, negsuc, Bool, List, [], ◌∷◌, Result, Ok, Err, if◌then◌else◌}
 use Rattle.moo_value.specs.declared.error_code.ErrorCode.TheVariants.{TypeMismatch, Permission}
 use Rattle.moo_value.specs.Tree.{Tree, integer, object, error}
 use Rattle.moo_rights.specs.Rights.{controls}
@@ -13,13 +13,9 @@ use Rattle.moo_access.specs.State.{State}
 abbrev pub Reply : Type 0
 Reply = Result Tree Failure × State
 
--- the greatest integer of the language
-abbrev pub greatest_integer : ℕ
-greatest_integer = 2147483647
-
--- how many ticks are left, as an integer of the language
-abbrev pub shown_ticks : ℕ → Tree
-shown_ticks n = if nat_le n greatest_integer then integer (pos n) else integer (pos greatest_integer)
+-- how many ticks a task has
+abbrev pub most_ticks : ℕ
+most_ticks = 100000
 
 -- the programmer of the nearest frame of a verb, #-1 where there is none
 abbrev pub nearest_programmer : List TraceEntry → ℤ

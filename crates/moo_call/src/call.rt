@@ -13,6 +13,7 @@ ghost use Rattle.moo_code_function.specs.Calls.{IsCodeCall};
 ghost use Rattle.moo_code_function.specs.Telling.{Faults};
 
 use crate::task::task_reply;
+use crate::ticks::Ticks;
 use moo_code_function::call_code;
 use moo_function::Function;
 use moo_operation::OperationFault;
@@ -32,12 +33,12 @@ pub fn call_function(
     world: &mut World,
     active: &mut Activation,
     stack: &CallStack<'_>,
-    ticks: u32,
+    ticks: &Ticks,
     notices: &mut Vec<Notice>,
     name: &MooStr,
     args: Vec<Value>,
 ) -> Result<Value, Failure>
-    ensures { IsKnownFailure result → CallsFunction Faults (context_of stack.now None) name.now (trees args.items) (state_at ticks notices.old.items world.old active.old) (seen_answer result) (state_at ticks notices.new.items world.new active.new) }
+    ensures { IsKnownFailure result → CallsFunction Faults (context_of stack.now None) name.now (trees args.items) (state_at ticks.now notices.old.items world.old active.old) (seen_answer result) (state_at ticks.now notices.new.items world.new active.new) }
 {
     match Function::from_name(name.as_bytes()) {
         Some(function) => called_as(alloc, world, active, stack, ticks, notices, function, args),
@@ -50,12 +51,12 @@ fn called_as(
     world: &mut World,
     active: &mut Activation,
     stack: &CallStack<'_>,
-    ticks: u32,
+    ticks: &Ticks,
     notices: &mut Vec<Notice>,
     function: Function,
     args: Vec<Value>,
 ) -> Result<Value, Failure>
-    ensures { IsKnownFailure result → CallsAs Faults (Some function) (context_of stack.now None) (trees args.items) (state_at ticks notices.old.items world.old active.old) (seen_answer result) (state_at ticks notices.new.items world.new active.new) }
+    ensures { IsKnownFailure result → CallsAs Faults (Some function) (context_of stack.now None) (trees args.items) (state_at ticks.now notices.old.items world.old active.old) (seen_answer result) (state_at ticks.now notices.new.items world.new active.new) }
 {
     match function {
         Function::SetVerbCode => set_code(alloc, world, active, &args),
@@ -84,12 +85,12 @@ fn called(
     world: &mut World,
     active: &mut Activation,
     stack: &CallStack<'_>,
-    ticks: u32,
+    ticks: &Ticks,
     notices: &mut Vec<Notice>,
     function: Function,
     args: Vec<Value>,
 ) -> Result<Value, Failure>
-    ensures { IsKnownFailure result → called (Some function) (context_of stack.now None) (trees args.items) (state_at ticks notices.old.items world.old active.old) ≡ (seen_answer result, state_at ticks notices.new.items world.new active.new) }
+    ensures { IsKnownFailure result → called (Some function) (context_of stack.now None) (trees args.items) (state_at ticks.now notices.old.items world.old active.old) ≡ (seen_answer result, state_at ticks.now notices.new.items world.new active.new) }
 {
     match call_world(alloc, function, &args, world, active.programmer) {
         Some(answer) => Ok(answer?),
@@ -103,12 +104,12 @@ fn unless_refused(
     world: &mut World,
     active: &mut Activation,
     stack: &CallStack<'_>,
-    ticks: u32,
+    ticks: &Ticks,
     notices: &mut Vec<Notice>,
     function: Function,
     args: Vec<Value>,
 ) -> Result<Value, Failure>
-    ensures { IsKnownFailure result → unless_refused (state_at ticks notices.old.items world.old active.old) (refusal (is_valid world.old) (row function) (trees args.items)) (task_reply function (context_of stack.now None) (trees args.items) (state_at ticks notices.old.items world.old active.old)) ≡ (seen_answer result, state_at ticks notices.new.items world.new active.new) }
+    ensures { IsKnownFailure result → unless_refused (state_at ticks.now notices.old.items world.old active.old) (refusal (is_valid world.old) (row function) (trees args.items)) (task_reply function (context_of stack.now None) (trees args.items) (state_at ticks.now notices.old.items world.old active.old)) ≡ (seen_answer result, state_at ticks.now notices.new.items world.new active.new) }
 {
     match refusal(function, &args, world) {
         Some(error) => Err(Failure::Fails(error)),

@@ -6,5 +6,7 @@ mod call;
 mod connections;
 pub mod laws;
 mod task;
+mod ticks;
 
 pub use call::call_function;
+pub use ticks::{MOST_TICKS, Ticks};

@@ -7,12 +7,13 @@ ghost use Rattle.moo_outcome.specs.declared.notice.Notice.{Notice};
 ghost use Rattle.moo_outcome.specs.Handling.{frame_lists, listed};
 ghost use Rattle.moo_outcome.specs.Outcome.{answers};
 ghost use Rattle.moo_outcome.specs.Seen.{context_of, trace_of, seen_answer, IsKnownFailure};
-ghost use Rattle.moo_call.specs.Tasks.{shown_ticks, nearest_programmer, set_task_perms, raised_here};
+ghost use Rattle.moo_call.specs.Tasks.{nearest_programmer, set_task_perms, raised_here};
 ghost use Rattle.moo_call.specs.Calls.{valued, task_reply};
 ghost use Rattle.moo_call.specs.Seen.{state_at};
 
 use crate::asking::{boot_player, dump_database, notify, server_log, set_player_flag, shutdown};
 use crate::connections::{connected_players, connected_seconds, idle_seconds};
+use crate::ticks::Ticks;
 use moo_builtin::{Outcome, answer};
 use moo_code_function::verb_code;
 use moo_function::Function;
@@ -29,15 +30,15 @@ pub(crate) fn task_reply(
     world: &mut World,
     active: &mut Activation,
     stack: &CallStack<'_>,
-    ticks: u32,
+    ticks: &Ticks,
     notices: &mut Vec<Notice>,
     function: Function,
     args: Vec<Value>,
 ) -> Result<Value, Failure>
-    ensures { IsKnownFailure result → task_reply function (context_of stack.now None) (trees args.items) (state_at ticks notices.old.items world.old active.old) ≡ (seen_answer result, state_at ticks notices.new.items world.new active.new) }
+    ensures { IsKnownFailure result → task_reply function (context_of stack.now None) (trees args.items) (state_at ticks.now notices.old.items world.old active.old) ≡ (seen_answer result, state_at ticks.now notices.new.items world.new active.new) }
 {
     match function {
-        Function::TicksLeft => Ok(shown_ticks(ticks)),
+        Function::TicksLeft => Ok(Value::Int(ticks.left())),
         Function::Callers => callers(alloc, stack),
         Function::CallerPermissions => Ok(Value::Obj(nearest_programmer(&stack.callers))),
         Function::SetTaskPermissions => set_task_perms(world, active, &args),
@@ -71,17 +72,6 @@ fn listed_code(
         Ok(code) => Ok(code),
         Err(OperationFault::Raise(error)) => Err(Failure::Fails(error)),
         Err(OperationFault::Memory) => Err(Failure::Stops(Stop::Memory)),
-    }
-}
-
-// How many ticks are left.
-fn shown_ticks(ticks: u32) -> Value
-    ensures { tree result ≡ shown_ticks ticks }
-{
-    if ticks <= i32::MAX as u32 {
-        Value::Int(ticks as i32)
-    } else {
-        Value::Int(i32::MAX)
     }
 }
 

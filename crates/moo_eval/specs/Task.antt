@@ -12,6 +12,7 @@ use Rattle.moo_access.specs.State.{State}
 use Rattle.moo_outcome.specs.Variables.{first_bindings, value_of_name}
 use Rattle.moo_outcome.specs.Traceback.{traceback}
 use Rattle.moo_table.specs.World.{World}
+use Rattle.moo_call.specs.Tasks.{most_ticks}
 use Rattle.moo_code_function.specs.Telling.{Telling, Choice, PassesPrograms, chosen_by}
 use Rattle.moo_eval.specs.Meaning.{Evaluates, RunsAll}
 
@@ -28,9 +29,6 @@ end_of (Ok (broken name)) = value (integer (pos 0))
 end_of (Ok (continued name)) = value (integer (pos 0))
 end_of (Err (raised raise)) = uncaught (traceback raise.message raise.trace)
 end_of (Err (outcome.out_of_ticks trace)) = out_of_ticks (traceback (codes "Task ran out of ticks") trace)
-
-abbrev pub most_ticks : ℕ
-most_ticks = 100000
 
 abbrev pub first_context : Surroundings → Frame → Context
 first_context around start = record { frame = start; callers = []; indexed = None; surroundings = around }

@@ -6,6 +6,7 @@ ghost use Rattle.moo_value.specs.View.{tree as tree_of, trees};
 ghost use Rattle.moo_outcome.specs.Outcome.{out_of_ticks};
 ghost use Rattle.moo_eval.specs.Meaning.{Evaluates, Computes, EvaluatesAll};
 ghost use Rattle.moo_outcome.specs.Seen.{context_of, trace_of, stop_of, seen_value, seen_answer, seen_answers, HadMemory, IsKnown, IsKnownFailure};
+ghost use Rattle.moo_call.specs.Tasks.{most_ticks};
 ghost use Rattle.moo_call.specs.Calls.{CallsFunction};
 ghost use Rattle.moo_code_function.specs.Telling.{Faults};
 ghost use Rattle.moo_hook.specs.Stages.{resumed};
@@ -13,7 +14,7 @@ ghost use Rattle.moo_hook.specs.Seen.{progress_of, seen_progress};
 ghost use Rattle.moo_hook.specs.Turns.{stage_turns, progress_turns};
 ghost use Rattle.moo_eval.specs.Seen.{state_of};
 
-use moo_call::call_function;
+use moo_call::{Ticks, call_function};
 use moo_hook::{Progress, Stage, resume_call};
 use moo_operation as operation;
 use moo_outcome::{
@@ -29,19 +30,19 @@ use std::alloc::{AllocError, Global};
 /// What a task may still use, and what it has asked for so far.
 #[derive(Drop)]
 pub struct Task {
-    ticks_left: u32,
+    ticks_left: Ticks,
     notices: Vec<Notice>,
     alloc: Global,
 }
 
 impl Task {
-    /// A task that has this many ticks.
-    pub fn new(alloc: Global, ticks: u32) -> Task
-        ensures ticks { result.ticks_left ≡ ticks }
+    /// A task that begins.
+    pub fn new(alloc: Global) -> Task
+        ensures ticks { result.ticks_left ≡ most_ticks }
         ensures notices { result.notices.items ≡ [] }
     {
         Task {
-            ticks_left: ticks,
+            ticks_left: Ticks::full(),
             notices: Vec::new(alloc),
             alloc,
         }
@@ -65,11 +66,10 @@ impl Task {
         ensures spent { IfErr result (λ stop. HadMemory stop → (self.old.ticks_left ≡ 0) × (stop_of stop ≡ out_of_ticks (trace_of stack.now active.now))) }
         ensures kept { IfErr result (λ _. self.new ≡ self.old) }
     {
-        if self.ticks_left == 0 {
+        if !self.ticks_left.take() {
             let trace = stack.trace(self.alloc, active)?;
             return Err(Stop::OutOfTicks(trace));
         }
-        self.ticks_left -= 1;
         Ok(())
     }
 
@@ -113,7 +113,7 @@ impl Task {
             world,
             active,
             stack,
-            self.ticks_left,
+            &self.ticks_left,
             &mut self.notices,
             name,
             args,

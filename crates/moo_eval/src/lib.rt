@@ -14,5 +14,5 @@ mod trying;
 mod typed;
 
 pub use line::{EvalLine, eval_line};
-pub use task::{Ended, MOST_TICKS, run_task};
+pub use task::{Ended, run_task};
 pub use typed::{run_typed, typed_frame};

@@ -13,9 +13,6 @@ use moo_value::Value;
 use moo_world::World;
 use std::alloc::{AllocError, Global};
 
-/// How many ticks a task has.
-pub const MOST_TICKS: u32 = 100_000;
-
 /// How a task ended: with a value, or with the lines of its traceback.
 #[derive(Drop)]
 pub enum Ended {
@@ -57,7 +54,7 @@ fn run_frame(
         callers: Vec::new(alloc),
         surroundings: &env.surroundings,
     };
-    let mut task = Task::new(alloc, MOST_TICKS);
+    let mut task = Task::new(alloc);
     let outcome = task.run_all(
         world,
         &mut active,

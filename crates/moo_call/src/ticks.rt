@@ -1,0 +1,53 @@
+//! The ticks of a task.
+ghost use Rattle.std.specs.Prelude.{◌≡◌, ◌-◌, ◌<◌, ℕ, pos, IsTrue, IsFalse};
+ghost use Rattle.moo_call.specs.Tasks.{most_ticks};
+
+use std::marker::Model;
+
+/// How many ticks a task has.
+pub const MOST_TICKS: u32 = 100_000;
+
+/// How many ticks a task has left.
+#[derive(Drop)]
+pub struct Ticks {
+    left: u32,
+}
+
+impl Model for Ticks {
+    ghost use Rattle.std.specs.Prelude.{ℕ, ◌≤◌};
+    ghost use Rattle.moo_call.specs.Tasks.{most_ticks};
+
+    ghost Value = { ℕ };
+
+    ghost view = { λ t. t.left };
+
+    ghost invariant = { λ t. t.left ≤ most_ticks };
+}
+
+impl Ticks {
+    /// Those of a task that begins.
+    pub fn full() -> Ticks
+        ensures { result ≡ most_ticks }
+    {
+        Ticks { left: MOST_TICKS }
+    }
+
+    /// Takes one, where one is left, and tells whether it did.
+    pub fn take(&mut self) -> bool
+        ensures taken { IsTrue result → (0 < self.old) × (self.new ≡ self.old - 1) }
+        ensures spent { IsFalse result → (self.old ≡ 0) × (self.new ≡ self.old) }
+    {
+        if self.left == 0 {
+            return false;
+        }
+        self.left -= 1;
+        true
+    }
+
+    /// How many are left, as an integer of the language.
+    pub fn left(&self) -> i32
+        ensures { result ≡ pos self.now }
+    {
+        self.left as i32
+    }
+}

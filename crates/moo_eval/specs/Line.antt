@@ -13,7 +13,8 @@ use Rattle.moo_table.specs.World.{World}
 use Rattle.moo_outcome.specs.declared.notice.Notice.{Notice}
 use Rattle.moo_code_function.specs.Telling.{Telling, Faults, Choice, PassesPrograms, chosen_by}
 use Rattle.moo_eval.specs.Task.{End, TaskEnds}
-use Rattle.moo_eval.specs.Typed.{typed_frame, nowhere, shown}
+use Rattle.moo_hook.specs.Evaluating.{typed_frame}
+use Rattle.moo_eval.specs.Typed.{nowhere, shown}
 
 -- the program that a line is
 abbrev pub program_text : List ℕ → List ℕ

@@ -1,31 +1,8 @@
 -- Programs that are typed in.
-use Rattle.std.specs.Prelude.{ℕ, ℤ, negsuc, true, List, [], ◌∷◌, codes}
+use Rattle.std.specs.Prelude.{ℕ, List, [], ◌∷◌}
 use Rattle.moo_value.specs.Text.{literal}
-use Rattle.moo_program.specs.Tree.{Block}
-use Rattle.moo_outcome.specs.declared.frame.Frame.{Frame}
 use Rattle.moo_outcome.specs.Surroundings.{Surroundings}
 use Rattle.moo_eval.specs.Task.{End, value, uncaught, out_of_ticks}
-
--- the frame of a program that is typed in
-abbrev pub typed_frame : Block → ℤ → ℤ → ℤ → Frame
-typed_frame program programmer player caller = record {
-  program = program;
-  d = true;
-  programmer = programmer;
-  this = negsuc 0;
-  definer = negsuc 0;
-  caller = caller;
-  player = player;
-  dobj = negsuc 0;
-  iobj = negsuc 0;
-  names = codes "Input to EVAL";
-  verb = [];
-  argstr = [];
-  dobjstr = [];
-  prepstr = [];
-  iobjstr = [];
-  args = [];
-}
 
 -- nothing is round a program that is typed in by nobody: it is the moment 0, and there are no connections
 abbrev pub nowhere : Surroundings

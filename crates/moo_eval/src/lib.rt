@@ -14,5 +14,6 @@ mod trying;
 mod typed;
 
 pub use line::{EvalLine, eval_line};
+pub use moo_hook::typed_frame;
 pub use task::{Ended, run_task};
-pub use typed::{run_typed, typed_frame};
+pub use typed::run_typed;

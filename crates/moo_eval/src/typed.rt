@@ -5,12 +5,13 @@ ghost use Rattle.moo_code_function.specs.Telling.{Faults};
 ghost use Rattle.moo_eval.specs.Task.{End, TaskEnds};
 ghost use Rattle.moo_eval.specs.Ends.{texts};
 ghost use Rattle.moo_outcome.specs.declared.notice.Notice.{Notice};
-ghost use Rattle.moo_eval.specs.Typed.{typed_frame, nowhere, shown};
+ghost use Rattle.moo_hook.specs.Evaluating.{typed_frame};
+ghost use Rattle.moo_eval.specs.Typed.{nowhere, shown};
 
 use crate::task::{Ended, run_task};
 use moo_grammar::Program;
-use moo_outcome::{Frame, Surroundings, TaskEnv};
-use moo_value::{MooList, MooStr};
+use moo_hook::typed_frame;
+use moo_outcome::{Surroundings, TaskEnv};
 use moo_world::World;
 use std::alloc::{AllocError, Global};
 
@@ -45,48 +46,6 @@ fn nowhere(alloc: Global) -> TaskEnv
         },
         notices: Vec::new(alloc),
     }
-}
-
-/// The frame of a program that is typed in.
-pub fn typed_frame(
-    alloc: Global,
-    program: Program,
-    programmer: i32,
-    player: i32,
-    caller: i32,
-) -> Result<Frame, AllocError>
-    ensures { IfOk result (λ frame. frame ≡ typed_frame program programmer player caller) }
-{
-    Ok(Frame {
-        program,
-        d: true,
-        programmer,
-        this: -1,
-        definer: -1,
-        caller,
-        player,
-        dobj: -1,
-        iobj: -1,
-        names: string(alloc, "Input to EVAL")?,
-        verb: string(alloc, "")?,
-        argstr: string(alloc, "")?,
-        dobjstr: string(alloc, "")?,
-        prepstr: string(alloc, "")?,
-        iobjstr: string(alloc, "")?,
-        args: no_args(alloc)?,
-    })
-}
-
-fn string(alloc: Global, text: &str) -> Result<MooStr, AllocError>
-    ensures { IfOk result (λ s. s ≡ text.now) }
-{
-    MooStr::try_from_bytes(alloc, text.as_bytes()).map_err(|_| AllocError)
-}
-
-fn no_args(alloc: Global) -> Result<MooList, AllocError>
-    ensures { IfOk result (λ list. list ≡ []) }
-{
-    MooList::try_from_vec(alloc, Vec::new(alloc)).map_err(|_| AllocError)
 }
 
 /// One line.

@@ -73,11 +73,35 @@ return {move(#3, #-1), move(#3, #4), `recycle(#4) ! ANY', valid(#4), #3.location
 0:exitfunc := ;
 o = create(#1); return {move(#3, #0), move(o, #0), recycle(#0), valid(#0), o.location}; --> {0, 0, 0, 0, #-1}"#;
 
+const EVALS: &str =
+    r##"return {`eval() ! ANY', `eval(1) ! ANY', `eval("", "") ! ANY'}; --> {E_ARGS, E_TYPE, E_ARGS}
+return {eval("return 1;"), eval(""), eval("1;"), eval("x = 5; return x + 1;"), eval("return eval(\"return 2;\");")}; --> {{1, 1}, {1, 0}, {1, 0}, {1, 6}, {1, {1, 2}}}
+return {eval("x"), eval("foo();"), eval("2.5;"), eval("#2.name = \"E\"; break;"), #2.name}; --> {{0, {"Line 1:  Parse error"}}, {0, {"Line 1:  Unknown built-in function: foo"}}, {0, {"Line 1:  Bad token"}}, {0, {"Line 1:  Invalid loop name"}}, "The First Room"}
+return eval("return {player, this, caller, verb, args, argstr, dobj, dobjstr, prepstr, iobj, iobjstr};"); --> {1, {#3, #-1, #1, "", {}, "", #-1, "", "", #-1, ""}}
+argstr = 5; player = #2; x = 1; return eval("return {player, argstr, `x ! E_VARNF'};"); --> {1, {#3, "", E_VARNF}}
+return {eval("set_task_perms(#4); return {caller_perms(), callers()};"), caller_perms()}; --> {{1, {#3, {{#1, "t", #3, #1, #3}}}}, #-1}
+return eval("return eval(\"return callers();\");"); --> {1, {1, {{#-1, "", #3, #-1, #3}, {#1, "t", #3, #1, #3}}}}
+set_task_perms(#4); return {`eval("return 1;") ! ANY', `eval("x") ! ANY'}; --> {E_PERM, E_PERM}
+#4.programmer = 1; set_task_perms(#4); return eval("return {caller_perms(), `#2.name = 1 ! ANY', `#2.name = \"E\" ! ANY'};"); --> {1, {#4, E_TYPE, E_PERM}}
+#3.programmer = 0; return {`eval("return 1;") ! ANY', #3.programmer = 1}; --> {E_PERM, 1}
+eval("1 / 0;"); --> Division by zero / ... called from built-in function eval() / ... called from #1:t
+r := 1 / 0;
+eval("return #2:r();"); --> #1:r (this == #2):  Division by zero / ... called from #-1:Input to EVAL / ... called from built-in function eval() / ... called from #1:t
+try eval("#2.name = \"E\"; 1 / 0;"); except (E_DIV) return #2.name; endtry --> "E"
+try eval("while (1) endwhile"); finally #2.name = "F"; endtry --> Task ran out of ticks / ... called from built-in function eval() / ... called from #1:t
+return #2.name; --> "E"
+deep := return args[1] ? this:deep(args[1] - 1, args[2]) | eval(args[2]);
+return {this:deep(47, "return 1;"), `this:deep(48, "return 1;") ! ANY', this:deep(48, "x"), `this:deep(47, "this:deep(1, 1);") ! ANY'}; --> {{1, 1}, E_MAXREC, {0, {"Line 1:  Parse error"}}, E_INVIND}
+`this:deep(47, "#1:r();") ! E_MAXREC => #2.name = "M"'; return #2.name; --> "M"
+return length(eval("s = \"a\"; while (length(s) < 500000) s = s + s; endwhile return s + s[1..475709];")[2]); --> 999997
+eval("s = \"a\"; while (length(s) < 500000) s = s + s; endwhile return s + s[1..475710];"); --> #1:t:  Resource limit exceeded"##;
+
 #[test]
 fn functions_call_verbs(rt: HostRuntime) -> Result<(), Fail> {
     let alloc = rt.alloc();
     happens(alloc, PASSES)?;
     happens(alloc, MOVES)?;
     happens(alloc, CREATES)?;
-    happens(alloc, RECYCLES)
+    happens(alloc, RECYCLES)?;
+    happens(alloc, EVALS)
 }

@@ -1,3 +1,4 @@
+pub mod Evaluated
 pub mod Fewer
 pub mod Hooked
 pub mod Moves

@@ -98,6 +98,7 @@ stage_below k w (stage.Leaving what to) v f = left_turns k w what to
 stage_below k w stage.Entering v f = omega arith
 stage_below k w (stage.Emptying o) v f = emptied_turns k w f o (number_of w.objects o) refl
 stage_below k w (stage.Recycled o) v f = omega arith
+stage_below k w stage.Evaluated v f = omega arith
 
 -- what a stage comes to has fewer steps before it
 pub fewer_after : (k : Calling) (w w' : World) (at : Stage) (v : Tree) (r : Result code_progress.Progress code_failure.Failure) → IsForest w.containment → (IsKnownFailure r → next_progress k w at v ≡ (seen_progress r, w')) → IfOk r (λ next. progress_turns w' (progress_of next) ≤ stage_turns w at)

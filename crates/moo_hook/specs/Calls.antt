@@ -15,15 +15,18 @@ use Rattle.moo_code_function.specs.Telling.{Telling}
 use Rattle.moo_hook.specs.Progressing.{Calling, calling, Progress, refuses}
 use Rattle.moo_hook.specs.Objects.{is_object}
 use Rattle.moo_hook.specs.Passing.{passing}
+use Rattle.moo_hook.specs.Evaluating.{EvalBegins}
 use Rattle.moo_hook.specs.Moving.{moving}
 use Rattle.moo_hook.specs.Creating.{creating}
 use Rattle.moo_hook.specs.Recycling.{recycling}
 
+-- they call verbs, or run a program as one
 abbrev pub calls_verbs : Function → Bool
 calls_verbs function.Pass = true
 calls_verbs function.Move = true
 calls_verbs function.Create = true
 calls_verbs function.Recycle = true
+calls_verbs function.Eval = true
 calls_verbs _ = false
 
 abbrev pub verb_caller : Option Function → Option Function
@@ -56,12 +59,16 @@ first_progress function.Create k w vs = create_begins k w vs
 first_progress function.Recycle k w vs = recycle_begins k w vs
 first_progress _ k w vs = (refuses TypeMismatch, w)
 
--- A call begins with the number of its arguments, then their types, then whether their objects are valid. Of a text that is no
--- program it may tell this.
+-- what a function begins with, for arguments that fit, and the world then; of a text that is no program `eval` may tell this
+abbrev pub Begins : Telling → Function → Calling → World → List Tree → Progress → World → Type 0
+Begins T function.Eval k w vs step after = EvalBegins T k w vs step × (after ≡ w)
+Begins T f k w vs step after = first_progress f k w vs ≡ (step, after)
+
+-- A call begins with the number of its arguments, then their types, then whether their objects are valid.
 pub data Starts (T : Telling) : Context → Function → List Tree → State → Progress → State → Type 0 where
   refused : {c : Context} {f : Function} {vs : List Tree} {s : State} {code : ErrorCode} →
       refusal (is_object s.world) (row f) vs ≡ Some code →
       Starts T c f vs s (refuses code) s
   starts : {c : Context} {f : Function} {vs : List Tree} {s s' : State} {step : Progress} {w : World} →
-      refusal (is_object s.world) (row f) vs ≡ None → first_progress f (calling c s) s.world vs ≡ (step, w) → record s { world = w } ≡ s' →
+      refusal (is_object s.world) (row f) vs ≡ None → Begins T f (calling c s) s.world vs step w → record s { world = w } ≡ s' →
       Starts T c f vs s step s'

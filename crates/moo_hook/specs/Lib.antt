@@ -2,6 +2,7 @@ pub mod Progressing
 pub mod Objects
 pub mod Quota
 pub mod Passing
+pub mod Evaluating
 pub mod Moving
 pub mod Creating
 pub mod Recycling

@@ -5,12 +5,14 @@ use Rattle.moo_operation.specs.Truth.{is_true}
 use Rattle.moo_table.specs.World.{World}
 use Rattle.moo_outcome.specs.declared.notice.Notice.{Notice}
 use Rattle.moo_outcome.specs.declared.notice.Notice.TheVariants.{Recycle}
+use Rattle.moo_outcome.specs.Outcome.{answers}
 use Rattle.moo_outcome.specs.State.{Context}
 use Rattle.moo_access.specs.State.{State}
 use Rattle.moo_hook.specs.declared.progress.Stage.{Stage}
 use Rattle.moo_hook.specs.declared.progress.Stage.TheVariants as stage
-use Rattle.moo_hook.specs.Progressing.{Calling, calling, Progress, gives}
+use Rattle.moo_hook.specs.Progressing.{Calling, calling, Progress, done, gives}
 use Rattle.moo_hook.specs.Objects.{first_inside}
+use Rattle.moo_hook.specs.Evaluating.{has_given}
 use Rattle.moo_hook.specs.Moving.{accepted, left_behind}
 use Rattle.moo_hook.specs.Recycling.{emptied}
 
@@ -23,6 +25,7 @@ next_progress k w (stage.Leaving what to) v = left_behind k w what to
 next_progress k w stage.Entering v = (gives (integer (pos 0)), w)
 next_progress k w (stage.Emptying o) v = emptied k w o (first_inside w o)
 next_progress k w (stage.Recycled o) v = (gives (integer (pos 0)), w)
+next_progress k w stage.Evaluated v = (done (answers (has_given v)), w)
 
 -- that an object was taken away is told once its verbs have run
 abbrev pub noticed : Stage → List Notice → List Notice

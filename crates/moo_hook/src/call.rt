@@ -5,10 +5,11 @@ ghost use Rattle.moo_outcome.specs.Seen.{context_of, IsKnownFailure};
 ghost use Rattle.moo_outcome.specs.declared.notice.Notice.{Notice};
 ghost use Rattle.moo_code_function.specs.Telling.{Faults};
 ghost use Rattle.moo_call.specs.Seen.{state_at};
-ghost use Rattle.moo_hook.specs.Calls.{calls_verbs, caller_of, move_begins, create_begins, recycle_begins, first_progress, Starts};
+ghost use Rattle.moo_hook.specs.Calls.{calls_verbs, caller_of, move_begins, create_begins, recycle_begins, first_progress, Begins, Starts};
 ghost use Rattle.moo_hook.specs.Seen.{calling_of, seen_progress};
 
 use crate::creating::create;
+use crate::evaluating::begin_evaluating;
 use crate::moving::begin_move;
 use crate::passing::pass;
 use crate::progress::Progress;
@@ -35,7 +36,7 @@ fn calls_verbs(function: Function) -> bool
 {
     matches!(
         function,
-        Function::Pass | Function::Move | Function::Create | Function::Recycle
+        Function::Pass | Function::Move | Function::Create | Function::Recycle | Function::Eval
     )
 }
 
@@ -53,7 +54,23 @@ pub fn start_call<'a>(
 {
     match refusal(function, &args, world) {
         Some(code) => Err(Failure::Fails(code)),
-        None => first_progress(alloc, world, stack, active, function, args),
+        None => begin(alloc, world, stack, active, function, args),
+    }
+}
+
+fn begin<'a>(
+    alloc: Global,
+    world: &mut World,
+    stack: &CallStack<'a>,
+    active: &Activation,
+    function: Function,
+    args: Vec<Value>,
+) -> Result<Progress<'a>, Failure>
+    ensures { IsKnownFailure result → Begins Faults function (calling_of stack.now active.now) world.old (trees args.items) (seen_progress result) world.new }
+{
+    match function {
+        Function::Eval => begin_evaluating(alloc, world, stack, active, &args),
+        _ => first_progress(alloc, world, stack, active, function, args),
     }
 }
 

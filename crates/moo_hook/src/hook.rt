@@ -56,8 +56,12 @@ fn is_missing(code: ErrorCode) -> bool
     )
 }
 
-// The verb is entered by a function, which stands between it and its caller.
-fn through<'a>(alloc: Global, function: &str, called: Called<'a>) -> Result<Called<'a>, AllocError>
+/// The verb is entered by a function, which stands between it and its caller.
+pub(crate) fn through<'a>(
+    alloc: Global,
+    function: &str,
+    called: Called<'a>,
+) -> Result<Called<'a>, AllocError>
     ensures { IfOk result (λ hooked. entered_of hooked ≡ through function.now (entered_of called.entry)) }
 {
     let mut called = called;
@@ -66,7 +70,8 @@ fn through<'a>(alloc: Global, function: &str, called: Called<'a>) -> Result<Call
     Ok(called)
 }
 
-fn text(alloc: Global, bytes: &str) -> Result<MooStr, AllocError>
+/// A string of these bytes.
+pub(crate) fn text(alloc: Global, bytes: &str) -> Result<MooStr, AllocError>
     ensures { IfOk result (λ s. s ≡ bytes.now) }
 {
     MooStr::try_from_bytes(alloc, bytes.as_bytes()).map_err(|_| AllocError)

@@ -1,8 +1,10 @@
-//! The built-in functions that call verbs, stage by stage: what each does between two verbs, and which verb comes next.
+//! The built-in functions that call verbs, and `eval`, which runs a program, stage by stage: what each does between two
+//! verbs, and which verb comes next.
 #![tactic(auto)]
 
 mod call;
 mod creating;
+mod evaluating;
 mod hook;
 mod moving;
 mod objects;
@@ -13,5 +15,6 @@ mod recycling;
 mod stages;
 
 pub use call::{start_call, verb_caller};
+pub use evaluating::typed_frame;
 pub use progress::{Progress, Stage};
 pub use stages::resume_call;

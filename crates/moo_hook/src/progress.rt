@@ -24,6 +24,8 @@ pub enum Stage {
     Emptying(i32),
     /// Nothing: this object was taken away.
     Recycled(i32),
+    /// The program that `eval` runs: its answer stands behind a 1.
+    Evaluated,
 }
 
 /// What a function does next.

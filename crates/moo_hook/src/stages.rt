@@ -7,6 +7,7 @@ ghost use Rattle.moo_hook.specs.Stages.{next_progress, noticed, resumed};
 ghost use Rattle.moo_hook.specs.Seen.{calling_of, progress_of, seen_progress};
 ghost use Rattle.moo_hook.specs.Turns.{stage_turns, progress_turns};
 
+use crate::evaluating::has_given;
 use crate::moving::{accept, leave};
 use crate::progress::{Progress, Stage};
 use crate::recycling::empty;
@@ -65,5 +66,6 @@ fn next_progress<'a>(
         Stage::Entering => Ok(Progress::Done(Value::Int(0))),
         Stage::Emptying(o) => empty(alloc, world, stack, active, o),
         Stage::Recycled(_) => Ok(Progress::Done(Value::Int(0))),
+        Stage::Evaluated => Ok(Progress::Done(has_given(alloc, answer)?)),
     }
 }

@@ -4,7 +4,8 @@ use Rattle.moo_grammar.proofs.Unique.{one_program_of_text}
 use Rattle.moo_code_function.specs.Telling.{chosen_by}
 use Rattle.moo_call.proofs.Unique.{chosen_once}
 use Rattle.moo_eval.specs.Task.{TaskEnds}
-use Rattle.moo_eval.specs.Typed.{typed_frame, nowhere}
+use Rattle.moo_hook.specs.Evaluating.{typed_frame}
+use Rattle.moo_eval.specs.Typed.{nowhere}
 use Rattle.moo_eval.specs.Line.{no_world}
 use Rattle.moo_eval.proofs.UniqueTask.{one_end}
 use Rattle.moo_eval.proofs.laws.one_end_of_text.Goals as goal

@@ -5,7 +5,8 @@ use Rattle.moo_syntax.specs.Programs.{Blames}
 use Rattle.moo_eval.specs.Line.{refused, runs}
 use Rattle.moo_eval.specs.Task.{TaskEnds}
 use Rattle.moo_code_function.specs.Telling.{Faults}
-use Rattle.moo_eval.specs.Typed.{typed_frame, nowhere}
+use Rattle.moo_hook.specs.Evaluating.{typed_frame}
+use Rattle.moo_eval.specs.Typed.{nowhere}
 use Rattle.moo_eval.proofs.line.eval_line.Goals as goal
 
 pub returns-in-Ok : goal.returns-in-Ok

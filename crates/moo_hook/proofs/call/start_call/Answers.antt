@@ -11,4 +11,4 @@ returns-in-Some c =
 
 pub returns : goal.returns
 returns c =
-    λ ticks notices k. starts (rw c.deref.ensures.value at (sym c.refusal.ensures ∙ c.in-None.is)) (c.first_progress.ensures k) refl
+    λ ticks notices k. starts (rw c.deref.ensures.value at (sym c.refusal.ensures ∙ c.in-None.is)) (c.begin.ensures k) refl

@@ -1,0 +1,188 @@
+//! `eval`.
+ghost use Rattle.std.specs.Prelude.{◌≡◌, ◌∷◌, [], true, IfOk};
+ghost use Rattle.moo_value.specs.Tree.{integer};
+ghost use Rattle.moo_value.specs.View.{tree, trees};
+ghost use Rattle.moo_operation.specs.Places.{made_list};
+ghost use Rattle.moo_outcome.specs.Outcome.{answers};
+ghost use Rattle.moo_outcome.specs.Seen.{seen_answer, IsKnownFailure};
+ghost use Rattle.moo_access.specs.SeenCalled.{entered_of};
+ghost use Rattle.moo_code_function.specs.Setting.{is_of_text};
+ghost use Rattle.moo_code_function.specs.Telling.{Faults};
+ghost use Rattle.moo_hook.specs.Evaluating.{typed_frame, begun_below, typed_below, program_next, no_program, has_given, EvaluatesText, EvalBegins};
+ghost use Rattle.moo_hook.specs.Seen.{calling_of, seen_progress};
+
+use crate::hook::{text, through};
+use crate::progress::{Progress, Stage};
+use moo_access::{Called, has_frame_left};
+use moo_code_function::{is_programmer, told_fault};
+use moo_grammar::{Names, Program};
+use moo_operation::list;
+use moo_outcome::{Activation, CallStack, Failure, Frame, Variables};
+use moo_syntax::{SyntaxFault, parse};
+use moo_value::{ErrorCode, MooList, MooStr, Value};
+use moo_world::World;
+use std::alloc::{AllocError, Global};
+
+/// Runs a text as a program: E_PERM where the programmer hasn't the flag of programmers, then for a text that is no program
+/// the answer that tells a fault of it, then E_MAXREC where no frame is left.
+pub(crate) fn begin_evaluating<'a>(
+    alloc: Global,
+    world: &World,
+    stack: &CallStack<'a>,
+    active: &Activation,
+    args: &[Value],
+) -> Result<Progress<'a>, Failure>
+    ensures { IsKnownFailure result → EvalBegins Faults (calling_of stack.now active.now) world.now (trees args.now) (seen_progress result) }
+{
+    match args {
+        [Value::Str(text)] => evaluate_text(alloc, world, stack, active, text),
+        _ => Err(Failure::Fails(ErrorCode::TypeMismatch)),
+    }
+}
+
+fn evaluate_text<'a>(
+    alloc: Global,
+    world: &World,
+    stack: &CallStack<'a>,
+    active: &Activation,
+    text: &MooStr,
+) -> Result<Progress<'a>, Failure>
+    ensures { IsKnownFailure result → EvaluatesText Faults (calling_of stack.now active.now) world.now text.now (seen_progress result) }
+{
+    if !is_programmer(world, active.programmer) {
+        return Err(Failure::Fails(ErrorCode::Permission));
+    }
+    let text = text.try_clone()?;
+    match parse(alloc, &[text], Names::Known) {
+        Ok(program) => program_next(alloc, stack, active, program),
+        Err(fault) => Ok(Progress::Done(no_program(alloc, &fault)?)),
+    }
+}
+
+// The answer that tells a fault, where it is one of the text.
+fn no_program(alloc: Global, fault: &SyntaxFault) -> Result<Value, Failure>
+    ensures text { IsKnownFailure result → answers (no_program fault.now) ≡ seen_answer result }
+    ensures kind { IsKnownFailure result → is_of_text fault.now.kind ≡ true }
+{
+    let lines = told_fault(alloc, fault)?;
+    flagged(alloc, 0, lines)
+}
+
+/// The answer of a program that has come to its end with this value.
+pub(crate) fn has_given(alloc: Global, value: Value) -> Result<Value, Failure>
+    ensures { IsKnownFailure result → answers (has_given (tree value)) ≡ seen_answer result }
+{
+    flagged(alloc, 1, value)
+}
+
+// A list of two, where it is within the limits.
+fn flagged(alloc: Global, flag: i32, value: Value) -> Result<Value, Failure>
+    ensures { IsKnownFailure result → answers (made_list (integer flag ∷ tree value ∷ [])) ≡ seen_answer result }
+{
+    let values = pair(alloc, Value::Int(flag), value)?;
+    Ok(list(alloc, values)?)
+}
+
+fn pair(alloc: Global, first: Value, second: Value) -> Result<Vec<Value>, AllocError>
+    ensures { IfOk result (λ pair. trees pair.items ≡ tree first ∷ tree second ∷ []) }
+{
+    let mut values = Vec::new(alloc);
+    values.push(first)?;
+    values.push(second)?;
+    Ok(values)
+}
+
+fn program_next<'a>(
+    alloc: Global,
+    stack: &CallStack<'a>,
+    active: &Activation,
+    program: Program,
+) -> Result<Progress<'a>, Failure>
+    ensures { IsKnownFailure result → program_next (calling_of stack.now active.now) program ≡ seen_progress result }
+{
+    if !has_frame_left(stack) {
+        return Err(Failure::Fails(ErrorCode::MaximumRecursion));
+    }
+    let called = typed_below(alloc, stack, active, program)?;
+    Ok(Progress::VerbNext(called, Stage::Evaluated))
+}
+
+fn typed_below<'a>(
+    alloc: Global,
+    stack: &CallStack<'a>,
+    active: &Activation,
+    program: Program,
+) -> Result<Called<'a>, AllocError>
+    ensures { IfOk result (λ called. entered_of called ≡ typed_below (calling_of stack.now active.now) program) }
+{
+    let caller = &stack.running;
+    let frame = typed_frame(
+        alloc,
+        program,
+        active.programmer,
+        caller.player,
+        caller.this,
+    )?;
+    through(alloc, "eval", begun_below(alloc, stack, active, frame)?)
+}
+
+// A frame that the running one calls.
+fn begun_below<'a>(
+    alloc: Global,
+    stack: &CallStack<'a>,
+    active: &Activation,
+    frame: Frame,
+) -> Result<Called<'a>, AllocError>
+    ensures { IfOk result (λ called. entered_of called ≡ begun_below (calling_of stack.now active.now) frame) }
+{
+    let callers = stack.trace(alloc, active)?;
+    let variables = Variables::first(alloc, &frame)?;
+    let programmer = frame.programmer;
+    Ok(Called {
+        stack: CallStack {
+            running: frame,
+            callers,
+            surroundings: stack.surroundings,
+        },
+        active: Activation {
+            variables,
+            programmer,
+        },
+    })
+}
+
+/// The frame of a program that is typed in.
+pub fn typed_frame(
+    alloc: Global,
+    program: Program,
+    programmer: i32,
+    player: i32,
+    caller: i32,
+) -> Result<Frame, AllocError>
+    ensures { IfOk result (λ frame. frame ≡ typed_frame program programmer player caller) }
+{
+    Ok(Frame {
+        program,
+        d: true,
+        programmer,
+        this: -1,
+        definer: -1,
+        caller,
+        player,
+        dobj: -1,
+        iobj: -1,
+        names: text(alloc, "Input to EVAL")?,
+        verb: text(alloc, "")?,
+        argstr: text(alloc, "")?,
+        dobjstr: text(alloc, "")?,
+        prepstr: text(alloc, "")?,
+        iobjstr: text(alloc, "")?,
+        args: no_args(alloc)?,
+    })
+}
+
+fn no_args(alloc: Global) -> Result<MooList, AllocError>
+    ensures { IfOk result (λ list. list ≡ []) }
+{
+    MooList::try_from_vec(alloc, Vec::new(alloc)).map_err(|_| AllocError)
+}

@@ -20,7 +20,10 @@ n = 0; for i in ({1, 2, 3}) for j in ({1, 2}) if (j == 2) continue I; endif n = 
 for x in ({1, 2}) for x in ({3, 4}) break x; endfor endfor return x; --> 3
 n = 0; while (n < 3) n = n + 1; continue; n = 9; endwhile return n; --> 3
 for i in (5) return 1; endfor return 2; --> Type mismatch
-for i in [1..#2] return 1; endfor return 2; --> Type mismatch"#;
+for i in [1..#2] return 1; endfor return 2; --> Type mismatch
+a_b = 1; aZb = 2; a1 = 3; A = 4; abc = 5; return {A_B, AzB, A1, a, ABC, azb}; --> {1, 2, 3, 4, 5, 2}
+int = {Int, INT}; return {INT, str, Args, VERB}; --> {{0, 0}, 2, {}, ""}
+Late = early; --> Variable not found"#;
 
 const TRIES: &str =
     r#"try 1 / 0; except (E_TYPE) return 1; except e (E_DIV) return e; endtry --> {E_DIV, "Division by zero", 0, {{#-1, "", #-1, #-1, #-1}}}

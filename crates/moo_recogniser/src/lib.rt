@@ -14,7 +14,5 @@ mod statement_rules;
 mod tests;
 #[cfg(test)]
 mod texts;
-#[cfg(test)]
-mod tokens;
 
 pub use recogniser::Recogniser;

@@ -1,6 +1,6 @@
 // Texts, and the listings of their programs or what is told of them.
 use crate::texts::{
-    BAD_TARGETS, EXPRESSIONS, FAULTS, FORMS, GROUPS, PROGRAMS, STATEMENTS, UNEXPECTED,
+    BAD_TARGETS, EXPRESSIONS, FAULTS, FORMS, GROUPS, PROGRAMS, STATEMENTS, TOKENS, UNEXPECTED,
 };
 use moo_grammar::Program;
 use moo_syntax::{Names, SyntaxFault, parse};
@@ -59,90 +59,83 @@ fn are_told(
 }
 
 #[test]
-fn operators_group(rt: HostRuntime) -> Result<(), Fail> {
+fn texts_are_told(rt: HostRuntime) -> Result<(), Fail> {
+    let alloc = rt.alloc();
     let returned = ["return ", ";"];
-    are_told(
-        rt.alloc(),
-        Names::Known,
-        &GROUPS,
-        returned,
-        ["return ", ";\n"],
-    )
+    let listed = ["return ", ";\n"];
+    are_told(alloc, Names::Known, &GROUPS, returned, listed)?;
+    are_told(alloc, Names::Any, &FORMS, returned, listed)?;
+    are_told(alloc, Names::Any, &STATEMENTS, ["", ""], ["", ""])?;
+    are_told(alloc, Names::Any, &TOKENS, ["", ""], ["", ""])
 }
 
-#[test]
-fn expressions_are_read(rt: HostRuntime) -> Result<(), Fail> {
-    let returned = ["return ", ";"];
-    are_told(rt.alloc(), Names::Any, &FORMS, returned, ["return ", ";\n"])
-}
+const TARGET: &str = ":  Illegal assignment target";
 
-#[test]
-fn statements_are_read(rt: HostRuntime) -> Result<(), Fail> {
-    are_told(rt.alloc(), Names::Any, &STATEMENTS, ["", ""], ["", ""])
-}
-
-#[test]
-fn targets_are_refused(rt: HostRuntime) -> Result<(), Fail> {
-    let returned = ["return ", ";"];
-    let fault = ["Line ", ":  Illegal assignment target"];
-    are_told(rt.alloc(), Names::Any, &BAD_TARGETS, returned, fault)
-}
-
-#[test]
-fn expressions_are_refused(rt: HostRuntime) -> Result<(), Fail> {
-    let returned = ["return ", ";"];
-    let fault = ["Line ", ":  Parse error"];
-    are_told(rt.alloc(), Names::Any, &UNEXPECTED, returned, fault)
-}
+const ERROR: &str = ":  Parse error";
 
 #[test]
 fn faults_are_told(rt: HostRuntime) -> Result<(), Fail> {
-    are_told(rt.alloc(), Names::Known, &FAULTS, ["", ""], ["", ""])
-}
-
-#[test]
-fn faults_of_long_texts_are_told(rt: HostRuntime) -> Result<(), Fail> {
+    let alloc = rt.alloc();
+    let returned = ["return ", ";"];
     let comment =
         "/* a comment that alone has more bytes than a path of a program may have nodes, so that it is long */";
-    are_told(rt.alloc(), Names::Known, &FAULTS, [comment, ""], ["", ""])
+    are_told(alloc, Names::Any, &BAD_TARGETS, returned, ["Line ", TARGET])?;
+    are_told(alloc, Names::Any, &UNEXPECTED, returned, ["Line ", ERROR])?;
+    are_told(alloc, Names::Known, &FAULTS, ["", ""], ["", ""])?;
+    are_told(alloc, Names::Known, &FAULTS, [comment, ""], ["", ""])
 }
 
-// The listings of the text are these: full, full with indents, short, short with indents.
-fn are_listed(alloc: Global, text: &str, listings: [&str; 4]) -> Result<(), Fail> {
+// The lines, each with an end, are this text with `end` behind it.
+fn are_lines(alloc: Global, lines: &[MooStr], text: &'static str, end: &str) -> Result<(), Fail> {
+    let found = shown(alloc, lines)?;
+    if found.strip_suffix(end.as_bytes()) == Some(text.as_bytes()) {
+        return Ok(());
+    }
+    Err(Fail::from(text))
+}
+
+// The listings of the text are these with `end` behind them: full, full with indents, short, short with indents.
+fn are_listed(
+    alloc: Global,
+    text: &str,
+    listings: [&'static str; 4],
+    end: &str,
+) -> Result<(), Fail> {
     let Ok(program) = program(alloc, text, Names::Any)? else {
         return Err(Fail::from("no program"));
     };
-    let found = [
-        shown(alloc, &list_full(alloc, &program)?)?,
-        shown(alloc, &list_full_indented(alloc, &program)?)?,
-        shown(alloc, &list_short(alloc, &program, false)?)?,
-        shown(alloc, &list_short(alloc, &program, true)?)?,
-    ];
-    for at in 0..4 {
-        if found[at].as_slice() != listings[at].as_bytes() {
-            return Err(Fail::from(listings[at]));
-        }
-    }
-    Ok(())
+    let [full, full_indented, short, short_indented] = listings;
+    are_lines(alloc, &list_full(alloc, &program)?, full, end)?;
+    are_lines(
+        alloc,
+        &list_full_indented(alloc, &program)?,
+        full_indented,
+        end,
+    )?;
+    are_lines(alloc, &list_short(alloc, &program, false)?, short, end)?;
+    are_lines(
+        alloc,
+        &list_short(alloc, &program, true)?,
+        short_indented,
+        end,
+    )
 }
 
 #[test]
 fn expressions_are_listed(rt: HostRuntime) -> Result<(), Fail> {
     let alloc = rt.alloc();
-    for row in &EXPRESSIONS {
-        let text = format!(in alloc; "{};", row[0])?;
-        let full = format!(in alloc; "{};\n", row[1])?;
-        let short = format!(in alloc; "{};\n", row[2])?;
-        let (full, short) = (full.as_str(), short.as_str());
-        are_listed(alloc, text.as_str(), [full, full, short, short])?;
+    for [text, full, short] in EXPRESSIONS {
+        let text = format!(in alloc; "{text};")?;
+        are_listed(alloc, text.as_str(), [full, full, short, short], ";\n")?;
     }
     Ok(())
 }
 
 #[test]
 fn programs_are_listed(rt: HostRuntime) -> Result<(), Fail> {
-    for row in &PROGRAMS {
-        are_listed(rt.alloc(), row[0], [row[1], row[2], row[3], row[4]])?;
+    for [text, full, full_indented, short, short_indented] in PROGRAMS {
+        let listings = [full, full_indented, short, short_indented];
+        are_listed(rt.alloc(), text, listings, "")?;
     }
     Ok(())
 }

@@ -186,20 +186,17 @@ fn explore(
     Ok(true)
 }
 
-/// The tokens on which parser and recogniser differ first, of all lists that begin with these and have at most so many more;
-/// none where they agree.
-fn difference(
+/// Fails with the tokens on which the parser and these recognisers differ first, of all lists that begin with these and have
+/// at most so many more.
+fn agree_from(
     alloc: Global,
     begin: &[u8],
     alphabet: &[u8],
     names: Names,
     more: u32,
-) -> Result<Vec<u8>, Fail> {
-    let mut strict = match names {
-        Names::Any => Recogniser::new(alloc, &[&COMMON, &SCATTERS, &TARGETS, &CALLS])?,
-        Names::Known => Recogniser::new(alloc, &[&COMMON, &SCATTERS, &TARGETS])?,
-    };
-    let mut loose = Recogniser::new(alloc, &[&COMMON, &SCATTERS, &LOOSE, &CALLS])?;
+    recognisers: (Recogniser, Recogniser),
+) -> Result<(), Fail> {
+    let (mut strict, mut loose) = recognisers;
     let mut tokens = Vec::new(alloc);
     for token in begin {
         tokens.push(*token)?;
@@ -207,144 +204,107 @@ fn difference(
         loose.read(alloc, *token)?;
     }
     let left = more.saturating_sub(1);
-    if explore(
-        alloc,
-        alphabet,
-        names,
-        &mut tokens,
-        &mut strict,
-        &mut loose,
-        left,
-    )? {
-        tokens.clear();
+    let (tokens_read, strict, loose) = (&mut tokens, &mut strict, &mut loose);
+    if explore(alloc, alphabet, names, tokens_read, strict, loose, left)? {
+        return Ok(());
     }
-    Ok(tokens)
+    Err(Fail::from(tokens))
+}
+
+/// The same with the rules of expressions.
+fn agree(
+    alloc: Global,
+    begin: &[u8],
+    alphabet: &[u8],
+    names: Names,
+    more: u32,
+) -> Result<(), Fail> {
+    let strict = match names {
+        Names::Any => Recogniser::new(alloc, &[&COMMON, &SCATTERS, &TARGETS, &CALLS])?,
+        Names::Known => Recogniser::new(alloc, &[&COMMON, &SCATTERS, &TARGETS])?,
+    };
+    let loose = Recogniser::new(alloc, &[&COMMON, &SCATTERS, &LOOSE, &CALLS])?;
+    agree_from(alloc, begin, alphabet, names, more, (strict, loose))
 }
 
 /// The same of statements over a few expressions.
-fn difference_of_statements(
+fn agree_on_statements(
     alloc: Global,
     begin: &[u8],
     alphabet: &[u8],
     more: u32,
-) -> Result<Vec<u8>, Fail> {
-    let mut strict = Recogniser::new(alloc, &[&EXPRESSIONS, &IN_LOOPS])?;
-    let mut loose = Recogniser::new(alloc, &[&EXPRESSIONS, &ANYWHERE])?;
-    let mut tokens = Vec::new(alloc);
-    for token in begin {
-        tokens.push(*token)?;
-        strict.read(alloc, *token)?;
-        loose.read(alloc, *token)?;
-    }
-    let left = more.saturating_sub(1);
-    if explore(
-        alloc,
-        alphabet,
-        Names::Any,
-        &mut tokens,
-        &mut strict,
-        &mut loose,
-        left,
-    )? {
-        tokens.clear();
-    }
-    Ok(tokens)
+) -> Result<(), Fail> {
+    let strict = Recogniser::new(alloc, &[&EXPRESSIONS, &IN_LOOPS])?;
+    let loose = Recogniser::new(alloc, &[&EXPRESSIONS, &ANYWHERE])?;
+    agree_from(alloc, begin, alphabet, Names::Any, more, (strict, loose))
 }
 
 #[test]
 fn assignments(rt: HostRuntime) -> Result<(), Fail> {
-    let found = difference(rt.alloc(), b"3", b"1;()[].=@{}\x05", Names::Any, 5)?;
-    assert_eq!(rt; found.as_slice(), b"".as_slice());
-    Ok(())
+    agree(rt.alloc(), b"3", b"1;()[].=@{}\x05", Names::Any, 5)
 }
 
 #[test]
 fn scatters(rt: HostRuntime) -> Result<(), Fail> {
-    let found = difference(rt.alloc(), b"3{", b"1?=,@}0;", Names::Any, 7)?;
-    assert_eq!(rt; found.as_slice(), b"".as_slice());
-    Ok(())
+    agree(rt.alloc(), b"3{", b"1?=,@}0;", Names::Any, 7)
 }
 
 #[test]
 fn scatters_in_parentheses(rt: HostRuntime) -> Result<(), Fail> {
-    let found = difference(rt.alloc(), b"3({", b"1?=@})(;", Names::Any, 7)?;
-    assert_eq!(rt; found.as_slice(), b"".as_slice());
-    Ok(())
+    agree(rt.alloc(), b"3({", b"1?=@})(;", Names::Any, 7)
 }
 
 #[test]
 fn calls_and_properties(rt: HostRuntime) -> Result<(), Fail> {
-    let found = difference(rt.alloc(), b"3", b"1;().:$@,=", Names::Known, 5)?;
-    assert_eq!(rt; found.as_slice(), b"".as_slice());
-    Ok(())
+    agree(rt.alloc(), b"3", b"1;().:$@,=", Names::Known, 5)
 }
 
 #[test]
 fn verbs(rt: HostRuntime) -> Result<(), Fail> {
-    let found = difference(rt.alloc(), b"3$1:", b"1;().,=", Names::Any, 6)?;
-    assert_eq!(rt; found.as_slice(), b"".as_slice());
-    Ok(())
+    agree(rt.alloc(), b"3$1:", b"1;().,=", Names::Any, 6)
 }
 
 #[test]
 fn indexes_and_ranges(rt: HostRuntime) -> Result<(), Fail> {
-    let found = difference(rt.alloc(), b"31[", b"1;[]4$={", Names::Any, 6)?;
-    assert_eq!(rt; found.as_slice(), b"".as_slice());
-    Ok(())
+    agree(rt.alloc(), b"31[", b"1;[]4$={", Names::Any, 6)
 }
 
 #[test]
 fn catches(rt: HostRuntime) -> Result<(), Fail> {
-    let found = difference(rt.alloc(), b"3`0", b"0;`!'25,?|\x05", Names::Any, 6)?;
-    assert_eq!(rt; found.as_slice(), b"".as_slice());
-    Ok(())
+    agree(rt.alloc(), b"3`0", b"0;`!'25,?|\x05", Names::Any, 6)
 }
 
 #[test]
 fn operators(rt: HostRuntime) -> Result<(), Fail> {
-    let found = difference(rt.alloc(), b"3", b"0;+-*^<&!?|", Names::Any, 5)?;
-    assert_eq!(rt; found.as_slice(), b"".as_slice());
-    Ok(())
+    agree(rt.alloc(), b"3", b"0;+-*^<&!?|", Names::Any, 5)
 }
 
 #[test]
 fn branches(rt: HostRuntime) -> Result<(), Fail> {
-    let found = difference_of_statements(rt.alloc(), b"6(0)", b"6789;3~\x05", 6)?;
-    assert_eq!(rt; found.as_slice(), b"".as_slice());
-    Ok(())
+    agree_on_statements(rt.alloc(), b"6(0)", b"6789;3~\x05", 6)
 }
 
 #[test]
 fn loops_without_a_name(rt: HostRuntime) -> Result<(), Fail> {
-    let found = difference_of_statements(rt.alloc(), b"_(0)", b"_/\"\\1;(", 6)?;
-    assert_eq!(rt; found.as_slice(), b"".as_slice());
-    Ok(())
+    agree_on_statements(rt.alloc(), b"_(0)", b"_/\"\\1;(", 6)
 }
 
 #[test]
 fn loops_of_a_name(rt: HostRuntime) -> Result<(), Fail> {
-    let found = difference_of_statements(rt.alloc(), b"_1(0)", b"_/\"1;(0)", 6)?;
-    assert_eq!(rt; found.as_slice(), b"".as_slice());
-    Ok(())
+    agree_on_statements(rt.alloc(), b"_1(0)", b"_/\"1;(0)", 6)
 }
 
 #[test]
 fn loops_over_lists(rt: HostRuntime) -> Result<(), Fail> {
-    let found = difference_of_statements(rt.alloc(), b"\x041%", b"(0)[4]~;\"1", 7)?;
-    assert_eq!(rt; found.as_slice(), b"".as_slice());
-    Ok(())
+    agree_on_statements(rt.alloc(), b"\x041%", b"(0)[4]~;\"1", 7)
 }
 
 #[test]
 fn tries(rt: HostRuntime) -> Result<(), Fail> {
-    let found = difference_of_statements(rt.alloc(), b">", b"\x01\x02\x031(2);>\"", 6)?;
-    assert_eq!(rt; found.as_slice(), b"".as_slice());
-    Ok(())
+    agree_on_statements(rt.alloc(), b">", b"\x01\x02\x031(2);>\"", 6)
 }
 
 #[test]
 fn jumps_outside_loops(rt: HostRuntime) -> Result<(), Fail> {
-    let found = difference_of_statements(rt.alloc(), b"", b"\"\\1;6()9", 6)?;
-    assert_eq!(rt; found.as_slice(), b"".as_slice());
-    Ok(())
+    agree_on_statements(rt.alloc(), b"", b"\"\\1;6()9", 6)
 }

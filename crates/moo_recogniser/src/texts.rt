@@ -229,6 +229,31 @@ pub static FAULTS: [[&str; 2]; 44] = [
     ["return x.foo(1);", "Line 1:  Parse error"],
 ];
 
+/// Texts of single tokens, with their listings or the faults that are told of them.
+pub static TOKENS: [[&str; 2]; 21] = [
+    ["x[1..2];", "x[1..2];\n"],
+    ["x[1...2];", "Line 1:  Parse error"],
+    ["\n 1.", "Line 2:  Bad token"],
+    ["1e;", "Line 1:  Bad token"],
+    ["1x;", "Line 1:  Parse error"],
+    ["4294967295;", "-1;\n"],
+    ["x\n#;", "Line 2:  Bad token"],
+    ["#-;", "Line 1:  Bad token"],
+    ["# 1;", "Line 1:  Bad token"],
+    ["#1.x;", "#1.x;\n"],
+    ["#1e5;", "Line 1:  Parse error"],
+    ["#-2147483648;", "#-2147483648;\n"],
+    ["\"a\\\"b\\\\\";", "\"a\\\"b\\\\\";\n"],
+    ["\"a\\", "Line 1:  Bad token"],
+    ["ab/* \n*\n */;cd;", "ab;\ncd;\n"],
+    ["ab/* \n*\n */cd;", "Line 3:  Parse error"],
+    ["\nab/*/\n\n", "Line 2:  Bad token"],
+    ["ab/**/+cd;", "ab + cd;\n"],
+    ["ab/**/cd;", "Line 1:  Parse error"],
+    ["E_Perm\t;IF (if_) EndIf", "E_PERM;\nif (if_)\nendif\n"],
+    ["a&b;", "Line 1:  Bad token"],
+];
+
 /// Expressions, with their full and short listings.
 pub static EXPRESSIONS: [[&str; 3]; 22] = [
     [

@@ -1,9 +1,9 @@
 -- What the call of `eval` comes to.
-use Rattle.std.proofs.Common.{◌≡◌, ◌≢◌, ℕ, ℤ, pos, List, [], ◌∷◌, Bool, true, false, cond, Result, Ok, Err, refl, sym, ap, subst, ◌∙◌, arith}
+use Rattle.std.proofs.Common.{◌≡◌, ℕ, ℤ, pos, List, [], ◌∷◌, Bool, true, false, cond, codes, Result, Ok, Err, IfOk, if◌then◌else◌, refl, sym, ap, subst, ◌∙◌, arith}
 use Rattle.std.specs.Prelude.{nat_le, ◌&&◌}
 use Rattle.std.proofs.lemmas.Bool.{leb-false, lt-leb}
 use Rattle.moo_value.specs.declared.error_code.ErrorCode.{ErrorCode}
-use Rattle.moo_value.specs.declared.error_code.ErrorCode.TheVariants.{Quota}
+use Rattle.moo_value.specs.declared.error_code.ErrorCode.TheVariants.{Quota, MaximumRecursion}
 use Rattle.moo_value.specs.Size.{weight, depth, weight_limit, depth_limit}
 use Rattle.moo_value.specs.Tree.{Tree, integer, string, list_of}
 use Rattle.moo_program.specs.Tree.{Block}
@@ -26,8 +26,14 @@ use Rattle.moo_code_function.specs.Setting.{is_programmer, is_of_text, told_faul
 use Rattle.moo_code_function.specs.Answers.{IsAnswered}
 use Rattle.moo_code_function.specs.Telling.{Telling, Faults}
 use Rattle.moo_code_function.proofs.Coming.{not_memory}
-use Rattle.moo_hook.specs.Progressing.{Calling, Progress, done}
-use Rattle.moo_hook.specs.Evaluating.{program_next, no_program, EvaluatesText, faulty, parsed}
+use Rattle.std.specs.declared.alloc.AllocError.{AllocError}
+use Rattle.moo_outcome.specs.declared.frame.Frame.{Frame}
+use Rattle.moo_access.specs.declared.entering.Called.{Called}
+use Rattle.moo_access.specs.Entering.{Entered, has_frame_left}
+use Rattle.moo_access.specs.SeenCalled.{entered_of}
+use Rattle.moo_hook.specs.declared.progress.Stage.TheVariants.{Evaluated}
+use Rattle.moo_hook.specs.Progressing.{Calling, Progress, done, verb_next, refuses, through}
+use Rattle.moo_hook.specs.Evaluating.{typed_frame, begun_below, typed_below, program_next, no_program, EvaluatesText, faulty, parsed}
 use Rattle.moo_hook.specs.Calls.{first_progress, Begins}
 
 module _ (k : Calling) (w : World) (text copy : List ℕ) (same : copy ≡ text) (may : is_programmer w k.programmer ≡ true) where
@@ -36,6 +42,21 @@ module _ (k : Calling) (w : World) (text copy : List ℕ) (same : copy ≡ text)
 
   pub tells : (f : SyntaxFault) (r : Result Tree Failure) → Blames Known (copy ∷ []) f.line f.kind → is_of_text f.kind ≡ true → answers (no_program f) ≡ r → EvaluatesText Faults k w text (done r)
   tells f r blames of_text told = subst (λ q. EvaluatesText Faults k w text (done q)) told (faulty may f (subst (λ t. Blames Known (t ∷ []) f.line f.kind) same blames, not_memory f.kind of_text))
+
+-- where a frame is left, the program runs in it
+pub has_room : (k : Calling) (program : Block) (e : Entered) → has_frame_left k.context.callers ≡ true → e ≡ typed_below k program → program_next k program ≡ verb_next e Evaluated
+has_room k program e left is = ap (λ b. if b then verb_next (typed_below k program) Evaluated else refuses MaximumRecursion) left ∙ ap (λ x. verb_next x Evaluated) (sym is)
+
+-- the frame of the program, with the function between it and its caller
+pub typed_so : (r : Result Called AllocError) (k : Calling) (program : Block) (b : Entered) (f : Frame) (p q this : ℤ) →
+    IfOk r (λ h. entered_of h ≡ through (codes "eval") b) → b ≡ begun_below k f → f ≡ typed_frame program p q this →
+    p ≡ k.programmer → q ≡ k.context.frame.player → this ≡ k.context.frame.this → IfOk r (λ h. entered_of h ≡ typed_below k program)
+typed_so (Ok h) k program b f p q this above begun framed whose player caller =
+    above ∙ ap (λ x. through (codes "eval") x) (begun ∙ ap (begun_below k) (framed
+    ∙ ap (λ x. typed_frame program x q this) whose
+    ∙ ap (λ x. typed_frame program k.programmer x this) player
+    ∙ ap (λ x. typed_frame program k.programmer k.context.frame.player x) caller))
+typed_so (Err e) k program b f p q this above begun framed whose player caller = tt
 
 -- by whether there is room for it
 not_made : (b : Bool) (t : Tree) (e : ErrorCode) → cond b (Ok t) (Err Quota) ≡ Err e → (b ≡ false) × (Quota ≡ e)

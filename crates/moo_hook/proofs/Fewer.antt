@@ -1,12 +1,12 @@
 -- What is moved out of an object is no longer in it.
-use Rattle.std.proofs.Common.{◌≡◌, ℕ, ◌<◌, ◌≤◌, List, [], ◌∷◌, ◌++◌, Option, Some, None, true, false, eqb, not, refl, sym, ◌∙◌, ap, arith, length}
+use Rattle.std.proofs.Common.{◌≡◌, ℕ, ◌<◌, ◌≤◌, List, ◌∷◌, Option, Some, None, true, false, eqb, not, refl, sym, ◌∙◌, ap, arith, length}
 use Rattle.std.specs.List.{list_any}
 use Rattle.std.specs.Option.{option_eq}
 use Rattle.std.proofs.lemmas.Bool.{eq-eqb}
 use Rattle.std.proofs.lemmas.List.{append-nil}
 use Rattle.std.proofs.lemmas.List.Filters.{length-filter_both}
 use Rattle.moo_forest.specs.Forest.{Links, IsForest, above_of, below_of, without, moved}
-use Rattle.moo_forest.proofs.Moving.{relinked, moved_elsewhere, below_moved}
+use Rattle.moo_forest.proofs.Moving.{moved_elsewhere, below_moved}
 use Rattle.moo_forest.proofs.Dissolving.{in_list}
 
 somewhere : (u : Option ℕ) (x : ℕ) → option_eq eqb u (Some x) ≡ true → option_eq eqb u None ≡ false

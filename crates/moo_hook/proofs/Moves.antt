@@ -1,5 +1,5 @@
 -- `move`, case by case.
-use Rattle.std.proofs.Common.{◌≡◌, ℕ, ℤ, pos, negsuc, true, false, Bool, codes, refl, sym, ap, ◌∙◌}
+use Rattle.std.proofs.Common.{◌≡◌, ℤ, pos, negsuc, true, false, Bool, codes, refl}
 use Rattle.std.specs.Ordering.{int_eq}
 use Rattle.moo_value.specs.declared.error_code.ErrorCode.TheVariants.{InvalidArgument, Permission, NotAccepted}
 use Rattle.moo_value.specs.Tree.{integer}

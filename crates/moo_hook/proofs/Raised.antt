@@ -1,5 +1,5 @@
 -- What the world raises, and what a function comes to.
-use Rattle.std.proofs.Common.{◌≡◌, Option, Some, None, Result, Ok, Err, IfOk, refl, sym, ap, subst, ◌∙◌}
+use Rattle.std.proofs.Common.{◌≡◌, Option, None, Result, Ok, Err, IfOk, sym, ap, subst, ◌∙◌}
 use Rattle.moo_value.specs.declared.error_code.ErrorCode.{ErrorCode}
 use Rattle.moo_table.specs.World.{World}
 use Rattle.moo_outcome.specs.declared.outcome.Failure.{Failure}

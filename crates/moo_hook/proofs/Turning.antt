@@ -1,14 +1,13 @@
 -- A function comes nearer to its end from step to step.
-use Rattle.std.proofs.Common.{◌≡◌, ℕ, suc, ℤ, pos, negsuc, ◌≤◌, ◌<◌, Bool, true, false, List, [], ◌∷◌, codes, Option, Some, None, Result, Ok, Err, IfOk, if◌then◌else◌, is_some, length, slice_get, refl, sym, ap, subst, ◌∙◌, ⊎_elim, arith}
+use Rattle.std.proofs.Common.{◌≡◌, ℕ, suc, ℤ, pos, ◌≤◌, Bool, true, false, List, [], ◌∷◌, codes, Option, Some, None, Result, Ok, Err, IfOk, if◌then◌else◌, is_some, length, slice_get, refl, ap, subst, arith}
 use Rattle.std.specs.Option.{unwrap_or, option_map, option_and_then}
-use Rattle.std.proofs.lemmas.Bool.{cases_Bool}
 use Rattle.moo_value.specs.declared.error_code.ErrorCode.{ErrorCode}
 use Rattle.moo_value.specs.Tree.{Tree, object}
 use Rattle.moo_operation.specs.Truth.{is_true}
 use Rattle.moo_forest.specs.Forest.{IsForest, below_of, moved as relinked}
 use Rattle.moo_object.specs.Objects.{Object}
 use Rattle.moo_table.specs.World.{World, object_of}
-use Rattle.moo_world.specs.Calls.{number_of, place_of, move_raises, world_move}
+use Rattle.moo_world.specs.Calls.{number_of, move_raises, world_move}
 use Rattle.moo_world.specs.RecycleCalls.{recycle_raises}
 use Rattle.moo_outcome.specs.declared.outcome.Failure as code_failure
 use Rattle.moo_outcome.specs.Outcome.{Failure, fails, stops}

@@ -1,6 +1,6 @@
 -- For one input a call that calls verbs has at most one first step, where of each text at most one fault is told, and of a
 -- program none.
-use Rattle.std.proofs.Common.{◌≡◌, ℕ, List, [], ◌∷◌, Option, Some, None, refl, sym, ap, ◌∙◌}
+use Rattle.std.proofs.Common.{◌≡◌, ℕ, List, [], ◌∷◌, refl, sym, ap, ◌∙◌}
 use Rattle.moo_value.specs.Tree.{Tree, string}
 use Rattle.moo_function.specs.declared.function.Function.{Function}
 use Rattle.moo_function.specs.declared.function.Function.TheVariants as function
@@ -16,15 +16,15 @@ use Rattle.moo_hook.specs.Evaluating.{program_next, no_program, EvaluatesText, f
 use Rattle.moo_hook.specs.Calls.{Begins, Starts, refused, starts}
 
 one_evaluation : (T : Telling) → TellsOne T → (k : Calling) (w : World) (text : List ℕ) (a b : Progress) → EvaluatesText T k w text a → EvaluatesText T k w text b → a ≡ b
-one_evaluation T told k w text a b (forbidden no) (forbidden no') = refl
-one_evaluation T told k w text a b (forbidden no) (faulty may f h) = absurd cc
-one_evaluation T told k w text a b (forbidden no) (parsed may p) = absurd cc
-one_evaluation T told k w text a b (faulty may f h) (forbidden no) = absurd cc
+one_evaluation T told k w text a b (forbidden q) (forbidden r) = refl
+one_evaluation T told k w text a b (forbidden q) (faulty may f h) = absurd cc
+one_evaluation T told k w text a b (forbidden q) (parsed may p) = absurd cc
+one_evaluation T told k w text a b (faulty may f h) (forbidden q) = absurd cc
 one_evaluation T told k w text a b (faulty may f h) (faulty may' g i) = ap (λ x. done (answers (no_program x))) (told.one (text ∷ []) f g h i)
-one_evaluation T told k w text a b (faulty may f h) (parsed {program = q} may' p) = absurd (told.none (text ∷ []) q f p h)
-one_evaluation T told k w text a b (parsed may p) (forbidden no) = absurd cc
-one_evaluation T told k w text a b (parsed {program = q} may p) (faulty may' f h) = absurd (told.none (text ∷ []) q f p h)
-one_evaluation T told k w text a b (parsed {program = x} may p) (parsed {program = y} may' q) = ap (program_next k) (same_program (text ∷ []) x y p q)
+one_evaluation T told k w text a b (faulty may f h) (parsed may' {program = q} p) = absurd (told.none (text ∷ []) q f p h)
+one_evaluation T told k w text a b (parsed may p) (forbidden q) = absurd cc
+one_evaluation T told k w text a b (parsed may {program = q} p) (faulty may' f h) = absurd (told.none (text ∷ []) q f p h)
+one_evaluation T told k w text a b (parsed may {program = x} p) (parsed may' {program = y} q) = ap (program_next k) (same_program (text ∷ []) x y p q)
 
 one_eval : (T : Telling) → TellsOne T → (k : Calling) (w : World) (vs : List Tree) (a b : Progress) → EvalBegins T k w vs a → EvalBegins T k w vs b → a ≡ b
 one_eval T told k w (string text ∷ []) a b p q = one_evaluation T told k w text a b p q

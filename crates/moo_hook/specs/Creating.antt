@@ -1,8 +1,7 @@
 -- `create`: an object is made.
-use Rattle.std.specs.Prelude.{ℕ, ℤ, pos, negsuc, List, [], length, codes, Bool, not, ◌||◌, if◌then◌else◌}
+use Rattle.std.specs.Prelude.{ℤ, pos, negsuc, [], length, codes, Bool, not, ◌||◌, if◌then◌else◌}
 use Rattle.std.specs.Ordering.{int_eq}
 use Rattle.moo_value.specs.declared.error_code.ErrorCode.TheVariants.{Permission, Quota}
-use Rattle.moo_value.specs.Tree.{Tree, object}
 use Rattle.moo_table.specs.World.{World}
 use Rattle.moo_world.specs.Calls.{place_of, create_raises, world_create}
 use Rattle.moo_rights.specs.Rights.{controls, may_inherit_from}

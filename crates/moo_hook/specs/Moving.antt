@@ -2,7 +2,7 @@
 use Rattle.std.specs.Prelude.{ℕ, ℤ, pos, negsuc, List, [], ◌∷◌, codes, Bool, not, ◌&&◌, ◌||◌, if◌then◌else◌}
 use Rattle.std.specs.Ordering.{int_eq}
 use Rattle.moo_value.specs.declared.error_code.ErrorCode.TheVariants.{InvalidArgument, Permission, NotAccepted}
-use Rattle.moo_value.specs.Tree.{Tree, integer, object}
+use Rattle.moo_value.specs.Tree.{integer, object}
 use Rattle.moo_table.specs.World.{World}
 use Rattle.moo_world.specs.Calls.{number_of, place_of, move_raises, world_move}
 use Rattle.moo_rights.specs.Rights.{is_wizard, may_own}

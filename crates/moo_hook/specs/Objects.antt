@@ -1,5 +1,5 @@
 -- Where objects stand.
-use Rattle.std.specs.Prelude.{ℕ, ℤ, pos, negsuc, Bool, not, ◌&&◌, ◌||◌, Option, is_some, slice_get}
+use Rattle.std.specs.Prelude.{ℤ, pos, negsuc, Bool, ◌||◌, Option, is_some, slice_get}
 use Rattle.std.specs.Option.{unwrap_or, option_map, option_and_then}
 use Rattle.std.specs.Ordering.{int_eq}
 use Rattle.moo_forest.specs.Forest.{above_of, below_of}

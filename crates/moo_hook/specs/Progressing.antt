@@ -1,8 +1,8 @@
 -- How a function that calls verbs goes on, step by step.
-use Rattle.std.specs.Prelude.{ℕ, ℤ, pos, Bool, true, false, List, ◌∷◌, Option, Some, None, Result, Ok, Err, if◌then◌else◌}
+use Rattle.std.specs.Prelude.{ℕ, ℤ, Bool, true, false, List, ◌∷◌, Option, Some, None, Result, Ok, Err, if◌then◌else◌}
 use Rattle.moo_value.specs.declared.error_code.ErrorCode.{ErrorCode}
 use Rattle.moo_value.specs.declared.error_code.ErrorCode.TheVariants as error
-use Rattle.moo_value.specs.Tree.{Tree, integer, object, string}
+use Rattle.moo_value.specs.Tree.{Tree, object, string}
 use Rattle.moo_table.specs.World.{World}
 use Rattle.moo_outcome.specs.declared.frame.TraceEntry.TheVariants.{BuiltIn}
 use Rattle.moo_outcome.specs.Outcome.{Failure, fails, stops, answers}

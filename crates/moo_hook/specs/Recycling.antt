@@ -10,7 +10,6 @@ use Rattle.moo_world.specs.RecycleCalls.{recycle_raises, world_recycle}
 use Rattle.moo_rights.specs.Rights.{may_own}
 use Rattle.moo_hook.specs.declared.progress.Stage.TheVariants.{Emptying, Recycled}
 use Rattle.moo_hook.specs.Progressing.{Calling, Progress, stage_next, refuses, after_raise, hook}
-use Rattle.moo_hook.specs.Objects.{first_inside}
 use Rattle.moo_hook.specs.Quota.{quota, with_quota}
 
 -- `recycle` calls a verb of the object, after which its contents come

@@ -123,7 +123,8 @@ fn typed_below<'a>(
         caller.player,
         caller.this,
     )?;
-    through(alloc, "eval", begun_below(alloc, stack, active, frame)?)
+    let called = begun_below(alloc, stack, active, frame)?;
+    through(alloc, "eval", called)
 }
 
 // A frame that the running one calls.

@@ -6,5 +6,5 @@ use Rattle.moo_hook.proofs.call.begin.Goals as goal
 pub returns-in-Eval : goal.returns-in-Eval
 returns-in-Eval c = λ k. rw c.in-Eval.is (rw c.deref.ensures.value at (c.begin_evaluating.ensures k), refl)
 
-pub returns-in_default : goal.returns-in_default
-returns-in_default c = λ k. other_begin Faults c.args.function _ _ _ _ _ c.in_default.not-Eval (c.first_progress.ensures k)
+pub returns : goal.returns
+returns c = λ k. other_begin Faults c.args.function _ _ _ _ _ c.in_default.not-Eval (c.first_progress.ensures k)

@@ -1,7 +1,4 @@
-use Rattle.std.proofs.Common.{◌≡◌, ◌∙◌, refl, sym, ap, codes, pos, negsuc, true, false, None, rules, w32, to_z, of_z}
-use mir.Val.{SFits}
-use Rattle.std.proofs.lemmas.Int.{to_z-of_z}
-use Rattle.std.proofs.lemmas.Result.{err_from_is_err_and}
+use Rattle.std.proofs.Common.{◌∙◌, refl, sym}
 use Rattle.moo_hook.specs.Calls.{refused, starts}
 use Rattle.moo_hook.proofs.call.start_call.Goals as goal
 

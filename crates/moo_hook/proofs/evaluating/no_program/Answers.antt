@@ -1,6 +1,7 @@
-use Rattle.std.proofs.Common.{◌≡◌, ◌∙◌, ◌∷◌, [], sym, ap, pos}
+use Rattle.std.proofs.Common.{◌∙◌, ◌∷◌, [], sym, ap, pos}
 use Rattle.std.proofs.lemmas.Result.{err_from_is_err_and}
-use Rattle.moo_value.specs.Tree.{integer}
+use Rattle.moo_value.specs.Tree.{integer, string, list_of}
+use Rattle.moo_syntax.specs.FaultText.{fault_text}
 use Rattle.moo_operation.specs.Places.{made_list}
 use Rattle.moo_outcome.specs.Outcome.{answers}
 use Rattle.moo_hook.proofs.Evaluated.{limited_is, untold, untold_of_text}
@@ -18,7 +19,7 @@ returns-in_err-lines-clause-kind c =
 
 pub returns-clause-text : goal.returns-clause-text
 returns-clause-text c =
-    λ k. ap (λ t. answers (made_list (integer (pos 0) ∷ t ∷ []))) (sym (limited_is _ _ c.in_ok-lines.ensures.text)) ∙ c.flagged.ensures k
+    λ k. ap (λ t. answers (made_list (integer (pos 0) ∷ t ∷ []))) (sym (limited_is (list_of (string (fault_text c.args.fault.now) ∷ [])) _ c.in_ok-lines.ensures.text)) ∙ c.flagged.ensures k
 
 pub returns-clause-kind : goal.returns-clause-kind
 returns-clause-kind c = λ k. c.in_ok-lines.ensures.kind tt

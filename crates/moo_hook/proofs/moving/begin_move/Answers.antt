@@ -1,7 +1,6 @@
-use Rattle.std.proofs.Common.{◌≡◌, ◌∙◌, refl, sym, ap, codes, pos, negsuc, true, false, None, rules, w32, to_z, of_z}
+use Rattle.std.proofs.Common.{◌∙◌, sym, rules, w32}
 use mir.Val.{SFits}
 use Rattle.std.proofs.lemmas.Int.{to_z-of_z}
-use Rattle.std.proofs.lemmas.Result.{err_from_is_err_and}
 use Rattle.moo_hook.specs.Seen.{calling_of}
 use Rattle.moo_hook.proofs.Moves.{no_place, not_own, goes_nowhere, asks}
 use Rattle.moo_hook.proofs.moving.begin_move.Goals as goal

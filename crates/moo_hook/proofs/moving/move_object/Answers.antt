@@ -1,8 +1,7 @@
-use Rattle.std.proofs.Common.{◌≡◌, ◌∙◌, refl, sym, ap, codes, pos, negsuc, true, false, None, rules, w32, to_z, of_z}
+use Rattle.std.proofs.Common.{◌∙◌, sym, codes, rules, w32}
 use mir.Val.{SFits}
 use Rattle.std.proofs.lemmas.Int.{to_z-of_z}
 use Rattle.std.proofs.lemmas.Result.{err_from_is_err_and}
-use Rattle.moo_world.specs.Calls.{number_of, place_of, move_raises, world_move}
 use Rattle.moo_hook.specs.declared.progress.Stage.TheVariants.{Leaving}
 use Rattle.moo_hook.specs.Objects.{location}
 use Rattle.moo_hook.specs.Moving.{move_calls}

@@ -1,4 +1,3 @@
-use Rattle.std.proofs.Common.{◌≡◌}
 use Rattle.moo_value.specs.View.{tree}
 use Rattle.moo_hook.specs.Seen.{calling_of}
 use Rattle.moo_hook.proofs.Turning.{fewer_after}

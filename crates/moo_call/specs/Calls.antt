@@ -25,7 +25,7 @@ use Rattle.moo_call.specs.Tasks.{Reply, nearest_programmer, set_task_perms, rais
 use Rattle.moo_call.specs.Connections.{connected_players, elapsed_since, last_heard, last_login}
 use Rattle.moo_call.specs.Asking.{notify, boot_player, set_player_flag, dump_database, shutdown, server_log}
 
--- what a function over values gives; others are not to be called yet
+-- what a function over values gives; others raise E_INVARG
 abbrev pub valued : Bool → List TraceEntry → Option (Result Tree Raised) → Result Tree Failure
 valued d entries None = Err (fails InvalidArgument)
 valued d entries (Some (Ok v)) = Ok v

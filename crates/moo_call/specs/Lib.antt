@@ -1,4 +1,5 @@
 pub mod Tasks
+pub mod Later
 pub mod Connections
 pub mod Asking
 pub mod Calls

@@ -27,7 +27,7 @@ use std::alloc::Global;
 /// world, one that looks at the task, of which so many ticks are left, or that leaves a notice, or one over values. A
 /// wrong number of arguments raises E_ARGS, then one of a wrong type E_TYPE, then an object that isn't valid E_INVARG,
 /// then comes what the function itself looks at, and the programmer's right last. Names of no function, and functions
-/// that can't be called yet, raise E_INVARG.
+/// that call verbs (`moo_hook` has those), raise E_INVARG.
 pub fn call_function(
     alloc: Global,
     world: &mut World,

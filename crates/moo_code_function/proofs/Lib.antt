@@ -2,3 +2,4 @@ pub mod Heavy
 pub mod Lines
 pub mod Coming
 pub mod Once
+pub mod Wider

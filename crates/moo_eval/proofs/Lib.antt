@@ -8,3 +8,6 @@ pub mod Moved
 pub mod Texts
 pub mod Unique
 pub mod UniqueTask
+pub mod Onward
+pub mod Wider
+pub mod Choices

@@ -6,3 +6,4 @@ pub mod Hooks
 pub mod Ends
 pub mod Typed
 pub mod Line
+pub mod Laws

@@ -6,3 +6,5 @@ pub mod Quotas
 pub mod Raised
 pub mod Turning
 pub mod Unique
+pub mod Onward
+pub mod Wider

@@ -1,0 +1,82 @@
+-- Laws of what the program may come to.
+use Rattle.std.specs.Prelude.{◌≡◌, ◌≤◌, ℕ, List, Bool, IsTrue, Some, Result}
+use Rattle.moo_value.specs.Tree.{Tree}
+use Rattle.moo_program.specs.Tree.{Expr, Block}
+use Rattle.moo_syntax.specs.declared.syntax_fault.SyntaxFault.{SyntaxFault}
+use Rattle.moo_function.specs.declared.function.Function.{Function}
+use Rattle.moo_table.specs.World.{World}
+use Rattle.moo_outcome.specs.declared.frame.Frame.{Frame}
+use Rattle.moo_outcome.specs.declared.notice.Notice.{Notice}
+use Rattle.moo_outcome.specs.Surroundings.{Surroundings}
+use Rattle.moo_outcome.specs.Outcome.{Stop, Failure, Flow}
+use Rattle.moo_outcome.specs.State.{Context}
+use Rattle.moo_access.specs.State.{State}
+use Rattle.moo_code_function.specs.Telling.{Telling, Faults, Choice, PassesPrograms, chosen_by}
+use Rattle.moo_call.specs.Later.{Later}
+use Rattle.moo_call.specs.Tasks.{most_ticks}
+use Rattle.moo_call.specs.Calls.{CallsFunction}
+use Rattle.moo_hook.specs.Progressing.{Progress}
+use Rattle.moo_hook.specs.Calls.{Starts}
+use Rattle.moo_eval.specs.Meaning.{Evaluates, Proceeds, RunsAll}
+use Rattle.moo_eval.specs.Task.{End, TaskEnds}
+use Rattle.moo_eval.specs.Line.{RunsTo}
+
+-- Whatever runs, no tick is gained and no notice lost.
+abbrev pub LaterAfterExpressions : Type 0
+LaterAfterExpressions = (c : Context) (e : Expr) (s s' : State) (o : Result Tree Stop) → Evaluates Faults c e s o s' → Later s s'
+
+abbrev pub LaterAfterStatements : Type 0
+LaterAfterStatements = (c : Context) (b : Block) (s s' : State) (o : Result Flow Stop) → RunsAll Faults c b s o s' → Later s s'
+
+-- of functions that call no verb, and of those that do
+abbrev pub LaterAfterCalls : Type 0
+LaterAfterCalls = (c : Context) (name : List ℕ) (args : List Tree) (s s' : State) (r : Result Tree Failure) → CallsFunction Faults c name args s r s' → Later s s'
+
+abbrev pub LaterAfterHooks : Type 0
+LaterAfterHooks = (c : Context) (f : Function) (args : List Tree) (p : Progress) (s s' s'' : State) (r : Result Tree Failure) → Starts Faults c f args s p s' → Proceeds Faults c p s' r s'' → Later s s''
+
+-- a task ends with no more ticks than it has
+abbrev pub TasksEndInTime : Type 0
+TasksEndInTime = (around : Surroundings) (start : Frame) (before after : World) (end : End) (notices : List Notice) (d : TaskEnds Faults around start before end after notices) → d.last.ticks ≤ most_ticks
+
+-- what is chosen to be told of a text is always a fault that the text has
+abbrev pub ChoosesFaults : Choice → Type 0
+ChoosesFaults choice = (lines : List (List ℕ)) (f : SyntaxFault) → choice lines ≡ Some f → Faults lines f
+
+-- such a choice tells nothing of programs
+abbrev pub ProgramsAreNotChosen : Type 0
+ProgramsAreNotChosen = (choice : Choice) → ChoosesFaults choice → PassesPrograms choice
+
+-- What comes about by such a choice is among what the program may come to.
+abbrev pub ExpressionsByChoice : Type 0
+ExpressionsByChoice = (choice : Choice) → ChoosesFaults choice → (c : Context) (e : Expr) (s s' : State) (o : Result Tree Stop) → Evaluates (chosen_by choice) c e s o s' → Evaluates Faults c e s o s'
+
+abbrev pub StatementsByChoice : Type 0
+StatementsByChoice = (choice : Choice) → ChoosesFaults choice → (c : Context) (b : Block) (s s' : State) (o : Result Flow Stop) → RunsAll (chosen_by choice) c b s o s' → RunsAll Faults c b s o s'
+
+abbrev pub TasksByChoice : Type 0
+TasksByChoice = (choice : Choice) → ChoosesFaults choice → (around : Surroundings) (start : Frame) (before after : World) (end : End) (notices : List Notice) → TaskEnds (chosen_by choice) around start before end after notices → TaskEnds Faults around start before end after notices
+
+abbrev pub TextsByChoice : Type 0
+TextsByChoice = (choice : Choice) → ChoosesFaults choice → (text : List ℕ) (end : End) → RunsTo (chosen_by choice) text end → RunsTo Faults text end
+
+-- Some texts, by a test, and what the program may tell where these alone are told a fault.
+abbrev pub Texts : Type 0
+Texts = List (List ℕ) → Bool
+
+abbrev pub faults_of : Texts → Telling
+faults_of texts lines f = IsTrue (texts lines) × Faults lines f
+
+-- none of the texts has two faults
+abbrev pub HaveOneFault : Texts → Type 0
+HaveOneFault texts = (lines : List (List ℕ)) (f g : SyntaxFault) → IsTrue (texts lines) → Faults lines f → Faults lines g → f ≡ g
+
+-- Where no text that is told a fault has two, there is at most one result.
+abbrev pub OneResultOfExpressionsBy : Type 0
+OneResultOfExpressionsBy = (texts : Texts) → HaveOneFault texts → (c : Context) (e : Expr) (s s' t : State) (o p : Result Tree Stop) → Evaluates (faults_of texts) c e s o s' → Evaluates (faults_of texts) c e s p t → (o ≡ p) × (s' ≡ t)
+
+abbrev pub OneResultOfStatementsBy : Type 0
+OneResultOfStatementsBy = (texts : Texts) → HaveOneFault texts → (c : Context) (b : Block) (s s' t : State) (o p : Result Flow Stop) → RunsAll (faults_of texts) c b s o s' → RunsAll (faults_of texts) c b s p t → (o ≡ p) × (s' ≡ t)
+
+abbrev pub OneResultOfTasksBy : Type 0
+OneResultOfTasksBy = (texts : Texts) → HaveOneFault texts → (around : Surroundings) (start : Frame) (before after instead : World) (end other : End) (notices others : List Notice) → TaskEnds (faults_of texts) around start before end after notices → TaskEnds (faults_of texts) around start before other instead others → (end ≡ other) × (after ≡ instead) × (notices ≡ others)

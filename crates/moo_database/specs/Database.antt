@@ -1,9 +1,19 @@
 -- What `moo check` and `moo copy` show of a database.
-use Rattle.std.specs.Prelude.{◌≡◌, ◌⊎◌, ℕ, List, ◌++◌, codes, length, Option, IfSome}
+use Rattle.std.specs.Prelude.{◌≡◌, ◌≢◌, ◌⊎◌, ℕ, List, ◌++◌, Err, codes, length, Option, IfSome}
 use Rattle.std.specs.Fmt.{decimal}
 use Rattle.std.specs.Io.KnownBytes.{Appends}
 use Rattle.moo_table.specs.World.{programs_in}
 use Rattle.moo_saved.specs.Saved.{Saved, SpellsSaved, SpellsSavedWithin}
+use Rattle.moo_dbrecord.specs.declared.fault.DbFault.{DbFault}
+use Rattle.moo_dbrecord.specs.declared.fault.DbFaultKind.TheVariants.{Memory}
+use Rattle.moo_load.specs.Loading.{LoadAnswers}
+use Rattle.moo_load.specs.Refusals.{Refuses}
+use Rattle.moo_database.specs.Told.{fault_line}
+use Rattle.moo_database.specs.Watching.{HasFailed, HasLacked}
+use Rattle.moo_database.specs.Refused.{refusal_status, refusal_line}
+use Rattle.moo_database.specs.declared.refusal.Refusal.{Refusal}
+use Rattle.moo_database.specs.declared.refusal.Refusal.TheVariants as giving
+use Rattle.moo_database.specs.declared.watch.Watch.{Watch}
 
 -- how many objects, programs and connections there are; a recycled object counts
 abbrev pub counts_line : Saved → List ℕ
@@ -16,12 +26,31 @@ pub record HasShown (show : Saved → List ℕ) (bytes : List ℕ) (old new : Op
   pub spelled : SpellsSaved bytes saved
   pub shown : Appends old new (show saved)
 
--- no world within the limits is spelled by the bytes
-abbrev pub SpellsNone : List ℕ → Type 0
-SpellsNone bytes = (s : Saved) → ¬ (SpellsSavedWithin bytes s)
+-- The bytes spell no saved world within the limits, and the output grew by the line of a fault with which a reader of these
+-- bytes may refuse them, for a reason.
+pub record HasTold (bytes : List ℕ) (old new : Option (List ℕ)) : Type 0 where
+  pub fault : DbFault
+  pub answer : LoadAnswers (Err fault) bytes
+  pub why : Refuses bytes fault
+  pub is : fault.kind ≢ Memory
+  pub none : (s : Saved) → ¬ (SpellsSavedWithin bytes s)
+  pub told : Appends old new (fault_line fault)
 
--- The status is 0, and the input's saved world was shown, or it is 1, and the input has none within the limits.
-pub record ShowsDatabase (show : Saved → List ℕ) (input old new : Option (List ℕ)) (status : ℕ) : Type 0 where
+-- The status is 0, and the input's saved world was shown, or it is 1, and it was told why the input is refused.
+pub record IsAnswered (show : Saved → List ℕ) (input old new : Option (List ℕ)) (status : ℕ) : Type 0 where
   pub known : (status ≡ 0) ⊎ (status ≡ 1)
   pub read : status ≡ 0 → IfSome input (λ bytes. HasShown show bytes old new)
-  pub refused : status ≡ 1 → IfSome input SpellsNone
+  pub refused : status ≡ 1 → IfSome input (λ bytes. HasTold bytes old new)
+
+-- Or the program gave up, with the status for that.
+abbrev pub ShowsDatabase : (Saved → List ℕ) → Option (List ℕ) → Option (List ℕ) → Option (List ℕ) → ℕ → Type 0
+ShowsDatabase show input old new status = IsAnswered show input old new status ⊎ ((r : Refusal) × (status ≡ refusal_status r))
+
+-- The program gave up: the status says so, and the output grew by its line alone, unless an input or output has failed. Where
+-- a device is told, a call of one has answered an error; where memory is told, a call has answered that it was wanting.
+pub record HasGivenUp (old new : Option (List ℕ)) (watch : Watch) (status : ℕ) : Type 0 where
+  pub refusal : Refusal
+  pub is : status ≡ refusal_status refusal
+  pub device : refusal ≡ giving.Device → HasFailed watch
+  pub memory : refusal ≡ giving.Memory → HasLacked watch
+  pub told : HasFailed watch ⊎ Appends old new (refusal_line refusal)

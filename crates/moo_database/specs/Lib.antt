@@ -1,4 +1,8 @@
--- The status of a refusal.
+-- Whether a device has failed.
+pub mod Watching
+-- The status and the line of a refusal.
 pub mod Refused
+-- The line of a fault.
+pub mod Told
 -- What `moo check` and `moo copy` show.
 pub mod Database

@@ -1,11 +1,15 @@
 //! `moo check`: what a database holds.
-ghost use Rattle.std.specs.Prelude.{◌≢◌, IfOk};
-ghost use Rattle.moo_database.specs.Database.{counts_line, ShowsDatabase};
+ghost use Rattle.std.specs.Prelude.{◌⊎◌, IfErr, IfOk};
+ghost use Rattle.std.specs.Io.KnownBytes.{Keeps};
+ghost use Rattle.moo_database.specs.Database.{counts_line, HasGivenUp, IsAnswered, ShowsDatabase};
+ghost use Rattle.moo_database.specs.Refused.{IsEarned};
+ghost use Rattle.moo_database.specs.Watching.{HasFailed};
 
 use crate::counts::counts_line;
-use crate::database::{read_input, show, tell};
+use crate::database::{show, tell};
+use crate::loading::load;
 use crate::refusal::Refusal;
-use moo_dbtext::read_db;
+use crate::watch::Watch;
 use std::alloc::Global;
 use std::io::{Read, Write};
 
@@ -13,23 +17,44 @@ use std::io::{Read, Write};
 /// status: 0, or 1 where the database is refused, which is told in a line; 3 where the input or the output
 /// failed and 4 where memory was wanting, each told in a line of its own where the output still takes it.
 pub fn run_check<I: Read, O: Write>(alloc: Global, input: &mut I, output: &mut O) -> u8
-    ensures { result ≢ 3 → result ≢ 4 → ShowsDatabase counts_line (I.remaining input.old) (O.contents output.old) (O.contents output.new) result }
+    ensures { ShowsDatabase counts_line (I.remaining input.old) (O.contents output.old) (O.contents output.new) result }
 {
-    match checked(alloc, input, output) {
+    check_watched(alloc, input, output, &mut Watch::new())
+}
+
+/// The same, with what was seen of the input and the output.
+pub fn check_watched<I: Read, O: Write>(
+    alloc: Global,
+    input: &mut I,
+    output: &mut O,
+    watch: &mut Watch,
+) -> u8
+    ensures { IsAnswered counts_line (I.remaining input.old) (O.contents output.old) (O.contents output.new) result ⊎ HasGivenUp (O.contents output.old) (O.contents output.new) watch.new result }
+{
+    match checked(alloc, input, output, watch) {
         Ok(status) => status,
-        Err(refusal) => refusal.told(output),
+        Err(refusal) => refusal.told_watched(output, watch),
     }
 }
 
-fn checked<I: Read, O: Write>(alloc: Global, input: &mut I, output: &mut O) -> Result<u8, Refusal>
-    ensures { IfOk result (λ status. ShowsDatabase counts_line (I.remaining input.old) (O.contents output.old) (O.contents output.new) status) }
+fn checked<I: Read, O: Write>(
+    alloc: Global,
+    input: &mut I,
+    output: &mut O,
+    watch: &mut Watch,
+) -> Result<u8, Refusal>
+    ensures answered { IfOk result (λ status. IsAnswered counts_line (I.remaining input.old) (O.contents output.old) (O.contents output.new) status) }
+    ensures earned { IfErr result (IsEarned watch.new) }
+    ensures silent { IfErr result (λ r. HasFailed watch.new ⊎ Keeps (O.contents output.old) (O.contents output.new)) }
 {
-    let bytes = read_input(alloc, input)?;
-    match read_db(alloc, bytes.as_slice()) {
+    let loaded = load(alloc, input, watch)?;
+    match loaded {
         Ok(saved) => {
-            let line = counts_line(alloc, &saved)?;
-            show(line.as_slice(), output)
+            let Ok(line) = counts_line(alloc, &saved) else {
+                return Err(watch.lack());
+            };
+            show(&line, output, watch)
         }
-        Err(fault) => tell(fault, output),
+        Err(fault) => tell(alloc, fault, output, watch),
     }
 }

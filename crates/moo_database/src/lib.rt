@@ -5,10 +5,14 @@ mod check;
 mod copy;
 mod counts;
 mod database;
+mod loading;
 mod refusal;
 #[cfg(test)]
 mod tests;
+mod told;
+mod watch;
 
-pub use check::run_check;
-pub use copy::run_copy;
+pub use check::{check_watched, run_check};
+pub use copy::{copy_watched, run_copy};
 pub use refusal::Refusal;
+pub use watch::Watch;

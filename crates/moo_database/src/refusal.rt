@@ -1,7 +1,10 @@
 //! Why the program gives up.
-ghost use Rattle.std.specs.Prelude.{◌≡◌};
-ghost use Rattle.moo_database.specs.Refused.{refusal_status};
+ghost use Rattle.std.specs.Prelude.{◌≡◌, ◌⊎◌};
+ghost use Rattle.std.specs.Io.KnownBytes.{Appends};
+ghost use Rattle.moo_database.specs.Refused.{refusal_line, refusal_status, without_memory};
+ghost use Rattle.moo_database.specs.Watching.{HasFailed, Remembers};
 
+use crate::watch::Watch;
 use std::alloc::AllocError;
 use std::io;
 use std::io::Write;
@@ -29,11 +32,29 @@ impl Refusal {
         }
     }
 
+    fn line(self) -> &'static [u8]
+        ensures { result.now ≡ refusal_line self }
+    {
+        match self {
+            Refusal::Device => b"refused: Device\n",
+            Refusal::Memory => b"refused: Memory\n",
+        }
+    }
+
     /// Tells the refusal, where the output still takes it, and answers the exit status.
     pub fn told<O: Write>(self, output: &mut O) -> u8
         ensures { result ≡ refusal_status self }
     {
-        let _ = output.writeln(self);
+        self.told_watched(output, &mut Watch::new())
+    }
+
+    /// The same, with the output watched.
+    pub(crate) fn told_watched<O: Write>(self, output: &mut O, watch: &mut Watch) -> u8
+        ensures status { result ≡ refusal_status self }
+        ensures told { HasFailed watch.new ⊎ Appends (O.contents output.old) (O.contents output.new) (refusal_line self) }
+        ensures remembers { Remembers watch.old watch.new }
+    {
+        let _ = watch.write(output, self.line());
         self.status()
     }
 }
@@ -48,6 +69,8 @@ impl From<io::Error> for Refusal {
 }
 
 impl From<AllocError> for Refusal {
+    ghost from_gives = { λ e r. r ≡ without_memory };
+
     fn from(_fault: AllocError) -> Refusal {
         Refusal::Memory
     }

@@ -1,11 +1,12 @@
-//! Writing a saved world.
+//! Writing a saved world, and reading what was written.
 
-ghost use Rattle.std.specs.Prelude.{◌≡◌, length, IfOk};
+ghost use Rattle.std.specs.Prelude.{◌≡◌, length, IfOk, IfErr, MatchResult};
 ghost use Rattle.moo_dbvalue.specs.Lines.{IsCountOf, limited, unlimited};
 ghost use Rattle.moo_saved.specs.Saved.{saved_of, SpellsSaved, SpellsSavedWithin};
 ghost use Rattle.moo_dbtext.specs.Canonical.{canonical};
 
 use moo_dump::write_world;
+use moo_load::{DbFault, DbFaultKind, read_db};
 use moo_saved::Saved;
 use std::alloc::{AllocError, Global};
 
@@ -21,4 +22,27 @@ pub fn write_db(alloc: Global, saved: &Saved) -> Result<Vec<u8>, AllocError>
     saved.world.is_well_formed();
     let bytes = write_world(alloc, &saved.world, &saved.connected)?;
     Ok(bytes)
+}
+
+fn written(alloc: Global, saved: &Saved) -> Result<Vec<u8>, DbFault>
+    ensures within { IfOk result (λ text. IsCountOf limited (length saved.now.connected.items) → SpellsSavedWithin text.items (saved_of saved.now)) }
+    ensures memory { IfErr result (λ e. e.kind ≡ DbFaultKind.Memory) }
+{
+    match write_db(alloc, saved) {
+        Ok(text) => Ok(text),
+        Err(_) => Err(DbFault {
+            line: 0,
+            kind: DbFaultKind::Memory,
+        }),
+    }
+}
+
+/// What is written of a saved world is read as that saved world, unless memory ends it.
+pub fn written_and_read(alloc: Global, saved: &Saved) -> Result<Saved, DbFault>
+    requires { IsCountOf limited (length saved.now.connected.items) }
+    ensures { MatchResult result (λ again. saved_of again ≡ saved_of saved.now) (λ e. e.kind ≡ DbFaultKind.Memory) }
+{
+    saved.world.is_well_formed();
+    let text = written(alloc, saved)?;
+    read_db(alloc, &text)
 }

@@ -1,0 +1,17 @@
+use Rattle.std.proofs.Common.{ℕ, List, IfSome, Err, MatchResult, subst}
+use Rattle.moo_load.specs.Feeding.{HasFed}
+use Rattle.moo_load.specs.Loading.{LoadAnswers}
+use Rattle.moo_database.proofs.Shown.{if_some}
+use Rattle.moo_database.proofs.loading.load.Goals as goal
+
+pub returns-in-Ok-2-clause-answer : goal.returns-in-Ok-2-clause-answer
+returns-in-Ok-2-clause-answer g c =
+    let known = g.I.Read.remaining c.args.input.now in
+    let reader = c.feed_all.new.reader in
+    if_some (λ (b : List ℕ). HasFed reader b) (λ (b : List ℕ). LoadAnswers c.finish.result b) known (λ b h. c.finish.ensures.answer b h)
+    (subst (λ r. IfSome known (λ (b : List ℕ). MatchResult r (λ _. HasFed reader b) (λ e. LoadAnswers (Err e) b))) c.in-Ok-2.is c.in_ok-feed_all.ensures.fed)
+
+pub returns-in-Err-clause-answer : goal.returns-in-Err-clause-answer
+returns-in-Err-clause-answer g c =
+    let known = g.I.Read.remaining c.args.input.now in
+    subst (λ r. IfSome known (λ (b : List ℕ). MatchResult r (λ _. HasFed c.feed_all.new.reader b) (λ e. LoadAnswers (Err e) b))) c.in-Err.is c.in_ok-feed_all.ensures.fed

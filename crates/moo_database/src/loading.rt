@@ -1,0 +1,54 @@
+//! The saved world of an input of any size.
+ghost use Rattle.std.specs.Prelude.{◌<◌, [], Err, length, IfErr, IfOk, IfSome, MatchResult};
+ghost use Rattle.moo_load.specs.Feeding.{HasFed};
+ghost use Rattle.moo_load.specs.Loading.{LoadAnswers};
+ghost use Rattle.moo_database.specs.Refused.{IsEarned};
+
+use crate::refusal::Refusal;
+use crate::watch::Watch;
+use moo_load::{DbFault, DbReader, Saved};
+use std::alloc::Global;
+use std::io::Read;
+
+/// How many bytes are read at once.
+const PIECE: usize = 65_536;
+
+/// The saved world of all that the input still gives, or why it is none.
+pub(crate) fn load<I: Read>(
+    alloc: Global,
+    input: &mut I,
+    watch: &mut Watch,
+) -> Result<Result<Saved, DbFault>, Refusal>
+    ensures answer { IfOk result (λ loaded. IfSome (I.remaining input.old) (LoadAnswers loaded)) }
+    ensures earned { IfErr result (IsEarned watch.new) }
+{
+    let mut reader = DbReader::new(alloc);
+    let Ok(mut buffer) = vec![in alloc; 0u8; PIECE] else {
+        return Err(watch.lack());
+    };
+    match feed_all(alloc, input, watch, &mut reader, &mut buffer)? {
+        Ok(()) => Ok(reader.finish(alloc)),
+        Err(fault) => Ok(Err(fault)),
+    }
+}
+
+// Feeds the reader all that the input still gives, or up to a fault.
+fn feed_all<I: Read>(
+    alloc: Global,
+    input: &mut I,
+    watch: &mut Watch,
+    reader: &mut DbReader,
+    buffer: &mut [u8],
+) -> Result<Result<(), DbFault>, Refusal>
+    requires room { 0 < length buffer.old }
+    requires fresh { HasFed reader.old [] }
+    ensures fed { IfOk result (λ fed. IfSome (I.remaining input.old) (λ bytes. MatchResult fed (λ _. HasFed reader.new bytes) (λ e. LoadAnswers (Err e) bytes))) }
+    ensures earned { IfErr result (IsEarned watch.new) }
+{
+    while let Some(count) = watch.read(input, buffer)? {
+        if let Err(fault) = reader.feed(alloc, &buffer[..count]) {
+            return Ok(Err(fault));
+        }
+    }
+    Ok(Ok(()))
+}

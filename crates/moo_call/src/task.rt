@@ -146,10 +146,6 @@ fn raised_here(
         return Ok(Value::Err(code));
     }
     let trace = stack.trace(alloc, active)?;
-    Err(Failure::Stops(Stop::Raised(Raise {
-        code,
-        message,
-        value,
-        trace,
-    })))
+    let raise = Raise::new(alloc, code, message, value, trace)?;
+    Err(Failure::Stops(Stop::Raised(raise)))
 }

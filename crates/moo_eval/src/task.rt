@@ -76,8 +76,8 @@ fn end_of_task(alloc: Global, outcome: Result<Flow, Stop>) -> Ended
         Ok(Flow::Next | Flow::Break(_) | Flow::Continue(_)) => Ended::Value(Value::Int(0)),
         Err(Stop::Raised(raise)) => match traceback_lines(
             alloc,
-            raise.message.as_bytes(),
-            &raise.trace,
+            raise.account.message.as_bytes(),
+            &raise.account.trace,
         ) {
             Ok(lines) => Ended::Uncaught(lines),
             Err(AllocError) => Ended::Memory,

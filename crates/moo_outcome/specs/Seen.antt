@@ -73,7 +73,7 @@ abbrev pub trace_of : CallStack → Activation → List TraceEntry
 trace_of stack active = entries stack.running active.programmer stack.callers.items
 
 abbrev pub raise_of : code_raise.Raise → Raise
-raise_of raise = record { code = raise.code; message = raise.message; value = tree raise.value; trace = raise.trace.items }
+raise_of raise = let account = raise.account.value in record { code = raise.code; message = account.message; value = tree account.value; trace = account.trace.items }
 
 -- Want of memory has no meaning: `IsKnown` is false of it, so what stands here for it is never read.
 abbrev pub stop_of : code_stop.Stop → Stop

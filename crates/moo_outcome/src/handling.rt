@@ -142,12 +142,14 @@ fn above<'a>(callers: &[TraceEntry], trace: &'a [TraceEntry]) -> &'a [TraceEntry
 fn told(alloc: Global, callers: &[TraceEntry], raise: Raise) -> Result<Value, Failure>
     ensures { IsKnownFailure result → answers (told callers.now (raise_of raise)) ≡ seen_answer result }
 {
-    let frames = frame_lists(alloc, above(callers, &raise.trace))?;
+    let Raise { code, account } = raise;
+    let account = Box::into_inner(account);
+    let frames = frame_lists(alloc, above(callers, &account.trace))?;
     let frames = operation::list(alloc, frames)?;
     let mut values = Vec::new(alloc);
-    push(&mut values, Value::Err(raise.code))?;
-    push(&mut values, Value::Str(raise.message))?;
-    push(&mut values, raise.value)?;
+    push(&mut values, Value::Err(code))?;
+    push(&mut values, Value::Str(account.message))?;
+    push(&mut values, account.value)?;
     push(&mut values, frames)?;
     Ok(operation::list(alloc, values)?)
 }

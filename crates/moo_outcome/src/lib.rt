@@ -23,7 +23,7 @@ pub use handling::{
 };
 pub use leading::{Span, after_finally, after_turn, copied_name, no_turn, runs_finally};
 pub use notice::Notice;
-pub use outcome::{Failure, Flow, Raise, Stop, raised, settle};
+pub use outcome::{Account, Failure, Flow, Raise, Stop, raised, settle};
 pub use scatter::{LeftOut, dealt, missing, set_shares};
 pub use surroundings::{Connection, Login, Surroundings, TaskEnv};
 pub use traceback::traceback_lines;

@@ -1,5 +1,6 @@
 //! How evaluation may end.
 ghost use Rattle.std.specs.Prelude.{◌≡◌, IfOk};
+ghost use Rattle.moo_value.specs.View.{tree};
 ghost use Rattle.moo_outcome.specs.Outcome.{settled, plain_raise, raised_by};
 ghost use Rattle.moo_outcome.specs.Seen.{raise_of, trace_of, stop_of, failure_of, seen_value, seen_answer, IsKnown, IsKnownFailure, HadMemory, HadMemoryIn};
 
@@ -8,13 +9,42 @@ use moo_operation::OperationFault;
 use moo_value::{ErrorCode, MooStr, Value};
 use std::alloc::{AllocError, Global};
 
-/// An error that was raised, and the entries from where it was raised.
+/// An error that was raised, and what is told of it, which stands on the heap: so an outcome is small.
 #[derive(Drop)]
 pub struct Raise {
     pub code: ErrorCode,
+    pub account: Box<Account>,
+}
+
+/// What is told of an error that was raised, with the entries from where it was raised.
+#[derive(Drop)]
+pub struct Account {
     pub message: MooStr,
     pub value: Value,
     pub trace: Vec<TraceEntry>,
+}
+
+impl Raise {
+    /// An error as it is raised with this message and this value.
+    pub fn new(
+        alloc: Global,
+        code: ErrorCode,
+        message: MooStr,
+        value: Value,
+        trace: Vec<TraceEntry>,
+    ) -> Result<Raise, AllocError>
+        ensures { IfOk result (λ raise. raise_of raise ≡ record { code = code; message = message; value = tree value; trace = trace.items }) }
+    {
+        let account = Account {
+            message,
+            value,
+            trace,
+        };
+        match Box::new(alloc, account) {
+            Ok(account) => Ok(Raise { code, account }),
+            Err(_) => Err(AllocError),
+        }
+    }
 }
 
 /// Why an expression or a statement did not come to its end.
@@ -106,12 +136,7 @@ fn plain_raise(alloc: Global, code: ErrorCode, trace: Vec<TraceEntry>) -> Result
     let Ok(message) = MooStr::try_from_bytes(alloc, code.message().as_bytes()) else {
         return Err(AllocError);
     };
-    Ok(Raise {
-        code,
-        message,
-        value: Value::Int(0),
-        trace,
-    })
+    Raise::new(alloc, code, message, Value::Int(0), trace)
 }
 
 /// With the d bit an error is raised, and without it the error is the value.

@@ -1,0 +1,4 @@
+-- The calls of plain functions.
+pub mod Calls
+pub mod Outcomes
+pub mod Laws

@@ -1,0 +1,18 @@
+-- How an outcome of the program stands to what a call comes to.
+use Rattle.std.specs.Prelude.{◌≡◌, Result, Ok, Err}
+use Rattle.moo_value.specs.Tree.{Tree}
+use Rattle.moo_value.specs.View.{tree}
+use Rattle.moo_builtin.specs.declared.call.Outcome.{Outcome}
+use Rattle.moo_builtin.specs.declared.call.Outcome.TheVariants as outcome
+use Rattle.moo_builtin.specs.Calls.{Raised}
+use Rattle.moo_table.specs.World.{World}
+
+-- what a call may come to: an answer or a raise, and the world after it
+abbrev pub Replies : Type 1
+Replies = Result Tree Raised → World → Type 0
+
+-- the outcome and the world after it are such; a raise and want of memory leave the world as it was
+abbrev pub IsReply : Outcome → World → World → Replies → Type 0
+IsReply (outcome.Value v) old new Such = Such (Ok (tree v)) new
+IsReply (outcome.Raise e message v) old new Such = Such (Err (record { code = e; message = message; value = tree v })) new × (new ≡ old)
+IsReply outcome.Memory old new Such = new ≡ old

@@ -17,6 +17,8 @@ mod statements;
 #[cfg(test)]
 mod support;
 #[cfg(test)]
+mod table;
+#[cfg(test)]
 mod tasks;
 #[cfg(test)]
 mod values;

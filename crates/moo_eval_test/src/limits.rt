@@ -82,3 +82,29 @@ n = 0; s = "a"; try while (1) s = s + s; n = n + 1; endwhile except (E_QUOTA) re
 fn values_grow_up_to_their_limits(rt: HostRuntime) -> Result<(), Fail> {
     ends(rt.alloc(), true, GROWING)
 }
+
+// What is past the limits is E_QUOTA wherever it is made, and nothing is stored. The list of a call's arguments comes
+// before what is called.
+const PAST_THE_LIMITS: &str =
+    r#"s = "a"; for i in [1..19] s = s + s; endfor return {`{s, s} ! ANY', `s + s ! ANY', `1:name(s) ! ANY', `1:name(s, s) ! ANY', `#0:name(@{s}, s) ! ANY'}; --> {E_QUOTA, E_QUOTA, E_TYPE, E_QUOTA, E_QUOTA}
+s = "a"; for i in [1..19] s = s + s; endfor a = {s, {1}}; return {`a[2] = s ! ANY', `a[2][1] = s ! ANY', `a[2..2] = {s} ! ANY', `a[3..2] = a ! ANY', a[2..$]}; --> {E_QUOTA, E_QUOTA, E_QUOTA, E_QUOTA, {{1}}}
+s = "a"; for i in [1..19] s = s + s; endfor t = s; return {`t[1..0] = s ! ANY', length(t), t[1..1] = "bc", length(t), t == s}; --> {E_QUOTA, 524288, "bc", 524289, 0}
+l = {}; for i in [2..199] l = {l}; endfor m = {l}; a = {1, {2}}; return {`length({m}) ! ANY', `a[1] = m ! E_QUOTA => 7', `a[2][1] = m ! ANY', `a[2][1] = l ! ANY', a, length(a[1] = l), a[2]}; --> {E_QUOTA, 7, E_QUOTA, E_QUOTA, {1, {2}}, 1, {2}}"#;
+
+const PAST_THE_LIMITS_WITHOUT_D: &str =
+    r#"s = "a"; for i in [1..19] s = s + s; endfor a = {s, 1}; return {{s, s}, s + s, a[2] = s, a[2..2] = {s}, a[2], 1:name(s, s)}; --> {E_QUOTA, E_QUOTA, E_QUOTA, E_QUOTA, 1, E_QUOTA}"#;
+
+// The task's budget is used to its last tick: 3 for the loop's statement and its ends, then one for each turn.
+const LAST_TICKS: &str = r#"for i in [1..99995] endfor return ticks_left(); --> 0
+for i in [1..99996] endfor return ticks_left(); --> Task ran out of ticks
+for i in [1..99996] endfor return; --> 0
+for i in [1..99997] endfor return; --> Task ran out of ticks
+for i in [1..99998] endfor --> Task ran out of ticks"#;
+
+#[test]
+fn nothing_goes_past_the_limits(rt: HostRuntime) -> Result<(), Fail> {
+    let alloc = rt.alloc();
+    ends(alloc, true, PAST_THE_LIMITS)?;
+    ends(alloc, false, PAST_THE_LIMITS_WITHOUT_D)?;
+    ends(alloc, true, LAST_TICKS)
+}

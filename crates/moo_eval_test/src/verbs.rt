@@ -21,7 +21,12 @@ v := return {#2.name = "V", #2.size, parent(#9), valid(1), callers(1), raise(E_D
 return set_verb_info(#1, "v", {#4, "rx", "v"}); --> 0
 return #2:v(); --> {E_PERM, E_PROPNF, E_INVARG, E_TYPE, E_ARGS, E_DIV}
 c := return this:c();
-try #2:c(); except e (E_MAXREC) return length(e[4]); endtry --> 50"#;
+try #2:c(); except e (E_MAXREC) return length(e[4]); endtry --> 50
+return #1:c(); --> #1:c:  Too many verb calls / ... called from #1:c / ... called from #1:c / ... called from #1:c / ... called from #1:c / ... called from #1:c / ... called from #1:c / ... called from #1:c / ... called from #1:c / ... called from #1:c / ... called from #1:c / ... called from #1:c / ... called from #1:c / ... called from #1:c / ... called from #1:c / ... called from #1:c / ... called from #1:c / ... called from #1:c / ... called from #1:c / ... called from #1:c / ... called from #1:c / ... called from #1:c / ... called from #1:c / ... called from #1:c / ... called from #1:c / ... called from #1:c / ... called from #1:c / ... called from #1:c / ... called from #1:c / ... called from #1:c / ... called from #1:c / ... called from #1:c / ... called from #1:c / ... called from #1:c / ... called from #1:c / ... called from #1:c / ... called from #1:c / ... called from #1:c / ... called from #1:c / ... called from #1:c / ... called from #1:c / ... called from #1:c / ... called from #1:c / ... called from #1:c / ... called from #1:c / ... called from #1:c / ... called from #1:c / ... called from #1:c / ... called from #1:c / ... called from #1:t
+deep := return args[1] ? this:deep(args[1] - 1) | this:absent();
+return {`this:deep(48) ! ANY', `this:deep(49) ! ANY'}; --> {E_VERBNF, E_MAXREC}
+last := return args[1] ? this:last(args[1] - 1) | {length(callers()), `#9:x() ! ANY', `(9):x() ! ANY', `this:z() ! ANY'};
+return this:last(48); --> {49, E_INVIND, E_TYPE, E_MAXREC}"#;
 
 const CHANGES: &str = r#"#2.name = "N"; return {#2.name, #2.owner}; --> {"N", #3}
 l := while (1) endwhile
@@ -38,7 +43,8 @@ const PROPERTIES: &str =
     r#"return {add_property(#1, "hidden", 7, {#3, ""}), add_property(#1, "shown", 8, {#3, "r"})}; --> {0, 0}
 set_task_perms(#4); return {`(1).hidden ! ANY', `#9.hidden ! ANY', `#2.absent ! ANY', `#2.hidden ! ANY', #2.SHOWN, #2.location}; --> {E_TYPE, E_INVIND, E_PROPNF, E_PERM, 8, #-1}
 set_task_perms(#4); return {`#2.absent = 1 ! ANY', `#2.name = 1 ! ANY', `#2.owner = #2 ! ANY', `#2.location = 1 ! ANY', `#2.shown = 1 ! ANY'}; --> {E_PROPNF, E_TYPE, E_PERM, E_PERM, E_PERM}
-return {#2.hidden, #2.shown = 9, `#2.location = #1 ! ANY', #2.shown, #1.shown}; --> {7, 9, E_PERM, 9, 8}"#;
+return {#2.hidden, #2.shown = 9, `#2.location = #1 ! ANY', #2.shown, #1.shown}; --> {7, 9, E_PERM, 9, 8}
+s = "a"; for i in [1..19] s = s + s; endfor #2.shown = {s, 1}; return {`#2.shown[2] = s ! ANY', #2.shown[2], #2.shown[2] = 3, #2.shown[2]}; --> {E_QUOTA, 1, 3, 3}"#;
 
 const ENTERED: &str = r#"do*ing done := return {verb, argstr, player, caller, dobj};
 closed := return 1;

@@ -10,10 +10,11 @@ use Rattle.moo_program.specs.Tree.{Block}
 use Rattle.moo_dbvalue.specs.Lines.{Line, limited, unlines, count_line}
 use Rattle.moo_dbvalue.proofs.ValueFound.{flat_map_push}
 use Rattle.moo_grammar.specs.declared.names.Names.TheVariants.{Any}
+use Rattle.moo_grammar.specs.Texts.{IsParsed}
 use Rattle.moo_syntax.specs.declared.syntax_fault.SyntaxFaultKind.{SyntaxFaultKind}
 use Rattle.moo_syntax.specs.Programs.{Blames}
 use Rattle.moo_dbrecord.specs.Sparing.{AreAlike, AreAlikeTaken, IsAt}
-use Rattle.moo_dbrecord.specs.Programs.{Table, entry_at, is_open, program_line, program_lines}
+use Rattle.moo_dbrecord.specs.Programs.{entry_at, is_open, program_line, program_lines}
 use Rattle.moo_dbrecord.specs.Texts.{Text, Slack, Spells, header_line, objects_lines}
 use Rattle.moo_dbrecord.specs.declared.fault.DbFault.{DbFault}
 use Rattle.moo_dbrecord.specs.declared.fault.ProgramFaultKind.{ProgramFaultKind}
@@ -25,10 +26,11 @@ use Rattle.moo_dbrecord.specs.declared.dump_reader.Section.{Section}
 use Rattle.moo_dbrecord.specs.declared.dump_reader.Section.TheVariants as section
 use Rattle.moo_dbrecord.proofs.TakenLaws.{taken_on-append, rest_taken}
 use Rattle.moo_dbrecord.proofs.AnswerFound.{IsTaken}
+use Rattle.moo_dbrecord.proofs.Standing.{stands_on, stand_at, stand_so}
 use Rattle.moo_dbrecord.proofs.DumpProgress.{progress_read, programmed}
 use Rattle.moo_dbrecord.proofs.Sources.{SameSources, EndsSource, Does, none_read, reads_on, ends, IsPast, line_past, line_does, taken_so, source_of_text, free_in, dot_puts}
 use Rattle.moo_dbrecord.proofs.Sparing.{open_alike, reads_alike, alike_self, alike_then, at_on}
-use Rattle.moo_dbprogram.specs.Says.{Programs, programs_of, IsParsedAs, AreParsedAs}
+use Rattle.moo_dbprogram.specs.Says.{Programs, programs_of, HasSource, IsParsedAs, AreParsedAs, HasProgramsWithin}
 use Rattle.moo_dbprogram.specs.Faults.{told_kind, source_kind_of, HasProgramAt, through_program}
 use Rattle.moo_dbprogram.specs.declared.program_reader.ProgramReader.{ProgramReader}
 use Rattle.moo_dbprogram.specs.Reading.{IsWholeLine, IsBehind, IsRefused, IsSourceRefused, ended_between, verb_at, sources_at}
@@ -148,9 +150,14 @@ dot_behind : (before source : List Line) (o v : ℕ) → through_program before 
 dot_behind before source o v =
     ap unlines (sym (append_assoc before (program_line o v ∷ source) (codes "." ∷ []))) ∙ flat_map_push (λ (l : Line). l ++ 10 ∷ []) (before ++ program_line o v ∷ source) (codes ".")
 
-pub program_stands : (s t : Taken) (bytes line : List ℕ) (h : Passes s bytes line t) (o v : ℕ) → taken_on limited begin (bytes ++ line) ≡ Ok t → Ends s bytes line t h o v
-    → HasProgramAt (bytes ++ line) (t.lines - length s.progress.source - 1) o v s.progress.source
-program_stands s t bytes line h o v taken e =
+-- the program stands there, and this is what had come before its dot
+pub record StandsBehind (bytes : List ℕ) (n o v : ℕ) (p : Progress) : Type 0 where
+  pub place : HasProgramAt bytes n o v p.source
+  pub same : place.reading.state.progress ≡ p
+
+pub program_stands : (s t : Taken) (bytes line : List ℕ) (h : Passes s bytes line t) (o v n : ℕ) → taken_on limited begin bytes ≡ Ok s → taken_on limited begin (bytes ++ line) ≡ Ok t → Ends s bytes line t h o v
+    → n ≡ t.lines - length s.progress.source - 1 → StandsBehind (bytes ++ line) n o v s.progress
+program_stands s t bytes line h o v n leads taken e number =
     let p = s.progress in
     let k = h.before.slack in
     let before = programmed p.text k (length k.programs + suc p.programs_left) [] in
@@ -164,15 +171,32 @@ program_stands s t bytes line h o v taken e =
     ap (λ (i : ℕ). entry_at t.progress.text.programs i v) (sym e.object) ∙ ap (λ (i : ℕ). entry_at t.progress.text.programs p.object i) (sym e.verb) ∙ e.ended.there in
     let count : s.lines ≡ length before + suc (length p.source) = h.before.count ∙ ap length read ∙ length-append before (program_line o v ∷ p.source) in
     let next = h.past.lines in
+    let reading = stand_so limited bytes s leads in
+    let ended = stand_so limited (bytes ++ line) t taken in
     record {
-      before = before;
-      after = [];
-      number = omega arith;
-      whole = same ∙ sym (append-nil (through_program before o v p.source));
-      there = λ more u spelled. source_of_text (bytes ++ line) t taken o v p.source there more u (subst (λ (b : List ℕ). Spells (b ++ more) u) (sym same) spelled);
+      place = record {
+        before = before;
+        after = [];
+        number = omega arith;
+        whole = same ∙ sym (append-nil (through_program before o v p.source));
+        reading = stand_at limited s.lines (n + length p.source) (bytes ++ line) (omega arith) (stands_on limited s.lines bytes line reading.stand);
+        verb = ap (λ (q : Progress). verb_read q.section q) reading.same ∙ ap (λ (x : Section). verb_read x p) e.section ∙ ap (λ (i : ℕ). Some (i, p.verb)) e.object ∙ ap (λ (i : ℕ). Some (o, i)) e.verb;
+        lines = ap (λ (q : Progress). q.source) reading.same;
+        ended = stand_at limited t.lines (n + length p.source + 1) (bytes ++ line) (omega arith) ended.stand;
+        kept = ap (λ (q : Progress). entry_at q.text.programs o v) ended.same ∙ there;
+        there = λ more u spelled. source_of_text (bytes ++ line) t taken o v p.source there more u (subst (λ (b : List ℕ). Spells (b ++ more) u) (sym same) spelled);
+      };
+      same = reading.same;
     }
 
 -- ---- the programs that are kept
+
+pub some_source : (P : List Line → Block → Type 0) (b : Option Block) (s : List Line) → HasSource P (Some s) b → (c : Block) × P s c
+some_source P None s h = absurd h
+some_source P (Some b) s h = (b, h)
+
+pub parsed_within : (t : Text) (ps : Programs) → AreParsedAs t.programs ps → HasProgramsWithin t
+parsed_within t ps h o v s e = some_source (IsParsed Any) (entry_at ps o v) s (subst (λ (x : Option (List Line)). IsParsedAs x (entry_at ps o v)) e (h o v))
 
 stays_parsed : (old new : Taken) (ps : Programs) → SameSources old.progress new.progress → AreParsedAs old.progress.text.programs ps → AreParsedAs new.progress.text.programs ps
 stays_parsed old new ps same h o v = subst (λ (x : Option (List Line)). IsParsedAs x (entry_at ps o v)) (sym (same o v)) (h o v)
@@ -300,25 +324,27 @@ behind_ended old new bytes line o v middle h d on dropped there others = record 
 
 -- ---- a source that is refused
 
-told_source : (bytes : List ℕ) (o v : ℕ) (source : List Line) (e : DbFault) (at : ℕ) (k : SyntaxFaultKind) (x : Option ProgramFaultKind) → told_kind k ≡ x → e.kind ≡ source_kind_of o v at x → Blames Any source at k → HasProgramAt bytes e.line o v source → IsRefused bytes (taken_on limited begin bytes) e
-told_source bytes o v source e at k None told is blames place = inl is
-told_source bytes o v source e at k (Some x) told is blames place = inr (inr (record {
+told_source : (bytes : List ℕ) (o v : ℕ) (source : List Line) (e : DbFault) (at : ℕ) (k : SyntaxFaultKind) (x : Option ProgramFaultKind) → told_kind k ≡ x → e.kind ≡ source_kind_of o v at x → Blames Any source at k
+    → (place : HasProgramAt bytes e.line o v source) → HasProgramsWithin place.reading.state.progress.text → IsRefused bytes (taken_on limited begin bytes) e
+told_source bytes o v source e at k None told is blames place parsed = inl is
+told_source bytes o v source e at k (Some x) told is blames place parsed = inr (inr (record {
   object = o;
   verb = v;
   fault = record { line = at; kind = x };
   told = is;
-  is = record { source = source; place = place; blamed = record { kind = k; told = told; blames = blames } };
+  is = record { source = source; place = place; blamed = record { kind = k; told = told; blames = blames }; parsed = parsed };
 }))
 
-pub source_refused : (old new : DbReader) (bytes line : List ℕ) (o v : ℕ) (e : DbFault) (before : IsAt old bytes) → IsAtDot old new bytes line before o v
+pub source_refused : (r : ProgramReader) (new : DbReader) (bytes line : List ℕ) (o v : ℕ) (e : DbFault) (h : IsBehind r bytes) → IsAtDot r.records new bytes line h.at o v
     → ((source : List Line) → entry_at (sources_at new) o v ≡ Some source → IsSourceRefused (taken_of new).lines o v source e) → IsRefused (bytes ++ line) (taken_on limited begin (bytes ++ line)) e
-source_refused old new bytes line o v e before d refused =
-    let s = before.state in
+source_refused r new bytes line o v e h d refused =
+    let s = h.at.state in
     let t = d.after.state in
     let source = s.progress.source in
-    let place = program_stands s t bytes line d.passes o v d.after.leads d.ends in
     elim (refused source d.had) [
       | inl memory ↦ inl memory
-      | inr fault ↦ told_source (bytes ++ line) o v source e fault.at fault.fault (told_kind fault.fault) refl fault.kind fault.blames
-          (subst (λ (n : ℕ). HasProgramAt (bytes ++ line) n o v source) (ap (λ (n : ℕ). n - length source - 1) d.after.alike.lines ∙ sym fault.line) place)
+      | inr fault ↦
+          let stands = program_stands s t bytes line d.passes o v e.line h.at.leads d.after.leads d.ends (fault.line ∙ ap (λ (n : ℕ). n - length source - 1) (sym d.after.alike.lines)) in
+          told_source (bytes ++ line) o v source e fault.at fault.fault (told_kind fault.fault) refl fault.kind fault.blames stands.place
+          (subst (λ (p : Progress). HasProgramsWithin p.text) (sym stands.same) (parsed_within s.progress.text (programs_of r.programs) h.parsed))
     ]

@@ -4,3 +4,4 @@ pub mod Rows
 pub mod Behind
 pub mod Refused
 pub mod Whole
+pub mod Order

@@ -1,30 +1,83 @@
 -- Refusals of bytes stand for all that begin so, and what they say of the whole.
 use Rattle.std.proofs.lemmas.List.{take_rest, take-append-drop}
-use Rattle.std.proofs.Common.{◌≡◌, ℕ, ◌-◌, List, ◌++◌, length, take, drop, Option, Some, None, Result, Ok, inl, inr, refl, sym, ap, subst, ◌∙◌, append_assoc, MatchOption}
+use Rattle.std.proofs.Common.{◌≡◌, ℕ, ◌+◌, ◌-◌, List, [], ◌∷◌, ◌++◌, length, take, drop, Option, Some, None, Result, Ok, Err, inl, inr, refl, sym, ap, subst, ◌∙◌, append_assoc, arith, MatchOption}
 use Rattle.moo_dbvalue.specs.Lines.{limited}
+use Rattle.moo_dbvalue.specs.declared.fault.Refusal.{Refusal}
+use Rattle.moo_dbvalue.specs.declared.fault.Refusal.TheVariants as refusal
 use Rattle.moo_dbrecord.specs.Texts.{Text, text_of}
 use Rattle.moo_dbrecord.specs.declared.dump.Dump.{Dump}
 use Rattle.moo_dbrecord.specs.Sparing.{outline}
-use Rattle.moo_dbrecord.specs.Answer.{Told, Taken, taken_on, begin, Stops, and_then, answer_to, finished}
-use Rattle.moo_dbrecord.specs.Faults.{fault_of}
+use Rattle.moo_dbrecord.specs.DumpReading.{Progress}
+use Rattle.moo_dbrecord.specs.Answer.{Told, Taken, taken_on, begin, StopsAt, Stops, HasNoEnd, and_then, answer_to, finished}
+use Rattle.moo_dbrecord.specs.Faults.{kind_of_refusal, fault_of}
 use Rattle.moo_dbrecord.specs.declared.db_reader.RecordFault.{RecordFault}
 use Rattle.moo_dbrecord.specs.declared.fault.DbFault.{DbFault}
-use Rattle.moo_dbrecord.proofs.TakenLaws.{taken_on-append, stops_then}
+use Rattle.moo_dbrecord.proofs.TakenLaws.{taken_on-append, rest_taken, stops_then}
+use Rattle.moo_dbrecord.proofs.Standing.{stands_on, stand_at, stand_so, line_fault, finished_line}
 use Rattle.moo_dbrecord.proofs.Sources.{finished_text}
-use Rattle.moo_dbprogram.specs.Says.{AreParsedAs, programs_of}
+use Rattle.moo_dbprogram.specs.Says.{AreParsedAs, HasProgramsWithin, programs_of}
 use Rattle.moo_dbprogram.specs.declared.program_reader.ProgramReader.{ProgramReader}
-use Rattle.moo_dbprogram.specs.Faults.{through_program}
-use Rattle.moo_dbprogram.specs.Reading.{IsRecordFault, IsToldProgram, IsRefused, IsBehind, HasRead, IsWell, HasRefused, IsRead}
+use Rattle.moo_dbprogram.specs.Faults.{AreSoundBefore, through_program}
+use Rattle.moo_dbprogram.specs.Reading.{IsWholeLine, IsRecordFault, IsToldProgram, IsRefused, IsBehind, HasRead, IsWell, HasRefused, IsRead}
+use Rattle.moo_dbprogram.proofs.Behind.{parsed_within}
 
-record_then : {A B : Type 0} (r : Result A Told) (f : A → Result B Told) (e : DbFault) → IsRecordFault r e → IsRecordFault (and_then r f) e
-record_then r f e h = record { fault = h.fault; told = h.told; stops = stops_then h.fault.kind h.fault.line r f h.stops }
+-- ---- what stands before a fault
 
-pub record_refused : (bytes : List ℕ) (answer : Result Taken Told) (f : RecordFault) → Stops f answer → IsRefused bytes answer (fault_of f)
-record_refused bytes answer f h = inr (inl (record { fault = f; told = refl; stops = h }))
+sound_here : (r : ProgramReader) (bytes : List ℕ) (n : ℕ) (h : IsBehind r bytes) → n ≡ h.at.state.lines + 1 → AreSoundBefore n bytes
+sound_here r bytes n h is =
+    let s = h.at.state in
+    let so = stand_so limited bytes s h.at.leads in
+    record { stand = stand_at limited s.lines (n - 1) bytes (omega arith) so.stand; parsed = subst (λ (p : Progress). HasProgramsWithin p.text) (sym so.same) (parsed_within s.progress.text (programs_of r.programs) h.parsed) }
+
+sound_on : (bytes more : List ℕ) (n : ℕ) → AreSoundBefore n bytes → AreSoundBefore n (bytes ++ more)
+sound_on bytes more n h = record { stand = stands_on limited (n - 1) bytes more h.stand; parsed = h.parsed }
+
+taken_from : {A : Type 0} (r : ProgramReader) (bytes : List ℕ) (f : Taken → Result A Told) (h : IsBehind r bytes) → and_then (taken_on limited begin bytes) f ≡ f h.at.state
+taken_from r bytes f h = ap (λ (x : Result Taken Told). and_then x f) h.at.leads
+
+-- where the records stop at a fault of this line, or for want of memory
+stopped : {A : Type 0} (bytes : List ℕ) (answer : Result A Told) (f : RecordFault) → ((d : Told) → answer ≡ Err d → AreSoundBefore d.line bytes) → Stops f answer → IsRefused bytes answer (fault_of f)
+stopped {A = A} bytes answer f sound stops = at f.kind refl stops
+  where
+    at : (k : Refusal) → f.kind ≡ k → StopsAt k f.line answer → IsRefused bytes answer (fault_of f)
+    at refusal.Memory is h = inl (ap kind_of_refusal is)
+    at (refusal.Fault g) is h = inr (inl (record { fault = f; told = refl; stops = stops; sound = sound (record { line = f.line; fault = g }) h }))
+
+-- at the end of a line
+pub line_refused : (r : ProgramReader) (bytes line : List ℕ) (f : RecordFault) → IsWholeLine line → IsBehind r bytes → Stops f (taken_on limited begin (bytes ++ line)) → IsRefused (bytes ++ line) (taken_on limited begin (bytes ++ line)) (fault_of f)
+line_refused r bytes line f whole h =
+    stopped (bytes ++ line) (taken_on limited begin (bytes ++ line)) f (λ d e.
+    let here : taken_on limited h.at.state (whole.line ++ 10 ∷ []) ≡ Err d =
+    ap (taken_on limited h.at.state) (sym whole.is) ∙ sym (taken_on-append limited begin bytes line ∙ taken_from r bytes (λ t. taken_on limited t line) h) ∙ e in
+    sound_on bytes line d.line (sound_here r bytes d.line h (line_fault limited h.at.state whole.line d whole.clean here)))
+
+-- bytes without an end stop for want of memory alone
+pub part_refused : (r : ProgramReader) (bytes part : List ℕ) (f : RecordFault) → HasNoEnd part → IsBehind r bytes → Stops f (taken_on limited begin (bytes ++ part)) → IsRefused (bytes ++ part) (taken_on limited begin (bytes ++ part)) (fault_of f)
+part_refused r bytes part f clean h =
+    stopped (bytes ++ part) (taken_on limited begin (bytes ++ part)) f (λ d e. absurd (
+    let goes = taken_on-append limited begin bytes part ∙ taken_from r bytes (λ t. taken_on limited t part) h ∙ rest_taken limited h.at.state part clean in
+    let no = sym goes ∙ e in
+    cc
+    ))
+
+-- at the end of the text
+pub end_refused : (r : ProgramReader) (bytes : List ℕ) (f : RecordFault) → IsBehind r bytes → Stops f (answer_to limited bytes) → IsRefused bytes (answer_to limited bytes) (fault_of f)
+unfolding answer_to
+end_refused r bytes f h =
+    stopped bytes (answer_to limited bytes) f (λ d e. sound_here r bytes d.line h (finished_line h.at.state d (sym (taken_from r bytes finished h) ∙ e)))
+
+-- ---- more bytes
+
+record_then : {A B : Type 0} (bytes : List ℕ) (r : Result A Told) (f : A → Result B Told) (e : DbFault) → IsRecordFault bytes r e → IsRecordFault bytes (and_then r f) e
+record_then bytes r f e h = record { fault = h.fault; told = h.told; stops = stops_then h.fault.kind h.fault.line r f h.stops; sound = h.sound }
+
+record_on : {A : Type 0} (bytes more : List ℕ) (r : Result A Told) (e : DbFault) → IsRecordFault bytes r e → IsRecordFault (bytes ++ more) r e
+record_on bytes more r e h = record { fault = h.fault; told = h.told; stops = h.stops; sound = sound_on bytes more e.line h.sound }
 
 program_then : (bytes more : List ℕ) (e : DbFault) → IsToldProgram bytes e → IsToldProgram (bytes ++ more) e
 program_then bytes more e h =
     let p = h.is.place in
+    let n = e.line + length h.is.source in
     record {
       object = h.object;
       verb = h.verb;
@@ -37,23 +90,30 @@ program_then bytes more e h =
           after = p.after ++ more;
           number = p.number;
           whole = ap (λ (b : List ℕ). b ++ more) p.whole ∙ append_assoc (through_program p.before h.object h.verb h.is.source) p.after more;
+          reading = stands_on limited n bytes more p.reading;
+          verb = p.verb;
+          lines = p.lines;
+          ended = stands_on limited (n + 1) bytes more p.ended;
+          kept = p.kept;
           there = p.there;
         };
         blamed = h.is.blamed;
+        parsed = h.is.parsed;
       };
     }
 
 -- more bytes change no refusal
 pub refused_then : (bytes more : List ℕ) (e : DbFault) → IsRefused bytes (taken_on limited begin bytes) e → IsRefused (bytes ++ more) (taken_on limited begin (bytes ++ more)) e
 refused_then bytes more e (inl memory) = inl memory
-refused_then bytes more e (inr (inl fault)) = inr (inl (subst (λ (r : Result Taken Told). IsRecordFault r e) (sym (taken_on-append limited begin bytes more)) (record_then (taken_on limited begin bytes) (λ t. taken_on limited t more) e fault)))
+refused_then bytes more e (inr (inl fault)) =
+    inr (inl (subst (λ (r : Result Taken Told). IsRecordFault (bytes ++ more) r e) (sym (taken_on-append limited begin bytes more)) (record_then (bytes ++ more) (taken_on limited begin bytes) (λ t. taken_on limited t more) e (record_on bytes more (taken_on limited begin bytes) e fault))))
 refused_then bytes more e (inr (inr program)) = inr (inr (program_then bytes more e program))
 
 -- nor does the end
 pub refused_whole : (bytes : List ℕ) (e : DbFault) → IsRefused bytes (taken_on limited begin bytes) e → IsRefused bytes (answer_to limited bytes) e
 unfolding answer_to
 refused_whole bytes e (inl memory) = inl memory
-refused_whole bytes e (inr (inl fault)) = inr (inl (record_then (taken_on limited begin bytes) finished e fault))
+refused_whole bytes e (inr (inl fault)) = inr (inl (record_then bytes (taken_on limited begin bytes) finished e fault))
 refused_whole bytes e (inr (inr program)) = inr (inr program)
 
 -- ---- the calls of a reader

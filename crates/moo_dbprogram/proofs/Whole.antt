@@ -106,7 +106,7 @@ ok_says : (bytes : List ℕ) (d : Database) (t : Text) → IsRead bytes d → Sp
 ok_says bytes d t h s = subst (λ (u : Text). Says u d) (one_text bytes h.text t (answer_found limited bytes h.text h.records) s) h.says
 
 -- the source of a program that is told, in a text that the bytes spell
-source_told : (bytes : List ℕ) (e : DbFault) (t : Text) (p : IsToldProgram bytes e) → Spells bytes t → entry_at t.programs p.object p.verb ≡ Some p.is.source
+pub source_told : (bytes : List ℕ) (e : DbFault) (t : Text) (p : IsToldProgram bytes e) → Spells bytes t → entry_at t.programs p.object p.verb ≡ Some p.is.source
 source_told bytes e t p s = p.is.place.there p.is.place.after t (subst (λ (b : List ℕ). Spells b t) p.is.place.whole s)
 
 pub is_read_only : (bytes : List ℕ) (r : Result Database DbFault) → Answers r bytes → (t : Text) → Spells bytes t → HasPrograms t → MatchResult r (Says t) (λ e. IsOfLimits e.kind)

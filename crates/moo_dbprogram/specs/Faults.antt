@@ -1,20 +1,24 @@
 -- What is told of bytes that are refused.
-use Rattle.std.specs.Prelude.{◌≡◌, ◌≢◌, ℕ, suc, List, ◌++◌, Option, Some, None, ◌⊎◌, length}
+use Rattle.std.specs.Prelude.{◌≡◌, ◌≢◌, ℕ, suc, ◌+◌, ◌-◌, List, ◌++◌, Option, Some, None, ◌⊎◌, length}
 use Rattle.moo_grammar.specs.declared.names.Names.TheVariants.{Any}
 use Rattle.moo_syntax.specs.declared.syntax_fault.SyntaxFaultKind.{SyntaxFaultKind}
 use Rattle.moo_syntax.specs.declared.syntax_fault.SyntaxFaultKind.TheVariants as syntax
 use Rattle.moo_syntax.specs.Programs.{Blames}
-use Rattle.moo_dbvalue.specs.Lines.{Line, unlines}
+use Rattle.moo_dbvalue.specs.Lines.{Line, limited, unlines}
 use Rattle.moo_dbvalue.specs.declared.fault.LineFault.{LineFault}
 use Rattle.moo_dbvalue.specs.declared.fault.LineFault.TheVariants.{Truncated, TooLarge}
 use Rattle.moo_dbrecord.specs.Programs.{entry_at, program_lines}
 use Rattle.moo_dbrecord.specs.Texts.{Text, Spells}
+use Rattle.moo_dbrecord.specs.DumpReading.{verb_read}
+use Rattle.moo_dbrecord.specs.Answer.{Stand}
 use Rattle.moo_dbrecord.specs.Faults.{kind_of}
 use Rattle.moo_dbrecord.specs.declared.fault.DbFaultKind.{DbFaultKind}
 use Rattle.moo_dbrecord.specs.declared.fault.DbFaultKind.TheVariants as kind
 use Rattle.moo_dbrecord.specs.declared.fault.ProgramFault.{ProgramFault}
 use Rattle.moo_dbrecord.specs.declared.fault.ProgramFaultKind.{ProgramFaultKind}
 use Rattle.moo_dbrecord.specs.declared.fault.ProgramFaultKind.TheVariants as program
+use Rattle.moo_dbrecord.specs.declared.fault.DbFault.{DbFault}
+use Rattle.moo_dbprogram.specs.Says.{HasProgramsWithin}
 
 -- how a fault of a source is told, but for want of memory
 abbrev pub told_kind : SyntaxFaultKind → Option ProgramFaultKind
@@ -44,20 +48,33 @@ pub record IsBlamed (source : List Line) (f : ProgramFault) : Type 0 where
 abbrev pub through_program : List Line → ℕ → ℕ → List Line → List ℕ
 through_program before o v source = unlines (before ++ program_lines (record { object = o; verb = v; source = source }))
 
--- The bytes have the program of verb v of object o, with this first line and this source.
+-- The bytes have the program of verb v of object o, with this first line and this source: the lines up to its dot can stand
+-- where they are, and it is the one that is being read there; with the dot it has come.
 pub record HasProgramAt (bytes : List ℕ) (line o v : ℕ) (source : List Line) : Type 0 where
   pub before : List Line
   pub after : List ℕ
   pub number : line ≡ suc (length before)
   pub whole : bytes ≡ through_program before o v source ++ after
+  pub reading : Stand limited (line + length source) bytes
+  pub verb : verb_read reading.state.progress.section reading.state.progress ≡ Some (o, v)
+  pub lines : reading.state.progress.source ≡ source
+  pub ended : Stand limited (line + length source + 1) bytes
+  pub kept : entry_at ended.state.progress.text.programs o v ≡ Some source
   -- each text that begins so has it
   pub there : (more : List ℕ) (t : Text) → Spells (through_program before o v source ++ more) t → entry_at t.programs o v ≡ Some source
 
--- the program of this verb, on whose first line the fault is told, is none for this reason
+-- The program of this verb, on whose first line the fault is told, is none for this reason, and each program that has come
+-- before it is one by the parser.
 pub record IsProgramFault (bytes : List ℕ) (line o v : ℕ) (f : ProgramFault) : Type 0 where
   pub source : List Line
   pub place : HasProgramAt bytes line o v source
   pub blamed : IsBlamed source f
+  pub parsed : HasProgramsWithin place.reading.state.progress.text
+
+-- The lines before line n can stand where they are, and each program that has come with them is one by the parser.
+pub record AreSoundBefore (n : ℕ) (bytes : List ℕ) : Type 0 where
+  pub stand : Stand limited (n - 1) bytes
+  pub parsed : HasProgramsWithin stand.state.progress.text
 
 -- ---- kinds of faults
 
@@ -75,3 +92,19 @@ pub record IsTooDeep (k : DbFaultKind) : Type 0 where
 -- want of memory, or what is past a limit
 abbrev pub IsOfLimits : DbFaultKind → Type 0
 IsOfLimits k = (k ≡ kind.Memory) ⊎ (k ≡ kind.TooLarge) ⊎ IsTooDeep k
+
+-- ---- two faults that are told of one text
+
+-- of a program that is none two faults may be told
+pub record AreOfOneProgram (j k : DbFaultKind) : Type 0 where
+  pub object : ℕ
+  pub verb : ℕ
+  pub fault : ProgramFault
+  pub other : ProgramFault
+  pub is : j ≡ kind.Program object verb fault
+  pub also : k ≡ kind.Program object verb other
+
+-- on the same line the same is told, but for which fault of one program it is
+pub record AreToldAlike (d e : DbFault) : Type 0 where
+  pub line : d.line ≡ e.line
+  pub kind : (d.kind ≡ e.kind) ⊎ AreOfOneProgram d.kind e.kind

@@ -16,7 +16,7 @@ use Rattle.moo_dbrecord.specs.declared.fault.DbFault.{DbFault}
 use Rattle.moo_dbrecord.specs.declared.fault.DbFaultKind.TheVariants as kind
 use Rattle.moo_dbrecord.specs.declared.fault.ProgramFault.{ProgramFault}
 use Rattle.moo_dbprogram.specs.Says.{AreParsedAs, programs_of, Says}
-use Rattle.moo_dbprogram.specs.Faults.{source_kind, IsProgramFault}
+use Rattle.moo_dbprogram.specs.Faults.{source_kind, IsProgramFault, AreSoundBefore}
 use Rattle.moo_dbprogram.specs.declared.database.Database.{Database}
 use Rattle.moo_dbprogram.specs.declared.program_reader.ProgramReader.{ProgramReader}
 
@@ -36,11 +36,12 @@ pub record IsBehind (r : ProgramReader) (bytes : List ℕ) : Type 0 where
 abbrev pub place_of : ProgramReader → Progress
 place_of r = (taken_of r.records).progress
 
--- the fault is that of the records, whose answer this is
-pub record IsRecordFault {A : Type 0} (answer : Result A Told) (e : DbFault) : Type 0 where
+-- the fault is that of the records, whose answer this is, and no program before it is at fault
+pub record IsRecordFault {A : Type 0} (bytes : List ℕ) (answer : Result A Told) (e : DbFault) : Type 0 where
   pub fault : RecordFault
   pub told : e ≡ fault_of fault
   pub stops : Stops fault answer
+  pub sound : AreSoundBefore e.line bytes
 
 -- the fault is that of a program which ends in the bytes
 pub record IsToldProgram (bytes : List ℕ) (e : DbFault) : Type 0 where
@@ -52,7 +53,7 @@ pub record IsToldProgram (bytes : List ℕ) (e : DbFault) : Type 0 where
 
 -- why the bytes, of which the records answer this, are refused
 abbrev pub IsRefused : {A : Type 0} → List ℕ → Result A Told → DbFault → Type 0
-IsRefused bytes answer e = (e.kind ≡ kind.Memory) ⊎ IsRecordFault answer e ⊎ IsToldProgram bytes e
+IsRefused bytes answer e = (e.kind ≡ kind.Memory) ⊎ IsRecordFault bytes answer e ⊎ IsToldProgram bytes e
 
 -- The reader has taken these bytes, in whatever pieces, or has refused them.
 abbrev pub HasRead : ProgramReader → List ℕ → Type 0

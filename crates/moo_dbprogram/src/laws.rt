@@ -2,13 +2,17 @@
 ghost use Rattle.std.specs.Prelude.{◌≢◌, ◌++◌, ℕ, List};
 ghost use Rattle.moo_program.specs.Tree.{Block};
 ghost use Rattle.moo_dbrecord.specs.Texts.{Text, Spells};
+ghost use Rattle.moo_dbrecord.specs.Answer.{answer_to};
+ghost use Rattle.moo_dbrecord.specs.declared.fault.DbFault.{DbFault};
+ghost use Rattle.moo_dbrecord.specs.declared.fault.DbFaultKind.TheVariants.{Memory};
 ghost use Rattle.moo_dbrecord.specs.declared.fault.ProgramFault.{ProgramFault};
 ghost use Rattle.moo_dbrecord.specs.declared.fault.ProgramFaultKind.TheVariants.{TooDeep};
 ghost use Rattle.moo_grammar.specs.declared.names.Names.TheVariants.{Any};
 ghost use Rattle.moo_grammar.specs.Texts.{IsProgramOf, IsParsed};
-ghost use Rattle.moo_dbvalue.specs.Lines.{Line};
+ghost use Rattle.moo_dbvalue.specs.Lines.{Line, limited};
 ghost use Rattle.moo_dbprogram.specs.Says.{HasPrograms};
-ghost use Rattle.moo_dbprogram.specs.Faults.{IsBlamed, IsProgramFault, through_program};
+ghost use Rattle.moo_dbprogram.specs.Faults.{IsBlamed, IsProgramFault, AreToldAlike, through_program};
+ghost use Rattle.moo_dbprogram.specs.Reading.{IsRefused};
 
 /// A source that is blamed has no program within the limits, and none at all unless it is too deep.
 pub fn what_is_blamed_is_no_program()
@@ -21,4 +25,11 @@ pub fn what_is_blamed_is_no_program()
 pub fn no_text_goes_on_from_a_program()
     ensures { (bytes : List ℕ) (line o v : ℕ) (f : ProgramFault) (h : IsProgramFault bytes line o v f) → f.kind ≢ TooDeep
         → (more : List ℕ) (t : Text) → Spells (through_program h.place.before o v h.source ++ more) t → ¬ (HasPrograms t) }
+{}
+
+/// Of several faults of a text one is told, want of memory aside: the first line that can't stand where it is, or a program's, at
+/// its dot. Which fault of one program it is stays open.
+pub fn one_fault_is_told()
+    ensures { (bytes : List ℕ) (d e : DbFault) → IsRefused bytes (answer_to limited bytes) d → IsRefused bytes (answer_to limited bytes) e
+        → d.kind ≢ Memory → e.kind ≢ Memory → AreToldAlike d e }
 {}

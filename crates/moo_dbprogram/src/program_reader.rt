@@ -96,7 +96,8 @@ pub struct ProgramReader {
 impl ProgramReader {
     /// A reader before the first byte.
     pub fn new(alloc: Global) -> ProgramReader
-        ensures { HasRead result [] }
+        ensures taken { HasRead result [] }
+        ensures well { IsWell result }
     {
         ProgramReader {
             records: DbReader::new(alloc),

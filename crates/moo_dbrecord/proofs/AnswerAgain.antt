@@ -75,7 +75,7 @@ answer_again z bytes t k h lines =
     ap (answer_to z) lines ∙ ap (λ (r : Result Taken Told). and_then r finished) b.1 ∙ ap (told (b.0 + 1)) a.2
 
 -- a fault of a line stands past the lines before it
-fault_line : (z : Sizes) (bs : List ℕ) (s : Taken) (e : Told) → taken_on z s bs ≡ Err e → s.lines < e.line
+pub fault_line : (z : Sizes) (bs : List ℕ) (s : Taken) (e : Told) → taken_on z s bs ≡ Err e → s.lines < e.line
 unfolding taken_on line_ended
 fault_line z [] s e h = absurd cc
 fault_line z (b ∷ bs) s e h = decide (eqb b 10) (λ t f. fault_line z bs t e f) h
@@ -159,7 +159,7 @@ trailing z (b ∷ more) s t at_end some e = decide (eqb b 10) (trailing z more (
     decide true rest f = stops s.progress.section at_end (λ u. and_then (taken_on z u more) finished) (sym (assoc (line_ended z s s.rest)) ∙ f)
     decide false rest f = rest f
 
-then_err : {A B : Type 0} (r : Result A Told) (f : A → Result B Told) (e : Told) → and_then r f ≡ Err e → (r ≡ Err e) ⊎ ((x : A) × (r ≡ Ok x) × (f x ≡ Err e))
+pub then_err : {A B : Type 0} (r : Result A Told) (f : A → Result B Told) (e : Told) → and_then r f ≡ Err e → (r ≡ Err e) ⊎ ((x : A) × (r ≡ Ok x) × (f x ≡ Err e))
 then_err (Ok x) f e h = inr (x, refl, h)
 then_err (Err d) f e h = let same : d ≡ e = cc in inl (ap Err same)
 

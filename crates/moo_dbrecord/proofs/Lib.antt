@@ -19,5 +19,6 @@ pub mod CanonicalText
 pub mod WriteLaws
 pub mod Sources
 pub mod Sparing
+pub mod Standing
 pub mod Placed
 pub mod DumpSmall

@@ -1,5 +1,6 @@
 -- Objects and players that have come stay, and are those of each text that begins so.
-use Rattle.std.proofs.Common.{◌≡◌, ℕ, zero, suc, ◌+◌, Bool, true, false, cond, eqb, List, [], ◌∷◌, ◌++◌, length, Result, Ok, Err, refl, sym, ap, subst, ◌∙◌, append_assoc}
+use Rattle.std.proofs.Common.{◌≡◌, ℕ, zero, suc, ◌+◌, ◌≤◌, Bool, true, false, cond, eqb, List, [], ◌∷◌, ◌++◌, length, Result, Ok, Err, inl, inr, refl, sym, ap, subst, ◌∙◌, append_assoc, arith}
+use Rattle.std.proofs.lemmas.Bool.{cases_lt}
 use Rattle.std.specs.Prelude.{codes, map}
 use Rattle.std.specs.Fmt.{signed_decimal}
 use Rattle.std.specs.List.{flat_map}
@@ -11,13 +12,14 @@ use Rattle.moo_dbrecord.specs.Texts.{Text, Slack, Spells, header_line, objects_l
 use Rattle.moo_dbrecord.specs.Placing.{lines_to_objects, BeginsWithObjects}
 use Rattle.moo_dbrecord.specs.Headings.{program_head_of, tasks_of, connection_count_of, connection_of}
 use Rattle.moo_dbrecord.specs.DumpReading.{Progress, after_programs, after_connections, after_source, dump_step, end_of, ended}
-use Rattle.moo_dbrecord.specs.Answer.{Told, Taken, told, and_then, line_ended, taken_on, finished, finished_with, begin, answer_to}
+use Rattle.moo_dbrecord.specs.Answer.{Told, Taken, told, and_then, line_ended, taken_on, finished, finished_with, begin, answer_to, Stand}
 use Rattle.moo_dbrecord.specs.Sparing.{has_objects}
 use Rattle.moo_dbrecord.specs.declared.dump_reader.Section.{Section}
 use Rattle.moo_dbrecord.specs.declared.dump_reader.Section.TheVariants as section
 use Rattle.moo_dbrecord.proofs.TakenLaws.{taken_on-append}
 use Rattle.moo_dbrecord.proofs.AnswerFound.{then_ok, told_ok}
 use Rattle.moo_dbrecord.proofs.AnswerAgain.{answer_again}
+use Rattle.moo_dbrecord.proofs.Standing.{stand_so, stand_between}
 use Rattle.moo_dbrecord.proofs.DumpProgress.{programmed, progress_read}
 use Rattle.moo_dbrecord.proofs.Sources.{taken_so, by_step, after_programs_text, after_connections_text, taken_unlimited, finished_text}
 
@@ -109,6 +111,18 @@ objects_of_text bytes s e past more t h =
     let text = finished_text c.0 t c.2 in
     record { objects = sym (ap (λ (u : Text). u.objects) text) ∙ stayed.objects; players = sym (ap (λ (u : Text). u.players) text) ∙ stayed.players }
 
+-- if all objects have come with lines, they are those that have come with any other lines that have all
+pub objects_stand : (z : Sizes) (m n : ℕ) (bytes : List ℕ) (h : Stand z m bytes) (k : Stand z n bytes) → m ≤ n → has_objects h.state.progress.section ≡ true → IsPastObjects h.state.progress k.state.progress
+objects_stand z m n bytes h k le past =
+    let on = stand_between z m n bytes h k le in
+    bytes_past z on.0 h.state k.state past on.1
+
+pub one_set_of_objects : (z : Sizes) (m n : ℕ) (bytes : List ℕ) (h : Stand z m bytes) (k : Stand z n bytes) → has_objects h.state.progress.section ≡ true → has_objects k.state.progress.section ≡ true → IsPastObjects h.state.progress k.state.progress
+one_set_of_objects z m n bytes h k past other = elim (cases_lt m n) [
+  | inl lt ↦ objects_stand z m n bytes h k (omega arith) past
+  | inr ge ↦ let back = objects_stand z n m bytes k h ge other in record { past = other; objects = sym back.objects; players = sym back.players }
+]
+
 -- ---- where the objects stand
 
 abbrev front_of : Text → Slack → ℕ → List Line
@@ -144,12 +158,18 @@ objects_begin bytes s e past =
     let k = h.slack in
     let f = fronted s.progress.section s.progress k past in
     let front = front_of s.progress.text k f.0 in
+    let stands = stand_so limited bytes s e in
     record {
       version = s.progress.text.version;
       programs = f.0;
       unused = k.unused;
       notes = k.notes;
       after = unlines f.1 ++ s.rest;
+      lines = s.lines;
+      stand = stands.stand;
+      all = ap (λ (p : Progress). has_objects p.section) stands.same ∙ past;
+      players_come = ap (λ (p : Progress). p.text.players) stands.same;
+      objects_come = ap (λ (p : Progress). p.text.objects) stands.same;
       whole = h.whole ∙ ap (λ (ls : List Line). unlines ls ++ s.rest) f.2 ∙ ap (λ (b : List ℕ). b ++ s.rest) (flat_map-append (λ (l : Line). l ++ 10 ∷ []) front f.1) ∙ append_assoc (unlines front) (unlines f.1) s.rest;
       players_there = λ more t spelled. (objects_of_text bytes s e past more t spelled).players;
       objects_there = λ more t spelled. (objects_of_text bytes s e past more t spelled).objects;

@@ -226,7 +226,7 @@ does_stays {p = p} {q = q} (none_read h same) = same_stays p q same
 does_stays {p = p} {q = q} (reads_on verb h same) = same_stays p q same
 does_stays {p = p} {q = q} (ends is dot after h) = ended_stays p q h
 
-sources_stay : (z : Sizes) (bs : List ℕ) (s t : Taken) (bytes : List ℕ) → IsTaken s bytes → taken_on z s bs ≡ Ok t → Stays s.progress t.progress
+pub sources_stay : (z : Sizes) (bs : List ℕ) (s t : Taken) (bytes : List ℕ) → IsTaken s bytes → taken_on z s bs ≡ Ok t → Stays s.progress t.progress
 unfolding taken_on line_ended
 sources_stay z [] s t bytes h e = let ok : Taken → Result Taken Told = λ x. Ok x in let f : ok s ≡ ok t = e in let same : s ≡ t = cc in
     subst (λ (u : Taken). Stays s.progress u.progress) same (λ o v source e. e)

@@ -133,8 +133,11 @@ abbrev pub IsReadOrTooLarge : {X : Type 0} → (X → Text) → Text → Result 
 IsReadOrTooLarge view t (Ok x) = t ≡ view x
 IsReadOrTooLarge view t (Err e) = IsMemoryOrSize e.kind
 
--- Without limits on sizes, each of the first n lines can stand where it is.
-pub record StandWithoutLimits (n : ℕ) (bytes : List ℕ) : Type 0 where
+-- Each of the first n lines can stand where it is: with limits on sizes, or without.
+pub record Stand (z : Sizes) (n : ℕ) (bytes : List ℕ) : Type 0 where
   pub state : Taken
-  pub taken : taken_on unlimited begin (front_lines n bytes) ≡ Ok state
+  pub taken : taken_on z begin (front_lines n bytes) ≡ Ok state
   pub lines : state.lines ≡ n
+
+abbrev pub StandWithoutLimits : ℕ → List ℕ → Type 0
+StandWithoutLimits n bytes = Stand unlimited n bytes

@@ -146,7 +146,7 @@ impl DbReader {
         match self.rest.extend_from_slice(more) {
             Ok(()) => Ok(()),
             Err(_) => Err(RecordFault {
-                line: self.lines,
+                line: self.lines.saturating_add(1),
                 kind: Refusal::Memory,
             }),
         }

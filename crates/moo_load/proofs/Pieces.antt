@@ -3,7 +3,7 @@ use Rattle.std.proofs.Common.{◌≡◌, ℕ, ℤ, true, List, [], ◌++◌, Opt
 use Rattle.std.proofs.lemmas.List.{take-append-drop}
 use Rattle.std.specs.Prelude.{IfErr, map, option_map}
 use Rattle.moo_dbrecord.specs.declared.fault.DbFault.{DbFault}
-use Rattle.moo_dbvalue.specs.Lines.{unlines}
+use Rattle.moo_dbvalue.specs.Lines.{limited, unlines}
 use Rattle.moo_dbobject.specs.Objects.{Object, object_of}
 use Rattle.moo_dbobject.specs.declared.object_record.ObjectRecord.{ObjectRecord}
 use Rattle.moo_dbrecord.specs.Texts.{Text, text_of, Spells}
@@ -11,15 +11,16 @@ use Rattle.moo_dbrecord.specs.DumpReading.{Progress}
 use Rattle.moo_dbrecord.specs.Sparing.{outline_read, has_objects}
 use Rattle.moo_dbrecord.specs.Placing.{lines_to_objects, BeginsWithObjects}
 use Rattle.moo_dbrecord.specs.declared.dump.Dump.{Dump}
+use Rattle.moo_dbrecord.proofs.Standing.{stands_on}
 use Rattle.moo_dbrecord.proofs.Placed.{objects_begin}
-use Rattle.moo_dbprogram.specs.Reading.{HasRead, IsWell, HasRefused, IsBehind, place_of}
+use Rattle.moo_dbprogram.specs.Reading.{HasRead, IsWell, IsBehind, place_of}
 use Rattle.moo_dbprogram.specs.declared.program_reader.ProgramReader.{ProgramReader}
-use Rattle.moo_dbprogram.proofs.Refused.{refused_then, refused_whole, read_failed, read_well}
+use Rattle.moo_dbprogram.proofs.Refused.{read_well}
 use Rattle.moo_load.specs.Loading.{IsRefusedSo, IsRefusedFrom, IsTextUntold, LoadAnswers}
-use Rattle.moo_load.specs.Taking.{HasTaken, IsGoing, HasFailed}
+use Rattle.moo_load.specs.Taking.{IsLoading, HasTaken, IsGoing, HasFailed}
 use Rattle.moo_load.specs.declared.world_reader.WorldReader.{WorldReader}
 use Rattle.moo_load.specs.Refusals.{Refuses}
-use Rattle.moo_load.proofs.Whole.{told_begun, is_loaded_only, is_loaded_within, is_loaded_place, is_loaded_program, is_loaded_hierarchy, is_loaded_count, is_loaded_size, is_loaded_large}
+use Rattle.moo_load.proofs.Whole.{without_memory, told_begun, is_loaded_only, is_loaded_within, is_loaded_place, is_loaded_program, is_loaded_hierarchy, is_loaded_count, is_loaded_size, is_loaded_large}
 use Rattle.moo_saved.specs.declared.saved.Saved as stored
 
 pub refused_alone : (bytes : List ℕ) (e : DbFault) → IsRefusedFrom bytes e → IsRefusedSo bytes e
@@ -51,13 +52,14 @@ begins_on bytes more players objects h = record {
   notes = h.notes;
   after = h.after ++ more;
   whole = ap (λ (b : List ℕ). b ++ more) h.whole ∙ append_assoc (unlines (lines_to_objects h.version h.programs h.unused h.notes players objects)) h.after more;
+  lines = h.lines;
+  stand = stands_on limited h.lines bytes more h.stand;
+  all = h.all;
+  players_come = h.players_come;
+  objects_come = h.objects_come;
   players_there = λ on t spelled. h.players_there (more ++ on) t (subst (λ (b : List ℕ). Spells b t) (append_assoc bytes more on) spelled);
   objects_there = λ on t spelled. h.objects_there (more ++ on) t (subst (λ (b : List ℕ). Spells b t) (append_assoc bytes more on) spelled);
 }
-
--- what a reader of programs refuses
-pub feed_refused : (p : ProgramReader) (bytes : List ℕ) (e : DbFault) → HasRefused p e → HasRead p bytes → IsRefusedFrom bytes e
-feed_refused p bytes e failed read = λ more. inl (refused_whole (bytes ++ more) e (refused_then bytes more e (read_failed p e bytes failed read)))
 
 module _ (p : ProgramReader) (bytes : List ℕ) (d : Dump) (read : HasRead p bytes) (well : IsWell p) (past : has_objects (place_of p).section ≡ true) (text : text_of d ≡ (place_of p).text) where
   behind : IsBehind p bytes
@@ -73,7 +75,7 @@ module _ (p : ProgramReader) (bytes : List ℕ) (d : Dump) (read : HasRead p byt
       (objects_begin bytes behind.at.state behind.at.leads (ap (λ (r : Progress). has_objects r.section) alike ∙ past)))
 
   early_refused : (e : DbFault) → IsTextUntold (text_of d).players (text_of d).objects e → IsRefusedFrom bytes e
-  early_refused e (inl memory) = λ more. inl (inl memory)
+  early_refused e (inl memory) = λ more. without_memory (bytes ++ more) e memory
   early_refused e (inr told) = λ more. told_begun (bytes ++ more) (text_of d).players (text_of d).objects e told.fault (begins_on bytes more (text_of d).players (text_of d).objects begins) told.is told.told
 
   pub looked_at : {X : Type 0} (r : Result X DbFault) (ps : List ℤ) (os : List (Option ObjectRecord)) → ps ≡ d.players.items → os ≡ d.objects.items → IfErr r (IsTextUntold ps (map (option_map object_of) os)) → IfErr r (IsRefusedFrom bytes)
@@ -86,14 +88,14 @@ module _ (p : ProgramReader) (bytes : List ℕ) (d : Dump) (read : HasRead p byt
 pub taken_failed : (r : WorldReader) (e : DbFault) (bytes : List ℕ) → HasFailed r e → HasTaken r bytes → IsRefusedFrom bytes e
 taken_failed r e bytes failed h = at r.failed failed h
   where
-    at : (f : Option DbFault) → f ≡ Some e → MatchOption f (HasRead r.programs bytes) (IsRefusedFrom bytes) → IsRefusedFrom bytes e
+    at : (f : Option DbFault) → f ≡ Some e → MatchOption f (IsLoading r bytes) (IsRefusedFrom bytes) → IsRefusedFrom bytes e
     at None is k = absurd cc
     at (Some d) is k = subst (IsRefusedFrom bytes) (let same : d ≡ e = cc in same) k
 
-pub taken_going : (r : WorldReader) (bytes : List ℕ) → IsGoing r → HasTaken r bytes → HasRead r.programs bytes
+pub taken_going : (r : WorldReader) (bytes : List ℕ) → IsGoing r → HasTaken r bytes → IsLoading r bytes
 taken_going r bytes going h = at r.failed going h
   where
-    at : (f : Option DbFault) → f ≡ None → MatchOption f (HasRead r.programs bytes) (IsRefusedFrom bytes) → HasRead r.programs bytes
+    at : (f : Option DbFault) → f ≡ None → MatchOption f (IsLoading r bytes) (IsRefusedFrom bytes) → IsLoading r bytes
     at None is k = k
     at (Some d) is k = absurd cc
 

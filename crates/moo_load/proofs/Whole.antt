@@ -1,5 +1,5 @@
 -- What an answer says of the bytes of a whole text.
-use Rattle.std.proofs.Common.{◌≡◌, ℕ, ℤ, suc, ◌+◌, ◌≤◌, Bool, true, false, List, [], ◌∷◌, ◌++◌, length, take, arith, Option, Some, None, Result, Ok, Err, ◌⊎◌, inl, inr, refl, sym, ap, subst, ◌∙◌, append-nil}
+use Rattle.std.proofs.Common.{◌≡◌, ℕ, ℤ, suc, ◌≤◌, Bool, true, false, List, [], ◌∷◌, ◌++◌, length, arith, Option, Some, None, Result, Ok, Err, ◌⊎◌, inl, inr, refl, sym, ap, subst, ◌∙◌, append-nil}
 use Rattle.std.specs.Prelude.{IfOk, IfErr, MatchResult, map, slice_index_or, count_by, is_some}
 use Rattle.std.specs.List.{sum_by, AllByRecursion}
 use Rattle.moo_program.specs.Tree.{Block}
@@ -11,11 +11,10 @@ use Rattle.moo_dbvalue.specs.declared.fault.LineFault.TheVariants as line
 use Rattle.moo_dbvalue.specs.declared.fault.Refusal.{Refusal}
 use Rattle.moo_dbvalue.specs.declared.fault.Refusal.TheVariants as refusal
 use Rattle.moo_dbrecord.specs.Programs.{Table, entry_at}
-use Rattle.moo_table.specs.World.{most, IsWellFormed}
+use Rattle.moo_table.specs.World.{most}
 use Rattle.moo_dbobject.specs.Objects as recorded
-use Rattle.moo_dbrecord.specs.Texts.{Text, IsEntry, objects_lines, Spells, SpellsWithin}
+use Rattle.moo_dbrecord.specs.Texts.{Text, IsEntry, Spells, SpellsWithin}
 use Rattle.moo_dbrecord.specs.Placing.{BeginsWithObjects}
-use Rattle.moo_dbrecord.specs.Writing.{no_notes}
 use Rattle.moo_dbrecord.proofs.Placed.{whole_begins}
 use Rattle.moo_dbrecord.specs.Answer.{answer_to, front_lines, StandWithoutLimits}
 use Rattle.moo_dbrecord.specs.Faults.{kind_of, kind_of_refusal}
@@ -24,23 +23,22 @@ use Rattle.moo_dbrecord.specs.declared.fault.DbFaultKind.{DbFaultKind}
 use Rattle.moo_dbrecord.specs.declared.fault.DbFaultKind.TheVariants as kind
 use Rattle.moo_dbrecord.specs.declared.fault.ProgramFault.{ProgramFault}
 use Rattle.moo_dbrecord.proofs.AnswerFound.{answer_found}
-use Rattle.moo_dbrecord.proofs.ReadLaws.{one_text}
 use Rattle.moo_dbrecord.proofs.DumpSmall.{answer_within, some_more, none_more, rows_more}
 use Rattle.moo_dbprogram.specs.Says.{Programs, HasSource, HaveSources}
 use Rattle.moo_dbprogram.specs.Faults.{IsProgramFault, IsOfLine, IsOfLimits}
 use Rattle.moo_dbprogram.specs.Reading.{IsRefused, IsRead}
 use Rattle.moo_dbprogram.specs.declared.database.Database.{Database}
+use Rattle.moo_dbprogram.proofs.Behind.{some_source}
 use Rattle.moo_dbprogram.proofs.Whole.{is_read_only, is_read_within, is_placed, is_sized, is_told_large}
 use Rattle.moo_restore.specs.Records.{Records}
 use Rattle.moo_restore.specs.Faults.{IsWellPlaced, HasItsCells, IsHierarchyFault, IsCountFault}
 use Rattle.moo_restore.specs.Restoring.{IsEntryWithin, AreWithinLimits, IsFaultOf}
-use Rattle.moo_restore.specs.Says.{Says}
 use Rattle.moo_restore.specs.declared.fault.RestoreFault.{RestoreFault}
 use Rattle.moo_restore.specs.declared.fault.RestoreFault.TheVariants as restoring
 use Rattle.moo_restore.proofs.Worlds.{shaped, well_placed, has_its_cells}
 use Rattle.moo_saved.specs.Saved.{Saved, saved_of, IsTextOf, SpellsSaved, SpellsSavedWithin}
 use Rattle.moo_load.specs.Objects.{of_objects, HasObjectFault}
-use Rattle.moo_load.specs.Loading.{records_kept, who_of, IsLineOf, IsTold, IsUntold, IsSavedFrom, IsLoaded, HasToldObject, LoadAnswers}
+use Rattle.moo_load.specs.Loading.{records_kept, who_of, IsTold, IsUntold, IsSavedFrom, IsLoaded, HasToldObject, IsRefusedSo, LoadAnswers}
 use Rattle.moo_saved.specs.declared.saved.Saved as stored
 use Rattle.moo_load.proofs.Worlds.{placed_as, cells_as, fault_as, loose_text, one_spelled, spelled_within}
 
@@ -168,22 +166,25 @@ saved_loaded bytes d s h k = record {
   sound = k.sound;
 }
 
+pub without_memory : (bytes : List ℕ) (e : DbFault) → e.kind ≡ kind.Memory → IsRefusedSo bytes e
+without_memory bytes e memory = inl (record { refused = inl memory; objects = λ known. absurd (known memory) })
+
 -- an object is told where the bytes begin a text
 pub told_begun : (bytes : List ℕ) (players : List ℤ) (objects : List (Option recorded.Object)) (e : DbFault) (f : RestoreFault) → BeginsWithObjects bytes players objects → IsFaultOf (of_objects objects) f → IsTold (length players) objects f e
-    → IsRefused bytes (answer_to limited bytes) e ⊎ HasToldObject bytes e
+    → IsRefusedSo bytes e
 told_begun bytes players objects e (restoring.Hierarchy x) begins fault told = inr (record { object = x; is = inl (told.0, record { players = players; objects = objects; begins = begins; fault = fault; line = told.1 }) })
 told_begun bytes players objects e (restoring.PropertyCount x) begins fault told = inr (record { object = x; is = inr (told.0, record { players = players; objects = objects; begins = begins; fault = fault; line = told.1 }) })
-told_begun bytes players objects e restoring.Memory begins fault told = inl (inl told)
+told_begun bytes players objects e restoring.Memory begins fault told = without_memory bytes e told
 
-told_loaded : (bytes : List ℕ) (d : Database) (e : DbFault) (f : RestoreFault) → IsRead bytes d → IsFaultOf (records_kept d) f → IsTold (length (records_kept d).players) (records_kept d).objects f e → IsRefused bytes (answer_to limited bytes) e ⊎ HasToldObject bytes e
+told_loaded : (bytes : List ℕ) (d : Database) (e : DbFault) (f : RestoreFault) → IsRead bytes d → IsFaultOf (records_kept d) f → IsTold (length (records_kept d).players) (records_kept d).objects f e → IsRefusedSo bytes e
 told_loaded bytes d e f h fault told =
     let r = records_kept d in
     told_begun bytes r.players r.objects e f
     (subst (λ (os : List (Option recorded.Object)). BeginsWithObjects bytes r.players os) (sym h.says.objects) (subst (λ (ps : List ℤ). BeginsWithObjects bytes ps h.text.objects) (sym h.says.players) (whole_begins bytes h.text h.records)))
     (fault_as r f fault) told
 
-pub untold_loaded : (bytes : List ℕ) (d : Database) (e : DbFault) → IsRead bytes d → IsUntold (records_kept d) e → IsRefused bytes (answer_to limited bytes) e ⊎ HasToldObject bytes e
-untold_loaded bytes d e h (inl memory) = inl (inl memory)
+pub untold_loaded : (bytes : List ℕ) (d : Database) (e : DbFault) → IsRead bytes d → IsUntold (records_kept d) e → IsRefusedSo bytes e
+untold_loaded bytes d e h (inl memory) = without_memory bytes e memory
 untold_loaded bytes d e h (inr told) = told_loaded bytes d e told.fault h told.is told.told
 
 -- ---- what is read
@@ -192,15 +193,11 @@ pub is_found : (bytes : List ℕ) (r : Result stored.Saved DbFault) → LoadAnsw
 is_found bytes (Ok s) h = record { text = h.text; spelled = answer_found limited bytes h.text h.answer; says = loose_text h.text (saved_of s) h.is; shaped = shaped s.world h.sound }
 is_found bytes (Err e) h = tt
 
-some_source : (P : List Line → Block → Type 0) (b : Option Block) (s : List Line) → HasSource P (Some s) b → (c : Block) × P s c
-some_source P None s h = absurd h
-some_source P (Some b) s h = (b, h)
-
-has_source : (P : List Line → Block → Type 0) (t : Text) (s : Saved) (k : IsTextOf P t s) → (o v : ℕ) (x : List Line) → entry_at t.programs o v ≡ Some x → (b : Block) × P x b
+pub has_source : (P : List Line → Block → Type 0) (t : Text) (s : Saved) (k : IsTextOf P t s) → (o v : ℕ) (x : List Line) → entry_at t.programs o v ≡ Some x → (b : Block) × P x b
 has_source P t s k o v x e = some_source P (entry_at k.records.programs o v) x (subst (λ (y : Option (List Line)). HasSource P y (entry_at k.records.programs o v)) e (k.sources o v))
 
 -- where an object is at fault no saved world is spelled
-no_saved : (bytes : List ℕ) (e : DbFault) (s : Saved) → HasToldObject bytes e → SpellsSaved bytes s → ⊥
+pub no_saved : (bytes : List ℕ) (e : DbFault) (s : Saved) → HasToldObject bytes e → SpellsSaved bytes s → ⊥
 no_saved bytes e s h k = at h.is
   where
     r : Records
@@ -215,24 +212,24 @@ no_saved bytes e s h k = at h.is
 
 pub is_loaded_only : (bytes : List ℕ) (r : Result stored.Saved DbFault) → LoadAnswers r bytes → (s : Saved) → SpellsSaved bytes s → MatchResult r (λ x. saved_of x ≡ s) (λ e. IsOfLimits e.kind)
 is_loaded_only bytes (Ok x) h s k = one_spelled bytes (saved_of x) s (is_found bytes (Ok x) h) k
-is_loaded_only bytes (Err e) (inl refused) s k = is_read_only bytes (Err e) refused k.text k.spelled (has_source (IsProgramOf Any) k.text s k.says)
+is_loaded_only bytes (Err e) (inl told) s k = is_read_only bytes (Err e) told.refused k.text k.spelled (has_source (IsProgramOf Any) k.text s k.says)
 is_loaded_only bytes (Err e) (inr told) s k = absurd (no_saved bytes e s told k)
 
 pub is_loaded_within : (bytes : List ℕ) (r : Result stored.Saved DbFault) → LoadAnswers r bytes → (s : Saved) → SpellsSavedWithin bytes s → MatchResult r (λ x. saved_of x ≡ s) (λ e. e.kind ≡ kind.Memory)
 is_loaded_within bytes (Ok x) h s k = one_spelled bytes (saved_of x) s (is_found bytes (Ok x) h) (spelled_within bytes s k)
-is_loaded_within bytes (Err e) (inl refused) s k = is_read_within bytes (Err e) refused k.text k.spelled (has_source (IsParsed Any) k.text s k.says)
+is_loaded_within bytes (Err e) (inl told) s k = is_read_within bytes (Err e) told.refused k.text k.spelled (has_source (IsParsed Any) k.text s k.says)
 is_loaded_within bytes (Err e) (inr told) s k = absurd (no_saved bytes e s told (spelled_within bytes s k))
 
 -- ---- what is refused
 
 pub is_loaded_place : (bytes : List ℕ) (r : Result stored.Saved DbFault) → LoadAnswers r bytes → IfErr r (λ e. IsOfLine e.kind → (more : List ℕ) (t : Text) → ¬ (Spells (front_lines e.line bytes ++ more) t))
 is_loaded_place bytes (Ok s) h = tt
-is_loaded_place bytes (Err e) (inl refused) = is_placed bytes (Err e) refused
+is_loaded_place bytes (Err e) (inl told) = is_placed bytes (Err e) told.refused
 is_loaded_place bytes (Err e) (inr told) = λ f. absurd (no_object_line e f.0 bytes told f.1)
 
 pub is_loaded_program : (bytes : List ℕ) (r : Result stored.Saved DbFault) → LoadAnswers r bytes → IfErr r (λ e. (object verb : ℕ) (fault : ProgramFault) → e.kind ≡ kind.Program object verb fault → IsProgramFault bytes e.line object verb fault)
 is_loaded_program bytes (Ok s) h = tt
-is_loaded_program bytes (Err e) (inl refused) = λ o v f is. program_refused bytes e o v f refused is
+is_loaded_program bytes (Err e) (inl told) = λ o v f is. program_refused bytes e o v f told.refused is
 is_loaded_program bytes (Err e) (inr told) = λ o v f is. absurd (no_program told.is is)
   where
     no_program : {o v : ℕ} {f : ProgramFault} → ((e.kind ≡ kind.BadHierarchy told.object) × HasObjectFault IsHierarchyFault bytes e.line told.object) ⊎ ((e.kind ≡ kind.PropertyCount told.object) × HasObjectFault IsCountFault bytes e.line told.object) → e.kind ≡ kind.Program o v f → ⊥
@@ -241,7 +238,7 @@ is_loaded_program bytes (Err e) (inr told) = λ o v f is. absurd (no_program tol
 
 pub is_loaded_hierarchy : (bytes : List ℕ) (r : Result stored.Saved DbFault) → LoadAnswers r bytes → IfErr r (λ e. (x : ℕ) → e.kind ≡ kind.BadHierarchy x → HasObjectFault IsHierarchyFault bytes e.line x)
 is_loaded_hierarchy bytes (Ok s) h = tt
-is_loaded_hierarchy bytes (Err e) (inl refused) = λ x is. absurd (no_hierarchy_refused bytes e x refused is)
+is_loaded_hierarchy bytes (Err e) (inl told) = λ x is. absurd (no_hierarchy_refused bytes e x told.refused is)
 is_loaded_hierarchy bytes (Err e) (inr told) = λ x is. at x told.is is
   where
     at : (x : ℕ) → ((e.kind ≡ kind.BadHierarchy told.object) × HasObjectFault IsHierarchyFault bytes e.line told.object) ⊎ ((e.kind ≡ kind.PropertyCount told.object) × HasObjectFault IsCountFault bytes e.line told.object) → e.kind ≡ kind.BadHierarchy x → HasObjectFault IsHierarchyFault bytes e.line x
@@ -250,7 +247,7 @@ is_loaded_hierarchy bytes (Err e) (inr told) = λ x is. at x told.is is
 
 pub is_loaded_count : (bytes : List ℕ) (r : Result stored.Saved DbFault) → LoadAnswers r bytes → IfErr r (λ e. (x : ℕ) → e.kind ≡ kind.PropertyCount x → HasObjectFault IsCountFault bytes e.line x)
 is_loaded_count bytes (Ok s) h = tt
-is_loaded_count bytes (Err e) (inl refused) = λ x is. absurd (no_count_refused bytes e x refused is)
+is_loaded_count bytes (Err e) (inl told) = λ x is. absurd (no_count_refused bytes e x told.refused is)
 is_loaded_count bytes (Err e) (inr told) = λ x is. at x told.is is
   where
     at : (x : ℕ) → ((e.kind ≡ kind.BadHierarchy told.object) × HasObjectFault IsHierarchyFault bytes e.line told.object) ⊎ ((e.kind ≡ kind.PropertyCount told.object) × HasObjectFault IsCountFault bytes e.line told.object) → e.kind ≡ kind.PropertyCount x → HasObjectFault IsCountFault bytes e.line x
@@ -259,12 +256,12 @@ is_loaded_count bytes (Err e) (inr told) = λ x is. at x told.is is
 
 pub is_loaded_size : (bytes : List ℕ) (r : Result stored.Saved DbFault) → LoadAnswers r bytes → IfErr r (λ e. e.kind ≡ kind.TooLarge → (more : List ℕ) (t : Text) → ¬ (SpellsWithin (front_lines e.line bytes ++ more) t))
 is_loaded_size bytes (Ok s) h = tt
-is_loaded_size bytes (Err e) (inl refused) = is_sized bytes (Err e) refused
+is_loaded_size bytes (Err e) (inl told) = is_sized bytes (Err e) told.refused
 is_loaded_size bytes (Err e) (inr told) = λ is. absurd (no_object_line e line.TooLarge bytes told is)
 
 pub is_loaded_large : (bytes : List ℕ) (r : Result stored.Saved DbFault) → LoadAnswers r bytes → IfErr r (λ e. e.kind ≡ kind.TooLarge → StandWithoutLimits e.line bytes)
 is_loaded_large bytes (Ok s) h = tt
-is_loaded_large bytes (Err e) (inl refused) = is_told_large bytes (Err e) refused
+is_loaded_large bytes (Err e) (inl told) = is_told_large bytes (Err e) told.refused
 is_loaded_large bytes (Err e) (inr told) = λ is. absurd (no_object_line e line.TooLarge bytes told is)
 
 -- ---- what is answered

@@ -1,21 +1,17 @@
 -- What a text says of saved worlds, with programs within the limits and without.
-use Rattle.std.proofs.Common.{◌≡◌, ℕ, ℤ, List, Option, Some, None, refl, sym, ap, subst, ◌∙◌}
+use Rattle.std.proofs.Common.{◌≡◌, ℕ, List, Option, Some, None, subst}
 use Rattle.moo_program.specs.Tree.{Block}
 use Rattle.moo_grammar.specs.declared.names.Names.TheVariants.{Any}
 use Rattle.moo_grammar.specs.Texts.{IsProgramOf, IsParsed}
-use Rattle.moo_grammar.proofs.Unique.{one_program_of_text}
-use Rattle.moo_table.specs.World.{World}
 use Rattle.moo_dbvalue.specs.Lines.{Line}
-use Rattle.moo_dbobject.specs.Objects as recorded
 use Rattle.moo_dbrecord.specs.Programs.{entry_at}
 use Rattle.moo_dbrecord.specs.Texts.{Text}
 use Rattle.moo_dbrecord.proofs.ReadLaws.{one_text, within_limits}
 use Rattle.moo_dbprogram.specs.Says.{HasSource}
 use Rattle.moo_restore.specs.Records.{Records}
-use Rattle.moo_restore.specs.Says.{Says}
 use Rattle.moo_restore.proofs.Worlds.{shaped}
 use Rattle.moo_saved.specs.Saved.{Saved, IsTextOf, SpellsSaved, SpellsSavedWithin}
-use Rattle.moo_saved.proofs.One.{says_again, one_saved}
+use Rattle.moo_saved.proofs.One.{one_saved}
 use Rattle.moo_restore.specs.Faults.{IsWellPlaced, HasItsCells, IsHierarchyFault, IsCountFault}
 use Rattle.moo_restore.specs.Restoring.{IsFaultOf}
 use Rattle.moo_restore.specs.declared.fault.RestoreFault.{RestoreFault}

@@ -1,5 +1,5 @@
 -- What a reader of worlds answers.
-use Rattle.std.specs.Prelude.{◌≡◌, ℕ, ℤ, ◌+◌, List, ◌++◌, Option, Result, Ok, Err, ◌⊎◌, map, take, length}
+use Rattle.std.specs.Prelude.{◌≡◌, ◌≢◌, IfErr, ℕ, ℤ, ◌+◌, List, ◌++◌, Option, Result, Ok, Err, ◌⊎◌, map, take, length}
 use Rattle.moo_grammar.specs.declared.names.Names.TheVariants.{Any}
 use Rattle.moo_grammar.specs.Texts.{IsParsed}
 use Rattle.moo_table.specs.World.{IsWellFormed}
@@ -10,6 +10,7 @@ use Rattle.moo_dbrecord.specs.Writing.{no_notes}
 use Rattle.moo_dbrecord.specs.Answer.{answer_to}
 use Rattle.moo_dbrecord.specs.declared.fault.DbFault.{DbFault}
 use Rattle.moo_dbrecord.specs.declared.fault.DbFaultKind.TheVariants as kind
+use Rattle.moo_dbprogram.specs.Faults.{AreToldAlike}
 use Rattle.moo_dbprogram.specs.Reading.{IsRefused}
 use Rattle.moo_dbprogram.specs.declared.database.Database.{Database}
 use Rattle.moo_restore.specs.Records.{Records}
@@ -19,7 +20,7 @@ use Rattle.moo_restore.specs.Restoring.{records_from, IsFaultOf}
 use Rattle.moo_restore.specs.declared.fault.RestoreFault.{RestoreFault}
 use Rattle.moo_restore.specs.declared.fault.RestoreFault.TheVariants as restoring
 use Rattle.moo_saved.specs.Saved.{Saved, saved_of, IsTextOf}
-use Rattle.moo_load.specs.Objects.{of_objects, HasObjectFault}
+use Rattle.moo_load.specs.Objects.{of_objects, HasObjectFault, HasNoObjectFault}
 use Rattle.moo_saved.specs.declared.saved.Saved as stored
 
 -- ---- what is kept of a text
@@ -77,9 +78,14 @@ pub record HasToldObject (bytes : List ℕ) (e : DbFault) : Type 0 where
   pub object : ℕ
   pub is : ((e.kind ≡ kind.BadHierarchy object) × HasObjectFault IsHierarchyFault bytes e.line object) ⊎ ((e.kind ≡ kind.PropertyCount object) × HasObjectFault IsCountFault bytes e.line object)
 
+-- a line or a program is told, and no object is at fault, if all have come
+pub record HasToldLine (bytes : List ℕ) (e : DbFault) : Type 0 where
+  pub refused : IsRefused bytes (answer_to limited bytes) e
+  pub objects : e.kind ≢ kind.Memory → HasNoObjectFault bytes
+
 -- why the bytes are refused
 abbrev pub IsRefusedSo : List ℕ → DbFault → Type 0
-IsRefusedSo bytes e = IsRefused bytes (answer_to limited bytes) e ⊎ HasToldObject bytes e
+IsRefusedSo bytes e = HasToldLine bytes e ⊎ HasToldObject bytes e
 
 -- these bytes are refused so, however they go on
 abbrev pub IsRefusedFrom : List ℕ → DbFault → Type 0
@@ -88,3 +94,16 @@ IsRefusedFrom bytes e = (more : List ℕ) → IsRefusedSo (bytes ++ more) e
 abbrev pub LoadAnswers : Result stored.Saved DbFault → List ℕ → Type 0
 LoadAnswers (Ok s) bytes = IsLoaded bytes (saved_of s)
 LoadAnswers (Err e) bytes = IsRefusedSo bytes e
+
+-- ---- two answers to the same bytes
+
+-- it isn't want of memory
+abbrev pub IsKnown : Result stored.Saved DbFault → Type 0
+IsKnown r = IfErr r (λ e. e.kind ≢ kind.Memory)
+
+-- the same saved world, or the same fault, but for which fault of one program it is
+abbrev pub AreAlike : Result stored.Saved DbFault → Result stored.Saved DbFault → Type 0
+AreAlike (Ok s) (Ok t) = saved_of s ≡ saved_of t
+AreAlike (Ok s) (Err e) = ⊥
+AreAlike (Err d) (Ok t) = ⊥
+AreAlike (Err d) (Err e) = AreToldAlike d e

@@ -1,10 +1,15 @@
 -- What is told of objects that are at fault.
-use Rattle.std.specs.Prelude.{◌≡◌, ℕ, ℤ, ◌+◌, Option, Some, None, List, [], take, length}
+use Rattle.std.specs.Prelude.{◌≡◌, ℕ, ℤ, ◌+◌, true, Option, Some, None, List, [], take, length}
+use Rattle.moo_dbvalue.specs.Lines.{limited}
 use Rattle.moo_dbobject.specs.Objects.{Object, object_lines}
 use Rattle.moo_dbrecord.specs.Texts.{objects_lines}
 use Rattle.moo_dbrecord.specs.Placing.{BeginsWithObjects}
 use Rattle.moo_dbrecord.specs.Writing.{no_notes}
+use Rattle.moo_dbrecord.specs.Answer.{Stand}
+use Rattle.moo_dbrecord.specs.Sparing.{has_objects}
+use Rattle.moo_restore.specs.First.{IsFirst}
 use Rattle.moo_restore.specs.Records.{Records}
+use Rattle.moo_restore.specs.Faults.{IsWellPlaced, HasItsCells}
 
 -- how many lines an entry has, that of its number among them
 abbrev pub entry_length : Option Object → ℕ
@@ -27,3 +32,12 @@ pub record HasObjectFault (Fault : Records → ℕ → Type 0) (bytes : List ℕ
   pub begins : BeginsWithObjects bytes players objects
   pub fault : Fault (of_objects objects) x
   pub line : n ≡ line_of_object players objects x
+
+-- none of these objects is at fault
+pub record AreFaultless (objects : List (Option Object)) : Type 0 where
+  pub placed : IsFirst (IsWellPlaced (of_objects objects)) (length objects) None
+  pub counted : IsFirst (HasItsCells (of_objects objects)) (length objects) None
+
+-- If all objects have come with lines of the bytes, none is at fault.
+abbrev pub HasNoObjectFault : List ℕ → Type 0
+HasNoObjectFault bytes = (n : ℕ) (h : Stand limited n bytes) → has_objects h.state.progress.section ≡ true → AreFaultless h.state.progress.text.objects

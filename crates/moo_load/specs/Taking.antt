@@ -1,13 +1,23 @@
 -- A reader of worlds by itself, between two pieces.
-use Rattle.std.specs.Prelude.{◌≡◌, ℕ, List, Some, None, MatchOption}
+use Rattle.std.specs.Prelude.{◌≡◌, ℕ, true, List, Some, None, MatchOption}
+use Rattle.moo_dbrecord.specs.Sparing.{has_objects}
 use Rattle.moo_dbrecord.specs.declared.fault.DbFault.{DbFault}
-use Rattle.moo_dbprogram.specs.Reading.{HasRead}
+use Rattle.moo_dbprogram.specs.Reading as programs
+use Rattle.moo_dbprogram.specs.Reading.{HasRead, place_of}
+use Rattle.moo_load.specs.Objects.{AreFaultless}
 use Rattle.moo_load.specs.Loading.{IsRefusedFrom}
 use Rattle.moo_load.specs.declared.world_reader.WorldReader.{WorldReader}
 
+-- The bytes have been taken. The objects have been looked at just where all have come, and then none is at fault.
+pub record IsLoading (r : WorldReader) (bytes : List ℕ) : Type 0 where
+  pub read : HasRead r.programs bytes
+  pub well : programs.IsWell r.programs
+  pub looked : r.is_checked ≡ has_objects (place_of r.programs).section
+  pub faultless : r.is_checked ≡ true → AreFaultless (place_of r.programs).text.objects
+
 -- The reader has taken these bytes, in whatever pieces, or has refused them.
 abbrev pub HasTaken : WorldReader → List ℕ → Type 0
-HasTaken r bytes = MatchOption r.failed (HasRead r.programs bytes) (IsRefusedFrom bytes)
+HasTaken r bytes = MatchOption r.failed (IsLoading r bytes) (IsRefusedFrom bytes)
 
 -- No fault has come yet.
 abbrev pub IsGoing : WorldReader → Type 0

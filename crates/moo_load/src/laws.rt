@@ -1,8 +1,9 @@
 //! What follows from the definitions.
-ghost use Rattle.std.specs.Prelude.{ℕ, List};
+ghost use Rattle.std.specs.Prelude.{ℕ, List, Result};
 ghost use Rattle.moo_dbrecord.specs.declared.fault.DbFault.{DbFault};
 ghost use Rattle.moo_saved.specs.Saved.{Saved, SpellsSaved, SpellsSavedWithin};
-ghost use Rattle.moo_load.specs.Loading.{IsRefusedSo};
+ghost use Rattle.moo_saved.specs.declared.saved.Saved as stored;
+ghost use Rattle.moo_load.specs.Loading.{IsRefusedSo, LoadAnswers, IsKnown, AreAlike};
 ghost use Rattle.moo_load.specs.Refusals.{Refuses};
 
 /// What is spelled within the limits on sizes is spelled without them.
@@ -13,4 +14,10 @@ pub fn saved_within_limits_is_saved()
 /// What a reader answers where it refuses bytes says why, as the clauses of `read_db` do.
 pub fn a_refusal_says_why()
     ensures { (bytes : List ℕ) (e : DbFault) → IsRefusedSo bytes e → Refuses bytes e }
+{}
+
+/// Bytes have one answer, want of memory aside: the same saved world, or the same fault on the same line. Of a program that is none
+/// two faults may be told.
+pub fn one_answer()
+    ensures { (bytes : List ℕ) (a b : Result stored.Saved DbFault) → LoadAnswers a bytes → LoadAnswers b bytes → IsKnown a → IsKnown b → AreAlike a b }
 {}

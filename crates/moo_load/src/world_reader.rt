@@ -1,10 +1,13 @@
 //! A database text whose objects are looked at as soon as the last of them has come.
-ghost use Rattle.std.specs.Prelude.{◌≡◌, ◌<◌, ◌≤◌, ◌++◌, ℕ, List, [], length, map, IfSome, option_map, OnOk, IfErr, IsErrOf};
+ghost use Rattle.std.specs.Prelude.{◌≡◌, ◌<◌, ◌≤◌, ◌++◌, ◌⊎◌, ℕ, true, false, List, [], take, length, map, option_map, OnOk, IfErr, IsErrOf, MatchOption};
 ghost use Rattle.moo_dbobject.specs.Objects.{object_of};
 ghost use Rattle.moo_dbrecord.specs.declared.fault.DbFault.{DbFault};
-ghost use Rattle.moo_dbprogram.specs.Reading.{HasRead, IsWell};
+ghost use Rattle.moo_dbrecord.specs.Answer.{HasNoEnd};
+ghost use Rattle.moo_dbrecord.specs.Sparing.{has_objects};
+ghost use Rattle.moo_dbprogram.specs.Reading.{IsWholeLine, HasRead, IsWell, place_of};
+ghost use Rattle.moo_load.specs.Objects.{AreFaultless};
 ghost use Rattle.moo_load.specs.Loading.{LoadAnswers, IsRefusedFrom, IsTextUntold};
-ghost use Rattle.moo_load.specs.Taking.{HasTaken, IsGoing, HasFailed};
+ghost use Rattle.moo_load.specs.Taking.{IsLoading, HasTaken, IsGoing, HasFailed};
 
 use crate::loading::{load, told};
 use memchr::memchr;
@@ -17,7 +20,7 @@ use std::alloc::Global;
 
 /// How many bytes the first line has, with its end.
 fn first_line(bytes: &[u8]) -> Option<usize>
-    ensures { IfSome result (λ n. (0 < n) × (n ≤ length bytes.now)) }
+    ensures { MatchOption result (HasNoEnd bytes.now) (λ n. (0 < n) × (n ≤ length bytes.now) × IsWholeLine (take n bytes.now)) }
 {
     let at = memchr(b'\n', bytes)?;
     Some(at + 1)
@@ -30,7 +33,8 @@ fn check(
     players: &[i32],
     objects: &[Option<ObjectRecord>],
 ) -> Result<(), DbFault>
-    ensures { IfErr result (IsTextUntold players.now (map (option_map object_of) objects.now)) }
+    ensures faultless { OnOk result (AreFaultless (map (option_map object_of) objects.now)) }
+    ensures fault { IfErr result (IsTextUntold players.now (map (option_map object_of) objects.now)) }
 {
     match check_objects(alloc, objects) {
         Ok(()) => Ok(()),
@@ -59,7 +63,8 @@ impl WorldReader {
 
     // Looks at the objects, where all have come.
     fn look(&self, alloc: Global) -> Result<(), DbFault>
-        ensures { (bytes : List ℕ) → HasRead self.now.programs bytes → IsWell self.now.programs → IfErr result (IsRefusedFrom bytes) }
+        ensures faultless { OnOk result (has_objects (place_of self.now.programs).section ≡ true → AreFaultless (place_of self.now.programs).text.objects) }
+        ensures stops { (bytes : List ℕ) → HasRead self.now.programs bytes → IsWell self.now.programs → IfErr result (IsRefusedFrom bytes) }
     {
         let has_all = self.programs.has_objects();
         if !has_all {
@@ -69,35 +74,45 @@ impl WorldReader {
         check(alloc, self.programs.lines(), &text.players, &text.objects)
     }
 
-    // Takes a part of the text, and looks at the objects once all have come.
-    fn part(&mut self, alloc: Global, part: &[u8]) -> Result<(), DbFault>
-        ensures goes { (bytes : List ℕ) → HasRead self.old.programs bytes → OnOk result (HasRead self.new.programs (bytes ++ part.now)) }
-        ensures stops { (bytes : List ℕ) → HasRead self.old.programs bytes → IfErr result (IsRefusedFrom (bytes ++ part.now)) }
+    // Takes a line with its end, and looks at the objects where it ends the last of them.
+    fn line(&mut self, alloc: Global, line: &[u8]) -> Result<(), DbFault>
+        requires whole { IsWholeLine line.now }
+        requires early { self.old.is_checked ≡ false }
+        ensures goes { (bytes : List ℕ) → IsLoading self.old bytes → OnOk result (IsLoading self.new (bytes ++ line.now)) }
+        ensures stops { (bytes : List ℕ) → IsLoading self.old bytes → IfErr result (IsRefusedFrom (bytes ++ line.now)) }
         ensures same { self.new.failed ≡ self.old.failed }
     {
-        self.programs.feed(alloc, part)?;
-        if !self.is_checked {
-            self.look(alloc)?;
-            self.is_checked = self.programs.has_objects();
-        }
+        self.programs.feed(alloc, line)?;
+        self.look(alloc)?;
+        self.is_checked = self.programs.has_objects();
         Ok(())
+    }
+
+    // Takes what ends no line, or what comes behind the objects.
+    fn rest(&mut self, alloc: Global, rest: &[u8]) -> Result<(), DbFault>
+        requires { (self.old.is_checked ≡ true) ⊎ HasNoEnd rest.now }
+        ensures goes { (bytes : List ℕ) → IsLoading self.old bytes → OnOk result (IsLoading self.new (bytes ++ rest.now)) }
+        ensures stops { (bytes : List ℕ) → IsLoading self.old bytes → IfErr result (IsRefusedFrom (bytes ++ rest.now)) }
+        ensures same { self.new.failed ≡ self.old.failed }
+    {
+        self.programs.feed(alloc, rest)
     }
 
     // Line by line, until the objects have been looked at.
     fn take(&mut self, alloc: Global, piece: &[u8]) -> Result<(), DbFault>
-        ensures goes { (bytes : List ℕ) → HasRead self.old.programs bytes → OnOk result (HasRead self.new.programs (bytes ++ piece.now)) }
-        ensures stops { (bytes : List ℕ) → HasRead self.old.programs bytes → IfErr result (IsRefusedFrom (bytes ++ piece.now)) }
+        ensures goes { (bytes : List ℕ) → IsLoading self.old bytes → OnOk result (IsLoading self.new (bytes ++ piece.now)) }
+        ensures stops { (bytes : List ℕ) → IsLoading self.old bytes → IfErr result (IsRefusedFrom (bytes ++ piece.now)) }
         ensures same { self.new.failed ≡ self.old.failed }
     {
         let mut more = piece;
         while !self.is_checked {
             let Some(size) = first_line(more) else {
-                break;
+                return self.rest(alloc, more);
             };
-            self.part(alloc, &more[..size])?;
+            self.line(alloc, &more[..size])?;
             more = &more[size..];
         }
-        self.part(alloc, more)
+        self.rest(alloc, more)
     }
 
     pub(crate) fn feed(&mut self, alloc: Global, piece: &[u8]) -> Result<(), DbFault>

@@ -1,9 +1,7 @@
-use Rattle.std.proofs.Common.{◌++◌, refl, sym, ◌∙◌}
+use Rattle.std.proofs.Common.{refl, sym, ◌∙◌}
 use Rattle.std.proofs.lemmas.Result.{err_from_is_err_and}
-use Rattle.moo_dbvalue.specs.Lines.{limited}
-use Rattle.moo_dbrecord.specs.Answer.{taken_on, begin}
 use Rattle.moo_dbrecord.proofs.Sparing.{at_stops}
-use Rattle.moo_dbprogram.proofs.Refused.{record_refused}
+use Rattle.moo_dbprogram.proofs.Refused.{line_refused}
 use Rattle.moo_dbprogram.proofs.Cases.{both_then, err_then}
 use Rattle.moo_dbprogram.proofs.Behind.{behind_still, at_dot, behind_ended, source_refused}
 use Rattle.moo_dbprogram.proofs.program_reader.ProgramReader.line.Goals as goal
@@ -21,10 +19,10 @@ returns-in-Some-clause-goes c = λ bytes h.
 pub returns-in-Some-clause-stops : goal.returns-in-Some-clause-stops
 returns-in-Some-clause-stops c = λ bytes h.
     let d = at_dot c.args.self.now.records c.take_line.new.records bytes c.args.line.now c.in-Some.object c.in-Some.verb c.requires h.at (c.in_ok-object.ensures.steps h.going) (sym c.in_ok-object.ensures.ended ∙ c.in-Some.is) in
-    err_then c.keep.result _ _ c.keep.ensures.refused (λ e refused. source_refused c.args.self.now.records c.take_line.new.records bytes c.args.line.now c.in-Some.object c.in-Some.verb e h.at d refused)
+    err_then c.keep.result _ _ c.keep.ensures.refused (λ e refused. source_refused c.args.self.now c.take_line.new.records bytes c.args.line.now c.in-Some.object c.in-Some.verb e h d refused)
 
 pub returns-in_err-object-clause-stops : goal.returns-in_err-object-clause-stops
 returns-in_err-object-clause-stops c = λ bytes h.
     let e = c.in_err-object.field-0.0 in
     let p = err_from_is_err_and c.from_residual.result c.from_residual.ensures.1 in
-    rw (p.1, p.2) (record_refused (bytes ++ c.args.line.now) (taken_on limited begin (bytes ++ c.args.line.now)) e (at_stops c.args.self.now.records bytes c.args.line.now e h.at (c.in_err-object.ensures.stops h.going)))
+    rw (p.1, p.2) (line_refused c.args.self.now bytes c.args.line.now e c.requires h (at_stops c.args.self.now.records bytes c.args.line.now e h.at (c.in_err-object.ensures.stops h.going)))

@@ -1,9 +1,7 @@
-use Rattle.std.proofs.Common.{◌++◌, refl}
+use Rattle.std.proofs.Common.{refl}
 use Rattle.std.proofs.lemmas.Result.{err_from_is_err_and}
-use Rattle.moo_dbvalue.specs.Lines.{limited}
-use Rattle.moo_dbrecord.specs.Answer.{taken_on, begin}
 use Rattle.moo_dbrecord.proofs.Sparing.{at_stops}
-use Rattle.moo_dbprogram.proofs.Refused.{record_refused}
+use Rattle.moo_dbprogram.proofs.Refused.{part_refused}
 use Rattle.moo_dbprogram.proofs.Behind.{behind_part}
 use Rattle.moo_dbprogram.proofs.program_reader.ProgramReader.part.Goals as goal
 
@@ -15,4 +13,4 @@ pub returns-in_err-feed-clause-stops : goal.returns-in_err-feed-clause-stops
 returns-in_err-feed-clause-stops c = λ bytes h.
     let e = c.in_err-feed.field-0.0 in
     let p = err_from_is_err_and c.from_residual.result c.from_residual.ensures.1 in
-    rw (p.1, p.2) (record_refused (bytes ++ c.args.part.now) (taken_on limited begin (bytes ++ c.args.part.now)) e (at_stops c.args.self.now.records bytes c.args.part.now e h.at (c.in_err-feed.ensures.steps h.going)))
+    rw (p.1, p.2) (part_refused c.args.self.now bytes c.args.part.now e c.requires h (at_stops c.args.self.now.records bytes c.args.part.now e h.at (c.in_err-feed.ensures.steps h.going)))

@@ -1,5 +1,4 @@
-use Rattle.std.proofs.Common.{◌≡◌, ◌++◌, ◌∙◌, sym}
-use Rattle.moo_load.proofs.Pieces.{taken_failed, taken_going, refused_on}
+use Rattle.moo_load.proofs.Pieces.{taken_failed, refused_on}
 use Rattle.moo_load.proofs.world_reader.WorldReader.feed.Goals as goal
 
 pub returns-in-Some-clause-taken : goal.returns-in-Some-clause-taken

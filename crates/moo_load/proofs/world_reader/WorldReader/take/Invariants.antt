@@ -1,10 +1,10 @@
 use Rattle.std.proofs.Common.{◌≡◌, ℕ, List, ◌++◌, length}
-use Rattle.moo_dbprogram.specs.Reading.{HasRead}
+use Rattle.moo_load.specs.Taking.{IsLoading}
 use Rattle.moo_load.proofs.world_reader.WorldReader.take.Given as goal
 
 abbrev pub invariant-loop-self : goal.invariant-loop-self
 invariant-loop-self l = record {
-  behind : (bytes : List ℕ) → HasRead l.fn.self.programs bytes → (front : List ℕ) × (bytes ++ l.piece ≡ front ++ l.more) × HasRead l.self.programs front;
+  behind : (bytes : List ℕ) → IsLoading l.fn.self bytes → (front : List ℕ) × (bytes ++ l.piece ≡ front ++ l.more) × IsLoading l.self front;
   failed : l.self.failed ≡ l.fn.self.failed;
 }
 

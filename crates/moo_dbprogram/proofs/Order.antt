@@ -1,0 +1,109 @@
+-- Of several faults of a text one is told.
+use Rattle.std.proofs.Common.{◌≡◌, ◌≢◌, refl, ℕ, ◌+◌, ◌-◌, ◌<◌, List, length, Option, Some, None, Result, Err, inl, inr, sym, ap, subst, ◌∙◌, arith}
+use Rattle.std.proofs.lemmas.Bool.{cases_lt}
+use Rattle.moo_dbvalue.specs.Lines.{limited}
+use Rattle.moo_dbvalue.specs.declared.fault.LineFault.{LineFault}
+use Rattle.moo_dbvalue.specs.declared.fault.Refusal.{Refusal}
+use Rattle.moo_dbvalue.specs.declared.fault.Refusal.TheVariants as refusal
+use Rattle.moo_dbrecord.specs.Texts.{Text}
+use Rattle.moo_dbrecord.specs.DumpReading.{Progress, verb_read}
+use Rattle.moo_dbrecord.specs.Answer.{Told, Taken, StopsAt, answer_to}
+use Rattle.moo_dbrecord.specs.Faults.{kind_of, kind_of_refusal}
+use Rattle.moo_dbrecord.specs.declared.fault.DbFault.{DbFault}
+use Rattle.moo_dbrecord.specs.declared.fault.DbFaultKind.TheVariants as kind
+use Rattle.moo_dbrecord.proofs.Standing.{stand_at, one_stand, told_behind, sources_stand}
+use Rattle.moo_dbprogram.specs.Faults.{AreSoundBefore, AreToldAlike}
+use Rattle.moo_dbprogram.specs.Reading.{IsRecordFault, IsToldProgram, IsRefused}
+use Rattle.moo_dbprogram.proofs.Blame.{blamed_is_outside}
+
+-- what is answered is a fault of a line, and this is told
+pub record IsToldLine {A : Type 0} (answer : Result A Told) (d : DbFault) : Type 0 where
+  pub fault : LineFault
+  pub answers : answer ≡ Err (record { line = d.line; fault = fault })
+  pub kind : d.kind ≡ kind_of fault
+
+pub told_line : {A : Type 0} (bytes : List ℕ) (answer : Result A Told) (d : DbFault) → IsRecordFault bytes answer d → d.kind ≢ kind.Memory → IsToldLine answer d
+told_line bytes answer d h known = at h.fault.kind refl h.stops
+  where
+    kind_is : d.kind ≡ kind_of_refusal h.fault.kind
+    kind_is = ap (λ (e : DbFault). e.kind) h.told
+
+    line_is : h.fault.line ≡ d.line
+    line_is = sym (ap (λ (e : DbFault). e.line) h.told)
+
+    at : (k : Refusal) → h.fault.kind ≡ k → StopsAt k h.fault.line answer → IsToldLine answer d
+    at refusal.Memory is stops = absurd (known (kind_is ∙ ap kind_of_refusal is))
+    at (refusal.Fault f) is stops = record {
+      fault = f;
+      answers = subst (λ (n : ℕ). StopsAt (refusal.Fault f) n answer) line_is stops;
+      kind = kind_is ∙ ap kind_of_refusal is;
+    }
+
+one_line : (bytes : List ℕ) (d e : DbFault) → IsToldLine (answer_to limited bytes) d → IsToldLine (answer_to limited bytes) e → AreToldAlike d e
+one_line bytes d e h k =
+    let err : Told → Result Text Told = λ x. Err x in
+    let left : Told = record { line = d.line; fault = h.fault } in
+    let right : Told = record { line = e.line; fault = k.fault } in
+    let f : err left ≡ err right = sym h.answers ∙ k.answers in
+    let same : left ≡ right = cc in
+    record { line = ap (λ (x : Told). x.line) same; kind = inl (h.kind ∙ ap (λ (x : Told). kind_of x.fault) same ∙ sym k.kind) }
+
+-- a program that has come before the told line is not at fault
+line_or_program : (bytes : List ℕ) (d e : DbFault) → IsToldLine (answer_to limited bytes) d → AreSoundBefore d.line bytes → IsToldProgram bytes e → ⊥
+line_or_program bytes d e h sound p =
+    let place = p.is.place in
+    let n = e.line + length p.is.source + 1 in
+    let before : n < d.line = told_behind limited n bytes (record { line = d.line; fault = h.fault }) h.answers place.ended in
+    let there = sources_stand limited n (d.line - 1) bytes place.ended sound.stand (omega arith) p.object p.verb p.is.source place.kept in
+    let b = sound.parsed p.object p.verb p.is.source there in
+    blamed_is_outside p.is.source p.fault b.0 p.is.blamed b.1
+
+-- the line of a program's dot, less one
+abbrev dot_of : (bytes : List ℕ) (e : DbFault) → IsToldProgram bytes e → ℕ
+dot_of bytes e p = e.line + length p.is.source
+
+later_program : (bytes : List ℕ) (d e : DbFault) (p : IsToldProgram bytes d) (q : IsToldProgram bytes e) → dot_of bytes d p < dot_of bytes e q → ⊥
+later_program bytes d e p q before =
+    let there = sources_stand limited (dot_of bytes d p + 1) (dot_of bytes e q) bytes p.is.place.ended q.is.place.reading (omega arith) p.object p.verb p.is.source p.is.place.kept in
+    let b = q.is.parsed p.object p.verb p.is.source there in
+    blamed_is_outside p.is.source p.fault b.0 p.is.blamed b.1
+
+same_program : (bytes : List ℕ) (d e : DbFault) (p : IsToldProgram bytes d) (q : IsToldProgram bytes e) → dot_of bytes d p ≡ dot_of bytes e q → AreToldAlike d e
+same_program bytes d e p q same =
+    let here : Progress = p.is.place.reading.state.progress in
+    let there : Progress = q.is.place.reading.state.progress in
+    let state : here ≡ there = ap (λ (s : Taken). s.progress) (one_stand limited (dot_of bytes e q) bytes (stand_at limited (dot_of bytes d p) (dot_of bytes e q) bytes same p.is.place.reading) q.is.place.reading) in
+    let lines : p.is.source ≡ q.is.source = sym p.is.place.lines ∙ ap (λ (x : Progress). x.source) state ∙ q.is.place.lines in
+    let some : ℕ × ℕ → Option (ℕ × ℕ) = λ x. Some x in
+    let verbs : some (p.object, p.verb) ≡ some (q.object, q.verb) = sym p.is.place.verb ∙ ap (λ (x : Progress). verb_read x.section x) state ∙ q.is.place.verb in
+    let object : p.object ≡ q.object = ap (λ (x : Option (ℕ × ℕ)). elim x [ Some y ↦ y.0 | None ↦ 0 ]) verbs in
+    let verb : p.verb ≡ q.verb = ap (λ (x : Option (ℕ × ℕ)). elim x [ Some y ↦ y.1 | None ↦ 0 ]) verbs in
+    let count : length p.is.source ≡ length q.is.source = ap length lines in
+    record {
+      line = omega arith;
+      kind = inr (record {
+        object = q.object;
+        verb = q.verb;
+        fault = p.fault;
+        other = q.fault;
+        is = p.told ∙ ap (λ (o : ℕ). kind.Program o p.verb p.fault) object ∙ ap (λ (v : ℕ). kind.Program q.object v p.fault) verb;
+        also = q.told;
+      });
+    }
+
+one_program : (bytes : List ℕ) (d e : DbFault) (p : IsToldProgram bytes d) (q : IsToldProgram bytes e) → AreToldAlike d e
+one_program bytes d e p q = elim (cases_lt (dot_of bytes d p) (dot_of bytes e q)) [
+  | inl before ↦ absurd (later_program bytes d e p q before)
+  | inr not_before ↦ elim (cases_lt (dot_of bytes e q) (dot_of bytes d p)) [
+    | inl behind ↦ absurd (later_program bytes e d q p behind)
+    | inr not_behind ↦ same_program bytes d e p q (omega arith)
+  ]
+]
+
+pub one_is_told : (bytes : List ℕ) (d e : DbFault) → IsRefused bytes (answer_to limited bytes) d → IsRefused bytes (answer_to limited bytes) e → d.kind ≢ kind.Memory → e.kind ≢ kind.Memory → AreToldAlike d e
+one_is_told bytes d e (inl memory) k known other = absurd (known memory)
+one_is_told bytes d e h (inl memory) known other = absurd (other memory)
+one_is_told bytes d e (inr (inl h)) (inr (inl k)) known other = one_line bytes d e (told_line bytes (answer_to limited bytes) d h known) (told_line bytes (answer_to limited bytes) e k other)
+one_is_told bytes d e (inr (inl h)) (inr (inr q)) known other = absurd (line_or_program bytes d e (told_line bytes (answer_to limited bytes) d h known) h.sound q)
+one_is_told bytes d e (inr (inr p)) (inr (inl k)) known other = absurd (line_or_program bytes e d (told_line bytes (answer_to limited bytes) e k other) k.sound p)
+one_is_told bytes d e (inr (inr p)) (inr (inr q)) known other = one_program bytes d e p q

@@ -1,6 +1,7 @@
 //! The fields of an object.
 use crate::databases::{read_as, with_line};
 use moo_dbtext::read_db;
+use moo_value::Value;
 use std::alloc::Global;
 use std::test::Fail;
 
@@ -43,9 +44,10 @@ fn faults_at_their_lines(rt: HostRuntime) -> Result<(), Fail> {
 
 /// Whether a number on a line is read and written as it is.
 fn is_kept(alloc: Global, line: usize, number: i32) -> Result<bool, Fail> {
-    let new = format!(in alloc; "{number}\n")?;
-    let text = with_line(alloc, OBJECTS, line, new.as_bytes())?;
-    Ok(told(alloc, line, new.as_bytes())?.as_slice() == text.as_slice())
+    let mut new = Value::Int(number).to_literal(alloc)?;
+    new.push(b'\n')?;
+    let text = with_line(alloc, OBJECTS, line, &new)?;
+    Ok(told(alloc, line, &new)?.as_slice() == text.as_slice())
 }
 
 /// Which numbers a line may have: flags of an object who is no player, permissions and objects of a verb, its preposition,
@@ -59,10 +61,12 @@ fn may_stand(line: usize, number: i32) -> bool {
     }
 }
 
-/// The first number that is kept and may not stand on a line, or may and is not.
-fn first_wrong(alloc: Global, line: usize, step: usize) -> Result<Option<i32>, Fail> {
-    for number in (-4..260).step_by(step) {
-        if is_kept(alloc, line, number)? != may_stand(line, number) {
+/// The first number that is kept and may not stand on a line, or may and is not. Players are told elsewhere, so no odd
+/// flags are tried.
+fn first_wrong(alloc: Global, line: usize) -> Result<Option<i32>, Fail> {
+    for number in -4..260 {
+        let is_player = line == 33 && number % 2 != 0;
+        if !is_player && is_kept(alloc, line, number)? != may_stand(line, number) {
             return Ok(Some(number));
         }
     }
@@ -71,8 +75,8 @@ fn first_wrong(alloc: Global, line: usize, step: usize) -> Result<Option<i32>, F
 
 #[test]
 fn numbers_that_are_kept(rt: HostRuntime) -> Result<(), Fail> {
-    for (line, step) in [(33, 2), (44, 1), (45, 1), (58, 1)] {
-        assert_eq!(rt; first_wrong(rt.alloc(), line, step)?, None, "line {line}");
+    for line in [33, 44, 45, 58] {
+        assert_eq!(rt; first_wrong(rt.alloc(), line)?, None);
     }
     Ok(())
 }

@@ -1,0 +1,174 @@
+-- The loops in Lua: each function goes through 4,000 turns, and is called as often as the second argument says.
+local Thing = {}
+Thing.__index = Thing
+
+function Thing.new()
+    return setmetatable({ size = 0 }, Thing)
+end
+
+function Thing:id(x)
+    return x
+end
+
+local thing = Thing.new()
+
+local function hundred()
+    local l = {}
+    for i = 1, 100 do
+        l[i] = i
+    end
+    return l
+end
+
+local loops = {}
+
+loops["while"] = function()
+    local i = 0
+    while i < 4000 do
+        i = i + 1
+    end
+end
+
+loops["arithmetic"] = function()
+    local x = 0
+    local i = 0
+    while i < 4000 do
+        x = x + i * 2 % 7
+        i = i + 1
+    end
+end
+
+loops["for-range"] = function()
+    local x
+    for i = 1, 4000 do
+        x = i
+    end
+end
+
+loops["for-list"] = function()
+    local l = hundred()
+    local y
+    for j = 1, 40 do
+        for _, x in ipairs(l) do
+            y = x
+        end
+    end
+end
+
+loops["index-read"] = function()
+    local l = hundred()
+    local x
+    local i = 0
+    while i < 4000 do
+        x = l[i % 100 + 1]
+        i = i + 1
+    end
+end
+
+loops["index-write"] = function()
+    local l = hundred()
+    local i = 0
+    while i < 4000 do
+        l[i % 100 + 1] = i
+        i = i + 1
+    end
+end
+
+loops["list-append"] = function()
+    local j = 0
+    while j < 40 do
+        local l = {}
+        local i = 0
+        while i < 100 do
+            l = { table.unpack(l) }
+            l[#l + 1] = i
+            i = i + 1
+        end
+        j = j + 1
+    end
+end
+
+loops["string-append"] = function()
+    local j = 0
+    while j < 40 do
+        local s = ""
+        local i = 0
+        while i < 100 do
+            s = s .. "x"
+            i = i + 1
+        end
+        j = j + 1
+    end
+end
+
+loops["property-read"] = function()
+    local x
+    local i = 0
+    while i < 4000 do
+        x = thing.size
+        i = i + 1
+    end
+end
+
+loops["property-write"] = function()
+    local i = 0
+    while i < 4000 do
+        thing.size = i
+        i = i + 1
+    end
+end
+
+loops["verb-call"] = function()
+    local x
+    local i = 0
+    while i < 4000 do
+        x = thing:id(i)
+        i = i + 1
+    end
+end
+
+loops["length"] = function()
+    local l = { 1, 2, 3 }
+    local x
+    local i = 0
+    while i < 4000 do
+        x = #l
+        i = i + 1
+    end
+end
+
+loops["listappend"] = function()
+    local j = 0
+    while j < 40 do
+        local l = {}
+        local i = 0
+        while i < 100 do
+            table.insert(l, i)
+            i = i + 1
+        end
+        j = j + 1
+    end
+end
+
+loops["strsub"] = function()
+    local x
+    local i = 0
+    while i < 4000 do
+        x = string.gsub("the quick brown fox", "o", "0")
+        i = i + 1
+    end
+end
+
+loops["create-recycle"] = function()
+    local o
+    local i = 0
+    while i < 4000 do
+        o = Thing.new()
+        o = nil
+        i = i + 1
+    end
+end
+
+for task = 1, tonumber(arg[2]) do
+    loops[arg[1]]()
+end

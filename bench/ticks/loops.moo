@@ -1,0 +1,15 @@
+while~i = 0; while (i < 4000) i = i + 1; endwhile
+arithmetic~x = 0; i = 0; while (i < 4000) x = x + i * 2 % 7; i = i + 1; endwhile
+for-range~for i in [1..4000] x = i; endfor
+for-list~l = {}; for i in [1..100] l = {@l, i}; endfor for j in [1..40] for x in (l) y = x; endfor endfor
+index-read~l = {}; for i in [1..100] l = {@l, i}; endfor i = 0; while (i < 4000) x = l[i % 100 + 1]; i = i + 1; endwhile
+index-write~l = {}; for i in [1..100] l = {@l, i}; endfor i = 0; while (i < 4000) l[i % 100 + 1] = i; i = i + 1; endwhile
+list-append~j = 0; while (j < 40) l = {}; i = 0; while (i < 100) l = {@l, i}; i = i + 1; endwhile j = j + 1; endwhile
+string-append~j = 0; while (j < 40) s = ""; i = 0; while (i < 100) s = s + "x"; i = i + 1; endwhile j = j + 1; endwhile
+property-read~i = 0; while (i < 4000) x = #0.size; i = i + 1; endwhile
+property-write~i = 0; while (i < 4000) #0.size = i; i = i + 1; endwhile
+verb-call~i = 0; while (i < 4000) x = #0:id(i); i = i + 1; endwhile
+length~l = {1, 2, 3}; i = 0; while (i < 4000) x = length(l); i = i + 1; endwhile
+listappend~j = 0; while (j < 40) l = {}; i = 0; while (i < 100) l = listappend(l, i); i = i + 1; endwhile j = j + 1; endwhile
+strsub~i = 0; while (i < 4000) x = strsub("the quick brown fox", "o", "0"); i = i + 1; endwhile
+create-recycle~i = 0; while (i < 4000) o = create(#0); recycle(o); i = i + 1; endwhile

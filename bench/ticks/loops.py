@@ -1,0 +1,137 @@
+# The loops in Python: each function goes through 4,000 turns, and is called as often as the second argument says.
+import sys
+
+
+class Thing:
+    def __init__(self):
+        self.size = 0
+
+    def id(self, x):
+        return x
+
+
+thing = Thing()
+
+
+def while_():
+    i = 0
+    while i < 4000:
+        i = i + 1
+
+
+def arithmetic():
+    x = 0
+    i = 0
+    while i < 4000:
+        x = x + i * 2 % 7
+        i = i + 1
+
+
+def for_range():
+    for i in range(1, 4001):
+        x = i
+
+
+def for_list():
+    l = list(range(1, 101))
+    for j in range(40):
+        for x in l:
+            y = x
+
+
+def index_read():
+    l = list(range(1, 101))
+    i = 0
+    while i < 4000:
+        x = l[i % 100]
+        i = i + 1
+
+
+def index_write():
+    l = list(range(1, 101))
+    i = 0
+    while i < 4000:
+        l[i % 100] = i
+        i = i + 1
+
+
+def list_append():
+    j = 0
+    while j < 40:
+        l = []
+        i = 0
+        while i < 100:
+            l = [*l, i]
+            i = i + 1
+        j = j + 1
+
+
+def string_append():
+    j = 0
+    while j < 40:
+        s = ""
+        i = 0
+        while i < 100:
+            s = s + "x"
+            i = i + 1
+        j = j + 1
+
+
+def property_read():
+    i = 0
+    while i < 4000:
+        x = thing.size
+        i = i + 1
+
+
+def property_write():
+    i = 0
+    while i < 4000:
+        thing.size = i
+        i = i + 1
+
+
+def verb_call():
+    i = 0
+    while i < 4000:
+        x = thing.id(i)
+        i = i + 1
+
+
+def length():
+    l = [1, 2, 3]
+    i = 0
+    while i < 4000:
+        x = len(l)
+        i = i + 1
+
+
+def listappend():
+    j = 0
+    while j < 40:
+        l = []
+        i = 0
+        while i < 100:
+            l.append(i)
+            i = i + 1
+        j = j + 1
+
+
+def strsub():
+    i = 0
+    while i < 4000:
+        x = "the quick brown fox".replace("o", "0")
+        i = i + 1
+
+
+def create_recycle():
+    i = 0
+    while i < 4000:
+        o = Thing()
+        del o
+        i = i + 1
+
+
+loop = globals()[{"while": "while_"}.get(sys.argv[1], sys.argv[1].replace("-", "_"))]
+for task in range(int(sys.argv[2])):
+    loop()

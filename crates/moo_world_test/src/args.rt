@@ -96,6 +96,10 @@ impl Args {
         &self.values
     }
 
+    pub fn values_mut(&mut self) -> &mut [Value] {
+        &mut self.values
+    }
+
     pub fn number(&self, place: usize) -> i32 {
         match self.values.get(place) {
             Some(Value::Int(number) | Value::Obj(number)) => *number,

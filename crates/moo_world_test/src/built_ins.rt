@@ -30,7 +30,14 @@ const LOOKS: &str = r#"
 #9 is_player #5 = E_INVARG
 #9 is_player #3 = 1
 #9 is_player #4 = 0
-#9 length "" = E_VERBNF
+#9 length "" = 0
+#9 LENGTH { 1 2 } = 2
+#9 length = E_ARGS
+#9 length 1 = E_TYPE
+#9 time = 0
+#9 lengths 1 = E_INVARG
+#9 notify = E_ARGS
+#9 notify #9 "x" = E_INVARG
 "#;
 
 const PARENTS: &str = r#"

@@ -1,31 +1,26 @@
-// Calls of the built-in functions over the world and on the code of verbs.
-use moo_code_function::call_code;
-use moo_function::Function;
-use moo_operation::OperationFault;
-use moo_value::{ErrorCode, Value};
+// Calls of the plain built-in functions.
+use moo_builtin::Outcome;
+use moo_plain::{Caller, call_plain};
+use moo_value::{MooStr, Value};
 use moo_world::{World, WorldFault};
-use moo_world_function::call_world;
 use std::alloc::Global;
 
-/// What a programmer's call of a function is answered; E_VERBNF where there is no such function over the world.
+/// What a programmer's call of a function is answered, at the moment 0.
 pub fn function_answer(
     world: &mut World,
     alloc: Global,
     name: &str,
-    args: &[Value],
+    args: &mut [Value],
     programmer: i32,
 ) -> Result<Value, WorldFault> {
-    let Some(function) = Function::from_name(name.as_bytes()) else {
-        return Err(WorldFault::Raise(ErrorCode::VerbNotFound));
+    let name = MooStr::try_from_bytes(alloc, name.as_bytes()).map_err(|_| WorldFault::Memory)?;
+    let caller = Caller {
+        programmer,
+        moment: 0,
     };
-    let answer = match call_world(alloc, function, args, world, programmer) {
-        Some(answer) => Some(answer),
-        None => call_code(alloc, function, args, world, programmer),
-    };
-    match answer {
-        Some(Ok(value)) => Ok(value),
-        Some(Err(OperationFault::Raise(error))) => Err(WorldFault::Raise(error)),
-        Some(Err(OperationFault::Memory)) => Err(WorldFault::Memory),
-        None => Err(WorldFault::Raise(ErrorCode::VerbNotFound)),
+    match call_plain(alloc, &name, args, world, caller) {
+        Outcome::Value(value) => Ok(value),
+        Outcome::Raise(error, _, _) => Err(WorldFault::Raise(error)),
+        Outcome::Memory => Err(WorldFault::Memory),
     }
 }

@@ -48,8 +48,8 @@ fn by_programmer(
 ) -> Result<Value, WorldFault> {
     let programmer = programmer.parse::<i32>().unwrap_or(0);
     let (function, others) = call.split_once(' ').unwrap_or((call, ""));
-    let args = Args::read(alloc, others)?;
-    function_answer(world, alloc, function, args.values(), programmer)
+    let mut args = Args::read(alloc, others)?;
+    function_answer(world, alloc, function, args.values_mut(), programmer)
 }
 
 fn literal(alloc: Global, answer: Result<Value, WorldFault>) -> Result<Vec<u8>, WorldFault> {

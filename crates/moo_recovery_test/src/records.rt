@@ -1,6 +1,6 @@
 //! The records of a database, and its programs, without a world.
 use crate::databases::LARGER;
-use moo_dbprogram::read_programs;
+use moo_dbprogram::{Database, read_programs};
 use moo_dbrecord::{read_records, write_records};
 use std::test::Fail;
 
@@ -14,10 +14,23 @@ fn records_are_read_and_written(rt: HostRuntime) -> Result<(), Fail> {
     Ok(())
 }
 
+/// How many verbs have a program.
+fn count_programs(database: &Database) -> usize {
+    let mut programs: usize = 0;
+    for row in &database.programs {
+        for program in row {
+            if program.is_some() {
+                programs = programs.saturating_add(1);
+            }
+        }
+    }
+    programs
+}
+
 #[test]
 fn programs_are_read(rt: HostRuntime) -> Result<(), Fail> {
     let database = read_programs(rt.alloc(), LARGER)?;
-    let programs = database.programs.iter().flatten().flatten().count();
-    assert_eq!(rt; (database.objects.len(), programs), (4, 2));
+    assert_eq!(rt; database.objects.len(), 4);
+    assert_eq!(rt; count_programs(&database), 2);
     Ok(())
 }

@@ -4,18 +4,25 @@ use moo_dbtext::{DbFaultKind, read_db, write_db};
 use std::alloc::Global;
 use std::test::Fail;
 
-#[test]
-fn a_text_that_is_cut_is_truncated(rt: HostRuntime) -> Result<(), Fail> {
-    let alloc = rt.alloc();
+/// Whether a text that is cut, behind any of its bytes, is truncated at the line that is missing.
+fn is_truncated_where_it_is_cut(alloc: Global, text: &[u8]) -> Result<bool, Fail> {
     let mut lines: u64 = 1;
-    for (end, byte) in SMALL.iter().enumerate() {
-        let told = read_as(alloc, read_db(alloc, &SMALL[..end]))?;
+    for (end, byte) in text.iter().enumerate() {
+        let told = read_as(alloc, read_db(alloc, &text[..end]))?;
         let expected = format!(in alloc; "line {lines}: Truncated")?;
-        assert!(rt; told.as_slice() == expected.as_bytes());
+        if told.as_slice() != expected.as_bytes() {
+            return Ok(false);
+        }
         if *byte == b'\n' {
             lines = lines.saturating_add(1);
         }
     }
+    Ok(true)
+}
+
+#[test]
+fn a_text_that_is_cut_is_truncated(rt: HostRuntime) -> Result<(), Fail> {
+    assert!(rt; is_truncated_where_it_is_cut(rt.alloc(), SMALL)?);
     Ok(())
 }
 
@@ -72,6 +79,7 @@ fn so_it_is_in_a_text_of_version_1(rt: HostRuntime) -> Result<(), Fail> {
     let first = with_line(alloc, SMALL, 1, header)?;
     let mut text = with_line(alloc, &first, 73, b"")?;
     assert!(rt; read_as(alloc, read_db(alloc, &text))?.as_slice() == SMALL.as_slice());
+    assert!(rt; is_truncated_where_it_is_cut(alloc, &text)?);
     assert!(rt; stands_each_change(alloc, &mut text)?);
     Ok(())
 }

@@ -47,6 +47,42 @@ fn evaluates_lines(rt: HostRuntime) {
 }
 
 #[test]
+fn calls_functions(rt: HostRuntime) {
+    let rows = [
+        ("ticks_left()\n", "99998\n"),
+        (
+            "{\"Foo\" == \"foo\", equal(\"Foo\", \"foo\")}\n",
+            "{1, 0}\n",
+        ),
+        (
+            "{toint(\"  -12abc\"), toint(\"  -12.7 \"), toobj(\"#-3\"), abs(-2147483648)}\n",
+            "{0, -12, #-3, -2147483648}\n",
+        ),
+        (
+            "tostr(1, \"x\", #2, E_DIV, {1})\n",
+            "\"1x#2Division by zero{list}\"\n",
+        ),
+        (
+            "{strsub(\"aAa\", \"a\", \"b\"), strsub(\"aAa\", \"a\", \"b\", 1)}\n",
+            "{\"bbb\", \"bAb\"}\n",
+        ),
+        (
+            "{index(\"foobar\", \"O\"), rindex(\"ab\", \"\"), listinsert({1, 2}, 3, 9)}\n",
+            "{2, 3, {1, 2, 3}}\n",
+        ),
+        (
+            "{setremove({1, \"A\", \"a\"}, \"a\"), is_member(\"a\", {\"A\", \"a\"})}\n",
+            "{{1, \"a\"}, 2}\n",
+        ),
+        (
+            "length()\n",
+            "#-1:Input to EVAL:  Incorrect number of arguments\n(End of traceback)\n",
+        ),
+    ];
+    assert_eq!(rt; first_wrong(rt.alloc(), &rows), None);
+}
+
+#[test]
 fn reads_to_the_first_line_feed_or_the_end(rt: HostRuntime) {
     let rows = [
         ("", "0\n"),

@@ -1,14 +1,14 @@
 -- What was seen of an input, an output and the memory.
-use Rattle.std.specs.Prelude.{◌≡◌, ℕ, true}
+use Rattle.std.specs.Prelude.{◌≡◌, ◌≤◌, ◌⊎◌, ℕ, true}
 use Rattle.moo_database.specs.declared.watch.Watch.{Watch}
 
 -- the most reads of one input
 abbrev pub most_reads : ℕ
 most_reads = 4294967296
 
--- A call of the input or of the output has answered an error, or the input was asked for more reads than the most.
+-- A call of the input or of the output has answered an error, or the input was asked for the most reads.
 abbrev pub HasFailed : Watch → Type 0
-HasFailed w = w.failed ≡ true
+HasFailed w = (w.failed ≡ true) ⊎ (most_reads ≤ w.reads)
 
 -- A call has answered that memory was wanting.
 abbrev pub HasLacked : Watch → Type 0

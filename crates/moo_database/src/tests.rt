@@ -221,6 +221,18 @@ fn copies_databases(rt: HostRuntime) -> Result<(), Fail> {
     Ok(())
 }
 
+// A name fills two buffers.
+#[test]
+fn reads_by_buffers(rt: HostRuntime) -> Result<(), Fail> {
+    let alloc = rt.alloc();
+    let mut name = vec![in alloc; b'a'; 131_072]?;
+    name.push(b'\n')?;
+    let text = with_lines(alloc, ALL, (26, name.as_slice()), SAME)?;
+    assert!(rt; checks(alloc, &text, 0, "4 objects, 1 programs, 0 connected\n"));
+    assert!(rt; copies(alloc, &text, 0, &text));
+    Ok(())
+}
+
 #[test]
 fn tells_a_device_that_fails(rt: HostRuntime) {
     let alloc = rt.alloc();

@@ -24,6 +24,7 @@ impl Watch {
     pub fn new() -> Watch
         ensures failed { result.failed ≡ false }
         ensures lacked { result.lacked ≡ false }
+        ensures reads { result.reads ≡ 0 }
     {
         Watch {
             failed: false,
@@ -71,7 +72,6 @@ impl Watch {
         ensures remembers { Remembers self.old self.new }
     {
         if self.reads >= MOST_READS {
-            self.failed = true;
             return Err(Refusal::Device);
         }
         self.reads += 1;

@@ -47,7 +47,8 @@ abbrev pub ShowsDatabase : (Saved → List ℕ) → Option (List ℕ) → Option
 ShowsDatabase show input old new status = IsAnswered show input old new status ⊎ ((r : Refusal) × (status ≡ refusal_status r))
 
 -- The program gave up: the status says so, and the output grew by its line alone, unless an input or output has failed. Where
--- a device is told, a call of one has answered an error; where memory is told, a call has answered that it was wanting.
+-- a device is told, a call of one has answered an error, or the most reads were made; where memory is told, a call has answered
+-- that it was wanting.
 pub record HasGivenUp (old new : Option (List ℕ)) (watch : Watch) (status : ℕ) : Type 0 where
   pub refusal : Refusal
   pub is : status ≡ refusal_status refusal

@@ -1,4 +1,4 @@
--- Whether a device has failed.
+-- What was seen of the devices and of the memory.
 pub mod Watching
 -- The status and the line of a refusal.
 pub mod Refused

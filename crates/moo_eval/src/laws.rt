@@ -18,7 +18,7 @@ pub fn one_end_of_text()
 {}
 
 /// Ticks never rise, and notices only grow: what runs has no more ticks after it than before, and keeps the notices so far as they
-/// are. So a task takes no more ticks than it has.
+/// are. So a task ends with at most the ticks that it began with.
 pub fn ticks_never_rise()
     ensures expressions { LaterAfterExpressions }
     ensures statements { LaterAfterStatements }

@@ -99,6 +99,7 @@ impl Program {
     {
         self.names.as_slice()
     }
+
     /// The slot of a name, its letters in any case, or `None` where no variable of the program has it.
     pub fn slot_of(&self, name: &[u8]) -> Option<usize>
         ensures { result ≡ position (λ own. bytes_eq (folded own) (folded name.now)) (slots self.now) }

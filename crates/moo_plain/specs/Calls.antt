@@ -50,7 +50,7 @@ Follows values T f args w c r after = (r ≡ given (answer f c.moment args)) × 
 Follows objects T f args w c r after = Leaves (world_answer f w c.programmer args) w r after
 Follows code T f args w c r after = IsOf (Answers T f w c.programmer args) r after
 
--- A call by a name, in any case, of letters: what it answers or raises, and the world after it. A name of no function raises E_INVARG. The
+-- A call by a name, its letters in any case: what it answers or raises, and the world after it. A name of no function raises E_INVARG. The
 -- number of the arguments, then their types, then whether their objects are valid come before what the function itself looks at.
 pub data CallsPlain (T : Telling) (name : List ℕ) (args : List Tree) (w : World) (c : Caller) : Result Tree Raised → World → Type 0 where
   unknown : function_of name ≡ None →

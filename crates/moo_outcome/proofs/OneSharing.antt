@@ -1,11 +1,12 @@
--- The values of a scatter are dealt in one way.
-use Rattle.std.proofs.Common.{◌≡◌, ℕ, zero, suc, ◌+◌, ◌-◌, ◌≤◌, List, [], ◌∷◌, ◌++◌, Bool, true, false, cond, length, take, drop, refl, sym, ap, ◌∙◌, arith}
+-- The values of a scatter are dealt in one way, and only where their number fits.
+use Rattle.std.proofs.Common.{◌≡◌, ℕ, zero, suc, ◌+◌, ◌-◌, ◌≤◌, List, [], ◌∷◌, ◌++◌, Bool, true, false, ◌&&◌, ◌||◌, cond, nat_le, length, take, drop, refl, sym, ap, ◌∙◌, arith}
 use Rattle.std.proofs.lemmas.List.{take_at, drop_at, length-append}
+use Rattle.std.proofs.lemmas.Bool.Decides.{nat_tests}
 use Rattle.moo_value.specs.Tree.{Tree, list_of}
 use Rattle.moo_program.specs.Tree.{Items, no_items, element, splice, optional, defaulted}
 use Rattle.moo_program.specs.Target.{are_names}
 use Rattle.moo_outcome.specs.Variables.{Binding, bind}
-use Rattle.moo_outcome.specs.Scatter.{binds, required, optionals, takes_rest, shares, LeftOut, lacking, given, missing}
+use Rattle.moo_outcome.specs.Scatter.{binds, required, optionals, takes_rest, fits, shares, LeftOut, lacking, given, missing}
 use Rattle.moo_outcome.specs.Dealing.{Deals, all_dealt, plain, others, filled, filled_default, without, takes_default}
 use Rattle.moo_outcome.proofs.Shared.{no_rest}
 
@@ -149,3 +150,17 @@ by_lacks true {xs = xs} {vs = vs} c = let p = as_lacking xs vs c.spare c.rest (c
 
 pub dealt_so : (xs : Items) (vs : List Tree) (lacks : Bool) (bs : List Binding) (ds : List LeftOut) → are_names false xs ≡ true → Deals lacks true xs vs bs ds → (bs ≡ given xs vs) × (ds ≡ missing xs vs)
 dealt_so xs vs lacks bs ds h d = by_lacks lacks (counted false h d)
+
+counted_fits : (takes : Bool) (n r o spare rest : ℕ) → n ≡ r + spare + cond takes rest 0 → spare ≤ o → (nat_le r n && (takes || nat_le n (r + o))) ≡ true
+counted_fits true n r o spare rest c m =
+    let least : r ≤ n = omega (arith, c) in
+    grind (arith, nat_tests)
+counted_fits false n r o spare rest c m =
+    let least : r ≤ n = omega (arith, c) in
+    let most : n ≤ r + o = omega (arith, c, m) in
+    grind (arith, nat_tests)
+
+pub dealt_fits : (xs : Items) (vs : List Tree) (lacks : Bool) (bs : List Binding) (ds : List LeftOut) → are_names false xs ≡ true → Deals lacks true xs vs bs ds → fits xs (length vs) ≡ true
+dealt_fits xs vs lacks bs ds h d =
+    let c = counted false h d in
+    counted_fits (takes_rest xs) (length vs) (required xs) (optionals xs) c.spare c.rest c.count c.most

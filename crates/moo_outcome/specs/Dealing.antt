@@ -40,3 +40,7 @@ ValuesAreDealt = (xs : Items) (vs : List Tree) → are_names false xs ≡ true �
 -- they are dealt in this way alone
 abbrev pub DealtInOneWay : Type 0
 DealtInOneWay = (xs : Items) (vs : List Tree) (lacks : Bool) (bs : List Binding) (ds : List LeftOut) → are_names false xs ≡ true → Deals lacks true xs vs bs ds → (bs ≡ given xs vs) × (ds ≡ missing xs vs)
+
+-- and where they are dealt so, their number fits
+abbrev pub DealtValuesFit : Type 0
+DealtValuesFit = (xs : Items) (vs : List Tree) (lacks : Bool) (bs : List Binding) (ds : List LeftOut) → are_names false xs ≡ true → Deals lacks true xs vs bs ds → fits xs (length vs) ≡ true

@@ -1,8 +1,8 @@
 //! Lists of nodes from which one leaves in constant time: it leaves a gap behind.
 
-ghost use Rattle.std.specs.Prelude.{◌≡◌, ◌+◌, ◌<◌, ◌≤◌, ◌++◌, ◌∷◌, [], length, IfOk, OnOk, OnErr, MatchOption, Some, None, count_by, nat_eq, slice_index_or};
+ghost use Rattle.std.specs.Prelude.{◌≡◌, ◌+◌, ◌<◌, ◌≤◌, ◌++◌, ◌∷◌, [], length, IfOk, OnOk, OnErr, MatchOption, Some, None, map, count_by, nat_eq, slice_index_or};
 ghost use Rattle.moo_forest.specs.Forest.{without};
-ghost use Rattle.moo_forest.specs.Gapped.{present};
+ghost use Rattle.moo_forest.specs.Gapped.{present, BeginsEmpty};
 
 use crate::below::Below;
 use std::alloc::{AllocError, Global};
@@ -14,15 +14,19 @@ pub struct Gapped {
     slots: Vec<Option<usize>>,
     // How many slots are empty.
     gaps: usize,
+    // How many slots at the front are known to be empty.
+    front: usize,
 }
 
 impl Model for Gapped {
     ghost use Rattle.std.specs.Prelude.{List, ℕ};
-    ghost use Rattle.moo_forest.specs.Gapped.{present};
+    ghost use Rattle.moo_forest.specs.Gapped.{present, BeginsEmpty};
 
     ghost Value = { List ℕ };
 
     ghost view = { λ g. present g.slots.items };
+
+    ghost invariant = { λ g. BeginsEmpty g.front g.slots.items };
 }
 
 impl Gapped {
@@ -32,6 +36,7 @@ impl Gapped {
         Gapped {
             slots: Vec::new(alloc),
             gaps: 0,
+            front: 0,
         }
     }
 
@@ -39,7 +44,7 @@ impl Gapped {
     pub fn below(&self) -> Below<'_>
         ensures { result ≡ self.now }
     {
-        Below::new(&self.slots)
+        Below::new(&self.slots[self.front..])
     }
 
     /// How many slots there are.
@@ -70,7 +75,8 @@ impl Gapped {
         ensures ok { OnOk result (self.new ≡ self.old ++ xs.now) }
         ensures err { OnErr result (self.new ≡ self.old) }
     {
-        push_all(&mut self.slots, xs)
+        push_all(&mut self.slots, xs)?;
+        Ok(())
     }
 
     /// Takes a node out, which is there at most once. Its slot is the one at `place`, or is
@@ -82,6 +88,7 @@ impl Gapped {
         if let Some(place) = slot_of(&self.slots, x, place) {
             self.slots[place] = None;
             self.gaps = self.gaps.saturating_add(1);
+            self.front = empty_at_front(&self.slots, self.front);
         }
     }
 
@@ -96,6 +103,7 @@ impl Gapped {
     {
         keep_filled(&mut self.slots);
         self.gaps = 0;
+        self.front = 0;
     }
 
     /// Takes all out.
@@ -104,11 +112,12 @@ impl Gapped {
     {
         self.slots.clear();
         self.gaps = 0;
+        self.front = 0;
     }
 }
 
 fn push_all(slots: &mut Vec<Option<usize>>, xs: &[usize]) -> Result<(), AllocError>
-    ensures ok { OnOk result (present slots.new.items ≡ present slots.old.items ++ xs.now) }
+    ensures ok { OnOk result (slots.new.items ≡ slots.old.items ++ map (λ x. Some x) xs.now) }
     ensures err { OnErr result (slots.new.items ≡ slots.old.items) }
 {
     let before = slots.len();
@@ -134,6 +143,18 @@ fn slot_of(slots: &[Option<usize>], x: usize, place: usize) -> Option<usize>
         }
     }
     None
+}
+
+// How many slots at the front are empty, of which so many are known.
+fn empty_at_front(slots: &[Option<usize>], known: usize) -> usize
+    requires { BeginsEmpty known slots.now }
+    ensures { BeginsEmpty result slots.now }
+{
+    let mut front = known;
+    while front < slots.len() && slots[front].is_none() {
+        front += 1;
+    }
+    front
 }
 
 fn keep_filled(slots: &mut Vec<Option<usize>>)

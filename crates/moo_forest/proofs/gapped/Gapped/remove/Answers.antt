@@ -4,6 +4,7 @@ use Rattle.moo_forest.specs.Forest.{without}
 use Rattle.moo_forest.specs.Gapped.{present}
 use Rattle.moo_forest.proofs.Counting.{without_absent}
 use Rattle.moo_forest.proofs.Gaps.{cleared}
+use Rattle.moo_forest.proofs.Fronts.{begins_with_gap}
 use Rattle.moo_forest.proofs.gapped.Gapped.remove.Goals as goal
 
 pub returns-in-Some : goal.returns-in-Some
@@ -16,3 +17,6 @@ returns-in-Some c =
 pub returns-in_default : goal.returns-in_default
 returns-in_default c =
     sym (without_absent c.args.x c.args.self.now (ap (count_by (eqb c.args.x)) (sym c.self.view_is) ∙ ap (λ s. count_by (eqb c.args.x) (present s)) (sym c.deref.ensures.value) ∙ c.in_default.ensures))
+
+pub empty_at_front-self-inside-requires : goal.empty_at_front-self-inside-requires
+empty_at_front-self-inside-requires c = rw c.deref-in-Some.ensures.value (begins_with_gap c.self.inside.front c.in-Some.place c.self.inside.slots.items c.self.invariant)

@@ -1,7 +1,8 @@
 //! Numbers and strings, one on a line.
-ghost use Rattle.std.specs.Prelude.{◌≡◌, ◌≢◌, ℕ, ℤ, MatchOption, IfSome, Some, IsTrue, ◌↔◌, FitsSigned};
+ghost use Rattle.std.specs.Prelude.{◌≡◌, ◌≢◌, ℕ, ℤ, MatchOption, IfErr, IfSome, Some, IsTrue, ◌↔◌, FitsSigned};
 ghost use Rattle.std.specs.Fmt.{signed_decimal};
 ghost use Rattle.std.specs.Int.{w32};
+ghost use Rattle.moo_dbvalue.specs.declared.fault.Refusal.TheVariants.{Memory};
 ghost use Rattle.moo_dbvalue.specs.Lines.{Gives, limited, number_of, count_of, bounded_count_of, small_of, text_of};
 
 use crate::fault::{LineFault, Refusal};
@@ -39,7 +40,8 @@ fn decimal(line: &[u8]) -> Option<i32>
 /// The number of 32 bits, with a sign, that a line spells in the one decimal form.
 #[tactic(auto, using(crate::proofs::LineLaws::number_is, crate::proofs::LineLaws::number_is_not))]
 pub fn number(line: &[u8]) -> Result<i32, Refusal>
-    ensures { Gives (λ z. z) result (number_of line.now) }
+    ensures gives { Gives (λ z. z) result (number_of line.now) }
+    ensures memory { IfErr result (λ e. e ≢ Memory) }
 {
     match decimal(line) {
         Some(number) => Ok(number),
@@ -50,7 +52,8 @@ pub fn number(line: &[u8]) -> Result<i32, Refusal>
 /// The number on a line, which is 0 or more.
 #[tactic(auto, unfolding(crate::specs::Lines::count_of))]
 pub fn count(line: &[u8]) -> Result<u32, Refusal>
-    ensures { Gives (λ n. n) result (count_of line.now) }
+    ensures gives { Gives (λ n. n) result (count_of line.now) }
+    ensures memory { IfErr result (λ e. e ≢ Memory) }
 {
     let number = number(line)?;
     if number < 0 {
@@ -62,7 +65,8 @@ pub fn count(line: &[u8]) -> Result<u32, Refusal>
 /// The number on a line, which counts records: 1,000,000 at the most.
 #[tactic(auto, unfolding(crate::specs::Lines::bounded_count_of))]
 pub fn bounded_count(line: &[u8]) -> Result<u32, Refusal>
-    ensures { Gives (λ n. n) result (bounded_count_of limited line.now) }
+    ensures gives { Gives (λ n. n) result (bounded_count_of limited line.now) }
+    ensures memory { IfErr result (λ e. e ≢ Memory) }
 {
     let count = count(line)?;
     if count > 1_000_000 {
@@ -74,7 +78,8 @@ pub fn bounded_count(line: &[u8]) -> Result<u32, Refusal>
 /// The number on a line, from 0 to `most`.
 #[tactic(auto, unfolding(crate::specs::Lines::small_of))]
 pub fn small(line: &[u8], most: u8) -> Result<u8, Refusal>
-    ensures { Gives (λ n. n) result (small_of most line.now) }
+    ensures gives { Gives (λ n. n) result (small_of most line.now) }
+    ensures memory { IfErr result (λ e. e ≢ Memory) }
 {
     let count = count(line)?;
     if count > most as u32 {

@@ -4,6 +4,6 @@ use Rattle.moo_dbvalue.proofs.value_reader.error.Goals as goal
 
 pub returns-in-None : goal.returns-in-None
 returns-in-None c =
-    let low = small_found 15 c.args.line.now c.in_ok-number.number c.in_ok-number.ensures in
+    let low = small_found 15 c.args.line.now c.in_ok-number.number c.in_ok-number.ensures.gives in
     let high = c.in-None.ensures.none in
     absurd (omega arith)

@@ -1,7 +1,9 @@
 //! A value, read a line at a time.
-ghost use Rattle.std.specs.Prelude.{◌≡◌, ◌≤◌, length, option_map};
+ghost use Rattle.std.specs.Prelude.{◌≡◌, ◌≢◌, ◌≤◌, length, option_map, IfErr};
 ghost use Rattle.moo_value.specs.View.{tree, trees};
 ghost use Rattle.moo_dbvalue.specs.Lines.{Gives, limited};
+ghost use Rattle.moo_dbvalue.specs.declared.fault.Refusal.TheVariants.{Memory};
+ghost use Rattle.moo_dbvalue.specs.declared.value_reader.Expected.TheVariants as expected;
 ghost use Rattle.std.specs.Prelude.{nat_lt};
 ghost use Rattle.moo_value.specs.Size.{depth_limit};
 ghost use Rattle.moo_dbvalue.specs.Reading.{type_of, error_of, take_room, closed, after_value, after_count, value_line, begun, partial_of, innermost_first};
@@ -45,7 +47,8 @@ const FULL_ROOM: u32 = 999_999;
 
 #[tactic(auto, unfolding(crate::specs::Reading::type_of))]
 fn expected_after(line: &[u8]) -> Result<Expected, Refusal>
-    ensures { Gives (λ e. e) result (type_of line.now) }
+    ensures gives { Gives (λ e. e) result (type_of line.now) }
+    ensures memory { IfErr result (λ e. e ≢ Memory) }
 {
     match number(line)? {
         0 => Ok(Expected::Int),
@@ -60,7 +63,8 @@ fn expected_after(line: &[u8]) -> Result<Expected, Refusal>
 
 #[tactic(auto, unfolding(crate::specs::Reading::error_of))]
 fn error(line: &[u8]) -> Result<ErrorCode, Refusal>
-    ensures { Gives (λ e. e) result (error_of line.now) }
+    ensures gives { Gives (λ e. e) result (error_of line.now) }
+    ensures memory { IfErr result (λ e. e ≢ Memory) }
 {
     let number = small(line, 15)?;
     match ErrorCode::from_number(number) {
@@ -70,7 +74,8 @@ fn error(line: &[u8]) -> Result<ErrorCode, Refusal>
 }
 
 fn left_of(room: u32, amount: u32) -> Result<u32, Refusal>
-    ensures { Gives (λ n. n) result (take_room limited amount room) }
+    ensures gives { Gives (λ n. n) result (take_room limited amount room) }
+    ensures memory { IfErr result (λ e. e ≢ Memory) }
 {
     if amount > room {
         return Err(Refusal::Fault(LineFault::TooLarge));
@@ -144,7 +149,9 @@ impl ValueReader {
     /// first line after which no value is within them.
     #[tactic(auto, unfolding(crate::specs::Reading::value_step))]
     pub fn step(&mut self, alloc: Global, line: &[u8]) -> Result<Option<Value>, Refusal>
-        ensures { Gives (λ o. (partial_of self.new, option_map tree o)) result (value_line limited (partial_of self.old) line.now) }
+        ensures gives { Gives (λ o. (partial_of self.new, option_map tree o)) result (value_line limited (partial_of self.old) line.now) }
+        // The line of a type takes no memory.
+        ensures memory { (partial_of self.old).expected ≡ expected.Type → IfErr result (λ e. e ≢ Memory) }
     {
         match self.expected {
             Expected::Type => {

@@ -5,3 +5,4 @@ pub mod Rest
 pub mod Scattered
 pub mod Stored
 pub mod Told
+pub mod Measured

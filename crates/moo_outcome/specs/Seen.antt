@@ -1,5 +1,5 @@
 -- What the program's values stand for in the meaning.
-use Rattle.std.specs.Prelude.{ℕ, List, [], ◌∷◌, Box, Option, Some, None, Result, Ok, Err, map, option_map, reverse, if◌then◌else◌}
+use Rattle.std.specs.Prelude.{ℕ, Bool, IsTrue, List, [], ◌∷◌, Box, Option, Some, None, Result, Ok, Err, map, option_map, reverse, if◌then◌else◌}
 use Rattle.std.specs.Str.{bytes_eq}
 use Rattle.std.specs.Borrow.{Bor}
 use Rattle.std.specs.declared.vec.Vec.{Vec}
@@ -149,3 +149,18 @@ HadMemoryIn (failure_case.Stops stop) = HadMemory stop
 abbrev pub IsKnownFailure : {A : Type 0} → Result A code_failure.Failure → Type 0
 IsKnownFailure (Ok v) = Unit {0}
 IsKnownFailure (Err failure) = HadMemoryIn failure
+
+-- memory is wanting only where this holds
+abbrev pub LacksOnlyWhere : Type 0 → code_stop.Stop → Type 0
+LacksOnlyWhere P (stop_case.Raised raise) = Unit {0}
+LacksOnlyWhere P (stop_case.OutOfTicks trace) = Unit {0}
+LacksOnlyWhere P stop_case.Memory = P
+
+abbrev pub LacksOnlyIn : Type 0 → code_failure.Failure → Type 0
+LacksOnlyIn P (failure_case.Fails code) = Unit {0}
+LacksOnlyIn P (failure_case.Stops stop) = LacksOnlyWhere P stop
+
+-- what becomes of a failure may take memory: an error is raised with its traceback where the d bit is on, and a stop is passed on
+abbrev pub MayLack : Bool → code_failure.Failure → Type 0
+MayLack d (failure_case.Fails code) = IsTrue d
+MayLack d (failure_case.Stops stop) = ¬ HadMemory stop

@@ -1,6 +1,7 @@
 //! Values that a node reads or gathers.
-ghost use Rattle.std.specs.Prelude.{◌≡◌, ◌++◌, ◌∷◌, [], List, Ok, Err, IfOk, IfErr, OnOk};
+ghost use Rattle.std.specs.Prelude.{◌≡◌, ◌++◌, ◌∷◌, [], List, Ok, Err, IfOk, IfErr, OnOk, OnErr, IsSomeAnd};
 ghost use Rattle.moo_value.specs.Tree.{Tree};
+ghost use Rattle.moo_value.specs.Faults.{TakesMemory};
 ghost use Rattle.moo_operation.specs.Places.{spliced_of};
 ghost use Rattle.moo_value.specs.declared.error_code.ErrorCode.TheVariants.{VariableNotFound};
 ghost use Rattle.moo_value.specs.Compare.{folded};
@@ -8,7 +9,7 @@ ghost use Rattle.moo_value.specs.View.{tree, trees};
 ghost use Rattle.moo_program.specs.Tree.{literal_value};
 ghost use Rattle.moo_outcome.specs.Outcome.{answers, or_error};
 ghost use Rattle.moo_outcome.specs.State.{measured};
-ghost use Rattle.moo_outcome.specs.Seen.{variables_of, indexed_of, failure_of, seen_answer, HadMemoryIn, IsKnownFailure};
+ghost use Rattle.moo_outcome.specs.Seen.{variables_of, indexed_of, failure_of, seen_answer, HadMemoryIn, IsKnownFailure, LacksOnlyIn};
 
 use crate::frame::Activation;
 use crate::outcome::Failure;
@@ -19,7 +20,8 @@ use std::alloc::AllocError;
 
 /// The value of a literal.
 pub fn literal_value(literal: &Literal) -> Result<Value, AllocError>
-    ensures { IfOk result (λ v. tree v ≡ literal_value literal.now) }
+    ensures value { IfOk result (λ v. tree v ≡ literal_value literal.now) }
+    ensures memory { OnErr result (TakesMemory (literal_value literal.now)) }
 {
     match literal {
         Literal::Integer(number) => Ok(Value::Int(*number)),
@@ -31,7 +33,8 @@ pub fn literal_value(literal: &Literal) -> Result<Value, AllocError>
 
 /// The value of a variable.
 pub fn read_variable(active: &Activation, name: &MooStr) -> Result<Value, Failure>
-    ensures { IsKnownFailure result → answers (or_error (variables_of active.now.variables (folded name.now)) VariableNotFound) ≡ seen_answer result }
+    ensures value { IsKnownFailure result → answers (or_error (variables_of active.now.variables (folded name.now)) VariableNotFound) ≡ seen_answer result }
+    ensures memory { IfErr result (LacksOnlyIn (IsSomeAnd (variables_of active.now.variables (folded name.now)) TakesMemory)) }
 {
     match active.variables.get(name.as_bytes()) {
         Some(value) => Ok(value.try_clone()?),
@@ -41,7 +44,7 @@ pub fn read_variable(active: &Activation, name: &MooStr) -> Result<Value, Failur
 
 /// The length of what is indexed.
 pub fn measure(indexed: Option<&Value>) -> Result<Value, Failure>
-    ensures { IsKnownFailure result → answers (measured (indexed_of indexed.entry)) ≡ seen_answer result }
+    ensures { answers (measured (indexed_of indexed.entry)) ≡ seen_answer result }
 {
     match indexed {
         Some(value) => Ok(length_of(value)?),

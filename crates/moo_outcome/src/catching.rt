@@ -1,12 +1,12 @@
 //! Which errors a catch answers for.
-ghost use Rattle.std.specs.Prelude.{◌≡◌};
+ghost use Rattle.std.specs.Prelude.{◌≡◌, IfErr, IsErrAnd};
 ghost use Rattle.std.specs.List.{list_any};
 ghost use Rattle.moo_value.specs.Tree.{error};
 ghost use Rattle.moo_value.specs.View.{tree, trees};
 ghost use Rattle.moo_operation.specs.Truth.{same_tree};
 ghost use Rattle.moo_program.specs.View.{codes_of};
 ghost use Rattle.moo_outcome.specs.Catching.{is_caught, caught, coded};
-ghost use Rattle.moo_outcome.specs.Seen.{seen_value, seen_answers, seen_codes, trace_of, IsKnown, IsKnownFailure};
+ghost use Rattle.moo_outcome.specs.Seen.{seen_value, seen_answers, seen_codes, trace_of, IsKnown, IsKnownFailure, LacksOnlyWhere, MayLack};
 
 use crate::frame::{Activation, CallStack};
 use crate::outcome::{Failure, Stop, raised};
@@ -23,6 +23,7 @@ pub fn settle_codes(
 ) -> Result<Vec<Value>, Stop>
     ensures outcome { IsKnown result → coded stack.now.running.d (trace_of stack.now active.now) (seen_answers outcome) ≡ seen_codes result }
     ensures known { IsKnown result → IsKnownFailure outcome }
+    ensures memory { IfErr result (LacksOnlyWhere (IsErrAnd outcome (MayLack stack.now.running.d))) }
 {
     match outcome {
         Ok(values) => Ok(values),

@@ -1,5 +1,5 @@
 //! Handlers of a `try`: which one takes an error, and what it is told.
-ghost use Rattle.std.specs.Prelude.{◌≡◌, ◌++◌, ◌∷◌, [], List, Ok, Err, map, option_copied, option_map, IfErr, OnOk};
+ghost use Rattle.std.specs.Prelude.{◌≡◌, ◌++◌, ◌∷◌, [], List, Ok, Err, map, option_copied, option_map, IfErr, OnOk, IsSome};
 ghost use Rattle.moo_value.specs.Tree.{Tree};
 ghost use Rattle.moo_value.specs.View.{trees};
 ghost use Rattle.moo_program.specs.Tree.{Handlers, handler};
@@ -9,7 +9,7 @@ ghost use Rattle.moo_outcome.specs.Outcome.{answers, raised_by};
 ghost use Rattle.moo_outcome.specs.Variables.{Binding, with_all};
 ghost use Rattle.moo_outcome.specs.Handling.{guarded, chosen, frame_list, entry_lists, frame_lists, above, told, told_as};
 ghost use Rattle.moo_outcome.specs.Catching.{is_caught};
-ghost use Rattle.moo_outcome.specs.Seen.{variables_of, raise_of, stop_of, failure_of, trace_of, seen_answer, seen_answers, HadMemory, HadMemoryIn, IsKnownFailure};
+ghost use Rattle.moo_outcome.specs.Seen.{variables_of, raise_of, stop_of, failure_of, trace_of, seen_answer, seen_answers, HadMemory, HadMemoryIn, IsKnownFailure, LacksOnlyWhere};
 ghost use Rattle.moo_outcome.specs.SeenHandling.{guarded_of};
 
 use crate::access::push;
@@ -167,6 +167,7 @@ pub fn set_caught(
     ensures programmer { active.new.programmer ≡ active.old.programmer }
     ensures err { IfErr result (λ stop. HadMemory stop → (failure : meaning.Failure) × (answers (told_as stack.now.callers.items (option_copied name.entry) (raise_of raise)) ≡ Err failure) × (stop_of stop ≡ raised_by (trace_of stack.now active.old) failure)) }
     ensures kept { IfErr result (λ stop. HadMemory stop → active.new ≡ active.old) }
+    ensures memory { IfErr result (LacksOnlyWhere (IsSome name.entry)) }
 {
     let Some(name) = name else {
         return Ok(());

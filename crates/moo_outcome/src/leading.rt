@@ -1,8 +1,8 @@
 //! Where loops and cleanups lead.
-ghost use Rattle.std.specs.Prelude.{◌≡◌, Ok, Err, option_copied, IfOk, IfErr, IsTrue};
+ghost use Rattle.std.specs.Prelude.{◌≡◌, Ok, Err, option_copied, IfOk, IfErr, OnErr, IsSome, IsTrue};
 ghost use Rattle.moo_value.specs.View.{tree};
 ghost use Rattle.moo_outcome.specs.Leading.{is_meant, after_turn, no_turn, runs_finally, after_finally, span_of, numbered};
-ghost use Rattle.moo_outcome.specs.Seen.{flow_of, seen_flow, seen_turn, trace_of, IsKnown};
+ghost use Rattle.moo_outcome.specs.Seen.{flow_of, seen_flow, seen_turn, trace_of, IsKnown, LacksOnlyWhere};
 
 use crate::frame::{Activation, CallStack};
 use crate::outcome::{Failure, Flow, Stop, raised};
@@ -50,7 +50,8 @@ impl Span {
 
 /// The name of a loop that a statement asks for.
 pub fn copied_name(name: &Option<MooStr>) -> Result<Option<MooStr>, AllocError>
-    ensures { IfOk result (λ copy. copy ≡ name.now) }
+    ensures copy { IfOk result (λ copy. copy ≡ name.now) }
+    ensures memory { OnErr result (IsSome name.now) }
 {
     match name {
         None => Ok(None),
@@ -98,7 +99,8 @@ pub fn no_turn(
     active: &Activation,
     code: ErrorCode,
 ) -> Result<Flow, Stop>
-    ensures { IsKnown result → no_turn stack.now.running.d (trace_of stack.now active.now) code ≡ seen_flow result }
+    ensures flow { IsKnown result → no_turn stack.now.running.d (trace_of stack.now active.now) code ≡ seen_flow result }
+    ensures memory { IfErr result (LacksOnlyWhere (IsTrue stack.now.running.d)) }
 {
     if !stack.running.d {
         return Ok(Flow::Next);

@@ -1,8 +1,8 @@
 //! How evaluation may end.
-ghost use Rattle.std.specs.Prelude.{◌≡◌, IfOk};
+ghost use Rattle.std.specs.Prelude.{◌≡◌, true, IfOk, IfErr, IsErrAnd};
 ghost use Rattle.moo_value.specs.View.{tree};
 ghost use Rattle.moo_outcome.specs.Outcome.{settled, plain_raise, raised_by};
-ghost use Rattle.moo_outcome.specs.Seen.{raise_of, trace_of, stop_of, failure_of, seen_value, seen_answer, IsKnown, IsKnownFailure, HadMemory, HadMemoryIn};
+ghost use Rattle.moo_outcome.specs.Seen.{raise_of, trace_of, stop_of, failure_of, seen_value, seen_answer, IsKnown, IsKnownFailure, HadMemory, HadMemoryIn, LacksOnlyWhere, MayLack};
 
 use crate::frame::{Activation, CallStack, TraceEntry};
 use moo_operation::OperationFault;
@@ -148,6 +148,7 @@ pub fn settle(
 ) -> Result<Value, Stop>
     ensures outcome { IsKnown result → settled stack.now.running.d (trace_of stack.now active.now) (seen_answer outcome) ≡ seen_value result }
     ensures known { IsKnown result → IsKnownFailure outcome }
+    ensures memory { IfErr result (LacksOnlyWhere (IsErrAnd outcome (MayLack stack.now.running.d))) }
 {
     match outcome {
         Ok(value) => Ok(value),
@@ -166,6 +167,7 @@ pub fn settle(
 pub fn raised(alloc: Global, stack: &CallStack<'_>, active: &Activation, failure: Failure) -> Stop
     ensures stop { HadMemory result → stop_of result ≡ raised_by (trace_of stack.now active.now) (failure_of failure) }
     ensures known { HadMemory result → HadMemoryIn failure }
+    ensures memory { LacksOnlyWhere (MayLack true failure) result }
 {
     match failure {
         Failure::Stops(stop) => stop,

@@ -43,11 +43,11 @@ evaluate-returns-in_err-take_tick-clause-meaning t c =
 
 pub compute-returns-in-Variable-clause-meaning : goal.compute-returns-in-Variable-clause-meaning
 compute-returns-in-Variable-clause-meaning t c =
-    λ k. rw c.in-Variable.is (applies no_more no_more (variable_is (c.read_variable.ensures k)))
+    λ k. rw c.in-Variable.is (applies no_more no_more (variable_is (c.read_variable.ensures.value k)))
 
 pub compute-returns-in-Length-clause-meaning : goal.compute-returns-in-Length-clause-meaning
 compute-returns-in-Length-clause-meaning t c =
-    λ k. rw c.in-Length.is (applies no_more no_more (length_is (c.measure.ensures k)))
+    λ k. rw c.in-Length.is (applies no_more no_more (length_is c.measure.ensures))
 
 pub compute-returns-in-List-clause-meaning : goal.compute-returns-in-List-clause-meaning
 compute-returns-in-List-clause-meaning t c =
@@ -650,11 +650,11 @@ repeat-turns-preserved-in_default-2 t c =
 
 pub for_list-returns-clause-meaning : goal.for_list-returns-clause-meaning
 for_list-returns-clause-meaning t c =
-    λ k. list_fails (c.in_ok-list.ensures.meaning tt) c.in-Err.ensures.err (c.no_turn.ensures k)
+    λ k. list_fails (c.in_ok-list.ensures.meaning tt) c.in-Err.ensures.err (c.no_turn.ensures.flow k)
 
 pub for_range-returns-clause-meaning : goal.for_range-returns-clause-meaning
 for_range-returns-clause-meaning t c =
-    λ k. span_fails (element_then (c.in_ok-low.ensures.meaning tt) (element_then (c.in_ok-high.ensures.meaning tt) no_more refl) refl) c.in-Err.ensures.err (c.no_turn.ensures k)
+    λ k. span_fails (element_then (c.in_ok-low.ensures.meaning tt) (element_then (c.in_ok-high.ensures.meaning tt) no_more refl) refl) c.in-Err.ensures.err (c.no_turn.ensures.flow k)
 
 pub visit_all-returns-in_err-flow-clause-meaning : goal.visit_all-returns-in_err-flow-clause-meaning
 visit_all-returns-in_err-flow-clause-meaning t c =

@@ -1,3 +1,1 @@
-pub mod Unique
 pub mod NewLists
-pub mod Settled

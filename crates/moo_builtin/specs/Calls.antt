@@ -1,4 +1,4 @@
--- What a call of a function over values alone answers.
+-- What the functions over values alone answer.
 use Rattle.std.specs.Prelude.{◌≡◌, ℕ, pos, false, List, [], ◌∷◌, Option, None, Some, Result, Ok, Err}
 use Rattle.moo_value.specs.declared.error_code.ErrorCode.{ErrorCode}
 use Rattle.moo_value.specs.declared.error_code.ErrorCode.TheVariants.{TypeMismatch}
@@ -10,8 +10,6 @@ use Rattle.moo_operation.specs.declared.fault.OperationFault.{OperationFault}
 use Rattle.moo_operation.specs.declared.fault.OperationFault.TheVariants as fault
 use Rattle.moo_function.specs.declared.function.Function.{Function}
 use Rattle.moo_function.specs.declared.function.Function.TheVariants as function
-use Rattle.moo_function.specs.Table.{row}
-use Rattle.moo_function.specs.Check.{mismatch}
 use Rattle.moo_builtin.specs.declared.call.Outcome.{Outcome}
 use Rattle.moo_builtin.specs.declared.call.Outcome.TheVariants as outcome
 use Rattle.moo_text_function.specs.Answers.{GivesUnless, IsMade}
@@ -78,24 +76,13 @@ abbrev pub answer : Function → ℕ → List Tree → Option (Result Tree Raise
 answer function.Raise moment args = Some (Err (raised_by args))
 answer f moment args = simply (plain_answer f moment args)
 
--- A call of such a function at a moment answers a value or raises an error. The count and the types of its arguments
--- come before the function's own rule.
-pub data Calls : Function → ℕ → List Tree → Result Tree Raised → Type 0 where
-  refused : {f : Function} {moment : ℕ} {args : List Tree} {e : ErrorCode} →
-      mismatch (row f) args ≡ Some e →
-      Calls f moment args (Err (plainly e))
-  answers : {f : Function} {moment : ℕ} {args : List Tree} {r : Result Tree Raised} →
-      mismatch (row f) args ≡ None →
-      answer f moment args ≡ Some r →
-      Calls f moment args r
-
 -- Memory may be wanting for a string or a list that is made, and where a search folds letters, which is done in copies.
 abbrev pub MayLack : Function → List Tree → Result Tree ErrorCode → Type 0
 MayLack function.Index args r = is_exact args ≡ false
 MayLack function.LastIndex args r = is_exact args ≡ false
 MayLack f args r = IsMade r
 
--- the same of a call, and for the message of an error that is raised
+-- the same of an answer as it is given, and for the message of an error that is raised
 abbrev pub CallMayLack : Function → List Tree → Result Tree Raised → Type 0
 CallMayLack f args (Ok t) = MayLack f args (Ok t)
 CallMayLack f args (Err r) = Unit {0}
@@ -112,31 +99,19 @@ ShowsSome f args None r = r ≡ None
 ShowsSome f args (Some o) None = ⊥
 ShowsSome f args (Some o) (Some r) = Shows f args o r
 
--- the outcome is that of a call, or memory is wanting where it may for all that the call may come to; none where the function
--- is not of this crate
-abbrev pub IsCall : Function → ℕ → List Tree → Option Outcome → Type 0
-IsCall f moment args None = answer f moment args ≡ None
-IsCall f moment args (Some (outcome.Value v)) = Calls f moment args (Ok (tree v))
-IsCall f moment args (Some (outcome.Raise e message v)) = Calls f moment args (Err (record { code = e; message = message; value = tree v }))
-IsCall f moment args (Some outcome.Memory) = (r : Result Tree Raised) → Calls f moment args r → CallMayLack f args r
-
--- a call has at most one answer
-abbrev pub AtMostOneAnswer : Type 0
-AtMostOneAnswer = (f : Function) (moment : ℕ) (args : List Tree) (r s : Result Tree Raised) → Calls f moment args r → Calls f moment args s → r ≡ s
-
 -- what a function over values alone gives; none for a function of another crate
 abbrev pub GivesSome : Function → List Tree → Option (Result Value OperationFault) → Option (Result Tree ErrorCode) → Type 0
 GivesSome f args None r = r ≡ None
 GivesSome f args (Some a) None = ⊥
 GivesSome f args (Some a) (Some r) = GivesUnless (MayLack f args r) a r
 
--- For private clauses: an outcome raises an error, or is short of memory for its message, and an outcome is an answer of the
--- program.
+-- an outcome raises an error, or is short of memory for its message
 abbrev pub Raises : Outcome → Raised → Type 0
 Raises (outcome.Value v) r = ⊥
 Raises (outcome.Raise e message v) r = r ≡ record { code = e; message = message; value = tree v }
 Raises outcome.Memory r = Unit {0}
 
+-- an outcome is an answer of the program
 abbrev pub Tells : Outcome → Result Value OperationFault → Type 0
 Tells o (Ok v) = o ≡ outcome.Value v
 Tells o (Err (fault.Raise e)) = Raises o (plainly e)

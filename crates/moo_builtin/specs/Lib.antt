@@ -1,4 +1,4 @@
--- What the functions over values alone answer, and what a call of one is.
+-- What the functions over values alone answer.
 pub mod Answers
 pub mod Looks
 pub mod Numbers

@@ -1,7 +1,7 @@
 //! A call of a built-in function.
 ghost use Rattle.std.specs.Prelude.{◌≡◌, IfNone};
 ghost use Rattle.moo_value.specs.View.{tree, trees};
-ghost use Rattle.moo_builtin.specs.Calls.{plainly, plain_answer, raised_by, answer, ShowsSome, GivesSome, Raises, Tells, IsCall};
+ghost use Rattle.moo_builtin.specs.Calls.{plainly, plain_answer, raised_by, answer, ShowsSome, GivesSome, Raises, Tells};
 
 use crate::lists::{
     is_member, list_append, list_delete, list_insert, list_set, set_add, set_remove,
@@ -27,25 +27,8 @@ pub enum Outcome {
     Memory,
 }
 
-/// Calls a function over values alone, at a moment in seconds. A wrong number of arguments raises E_ARGS, then one of a
-/// wrong type E_TYPE. `None` where the function is another one; the arguments then stay as they are.
-pub fn call_value(
-    alloc: Global,
-    function: Function,
-    args: &mut [Value],
-    moment: u32,
-) -> Option<Outcome>
-    ensures call { IsCall function moment (trees args.old) result }
-    ensures unchanged { IfNone result (args.new ≡ args.old) }
-{
-    match function.mismatch(args) {
-        Some(error) => Some(raised(alloc, error)),
-        None => answer(alloc, function, args, moment),
-    }
-}
-
-/// What a function over values alone gives, or raises, for arguments that fit its row of the table. `None` where the
-/// function is another one; the arguments then stay as they are.
+/// What a function over values alone gives, or raises, for arguments that fit its row of the table, at a moment in seconds
+/// since 1970. `None` where the function is another one; the arguments then stay as they are.
 pub fn answer(alloc: Global, function: Function, args: &mut [Value], moment: u32) -> Option<Outcome>
     ensures value { ShowsSome function (trees args.old) result (answer function moment (trees args.old)) }
     ensures unchanged { IfNone result (args.new ≡ args.old) }
@@ -98,7 +81,8 @@ pub fn plain_answer(
     })
 }
 
-fn settled(alloc: Global, answer: Result<Value, OperationFault>) -> Outcome
+/// The outcome of this answer, an error with its own message and 0.
+pub fn settled(alloc: Global, answer: Result<Value, OperationFault>) -> Outcome
     ensures { Tells result answer }
 {
     match answer {
@@ -129,7 +113,8 @@ fn raised_with(error: ErrorCode, message: &MooStr, value: &Value) -> Outcome
     }
 }
 
-fn raised(alloc: Global, error: ErrorCode) -> Outcome
+/// An error with its own message and 0, or want of memory for the message.
+pub fn raised(alloc: Global, error: ErrorCode) -> Outcome
     ensures { Raises result (plainly error) }
 {
     match MooStr::try_from_bytes(alloc, error.message().as_bytes()) {

@@ -2,10 +2,9 @@
 #![tactic(auto)]
 
 mod call;
-pub mod laws;
 mod lists;
 mod looks;
 mod made;
 mod numbers;
 
-pub use call::{Outcome, answer, call_value, plain_answer};
+pub use call::{Outcome, answer, plain_answer, raised, settled};

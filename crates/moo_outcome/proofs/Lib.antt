@@ -1,6 +1,7 @@
 pub mod Shared
 pub mod OneSharing
 pub mod Names
+pub mod GivenNames
 pub mod Rest
 pub mod Scattered
 pub mod Stored

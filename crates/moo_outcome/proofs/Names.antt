@@ -1,5 +1,5 @@
 -- How a variable is looked for.
-use Rattle.std.proofs.Common.{◌≡◌, ℕ, zero, suc, ◌<◌, ◌≤◌, Bool, true, false, cond, List, [], ◌∷◌, ◌++◌, Option, Some, None, Decides, length, get_or, position, All, codes, option_copied, refl, sym, ap, ◌∙◌, arith}
+use Rattle.std.proofs.Common.{◌≡◌, ℕ, zero, suc, ◌<◌, ◌≤◌, Bool, true, false, cond, List, [], ◌∷◌, ◌++◌, Option, Some, None, Decides, length, get_or, position, map, option_copied, refl, sym, ap, ◌∙◌, arith}
 use Rattle.std.specs.Option.{option_map}
 use Rattle.std.specs.List.{find, position_or_len}
 use Rattle.std.specs.Str.{bytes_eq}
@@ -10,11 +10,10 @@ use Rattle.std.proofs.lemmas.List.Sums.{fails_before_first}
 use Rattle.std.proofs.lemmas.Slice.Eq.{bytes_eq-Decides}
 use Rattle.moo_value.specs.declared.value.Value.{Value}
 use Rattle.std.specs.Borrow.{Bor}
-use Rattle.moo_value.specs.Tree.{Tree, list_of}
+use Rattle.moo_value.specs.Tree.{Tree}
 use Rattle.moo_value.specs.Compare.{folded}
 use Rattle.moo_value.specs.View.{tree}
-use Rattle.moo_outcome.specs.declared.frame.Frame.{Frame}
-use Rattle.moo_outcome.specs.Variables.{Binding, bind, with_variable, type_bindings, object_bindings, text_bindings, first_bindings, over, value_of_name}
+use Rattle.moo_outcome.specs.Variables.{Binding, with_variable, value_of_name}
 use Rattle.moo_outcome.specs.Seen.{slot_value}
 
 -- the program's name is this one
@@ -28,10 +27,6 @@ split false x o = refl
 -- a binding before others
 pub first_name : (b : Binding) (bs : List Binding) → with_variable (value_of_name bs) b ≡ value_of_name (b ∷ bs)
 first_name b bs = λ j n. sym (split (bytes_eq (folded b.name) n) b (find (λ x. bytes_eq (folded x.name) n) bs)) j
-
-pub over_names : (bs cs : List Binding) → over bs (value_of_name cs) ≡ value_of_name (bs ++ cs)
-over_names [] cs = refl
-over_names (b ∷ bs) cs = ap (λ f. with_variable f b) (over_names bs cs) ∙ first_name b (bs ++ cs)
 
 -- what the comparison of two names answers
 pub named : (b : Bool) (r n a d : List ℕ) → a ≡ r → d ≡ n → Decides b (folded a ≡ folded d) → b ≡ bytes_eq (folded r) (folded n)
@@ -53,15 +48,6 @@ unslotted_at P slots n None e h k l m = fails_before_first P slots k [] (omega (
 
 pub unslotted : (P : List ℕ → Bool) (slots : List (List ℕ)) (n : ℕ) → ((i : ℕ) → position P slots ≡ Some i → n ≤ i) → (k : ℕ) → k < length slots → k < n → P (get_or slots k []) ≡ false
 unslotted P slots n h = unslotted_at P slots n (position P slots) refl h
-
--- the variables that a frame begins with, set from the last one on
-pub first_set : (f : Frame) (v1 v2 v3 v4 v5 : List ℕ → Option Tree) → v1 ≡ value_of_name [] → v2 ≡ with_variable v1 (bind (codes "args") (list_of f.args)) → v3 ≡ over (text_bindings f) v2 → v4 ≡ over (object_bindings f) v3 → v5 ≡ over type_bindings v4 → v5 ≡ value_of_name (first_bindings f)
-first_set f v1 v2 v3 v4 v5 p1 p2 p3 p4 p5 =
-    let args = bind (codes "args") (list_of f.args) in
-    let a = p2 ∙ ap (λ v. with_variable v args) p1 ∙ first_name args [] in
-    let b = p3 ∙ ap (over (text_bindings f)) a ∙ over_names (text_bindings f) (args ∷ []) in
-    let d = p4 ∙ ap (over (object_bindings f)) b ∙ over_names (object_bindings f) (text_bindings f ++ args ∷ []) in
-    p5 ∙ ap (over type_bindings) d ∙ over_names type_bindings (object_bindings f ++ text_bindings f ++ args ∷ [])
 
 -- a value that is lent
 pub lent : (r : Option (Bor Value)) → option_map (λ v. tree v.now) r ≡ option_map (λ v. tree v) (option_copied r)
@@ -92,10 +78,7 @@ pub no_slot : (name : List ℕ) (slots : List (List ℕ)) (values : List (Option
 no_slot name slots values elsewhere h = nothing_at name slots values elsewhere (unslotted (is_own name) slots (length values) h)
 
 -- where no slot has a value
-pub nothing_set : (slots : List (List ℕ)) (values : List (Option Value)) (n : List ℕ) → All (λ v. v ≡ None) values → slot_value slots values (value_of_name []) n ≡ None
-nothing_set [] values n a = refl
-nothing_set (own ∷ slots) [] n a = refl
-nothing_set (own ∷ slots) (x ∷ values) n a =
-    ap (λ y. cond (bytes_eq (folded own) n) (option_map (λ v. tree v) y) (slot_value slots values (value_of_name []) n)) (a 0 x (omega arith))
-    ∙ ap (cond (bytes_eq (folded own) n) None) (nothing_set slots values n (λ k d h. a (suc k) d (omega (arith, h))))
-    ∙ either (bytes_eq (folded own) n)
+pub nothing_set : (slots names : List (List ℕ)) (n : List ℕ) → slot_value slots (map (λ name. None) names) (value_of_name []) n ≡ None
+nothing_set [] names n = refl
+nothing_set (own ∷ slots) [] n = refl
+nothing_set (own ∷ slots) (m ∷ names) n = ap (cond (bytes_eq (folded own) n) None) (nothing_set slots names n) ∙ either (bytes_eq (folded own) n)

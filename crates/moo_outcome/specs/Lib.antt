@@ -1,3 +1,4 @@
+pub mod Given
 pub mod Variables
 pub mod Surroundings
 pub mod State

@@ -1,5 +1,5 @@
 -- What the program's values stand for in the meaning.
-use Rattle.std.specs.Prelude.{ℕ, Bool, IsTrue, List, [], ◌∷◌, Box, Option, Some, None, Result, Ok, Err, map, option_map, reverse, if◌then◌else◌}
+use Rattle.std.specs.Prelude.{ℕ, Bool, IsTrue, List, [], ◌∷◌, ◌++◌, Box, Option, Some, None, Result, Ok, Err, map, option_map, reverse, if◌then◌else◌}
 use Rattle.std.specs.Str.{bytes_eq}
 use Rattle.std.specs.Borrow.{Bor}
 use Rattle.std.specs.declared.vec.Vec.{Vec}
@@ -26,6 +26,7 @@ use Rattle.moo_outcome.specs.declared.outcome.Failure as code_failure
 use Rattle.moo_outcome.specs.declared.outcome.Failure.TheVariants as failure_case
 use Rattle.moo_outcome.specs.declared.outcome.Flow as code_flow
 use Rattle.moo_outcome.specs.declared.outcome.Flow.TheVariants as flow_case
+use Rattle.moo_outcome.specs.Given.{given_names}
 use Rattle.moo_outcome.specs.Variables.{Binding, value_of_name}
 use Rattle.moo_outcome.specs.Surroundings.{Surroundings}
 use Rattle.moo_outcome.specs.State.{Context, entries}
@@ -49,9 +50,21 @@ slot_value (own ∷ slots) (value ∷ values) elsewhere name =
     if bytes_eq (folded own) name then option_map (λ v. tree v) value else slot_value slots values elsewhere name
 slot_value _ _ elsewhere name = elsewhere name
 
+-- the names that have slots: those that every frame has, and then the program's
+abbrev pub names_of : Variables → List (List ℕ)
+names_of variables = given_names ++ slots variables.program
+
 -- the value that a folded name has
 unfoldable pub variables_of : Variables → List ℕ → Option Tree
-variables_of variables = slot_value (slots variables.program) variables.values.items (value_among variables.others.items)
+variables_of variables = slot_value (names_of variables) variables.values.items (value_among variables.others.items)
+
+-- the values in slots
+abbrev pub seen_values : List (Option Value) → List (Option Tree)
+seen_values = map (option_map (λ v. tree v))
+
+-- the values of these bindings, each there
+abbrev pub bound_values : List Binding → List (Option Tree)
+bound_values = map (λ b. Some b.value)
 
 abbrev pub indexed_of : Option (Bor Value) → Option Tree
 indexed_of indexed = option_map (λ v. tree v.now) indexed

@@ -59,8 +59,3 @@ with_variable variables b name = if bytes_eq (folded b.name) name then Some b.va
 abbrev pub with_all : (List ℕ → Option Tree) → List Binding → List ℕ → Option Tree
 with_all variables [] = variables
 with_all variables (b ∷ bs) = with_all (with_variable variables b) bs
-
--- with these set, the first one last
-abbrev pub over : List Binding → (List ℕ → Option Tree) → List ℕ → Option Tree
-over [] variables = variables
-over (b ∷ bs) variables = with_variable (over bs variables) b

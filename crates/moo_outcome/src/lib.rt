@@ -5,6 +5,7 @@
 mod access;
 mod catching;
 mod frame;
+mod given;
 mod handling;
 pub mod laws;
 mod leading;

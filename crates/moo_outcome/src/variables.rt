@@ -1,23 +1,23 @@
 //! The variables of a frame.
-ghost use Rattle.std.specs.Prelude.{◌≡◌, ℕ, ◌<◌, ◌≤◌, [], Some, None, All, position, length, option_map, IfOk, IfSome, IfNone, OnOk};
+ghost use Rattle.std.specs.Prelude.{◌≡◌, ℕ, ◌<◌, ◌≤◌, ◌++◌, Some, None, map, position, length, option_map, IfOk, IfSome, IfNone, OnOk};
 ghost use Rattle.std.specs.Str.{bytes_eq};
-ghost use Rattle.moo_value.specs.Tree.{string};
 ghost use Rattle.moo_value.specs.View.{tree};
 ghost use Rattle.moo_value.specs.Compare.{folded};
-ghost use Rattle.moo_program.specs.Slots.{slots};
-ghost use Rattle.moo_outcome.specs.Variables.{bind, with_variable, type_bindings, object_bindings, text_bindings, first_bindings, over, value_of_name};
-ghost use Rattle.moo_outcome.specs.Seen.{own_name, value_among, variables_of};
+ghost use Rattle.moo_outcome.specs.Variables.{bind, with_variable, first_bindings, value_of_name};
+ghost use Rattle.moo_outcome.specs.Seen.{own_name, value_among, variables_of, names_of, seen_values, bound_values};
 
 use crate::frame::Frame;
+use crate::given::Given;
 use moo_grammar::Program;
 use moo_value::{MooStr, Value};
 use std::alloc::{AllocError, Global};
 
-/// The variables of a frame: a value or none for each name of its program, by the name's slot, and those of the names
-/// that the program doesn't have.
+/// The variables of a frame: the values of the names that every frame has, a value or none for each name of its program by
+/// the name's slot, and the values of other names. A name that every frame has needs no search.
 #[derive(Drop)]
 pub struct Variables {
     program: Program,
+    /// First those that every frame has, then the program's.
     values: Vec<Option<Value>>,
     /// The newest last, which hides older ones of its name.
     others: Vec<Variable>,
@@ -29,9 +29,6 @@ struct Variable {
     name: Name,
     value: Value,
 }
-
-// How many names every frame has.
-const GIVEN: usize = 18;
 
 /// A name that every frame has, or another.
 #[derive(Drop)]
@@ -45,68 +42,15 @@ impl Variables {
     pub fn first(alloc: Global, frame: &Frame) -> Result<Variables, AllocError>
         ensures { IfOk result (λ v. variables_of v ≡ value_of_name (first_bindings frame.now)) }
     {
-        let mut variables = Variables::unset(alloc, &frame.program)?;
-        variables.set_given("args", Value::List(frame.args.try_clone()?))?;
-        variables.set_texts(frame)?;
-        variables.set_objects(frame)?;
-        variables.set_types()?;
-        Ok(variables)
-    }
-
-    // No variable is set.
-    fn unset(alloc: Global, program: &Program) -> Result<Variables, AllocError>
-        ensures { IfOk result (λ v. variables_of v ≡ value_of_name []) }
-    {
-        let others = Vec::with_capacity(alloc, GIVEN)?;
-        let program = program.try_clone()?;
-        let values = no_values(alloc, program.slots())?;
+        let program = frame.program.try_clone()?;
+        let slots = program.slots();
+        let mut values = given_values(alloc, frame, Given::COUNT + slots.len())?;
+        push_none(&mut values, slots)?;
         Ok(Variables {
             program,
             values,
-            others,
+            others: Vec::new(alloc),
         })
-    }
-
-    // The numbers of the types, the last one first.
-    fn set_types(&mut self) -> Result<(), AllocError>
-        ensures { OnOk result (variables_of self.new ≡ over type_bindings (variables_of self.old)) }
-    {
-        self.set_given("FLOAT", Value::Int(9))?;
-        self.set_given("LIST", Value::Int(4))?;
-        self.set_given("ERR", Value::Int(3))?;
-        self.set_given("STR", Value::Int(2))?;
-        self.set_given("OBJ", Value::Int(1))?;
-        self.set_given("INT", Value::Int(0))?;
-        self.set_given("NUM", Value::Int(0))?;
-        Ok(())
-    }
-
-    fn set_objects(&mut self, frame: &Frame) -> Result<(), AllocError>
-        ensures { OnOk result (variables_of self.new ≡ over (object_bindings frame.now) (variables_of self.old)) }
-    {
-        self.set_given("iobj", Value::Obj(frame.iobj))?;
-        self.set_given("dobj", Value::Obj(frame.dobj))?;
-        self.set_given("caller", Value::Obj(frame.caller))?;
-        self.set_given("this", Value::Obj(frame.this))?;
-        self.set_given("player", Value::Obj(frame.player))?;
-        Ok(())
-    }
-
-    fn set_texts(&mut self, frame: &Frame) -> Result<(), AllocError>
-        ensures { OnOk result (variables_of self.new ≡ over (text_bindings frame.now) (variables_of self.old)) }
-    {
-        self.set_text("iobjstr", &frame.iobjstr)?;
-        self.set_text("prepstr", &frame.prepstr)?;
-        self.set_text("dobjstr", &frame.dobjstr)?;
-        self.set_text("argstr", &frame.argstr)?;
-        self.set_text("verb", &frame.verb)?;
-        Ok(())
-    }
-
-    fn set_text(&mut self, name: &'static str, text: &MooStr) -> Result<(), AllocError>
-        ensures { OnOk result (variables_of self.new ≡ with_variable (variables_of self.old) (bind name.now (string text.now))) }
-    {
-        self.set_given(name, Value::Str(text.try_clone()?))
     }
 
     /// Sets a variable that every frame has.
@@ -147,14 +91,19 @@ impl Variables {
         }
     }
 
-    // The slot of a name of the program.
+    // The slot of a name that every frame has, or of one of the program.
     fn slot(&self, name: &[u8]) -> Option<usize>
-        ensures some { IfSome result (λ i. (position (λ own. bytes_eq (folded own) (folded name.now)) (slots self.now.program) ≡ Some i) × (i < length self.now.values.items)) }
-        ensures none { IfNone result ((i : ℕ) → position (λ own. bytes_eq (folded own) (folded name.now)) (slots self.now.program) ≡ Some i → length self.now.values.items ≤ i) }
+        ensures some { IfSome result (λ i. (position (λ own. bytes_eq (folded own) (folded name.now)) (names_of self.now) ≡ Some i) × (i < length self.now.values.items)) }
+        ensures none { IfNone result ((i : ℕ) → position (λ own. bytes_eq (folded own) (folded name.now)) (names_of self.now) ≡ Some i → length self.now.values.items ≤ i) }
     {
-        match self.program.slot_of(name) {
-            Some(slot) if slot < self.values.len() => Some(slot),
-            _ => None,
+        let slot = match Given::from_name(name) {
+            Some(given) => given.slot(),
+            None => self.program.slot_of(name)?.checked_add(Given::COUNT)?,
+        };
+        if slot < self.values.len() {
+            Some(slot)
+        } else {
+            None
         }
     }
 
@@ -185,15 +134,44 @@ impl Name {
     }
 }
 
-// No value for each of these names.
-fn no_values(alloc: Global, names: &[MooStr]) -> Result<Vec<Option<Value>>, AllocError>
-    ensures { IfOk result (λ values. All (λ value. value ≡ None) values.items) }
+// The values of the names that every frame has, in their order.
+fn given_values(
+    alloc: Global,
+    frame: &Frame,
+    capacity: usize,
+) -> Result<Vec<Option<Value>>, AllocError>
+    ensures { IfOk result (λ values. seen_values values.items ≡ bound_values (first_bindings frame.now)) }
 {
-    let mut values = Vec::with_capacity(alloc, names.len())?;
+    let mut values = Vec::with_capacity(alloc, capacity)?;
+    values.push(Some(Value::Int(0)))?;
+    values.push(Some(Value::Int(0)))?;
+    values.push(Some(Value::Int(1)))?;
+    values.push(Some(Value::Int(2)))?;
+    values.push(Some(Value::Int(3)))?;
+    values.push(Some(Value::Int(4)))?;
+    values.push(Some(Value::Int(9)))?;
+    values.push(Some(Value::Obj(frame.player)))?;
+    values.push(Some(Value::Obj(frame.this)))?;
+    values.push(Some(Value::Obj(frame.caller)))?;
+    values.push(Some(Value::Obj(frame.dobj)))?;
+    values.push(Some(Value::Obj(frame.iobj)))?;
+    values.push(Some(Value::Str(frame.verb.try_clone()?)))?;
+    values.push(Some(Value::Str(frame.argstr.try_clone()?)))?;
+    values.push(Some(Value::Str(frame.dobjstr.try_clone()?)))?;
+    values.push(Some(Value::Str(frame.prepstr.try_clone()?)))?;
+    values.push(Some(Value::Str(frame.iobjstr.try_clone()?)))?;
+    values.push(Some(Value::List(frame.args.try_clone()?)))?;
+    Ok(values)
+}
+
+// No value for each of these names.
+fn push_none(values: &mut Vec<Option<Value>>, names: &[MooStr]) -> Result<(), AllocError>
+    ensures { OnOk result (values.new.items ≡ values.old.items ++ map (λ name. None) names.now) }
+{
     for _ in names {
         values.push(None)?;
     }
-    Ok(values)
+    Ok(())
 }
 
 /// Whether two names are the same but for the case of their letters.

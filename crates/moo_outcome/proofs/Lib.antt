@@ -7,3 +7,4 @@ pub mod Scattered
 pub mod Stored
 pub mod Told
 pub mod Measured
+pub mod Rows

@@ -1,6 +1,9 @@
--- What the fault of an operation is in the evaluator.
+-- What the fault of an operation, or of a list, is in the evaluator.
 use Rattle.moo_operation.specs.declared.fault.OperationFault.{OperationFault}
 use Rattle.moo_operation.specs.declared.fault.OperationFault.TheVariants.{Raise, Memory}
+use Rattle.moo_value.specs.declared.error_code.ErrorCode.TheVariants.{Quota}
+use Rattle.moo_value.specs.declared.list.ListFault.{ListFault}
+use Rattle.moo_value.specs.declared.list.ListFault.TheVariants as list
 use Rattle.moo_outcome.specs.declared.outcome.Stop.TheVariants as stop
 use Rattle.moo_outcome.specs.declared.outcome.Failure.{Failure}
 use Rattle.moo_outcome.specs.declared.outcome.Failure.TheVariants.{Fails, Stops}
@@ -8,3 +11,8 @@ use Rattle.moo_outcome.specs.declared.outcome.Failure.TheVariants.{Fails, Stops}
 abbrev pub failed : OperationFault → Failure
 failed (Raise code) = Fails code
 failed Memory = Stops stop.Memory
+
+-- values that make no list
+abbrev pub refused : ListFault → Failure
+refused list.TooLarge = Fails Quota
+refused list.Memory = Stops stop.Memory

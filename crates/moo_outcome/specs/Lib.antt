@@ -6,6 +6,7 @@ pub mod Outcome
 pub mod Catching
 pub mod Leading
 pub mod Handling
+pub mod Gathered
 pub mod Scatter
 pub mod Dealing
 pub mod Traceback

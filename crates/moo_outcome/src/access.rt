@@ -70,8 +70,8 @@ pub fn splice(values: &mut Vec<Value>, list: Value) -> Result<(), Failure>
     Ok(())
 }
 
-// Puts copies of these values at the end.
-fn append(values: &mut Vec<Value>, more: &[Value]) -> Result<(), AllocError>
+/// Puts copies of these values at the end.
+pub(crate) fn append(values: &mut Vec<Value>, more: &[Value]) -> Result<(), AllocError>
     ensures { OnOk result (values.new.items ≡ values.old.items ++ more.now) }
 {
     for value in more {

@@ -6,6 +6,7 @@ mod access;
 mod catching;
 mod frame;
 mod given;
+mod gathered;
 mod handling;
 pub mod laws;
 mod leading;
@@ -19,6 +20,7 @@ mod variables;
 pub use access::{literal_value, measure, push, read_variable, splice};
 pub use catching::{caught, settle_codes};
 pub use frame::{Activation, CallStack, Frame, TraceEntry, TraceFrame};
+pub use gathered::Gathered;
 pub use handling::{
     Guarded, HandlerParts, chosen, frame_lists, handler_parts, push_guarded, set_caught,
 };

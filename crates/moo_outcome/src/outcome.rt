@@ -6,7 +6,7 @@ ghost use Rattle.moo_outcome.specs.Seen.{raise_of, trace_of, stop_of, failure_of
 
 use crate::frame::{Activation, CallStack, TraceEntry};
 use moo_operation::OperationFault;
-use moo_value::{ErrorCode, MooStr, Value};
+use moo_value::{ErrorCode, ListFault, MooStr, Value};
 use std::alloc::{AllocError, Global};
 
 /// An error that was raised, and what is told of it, which stands on the heap: so an outcome is small.
@@ -125,6 +125,20 @@ impl From<OperationFault> for Failure {
         match fault {
             OperationFault::Raise(code) => Failure::Fails(code),
             OperationFault::Memory => Failure::Stops(Stop::Memory),
+        }
+    }
+}
+
+impl From<ListFault> for Failure {
+    ghost use Rattle.moo_outcome.specs.declared.outcome.Failure.{Failure};
+    ghost use Rattle.moo_outcome.specs.Fault.{refused};
+
+    ghost from_gives = { λ fault failure. failure ≡ refused fault };
+
+    fn from(fault: ListFault) -> Failure {
+        match fault {
+            ListFault::TooLarge => Failure::Fails(ErrorCode::Quota),
+            ListFault::Memory => Failure::Stops(Stop::Memory),
         }
     }
 }

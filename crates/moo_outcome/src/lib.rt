@@ -5,8 +5,8 @@
 mod access;
 mod catching;
 mod frame;
-mod given;
 mod gathered;
+mod given;
 mod handling;
 pub mod laws;
 mod leading;

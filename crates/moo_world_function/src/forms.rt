@@ -15,7 +15,7 @@ use moo_world_text::{
 };
 use std::alloc::AllocError;
 
-/// What a property is given.
+/// What a property is given; it keeps its name where there is none.
 #[derive(Drop)]
 pub struct GivenProperty {
     pub owner: i32,
@@ -31,7 +31,8 @@ pub struct GivenVerb {
     pub names: MooStr,
 }
 
-/// `{owner, perms}` or `{owner, perms, name}`; E_INVARG for a text that is none of permissions.
+/// `{owner, perms}` or `{owner, perms, name}`; E_TYPE for another value, E_INVARG for a text that is none of
+/// permissions.
 pub fn given_property(value: &Value) -> Result<GivenProperty, OperationFault>
     ensures { Reads result (given_property (tree value.now)) }
 {
@@ -72,7 +73,7 @@ fn property_in(elements: &[Value]) -> Result<GivenProperty, OperationFault>
     }
 }
 
-/// `{owner, perms, names}`; E_INVARG for a text that is none of permissions.
+/// `{owner, perms, names}`; E_TYPE for another value, E_INVARG for a text that is none of permissions.
 #[tactic(auto, unfolding(crate::specs::Forms::given_verb))]
 pub fn given_verb(value: &Value) -> Result<GivenVerb, OperationFault>
     ensures { Reads result (given_verb (tree value.now)) }
@@ -104,7 +105,7 @@ fn verb_in(elements: &[Value]) -> Result<GivenVerb, OperationFault>
     }
 }
 
-/// `{dobj, prep, iobj}`; E_INVARG for a text that is no specifier.
+/// `{dobj, prep, iobj}`; E_TYPE for another value, E_INVARG for a text that is no specifier.
 #[tactic(auto, unfolding(crate::specs::Forms::given_args))]
 pub fn given_args(value: &Value) -> Result<VerbArgs, OperationFault>
     ensures answer { Reads result (given_args (tree value.now)) }

@@ -1,4 +1,5 @@
-//! How a call enters a verb.
+//! How a call enters a verb: 'Calling Built-in Functions and Other Verbs' of the LambdaMOO Programmer's Manual,
+//! 'Expressions' and 'Limits' of docs/LANGUAGE.md.
 ghost use Rattle.std.specs.Prelude.{◌≡◌, ◌∷◌, [], None, Some, Ok, Err, codes, is_some, option_map, IfOk, IfErr, OnOk};
 ghost use Rattle.std.specs.Option.{unwrap_or};
 ghost use Rattle.moo_value.specs.Tree.{list_of};
@@ -57,9 +58,9 @@ pub fn enter_verb<'a>(
     enter_found(alloc, world, stack, active, *this, *this, name, args)
 }
 
-/// Enters the verb of a name that is found from an object on, to run on another object, with its owner's rights: E_QUOTA
-/// for a list of arguments past the limits, E_INVIND where the object that it is looked for on isn't valid, E_VERBNF
-/// where there is no such verb that can be executed, E_MAXREC where no frame is left.
+/// Enters the verb of a name that is found from an object on, to run on another object, with its owner's rights:
+/// E_QUOTA for a list of arguments past the limits, E_INVIND where the object that it is looked for on isn't valid,
+/// E_VERBNF where there is no such verb that can be executed, E_MAXREC where no frame is left.
 pub fn enter_verb_from<'a>(
     alloc: Global,
     world: &World,

@@ -1,4 +1,5 @@
-//! Properties of objects.
+//! Properties of objects: 'Getting and Setting the Values of Properties' of the LambdaMOO Programmer's Manual,
+//! 'Expressions' of docs/LANGUAGE.md.
 ghost use Rattle.std.specs.Prelude.{◌≡◌, IfErr};
 ghost use Rattle.moo_value.specs.View.{tree};
 ghost use Rattle.moo_access.specs.Fault.{failed};
@@ -12,7 +13,9 @@ use moo_value::{ErrorCode, Value};
 use moo_world::{World, WorldFault};
 use std::alloc::Global;
 
-/// The value of a property, read with the rights of a programmer.
+/// The value of a property, read with the rights of a programmer: E_TYPE where the base is no object or the name no
+/// string, E_INVIND where the object isn't valid, E_PROPNF where it has no such property, E_PERM where the programmer
+/// may not read it.
 pub fn read_property(
     alloc: Global,
     world: &World,
@@ -33,7 +36,9 @@ pub fn read_property(
     }
 }
 
-/// Sets a property, with the rights of a programmer. Where that is refused nothing changes.
+/// Sets a property, with the rights of a programmer: E_TYPE, E_INVIND and E_PROPNF as `read_property`, then for a
+/// built-in one E_TYPE for a name that is no string or an owner that is no object, and E_PERM for the place and the
+/// contents, and E_PERM where the programmer may not set it. Where it is refused nothing changes.
 pub fn write_property(
     world: &mut World,
     programmer: i32,

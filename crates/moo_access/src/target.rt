@@ -1,4 +1,5 @@
-//! Targets of assignments.
+//! Targets of assignments: 'Replacing an Element of a List or String' and 'Replacing a Subsequence of a List or String'
+//! of the LambdaMOO Programmer's Manual, 'Assignment' of docs/LANGUAGE.md.
 ghost use Rattle.std.specs.Prelude.{◌≡◌, ◌∷◌, [], Ok, Err, map, IfOk, IfErr, IfSome, IfNone, OnOk};
 ghost use Rattle.moo_value.specs.Tree.{Tree};
 ghost use Rattle.moo_value.specs.View.{tree};
@@ -151,7 +152,8 @@ impl Step {
 }
 
 impl<'a> Path<'a> {
-    /// The value to which the path leads.
+    /// The value to which the path leads: E_VARNF for a variable that isn't set, what `read_property` raises, E_TYPE
+    /// and E_RANGE for a place that the innermost container hasn't.
     pub fn value(&self, alloc: Global, world: &World, active: &Activation) -> Result<Value, Failure>
         ensures { IsKnownFailure result → answers (held world.now active.now.programmer (root_seen self.now.root) (steps_of self.now.steps.items) (variables_of active.now.variables)) ≡ seen_answer result }
     {
@@ -162,7 +164,9 @@ impl<'a> Path<'a> {
     }
 }
 
-/// The outermost container, with the value at the end of the steps, or the value itself where there is no step.
+/// The outermost container, with the value at the end of the steps, or the value itself where there is no step. Raises
+/// what the first container raises that doesn't take what it is given, from the innermost on: E_TYPE, E_RANGE, E_INVARG
+/// or E_QUOTA.
 pub fn rebuilt(alloc: Global, steps: Vec<Step>, value: Value) -> Result<Value, Failure>
     ensures { IsKnownFailure result → answers (rebuilt (steps_of steps.items) (Ok (tree value))) ≡ seen_answer result }
 {
@@ -183,7 +187,8 @@ pub fn push_step(path: &mut Path<'_>, step: Step) -> Result<(), AllocError>
     Ok(())
 }
 
-/// Sets a variable, or what the steps lead to in it. A list that nothing else shares is changed in place.
+/// Sets a variable, or what the steps lead to in it: raises what `rebuilt` raises, and then the variable stays as it
+/// was. A list that nothing else shares is changed in place.
 pub fn set_variable(
     alloc: Global,
     variables: &mut Variables,

@@ -1,4 +1,7 @@
-//! Functions that leave a notice.
+//! Functions that leave a notice, which is met once the task has ended: 'Operations on Network Connections',
+//! 'Operations on Player Objects' and 'Administrative Operations' of the LambdaMOO Programmer's Manual, 'Functions over
+//! the running task' of docs/LANGUAGE.md. Arguments that don't fit the function's row, with which no call comes here,
+//! raise E_TYPE. What raises changes nothing.
 ghost use Rattle.std.specs.Prelude.{◌≡◌, ◌++◌, ◌∷◌, [], ℕ, OnOk};
 ghost use Rattle.moo_value.specs.View.{tree, trees};
 ghost use Rattle.moo_outcome.specs.Seen.{seen_answer, IsKnownFailure};
@@ -15,7 +18,7 @@ use moo_value::{ErrorCode, Value};
 use moo_world::{World, WorldFault};
 use std::alloc::AllocError;
 
-/// `notify`: a line for a player, for himself and for wizards.
+/// `notify(o, line)`: asks for a line to be sent to o, and answers 1. E_PERM for others than o itself and wizards.
 pub(crate) fn notify(
     world: &World,
     active: &Activation,
@@ -32,7 +35,7 @@ pub(crate) fn notify(
     leave(may, 1, notice, notices)
 }
 
-/// `boot_player`: the end of a player's connection, for himself and for wizards.
+/// `boot_player(o)`: asks for the end of o's connection, and answers 0. E_PERM for others than o itself and wizards.
 pub(crate) fn boot_player(
     world: &World,
     active: &Activation,
@@ -48,7 +51,7 @@ pub(crate) fn boot_player(
     leave(may, 0, Notice::BootPlayer(*player), notices)
 }
 
-/// `dump_database`: a checkpoint, for wizards.
+/// `dump_database()`: asks for a checkpoint, and answers 0. E_PERM for who is no wizard.
 pub(crate) fn dump_database(
     world: &World,
     active: &Activation,
@@ -64,7 +67,8 @@ pub(crate) fn dump_database(
     leave(may, 0, Notice::DumpDatabase, notices)
 }
 
-/// `shutdown`: the end of the server, perhaps with a text that tells why, for wizards.
+/// `shutdown([why])`: asks for the end of the server, perhaps with a text that tells why, and answers 0. E_PERM for who
+/// is no wizard.
 pub(crate) fn shutdown(
     world: &World,
     active: &Activation,
@@ -82,7 +86,7 @@ pub(crate) fn shutdown(
     leave(may, 0, Notice::Shutdown(why), notices)
 }
 
-/// `server_log`: a line for the server's log, for wizards.
+/// `server_log(line)`: asks for a line in the server's log, and answers 0. E_PERM for who is no wizard.
 pub(crate) fn server_log(
     world: &World,
     active: &Activation,
@@ -98,7 +102,8 @@ pub(crate) fn server_log(
     leave(may, 0, Notice::ServerLog(line.try_clone()?), notices)
 }
 
-/// `set_player_flag`: makes an object a player or no player, for wizards. What the world raises comes before the right.
+/// `set_player_flag(o, on)`: makes an object a player, or no player where `on` is false, leaves a notice of it, and
+/// answers 0. Raises E_INVARG where o is no object, E_QUOTA for too many players, and E_PERM for who is no wizard.
 pub(crate) fn set_player_flag(
     world: &mut World,
     active: &Activation,

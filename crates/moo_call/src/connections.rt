@@ -1,4 +1,5 @@
-//! Functions that look at the open connections.
+//! Functions that look at the open connections: 'Operations on Network Connections' of the LambdaMOO Programmer's
+//! Manual, 'Functions over the running task' of docs/LANGUAGE.md.
 ghost use Rattle.std.specs.Prelude.{◌≡◌, ◌++◌, OnOk};
 ghost use Rattle.moo_value.specs.View.{tree, trees};
 ghost use Rattle.moo_outcome.specs.Outcome.{answers};
@@ -10,8 +11,8 @@ use moo_outcome::{Connection, Failure, Login, Surroundings, push};
 use moo_value::{ErrorCode, Value};
 use std::alloc::{AllocError, Global};
 
-/// `connected_players`: who is connected, in the order of the connections. Where the argument is there and true, so are
-/// the numbers of connections on which nobody is.
+/// `connected_players([all])`: the list of who is connected, in the order of the connections. Where the argument is
+/// there and true, so are the numbers of connections on which nobody is. E_QUOTA for a list past its limits.
 pub(crate) fn connected_players(
     alloc: Global,
     around: &Surroundings,

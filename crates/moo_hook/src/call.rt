@@ -21,7 +21,8 @@ use moo_world::World;
 use moo_world_function::refusal;
 use std::alloc::Global;
 
-/// The function that a name calls, in any case, where it is one that calls verbs.
+/// The function that a name calls, in any case, where it is one that calls verbs or runs a program: `pass`, `move`,
+/// `create`, `recycle` or `eval`.
 pub fn verb_caller(name: &MooStr) -> Option<Function>
     ensures { result ≡ caller_of name.now }
 {
@@ -40,8 +41,9 @@ fn calls_verbs(function: Function) -> bool
     )
 }
 
-/// Begins a call of a function that calls verbs. A wrong number of arguments raises E_ARGS, then one of a wrong type
-/// E_TYPE, then an object that isn't valid E_INVARG; then comes what the function itself looks at.
+/// Begins a call of a function that calls verbs, and tells what comes first: its answer, a verb, or a stage. A wrong
+/// number of arguments raises E_ARGS, then one of a wrong type E_TYPE, then an object that isn't valid E_INVARG; then
+/// comes what the function itself looks at. Another function, with which no call comes here, raises E_TYPE.
 pub fn start_call<'a>(
     alloc: Global,
     world: &mut World,

@@ -1,4 +1,5 @@
-//! `create`.
+//! `create`: 'Fundamental Operations on Objects' of the LambdaMOO Programmer's Manual, 'Functions over the running
+//! task' of docs/LANGUAGE.md.
 ghost use Rattle.std.specs.Prelude.{◌≡◌};
 ghost use Rattle.moo_outcome.specs.Seen.{IsKnownFailure};
 ghost use Rattle.moo_hook.specs.Creating.{may_be_parent, owner_of_new, creating};
@@ -14,7 +15,8 @@ use moo_world::World;
 use std::alloc::Global;
 
 /// Makes an object: E_PERM where the parent isn't fertile, then E_QUOTA where the owner may not own more or there is no
-/// number left, then E_PERM where the owner isn't the programmer. The object is told.
+/// number left, then E_PERM where the owner isn't the programmer. It counts for its owner, and its `initialize` is
+/// called: E_MAXREC where no frame is left for it, and the object stays.
 pub(crate) fn create<'a>(
     alloc: Global,
     world: &mut World,
@@ -66,6 +68,7 @@ fn owner_of_new(world: &World, owner: i32) -> i32
     if owner != -1 {
         return owner;
     }
+    // For the proof alone: the length fits 32 bits.
     world.is_well_formed();
     world.objects().len() as i32
 }

@@ -1,4 +1,5 @@
-//! `eval`.
+//! `eval`: 'MOO-Code Evaluation and Task Manipulation' of the LambdaMOO Programmer's Manual, 'Functions over the
+//! running task' of docs/LANGUAGE.md.
 ghost use Rattle.std.specs.Prelude.{◌≡◌, ◌∷◌, [], true, IfOk};
 ghost use Rattle.moo_value.specs.Tree.{integer};
 ghost use Rattle.moo_value.specs.View.{tree, trees};
@@ -23,8 +24,8 @@ use moo_value::{ErrorCode, MooList, MooStr, Value};
 use moo_world::World;
 use std::alloc::{AllocError, Global};
 
-/// Runs a text as a program: E_PERM where the programmer hasn't the flag of programmers, then for a text that is no program
-/// the answer that tells a fault of it, then E_MAXREC where no frame is left.
+/// Runs a text as a program: E_PERM where the programmer hasn't the flag of programmers, then for a text that is no
+/// program the answer that tells a fault of it, then E_MAXREC where no frame is left.
 pub(crate) fn begin_evaluating<'a>(
     alloc: Global,
     world: &World,
@@ -68,7 +69,7 @@ fn no_program(alloc: Global, fault: &SyntaxFault) -> Result<Value, Failure>
     flagged(alloc, 0, lines)
 }
 
-/// The answer of a program that has come to its end with this value.
+/// The answer of a program that has come to its end with this value, `{1, value}`: E_QUOTA past the limits of a list.
 pub(crate) fn has_given(alloc: Global, value: Value) -> Result<Value, Failure>
     ensures { IsKnownFailure result → answers (has_given (tree value)) ≡ seen_answer result }
 {
@@ -152,7 +153,8 @@ fn begun_below<'a>(
     })
 }
 
-/// The frame of a program that is typed in.
+/// The frame of a program that is typed in, with the d bit: `this`, the definer, `dobj` and `iobj` are #-1, the strings
+/// empty, but for the names `Input to EVAL`, and there are no arguments.
 pub fn typed_frame(
     alloc: Global,
     program: Program,

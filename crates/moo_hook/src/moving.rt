@@ -1,4 +1,5 @@
-//! `move`.
+//! `move`: 'Object Movement' of the LambdaMOO Programmer's Manual, 'Functions over the running task' of
+//! docs/LANGUAGE.md. Where no frame is left for a verb that is to be called, E_MAXREC is raised; what was done stays.
 ghost use Rattle.std.specs.Prelude.{◌≡◌};
 ghost use Rattle.moo_outcome.specs.Seen.{IsKnownFailure};
 ghost use Rattle.moo_hook.specs.Moving.{move_calls, is_to_move, moved, moving, may_enter, accepted, has_come, left_behind};
@@ -13,8 +14,8 @@ use moo_value::{ErrorCode, Value};
 use moo_world::World;
 use std::alloc::Global;
 
-/// Begins to move an object: E_INVARG where the place isn't one, then E_PERM where the object isn't the programmer's.
-/// Then the place is asked, but for #-1.
+/// Begins to move an object: E_INVARG where the place is neither an object nor #-1, then E_PERM where the object isn't
+/// the programmer's. Then the place's `accept` is called; with #-1 the object moves at once.
 pub(crate) fn begin_move<'a>(
     alloc: Global,
     world: &mut World,
@@ -38,7 +39,9 @@ pub(crate) fn begin_move<'a>(
     call_verb(alloc, world, stack, active, to, "accept", what, stage)
 }
 
-/// Goes on after the place was asked: E_NACC where it doesn't accept, but for wizards.
+/// Goes on after the place was asked: E_NACC where it doesn't accept, but for wizards, then E_RECMOVE where the place
+/// is the object or in it. Else the object moves, and the `exitfunc` of the place that it leaves is called. Where the
+/// object is there already, or one of the two was taken away, the answer is 0.
 pub(crate) fn accept<'a>(
     alloc: Global,
     world: &mut World,
@@ -89,7 +92,8 @@ fn is_to_move(world: &World, what: i32, to: i32) -> bool
     world.valid(what) && is_place(world, to) && location(world, what) != to
 }
 
-/// Goes on after the old place was told: the new one is told, where the object is still there.
+/// Goes on after the old place was told: the `enterfunc` of the new one is called, where the object is still there;
+/// else the answer is 0.
 pub(crate) fn leave<'a>(
     alloc: Global,
     world: &World,

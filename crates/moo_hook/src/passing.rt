@@ -1,4 +1,5 @@
-//! `pass`.
+//! `pass`: 'Object-Oriented Programming' of the LambdaMOO Programmer's Manual, 'Functions over the running task' of
+//! docs/LANGUAGE.md.
 ghost use Rattle.std.specs.Prelude.{◌≡◌};
 ghost use Rattle.moo_value.specs.View.{trees};
 ghost use Rattle.moo_outcome.specs.Seen.{IsKnownFailure};

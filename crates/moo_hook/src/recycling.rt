@@ -1,4 +1,6 @@
-//! `recycle`.
+//! `recycle`: 'Fundamental Operations on Objects' of the LambdaMOO Programmer's Manual, 'Functions over the running
+//! task' of docs/LANGUAGE.md. Where no frame is left for a verb that is to be called, E_MAXREC is raised; what was done
+//! stays.
 ghost use Rattle.std.specs.Prelude.{◌≡◌};
 ghost use Rattle.moo_value.specs.View.{trees};
 ghost use Rattle.moo_outcome.specs.Seen.{IsKnownFailure};
@@ -16,7 +18,7 @@ use moo_value::{ErrorCode, Value};
 use moo_world::World;
 use std::alloc::Global;
 
-/// Begins to take an object away: E_PERM where it isn't the programmer's. It is told.
+/// Begins to take an object away: E_PERM where it isn't the programmer's. Its `recycle` is called.
 pub(crate) fn begin_recycling<'a>(
     alloc: Global,
     world: &World,
@@ -32,8 +34,8 @@ pub(crate) fn begin_recycling<'a>(
     call_verb(alloc, world, stack, active, o, "recycle", Vec::new(alloc))
 }
 
-/// Moves the first of what is in the object out, or takes the object away where nothing is in it: E_INVARG where a verb
-/// has done so.
+/// Moves the first of what is in the object out, and calls the object's `exitfunc`. Where nothing is in it the object
+/// is taken away, and no longer counts for its owner: E_INVARG where a verb has taken it away before.
 pub(crate) fn empty<'a>(
     alloc: Global,
     world: &mut World,

@@ -17,7 +17,9 @@ use moo_value::Value;
 use moo_world::World;
 use std::alloc::{AllocError, Global};
 
-/// Goes on with a function at a stage, with what the verb before it answered.
+/// Goes on with a function at a stage, with what the verb before it answered, and tells what comes next. Raises what
+/// the stage raises (`accept`, `leave`, `empty`); what was done before stays. That an object was taken away is left as
+/// a notice. As long as no verb changes the world, fewer stages are left after it.
 pub fn resume_call<'a>(
     alloc: Global,
     world: &mut World,
@@ -30,6 +32,7 @@ pub fn resume_call<'a>(
     ensures meaning { (ticks : ℕ) → IsKnownFailure result → resumed (context_of stack.now None) stage (tree answer) (state_at ticks notices.old.items world.old active.now) ≡ (seen_progress result, state_at ticks notices.new.items world.new active.now) }
     ensures fewer { IfOk result (λ next. progress_turns world.new (progress_of next) ≤ stage_turns world.old stage) }
 {
+    // For the proof alone: the trees of the world are whole, which bounds what is left to do.
     world.is_well_formed();
     notice(notices, stage)?;
     next_progress(alloc, world, stack, active, stage, answer)

@@ -1,4 +1,4 @@
-//! A line of input, run as a program.
+//! A line of input, run as a program: 'Running a line' of docs/LANGUAGE.md.
 ghost use Rattle.std.specs.Prelude.{◌≡◌, ◌≢◌, [], ◌∷◌, IfOk, IfSome, IfNone, OnOk};
 ghost use Rattle.moo_value.specs.Tree.{IsText};
 ghost use Rattle.moo_value.specs.Size.{IsString};
@@ -22,15 +22,15 @@ const REFUSED: u8 = 5;
 /// What a line of input is answered.
 #[derive(Drop)]
 pub struct EvalLine {
-    /// The lines to print.
+    /// The lines to print, each without an end of line.
     pub lines: Vec<Vec<u8>>,
     /// 0 where the line was run, 5 where it was refused.
     pub status: u8,
 }
 
-/// Runs `line` as the program `return LINE;`, in a frame like that of the built-in `eval` and over an empty world:
-/// with the value's literal or the lines of a traceback, or where it is no program with the line that tells why. The
-/// error is want of memory.
+/// Runs `line`, bytes without an end of line, as the program `return LINE;`, in a frame like that of the built-in
+/// `eval` and over an empty world. Answers the value's literal or the lines of a traceback with status 0, and where the
+/// line is no program the line that tells why, with status 5. The error is want of memory.
 pub fn eval_line(alloc: Global, line: &[u8]) -> Result<EvalLine, AllocError>
     ensures { IfOk result (λ answer. AnswersLine line.now (texts answer.lines.items) answer.status) }
 {

@@ -1,4 +1,4 @@
-//! Whole tasks.
+//! Whole tasks: 'MOO Tasks' of the LambdaMOO Programmer's Manual, 'Tracebacks' and 'Limits' of docs/LANGUAGE.md.
 ghost use Rattle.std.specs.Prelude.{◌≡◌};
 ghost use Rattle.moo_outcome.specs.Seen.{seen_flow, IsKnown};
 ghost use Rattle.moo_outcome.specs.Variables.{first_bindings, value_of_name};
@@ -13,17 +13,22 @@ use moo_value::Value;
 use moo_world::World;
 use std::alloc::{AllocError, Global};
 
-/// How a task ended: with a value, or with the lines of its traceback.
+/// How a task ended.
 #[derive(Drop)]
 pub enum Ended {
+    /// With a value: the one that it returned, or 0.
     Value(Value),
+    /// With an error that no code caught: the lines of its traceback, each without an end of line.
     Uncaught(Vec<Vec<u8>>),
+    /// Without a tick left: the lines of its traceback, in the same form.
     OutOfTicks(Vec<Vec<u8>>),
+    /// For want of memory, which no code catches. What the task had changed before stays.
     Memory,
 }
 
-/// Runs the program of a frame, with a fresh budget of ticks, in the surroundings of `env`. What it changed in the world stays, however
-/// it ends, and its notices come behind those of `env`.
+/// Runs the program of a frame, with 100,000 ticks, in the surroundings of `env`, which stay. What it changed in the
+/// world stays too, however it ends, and its notices come behind those of `env`. Errors of the program are no errors of
+/// this: they end the task as `Ended` tells.
 pub fn run_task(alloc: Global, world: &mut World, start: Frame, env: &mut TaskEnv) -> Ended
     ensures ends { IfEnded result (λ end. LeavesNotices env.old.notices.items (TaskEnds Faults (surroundings_of env.old.surroundings) start world.old end world.new) env.new.notices.items) }
     ensures kept { env.new.surroundings ≡ env.old.surroundings }

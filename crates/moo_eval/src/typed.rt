@@ -15,7 +15,9 @@ use moo_outcome::{Surroundings, TaskEnv};
 use moo_world::World;
 use std::alloc::{AllocError, Global};
 
-/// Runs a program that was typed in by nobody, and gives the lines that are shown of its end.
+/// Runs a program that was typed in by nobody (programmer, player and caller are #-1), at the moment 0 and without
+/// connections, and gives the lines that are shown of its end: the value's literal, or the traceback. The error is want
+/// of memory, also the program's own. What it asked for is dropped.
 pub fn run_typed(
     alloc: Global,
     world: &mut World,

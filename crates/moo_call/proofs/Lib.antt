@@ -1,4 +1,4 @@
 pub mod Unique
 pub mod Onward
 pub mod Wider
-mod Coded
+mod Unchanged

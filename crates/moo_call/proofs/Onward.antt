@@ -1,5 +1,5 @@
 -- A call of a function takes no tick, and keeps the notices so far.
-use Rattle.std.proofs.Common.{◌≡◌, ℕ, ℤ, List, [], ◌∷◌, ◌++◌, Bool, true, false, Option, None, Some, Result, Ok, Err, refl, sym, ap, ◌∙◌, subst, arith, append-nil, append_assoc, cond}
+use Rattle.std.proofs.Common.{◌≡◌, ℕ, ℤ, List, [], ◌∷◌, ◌++◌, Bool, true, false, Option, None, Some, Result, refl, sym, ap, ◌∙◌, subst, arith, append-nil, append_assoc, cond}
 use Rattle.moo_value.specs.declared.error_code.ErrorCode.{ErrorCode}
 use Rattle.moo_value.specs.Tree.{Tree, object, string}
 use Rattle.moo_function.specs.declared.function.Function.{Function}
@@ -8,12 +8,10 @@ use Rattle.moo_function.specs.Names.{function_of}
 use Rattle.moo_function.specs.Table.{row}
 use Rattle.moo_function.specs.Check.{refusal}
 use Rattle.moo_operation.specs.Truth.{is_true}
-use Rattle.moo_table.specs.World.{World}
 use Rattle.moo_world.specs.Calls.{number_of}
 use Rattle.moo_world.specs.PlayerCalls.{set_player_raises}
 use Rattle.moo_rights.specs.Rights.{controls}
 use Rattle.moo_world_function.specs.Objects.{is_valid}
-use Rattle.moo_world_function.specs.Calls.{world_call}
 use Rattle.moo_outcome.specs.declared.notice.Notice.{Notice}
 use Rattle.moo_outcome.specs.Outcome.{Failure}
 use Rattle.moo_outcome.specs.State.{Context}
@@ -22,7 +20,7 @@ use Rattle.moo_code_function.specs.Telling.{Telling}
 use Rattle.moo_call.specs.Later.{Later}
 use Rattle.moo_call.specs.Tasks.{Reply, set_task_perms}
 use Rattle.moo_call.specs.Asking.{leaves, notify, boot_player, dump_database, shutdown, server_log, flagged, set_player_flag}
-use Rattle.moo_call.specs.Calls.{task_reply, unless_refused, over_world, called, CallsAs, CallsFunction}
+use Rattle.moo_call.specs.Calls.{task_reply, unless_refused, task_function, CallsAs, CallsFunction}
 
 -- the ticks and the notices are the same
 pub kept : {s s' : State} → s'.ticks ≡ s.ticks → s'.notices ≡ s.notices → Later s s'
@@ -103,21 +101,12 @@ later_unless : (e : Option ErrorCode) (reply : Reply) {s : State} → Later s re
 later_unless None reply h = h
 later_unless (Some code) reply h = stays
 
-later_over : (answer : Option (Result (Tree × World) ErrorCode)) (reply : Reply) {s : State} → Later s reply.1 → Later s (over_world s answer reply).1
-later_over None reply h = h
-later_over (Some (Ok p)) reply h = kept refl refl
-later_over (Some (Err code)) reply h = stays
-
-later_called : (f : Option Function) (c : Context) (args : List Tree) (s : State) → Later s (called f c args s).1
-later_called None c args s = stays
-later_called (Some f) c args s = later_over (world_call f s.world s.programmer args) _ (later_unless (refusal (is_valid s.world) (row f) args) _ (later_reply f c args s))
-
 later_answered : {reply : Reply} {r : Result Tree Failure} {s s' : State} → Later s reply.1 → reply ≡ (r, s') → Later s s'
 later_answered {s = s} h e = subst (λ x. Later s x.1) e h
 
-later_as : (T : Telling) (f : Option Function) (c : Context) (args : List Tree) (s s' : State) (r : Result Tree Failure) → CallsAs T f c args s r s' → Later s s'
-later_as T (Some function.SetVerbCode) c args s s' r h = moves (sym h.4) (kept refl refl)
-later_as T f c args s s' r h = later_answered (later_called f c args s) h
+later_as : (T : Telling) (f : Option Function) (c : Context) (name : List ℕ) (args : List Tree) (s s' : State) (r : Result Tree Failure) → CallsAs T f c name args s r s' → Later s s'
+later_as T (Some f) c name args s s' r h = later_answered (later_unless (refusal (is_valid s.world) (row f) args) (task_reply f c args s) (later_reply f c args s)) h
+later_as T None c name args s s' r h = subst (Later s) (sym h.4) (kept refl refl)
 
 pub later_call : (T : Telling) (c : Context) (name : List ℕ) (args : List Tree) (s s' : State) (r : Result Tree Failure) → CallsFunction T c name args s r s' → Later s s'
-later_call T c name args s s' r h = later_as T (function_of name) c args s s' r h
+later_call T c name args s s' r h = later_as T (task_function (function_of name)) c name args s s' r h

@@ -1,7 +1,12 @@
-//! The law of calls.
-ghost use Rattle.moo_call.specs.Laws.{OneResultOfCalls};
+//! The laws of calls.
+ghost use Rattle.moo_call.specs.Laws.{OneResultOfCalls, RaisesChangeNothing};
 
 /// For one input a call has at most one result.
 pub fn at_most_one_result()
     ensures { OneResultOfCalls }
+{}
+
+/// A call that raises an error leaves the state as it is: the world, the programmer, the ticks and the notices.
+pub fn raises_change_nothing()
+    ensures { RaisesChangeNothing }
 {}

@@ -5,6 +5,7 @@ mod asking;
 mod call;
 mod connections;
 pub mod laws;
+mod raising;
 mod task;
 mod ticks;
 

@@ -1,23 +1,18 @@
 -- For one input set_verb_code comes to at most one outcome, where of each text at most one fault is told, and of a program none.
-use Rattle.std.proofs.Common.{◌≡◌, ℕ, List, [], ◌∷◌, Option, None, Some, Result, Ok, Err, refl, sym, ap, ◌∙◌, subst}
+use Rattle.std.proofs.Common.{◌≡◌, ℕ, List, [], ◌∷◌, Result, Ok, Err, refl, sym, ap, ◌∙◌}
 use Rattle.std.specs.Prelude.{ℤ}
 use Rattle.moo_value.specs.declared.error_code.ErrorCode.{ErrorCode}
 use Rattle.moo_value.specs.declared.error_code.ErrorCode.TheVariants.{TypeMismatch}
 use Rattle.moo_value.specs.Tree.{Tree, object}
-use Rattle.moo_function.specs.declared.function.Function.TheVariants.{SetVerbCode}
-use Rattle.moo_function.specs.Table.{row}
-use Rattle.moo_function.specs.Check.{refusal}
-use Rattle.moo_world_function.specs.Objects.{is_valid}
 use Rattle.moo_program.specs.Tree.{Block}
 use Rattle.moo_grammar.specs.declared.names.Names.TheVariants.{Known}
 use Rattle.moo_grammar.specs.Texts.{IsParsed}
 use Rattle.moo_grammar.proofs.Unique.{one_program_of_text}
 use Rattle.moo_syntax.specs.declared.syntax_fault.SyntaxFault.{SyntaxFault}
 use Rattle.moo_table.specs.World.{World}
-use Rattle.moo_code_function.specs.Telling.{Telling, Choice, PassesPrograms, chosen_by}
-use Rattle.moo_code_function.specs.Answers.{Outcomes, Only, Then, Unless}
+use Rattle.moo_code_function.specs.Telling.{Telling}
+use Rattle.moo_code_function.specs.Answers.{Outcomes, Only, Then}
 use Rattle.moo_code_function.specs.Setting.{told_fault, with_code, verb_to_set, given_lines, IsSet, SetsText, SetsCode}
-use Rattle.moo_code_function.specs.Calls.{IsCodeCall}
 
 pub record TellsOne (T : Telling) : Type 0 where
   pub one : (lines : List (List ℕ)) (f g : SyntaxFault) → T lines f → T lines g → f ≡ g
@@ -34,10 +29,6 @@ pub then_once : {X : Type 0} (x : Result X ErrorCode) (w : World) (next : X → 
 then_once (Err e) w next once = only_once (Err e) w
 then_once (Ok y) w next once = once y
 
-pub unless_once : (e : Option ErrorCode) (w : World) (Such : Outcomes) → Once Such → Once (Unless e w Such)
-unless_once (Some e) w Such once = only_once (Err e) w
-unless_once None w Such once = once
-
 pub same_program : (lines : List (List ℕ)) (b c : Block) → IsParsed Known lines b → IsParsed Known lines c → b ≡ c
 same_program lines b c p q = one_program_of_text Known lines b c (record { spots = p.spots; tokens = p.tokens; program = p.program }) (record { spots = q.spots; tokens = q.tokens; program = q.program })
 
@@ -47,9 +38,6 @@ set_once T told w o i lines r q u v (IsSet.set {b = b} p) (IsSet.told f h) = abs
 set_once T told w o i lines r q u v (IsSet.told f h) (IsSet.set {b = b} p) = absurd (told.none lines b f p h)
 set_once T told w o i lines r q u v (IsSet.told f h) (IsSet.told g k) = (ap told_fault (told.one lines f g h k), refl)
 
-sets_once : (T : Telling) → TellsOne T → (w : World) (p : ℤ) (args : List Tree) → Once (SetsCode T w p args)
+pub sets_once : (T : Telling) → TellsOne T → (w : World) (p : ℤ) (args : List Tree) → Once (SetsCode T w p args)
 sets_once T told w p (object o ∷ t ∷ text ∷ []) = then_once (verb_to_set w p o t) w (SetsText T w o text) (λ i. then_once (given_lines text) w (IsSet T w o i) (set_once T told w o i))
 sets_once T told w p _ = only_once (Err TypeMismatch) w
-
-pub code_once : (T : Telling) → TellsOne T → (w : World) (p : ℤ) (args : List Tree) → Once (IsCodeCall T SetVerbCode w p args)
-code_once T told w p args = unless_once (refusal (is_valid w) (row SetVerbCode) args) w (SetsCode T w p args) (sets_once T told w p args)

@@ -1,18 +1,13 @@
 -- What comes of a call stays so where more may be told of texts.
-use Rattle.std.proofs.Common.{ℕ, List, [], ◌∷◌, Option, None, Some, Result, Ok, Err}
+use Rattle.std.proofs.Common.{ℕ, List, [], ◌∷◌, Result, Ok, Err}
 use Rattle.std.specs.Prelude.{ℤ}
 use Rattle.moo_value.specs.declared.error_code.ErrorCode.{ErrorCode}
 use Rattle.moo_value.specs.Tree.{Tree, object}
-use Rattle.moo_function.specs.declared.function.Function.TheVariants.{SetVerbCode}
-use Rattle.moo_function.specs.Table.{row}
-use Rattle.moo_function.specs.Check.{refusal}
-use Rattle.moo_world_function.specs.Objects.{is_valid}
 use Rattle.moo_syntax.specs.declared.syntax_fault.SyntaxFault.{SyntaxFault}
 use Rattle.moo_table.specs.World.{World}
 use Rattle.moo_code_function.specs.Telling.{Telling}
-use Rattle.moo_code_function.specs.Answers.{Outcomes, Then, Unless}
+use Rattle.moo_code_function.specs.Answers.{Outcomes, Then}
 use Rattle.moo_code_function.specs.Setting.{verb_to_set, given_lines, IsSet, SetsText, SetsCode}
-use Rattle.moo_code_function.specs.Calls.{IsCodeCall}
 
 -- what the one may tell, the other may tell too
 abbrev pub Wider : Telling → Telling → Type 0
@@ -25,18 +20,11 @@ then_wider : {X : Type 0} (x : Result X ErrorCode) (w : World) {next other : X �
 then_wider (Err e) w wider r v h = h
 then_wider (Ok y) w wider r v h = wider y r v h
 
-unless_wider : (e : Option ErrorCode) (w : World) {Such Other : Outcomes} → Includes Such Other → Includes (Unless e w Such) (Unless e w Other)
-unless_wider (Some e) w wider r v h = h
-unless_wider None w wider r v h = wider r v h
-
 set_wider : {T U : Telling} → Wider T U → (w : World) (o : ℤ) (i : ℕ) (lines : List (List ℕ)) → Includes (IsSet T w o i lines) (IsSet U w o i lines)
 set_wider wider w o i lines r v (IsSet.set p) = IsSet.set p
 set_wider wider w o i lines r v (IsSet.told f h) = IsSet.told f (wider lines f h)
 
-sets_wider : {T U : Telling} → Wider T U → (w : World) (p : ℤ) (args : List Tree) → Includes (SetsCode T w p args) (SetsCode U w p args)
+pub sets_wider : {T U : Telling} → Wider T U → (w : World) (p : ℤ) (args : List Tree) → Includes (SetsCode T w p args) (SetsCode U w p args)
 sets_wider {T = T} {U = U} wider w p (object o ∷ t ∷ text ∷ []) r v h =
     then_wider (verb_to_set w p o t) w {next = SetsText T w o text} {other = SetsText U w o text} (λ i. then_wider (given_lines text) w {next = IsSet T w o i} {other = IsSet U w o i} (set_wider wider w o i)) r v h
 sets_wider wider w p _ r v h = h
-
-pub code_wider : {T U : Telling} → Wider T U → (w : World) (p : ℤ) (args : List Tree) → Includes (IsCodeCall T SetVerbCode w p args) (IsCodeCall U SetVerbCode w p args)
-code_wider {T = T} {U = U} wider w p args = unless_wider (refusal (is_valid w) (row SetVerbCode) args) w {Such = SetsCode T w p args} {Other = SetsCode U w p args} (sets_wider wider w p args)

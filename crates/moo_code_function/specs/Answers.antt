@@ -32,11 +32,6 @@ abbrev pub Then : {X : Type 0} → Result X ErrorCode → World → (X → Outco
 Then (Err e) w next r after = Only (Err e) w r after
 Then (Ok x) w next r after = next x r after
 
--- what a call is refused for comes before all else
-abbrev pub Unless : Option ErrorCode → World → Outcomes → Outcomes
-Unless (Some e) w Such r after = Only (Err e) w r after
-Unless None w Such r after = Such r after
-
 -- for private clauses: an answer or a raise
 abbrev pub IsAnswered : Result Value OperationFault → Type 0
 IsAnswered (Ok v) = Unit {0}

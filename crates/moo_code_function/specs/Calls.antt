@@ -1,13 +1,10 @@
--- What a call of a function on the code of verbs is.
+-- What the functions on the code of verbs come to.
 use Rattle.std.specs.Prelude.{ℤ, List, Bool, true, false}
 use Rattle.moo_value.specs.Tree.{Tree}
 use Rattle.moo_function.specs.declared.function.Function.{Function}
 use Rattle.moo_function.specs.declared.function.Function.TheVariants.{VerbCode, SetVerbCode}
-use Rattle.moo_function.specs.Table.{row}
-use Rattle.moo_function.specs.Check.{refusal}
 use Rattle.moo_table.specs.World.{World}
-use Rattle.moo_world_function.specs.Objects.{is_valid}
-use Rattle.moo_code_function.specs.Answers.{Outcomes, Only, Unless}
+use Rattle.moo_code_function.specs.Answers.{Outcomes, Only}
 use Rattle.moo_code_function.specs.Telling.{Telling}
 use Rattle.moo_code_function.specs.Listed.{verb_code}
 use Rattle.moo_code_function.specs.Setting.{SetsCode}
@@ -23,8 +20,3 @@ abbrev pub Answers : Telling → Function → World → ℤ → List Tree → Ou
 Answers T VerbCode w p args r after = Only (verb_code w p args) w r after
 Answers T SetVerbCode w p args r after = SetsCode T w p args r after
 Answers T _ w p args r after = ⊥
-
--- A call: the number of the arguments, then their types, then whether their objects are valid, come before what the function
--- itself looks at.
-abbrev pub IsCodeCall : Telling → Function → World → ℤ → List Tree → Outcomes
-IsCodeCall T f w p args = Unless (refusal (is_valid w) (row f) args) w (Answers T f w p args)

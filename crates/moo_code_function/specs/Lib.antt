@@ -1,4 +1,4 @@
--- What the functions on the code of verbs answer, and what a call of one is.
+-- What the functions on the code of verbs answer.
 pub mod Answers
 pub mod Listed
 pub mod Telling

@@ -1,13 +1,9 @@
-//! A call of a built-in function on the code of verbs.
+//! The built-in functions on the code of verbs.
 ghost use Rattle.std.specs.Prelude.{◌≡◌, true};
 ghost use Rattle.moo_value.specs.View.{trees};
-ghost use Rattle.moo_function.specs.Table.{row};
-ghost use Rattle.moo_function.specs.Check.{refusal};
-ghost use Rattle.moo_world_function.specs.Answers.{RefusesFirst};
-ghost use Rattle.moo_world_function.specs.Objects.{is_valid};
 ghost use Rattle.moo_code_function.specs.Telling.{Faults};
 ghost use Rattle.moo_code_function.specs.Answers.{Comes, ComesSome};
-ghost use Rattle.moo_code_function.specs.Calls.{is_of_code, Answers, IsCodeCall};
+ghost use Rattle.moo_code_function.specs.Calls.{is_of_code, Answers};
 
 use crate::listing::verb_code;
 use crate::setting::set_verb_code;
@@ -15,13 +11,11 @@ use moo_function::Function;
 use moo_operation::OperationFault;
 use moo_value::Value;
 use moo_world::World;
-use moo_world_function::refusal;
 use std::alloc::Global;
 
-/// Calls a function that lists the code of a verb or sets it, for a programmer. A wrong number of arguments raises
-/// E_ARGS, then one of a wrong type E_TYPE, then an object that isn't valid E_INVARG, then a verb that isn't there
-/// E_VERBNF; the programmer's right comes last. A raise and want of memory leave the world as it was. `None`, with nothing
-/// changed, where the function is another one.
+/// What a function that lists the code of a verb or sets it comes to for a programmer, for arguments that fit its row of
+/// the table. A verb that isn't there raises E_VERBNF; the programmer's right comes last. A raise and want of memory leave
+/// the world as it was. `None`, with nothing changed, where the function is another one.
 pub fn call_code(
     alloc: Global,
     function: Function,
@@ -29,16 +23,12 @@ pub fn call_code(
     world: &mut World,
     programmer: i32,
 ) -> Option<Result<Value, OperationFault>>
-    ensures answer { ComesSome result world.old world.new (is_of_code function) (IsCodeCall Faults function world.old programmer (trees args.now)) }
-    ensures memory { RefusesFirst result (refusal (is_valid world.old) (row function) (trees args.now)) }
+    ensures { ComesSome result world.old world.new (is_of_code function) (Answers Faults function world.old programmer (trees args.now)) }
 {
     if !is_of_code(function) {
         return None;
     }
-    match refusal(function, args, world) {
-        Some(error) => Some(Err(OperationFault::Raise(error))),
-        None => Some(answer(alloc, function, args, world, programmer)),
-    }
+    Some(answer(alloc, function, args, world, programmer))
 }
 
 fn is_of_code(function: Function) -> bool

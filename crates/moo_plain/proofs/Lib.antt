@@ -1,2 +1,4 @@
 mod Joined
+mod Lacking
 pub mod Once
+pub mod Wider

@@ -4,19 +4,15 @@ use Rattle.moo_value.specs.declared.error_code.ErrorCode.{ErrorCode}
 use Rattle.moo_value.specs.Tree.{Tree, object}
 use Rattle.moo_function.specs.declared.function.Function.{Function}
 use Rattle.moo_function.specs.declared.function.Function.TheVariants.{VerbCode, SetVerbCode}
-use Rattle.moo_function.specs.Table.{row}
-use Rattle.moo_function.specs.Names.{function_of}
-use Rattle.moo_function.specs.Check.{refusal}
 use Rattle.moo_syntax.specs.declared.syntax_fault.SyntaxFault.{SyntaxFault}
-use Rattle.moo_builtin.specs.Calls.{Raised, plainly}
+use Rattle.moo_builtin.specs.Calls.{Raised}
 use Rattle.moo_table.specs.World.{World}
-use Rattle.moo_world_function.specs.Objects.{is_valid}
 use Rattle.moo_world_function.specs.Calls.{answer as world_answer}
 use Rattle.moo_code_function.specs.Telling.{Telling, Faults, Choice, PassesPrograms, chosen_by}
-use Rattle.moo_code_function.specs.Answers.{Outcomes, Only, Then, Unless}
-use Rattle.moo_code_function.specs.Setting.{verb_to_set, given_lines, IsSet, SetsText, SetsCode}
-use Rattle.moo_code_function.specs.Calls.{Answers, IsCodeCall}
-use Rattle.moo_code_function.proofs.Once.{Once, code_once, only_once}
+use Rattle.moo_code_function.specs.Answers.{Outcomes, Then}
+use Rattle.moo_code_function.specs.Setting.{verb_to_set, given_lines, IsSet, SetsText}
+use Rattle.moo_code_function.specs.Calls.{Answers}
+use Rattle.moo_code_function.proofs.Once.{Once, sets_once, only_once}
 pub use Rattle.moo_code_function.proofs.Once.{TellsOne}
 use Rattle.moo_plain.specs.declared.call.Caller.{Caller}
 use Rattle.moo_plain.specs.Calls.{Field, values, objects, code, field, raising, Leaves, IsOf, Follows, CallsPlain, unknown, refused, follows}
@@ -36,21 +32,21 @@ one_left : (a : Result (Tree × World) ErrorCode) (w v u : World) (r q : Result 
 one_left (Ok p) w v u r q h k = (h.0 ∙ sym k.0, h.1 ∙ sym k.1)
 one_left (Err e) w v u r q h k = (h.0 ∙ sym k.0, h.1 ∙ sym k.1)
 
--- without a refusal the calls on code are their answers
-answers_once : (T : Telling) → TellsOne T → (f : Function) (args : List Tree) (w : World) (p : ℤ) → refusal (is_valid w) (row f) args ≡ None → Once (Answers T f w p args)
-answers_once T told VerbCode args w p fits = only_once _ w
-answers_once T told SetVerbCode args w p fits = subst (λ (e : Option ErrorCode). Once (Unless e w (Answers T SetVerbCode w p args))) fits (code_once T told w p args)
-answers_once T told _ args w p fits = λ r q v u h k. absurd h
+-- the functions on code
+answers_once : (T : Telling) → TellsOne T → (f : Function) (args : List Tree) (w : World) (p : ℤ) → Once (Answers T f w p args)
+answers_once T told VerbCode args w p = only_once _ w
+answers_once T told SetVerbCode args w p = sets_once T told w p args
+answers_once T told _ args w p = λ r q v u h k. absurd h
 
 one_of : (Such : Outcomes) → Once Such → (v u : World) (r q : Result Tree Raised) → IsOf Such r v → IsOf Such q u → (r ≡ q) × (v ≡ u)
 one_of Such once v u r q h k =
     let same = once h.0 k.0 v u h.1 k.1 in
     (h.2 ∙ ap raising same.0 ∙ sym k.2, same.1)
 
-one_followed : (T : Telling) → TellsOne T → (at : Field) (f : Function) (args : List Tree) (w v u : World) (c : Caller) (r q : Result Tree Raised) → refusal (is_valid w) (row f) args ≡ None → Follows at T f args w c r v → Follows at T f args w c q u → (r ≡ q) × (v ≡ u)
-one_followed T told values f args w v u c r q fits h k = (h.0 ∙ sym k.0, h.1 ∙ sym k.1)
-one_followed T told objects f args w v u c r q fits h k = one_left (world_answer f w c.programmer args) w v u r q h k
-one_followed T told code f args w v u c r q fits h k = one_of (Answers T f w c.programmer args) (answers_once T told f args w c.programmer fits) v u r q h k
+one_followed : (T : Telling) → TellsOne T → (at : Field) (f : Function) (args : List Tree) (w v u : World) (c : Caller) (r q : Result Tree Raised) → Follows at T f args w c r v → Follows at T f args w c q u → (r ≡ q) × (v ≡ u)
+one_followed T told values f args w v u c r q h k = (h.0 ∙ sym k.0, h.1 ∙ sym k.1)
+one_followed T told objects f args w v u c r q h k = one_left (world_answer f w c.programmer args) w v u r q h k
+one_followed T told code f args w v u c r q h k = one_of (Answers T f w c.programmer args) (answers_once T told f args w c.programmer) v u r q h k
 
 same_function : {o : Option Function} {f g : Function} → o ≡ Some f → o ≡ Some g → f ≡ g
 same_function p q = let h = sym p ∙ q in cc
@@ -66,7 +62,7 @@ plain_once T told name args w v u c r q (follows n fits h) (unknown m) = absurd 
 plain_once T told name args w v u c r q (follows n fits h) (refused m e) = absurd (cc)
 plain_once T told name args w v u c r q (follows {f = f} n fits h) (follows {f = g} m fits' k) =
     let same : g ≡ f = same_function m n in
-    one_followed T told (field f) f args w v u c r q fits h (subst (λ (x : Function). Follows (field x) T x args w c q u) same k)
+    one_followed T told (field f) f args w v u c r q h (subst (λ (x : Function). Follows (field x) T x args w c q u) same k)
 
 pub one_result : OneResult
 one_result choice passes name args w v u c r q h k = plain_once (chosen_by choice) (chosen_once choice passes) name args w v u c r q h k
@@ -98,7 +94,8 @@ raise_followed T values f args w v c e h = h.1
 raise_followed T objects f args w v c e h = raise_left (world_answer f w c.programmer args) w v e h
 raise_followed T code f args w v c e h = raise_of T f w v c.programmer args h.0 e h.1 h.2
 
-raised : (T : Telling) (name : List ℕ) (args : List Tree) (w v : World) (c : Caller) (r : Result Tree Raised) (e : Raised) → CallsPlain T name args w c r v → r ≡ Err e → v ≡ w
+-- a reply that raises leaves the world
+pub raised : (T : Telling) (name : List ℕ) (args : List Tree) (w v : World) (c : Caller) (r : Result Tree Raised) (e : Raised) → CallsPlain T name args w c r v → r ≡ Err e → v ≡ w
 raised T name args w v c r e (unknown n) is = refl
 raised T name args w v c r e (refused n d) is = refl
 raised T name args w v c r e (follows {f = f} n fits h) is = raise_followed T (field f) f args w v c e (subst (λ (x : Result Tree Raised). Follows (field f) T f args w c x v) is h)

@@ -1,16 +1,16 @@
 //! A call of a plain function.
-ghost use Rattle.std.specs.Prelude.{◌≡◌, ℕ, List, Some};
+ghost use Rattle.std.specs.Prelude.{◌≡◌, ℕ, List, None, Some};
 ghost use Rattle.moo_value.specs.View.{trees};
-ghost use Rattle.moo_builtin.specs.Calls.{plainly, answer, Shows, Raises, Tells};
+ghost use Rattle.moo_builtin.specs.Calls.{answer, Shows};
 ghost use Rattle.moo_function.specs.Names.{function_of};
 ghost use Rattle.moo_code_function.specs.Telling.{Faults};
-ghost use Rattle.moo_plain.specs.Calls.{CallsPlain, given};
-ghost use Rattle.moo_plain.specs.Outcomes.{IsReply};
+ghost use Rattle.moo_plain.specs.Calls.{field, given, Follows, CallsPlain};
+ghost use Rattle.moo_plain.specs.Outcomes.{IsReply, Unless};
+ghost use Rattle.moo_plain.specs.Lacking.{AnswerMayLack, CallMayLack, LacksOnly};
 
-use moo_builtin::{Outcome, answer};
+use moo_builtin::{Outcome, answer, raised, settled};
 use moo_code_function::call_code;
 use moo_function::Function;
-use moo_operation::OperationFault;
 use moo_value::{ErrorCode, MooStr, Value};
 use moo_world::World;
 use moo_world_function::{call_world, refusal};
@@ -26,7 +26,8 @@ pub struct Caller {
 /// Calls a plain function by its name, letters folded. A name of no function raises E_INVARG. A wrong number of arguments
 /// raises E_ARGS, then one of a wrong type E_TYPE, then an object that isn't valid E_INVARG; then comes what the function
 /// itself looks at, and the programmer's right last. A function that isn't plain raises E_INVARG. A raise and want of
-/// memory leave the world as it was.
+/// memory leave the world as it was. Memory is wanting only for what the function makes, or for the message of an error.
+/// The arguments may be taken out of their places, where it raises too.
 pub fn call_plain(
     alloc: Global,
     name: &MooStr,
@@ -34,7 +35,8 @@ pub fn call_plain(
     world: &mut World,
     caller: Caller,
 ) -> Outcome
-    ensures { IsReply result world.old world.new (CallsPlain Faults name.now (trees args.old) world.old caller) }
+    ensures call { IsReply result world.old world.new (CallsPlain Faults name.now (trees args.old) world.old caller) }
+    ensures memory { LacksOnly result (CallMayLack (function_of name.now) (trees args.old) world.old caller) }
 {
     let function = Function::from_name(name.as_bytes());
     call_found(alloc, function, args, world, caller)
@@ -48,7 +50,8 @@ pub fn call_found(
     world: &mut World,
     caller: Caller,
 ) -> Outcome
-    ensures { (name : List ℕ) → function_of name ≡ function → IsReply result world.old world.new (CallsPlain Faults name (trees args.old) world.old caller) }
+    ensures call { (name : List ℕ) → function_of name ≡ function → IsReply result world.old world.new (CallsPlain Faults name (trees args.old) world.old caller) }
+    ensures memory { LacksOnly result (CallMayLack function (trees args.old) world.old caller) }
 {
     let Some(function) = function else {
         return raised(alloc, ErrorCode::InvalidArgument);
@@ -64,7 +67,41 @@ fn called(
     world: &mut World,
     caller: Caller,
 ) -> Outcome
-    ensures { (name : List ℕ) → function_of name ≡ Some function → IsReply result world.old world.new (CallsPlain Faults name (trees args.old) world.old caller) }
+    ensures call { (name : List ℕ) → function_of name ≡ Some function → IsReply result world.old world.new (CallsPlain Faults name (trees args.old) world.old caller) }
+    ensures memory { LacksOnly result (CallMayLack (Some function) (trees args.old) world.old caller) }
+{
+    let refused = refusal(function, args, world);
+    unless_refused(alloc, refused, function, args, world, caller)
+}
+
+// What a function gives, unless its arguments are refused.
+fn unless_refused(
+    alloc: Global,
+    refused: Option<ErrorCode>,
+    function: Function,
+    args: &mut [Value],
+    world: &mut World,
+    caller: Caller,
+) -> Outcome
+    ensures call { IsReply result world.old world.new (Unless refused world.old (Follows (field function) Faults function (trees args.old) world.old caller)) }
+    ensures memory { LacksOnly result (refused ≡ None → AnswerMayLack (field function) function (trees args.old) world.old caller) }
+{
+    match refused {
+        Some(error) => raised(alloc, error),
+        None => followed(alloc, function, args, world, caller),
+    }
+}
+
+// What a function gives for arguments that fit its row of the table.
+fn followed(
+    alloc: Global,
+    function: Function,
+    args: &mut [Value],
+    world: &mut World,
+    caller: Caller,
+) -> Outcome
+    ensures call { IsReply result world.old world.new (Follows (field function) Faults function (trees args.old) world.old caller) }
+    ensures memory { LacksOnly result (AnswerMayLack (field function) function (trees args.old) world.old caller) }
 {
     if let Some(answer) = call_world(alloc, function, args, world, caller.programmer) {
         return settled(alloc, answer);
@@ -72,10 +109,7 @@ fn called(
     if let Some(answer) = call_code(alloc, function, args, world, caller.programmer) {
         return settled(alloc, answer);
     }
-    match refusal(function, args, world) {
-        Some(error) => raised(alloc, error),
-        None => over_values(alloc, function, args, caller.moment),
-    }
+    over_values(alloc, function, args, caller.moment)
 }
 
 // What a function over values gives, for arguments that fit its row of the table.
@@ -85,25 +119,5 @@ fn over_values(alloc: Global, function: Function, args: &mut [Value], moment: u3
     match answer(alloc, function, args, moment) {
         Some(outcome) => outcome,
         None => raised(alloc, ErrorCode::InvalidArgument),
-    }
-}
-
-fn settled(alloc: Global, answer: Result<Value, OperationFault>) -> Outcome
-    ensures { Tells result answer }
-{
-    match answer {
-        Ok(value) => Outcome::Value(value),
-        Err(OperationFault::Raise(error)) => raised(alloc, error),
-        Err(OperationFault::Memory) => Outcome::Memory,
-    }
-}
-
-// An error with its own message and 0.
-fn raised(alloc: Global, error: ErrorCode) -> Outcome
-    ensures { Raises result (plainly error) }
-{
-    match MooStr::try_from_bytes(alloc, error.message().as_bytes()) {
-        Ok(message) => Outcome::Raise(error, message, Value::Int(0)),
-        Err(_) => Outcome::Memory,
     }
 }

@@ -25,13 +25,6 @@ DoesSome None old new r = (r ≡ None) × (new ≡ old)
 DoesSome (Some a) old new None = ⊥
 DoesSome (Some a) old new (Some r) = Does a old new r
 
--- a call that looks at what its arguments are refused for before it takes memory
-abbrev pub RefusesFirst : Option (Result Value OperationFault) → Option ErrorCode → Type 0
-RefusesFirst None refused = ⊤
-RefusesFirst (Some (Ok v)) refused = ⊤
-RefusesFirst (Some (Err (Raise e))) refused = ⊤
-RefusesFirst (Some (Err Memory)) refused = refused ≡ None
-
 -- the same of a function that only looks
 abbrev pub GivesSome : Option (Result Value OperationFault) → Option (Result Tree ErrorCode) → Type 0
 GivesSome None r = r ≡ None

@@ -1,16 +1,13 @@
--- What a call of a function over the world is.
+-- What the functions over the world give.
 use Rattle.std.specs.Prelude.{ℤ, List, Bool, true, false, Option, None, Some, Result, Ok, Err, IsOk, ⊤, if◌then◌else◌}
 use Rattle.moo_value.specs.declared.error_code.ErrorCode.{ErrorCode}
 use Rattle.moo_value.specs.declared.error_code.ErrorCode.TheVariants.{TypeMismatch}
 use Rattle.moo_value.specs.Tree.{Tree}
 use Rattle.moo_function.specs.declared.function.Function.{Function}
 use Rattle.moo_function.specs.declared.function.Function.TheVariants as function
-use Rattle.moo_function.specs.Table.{row}
-use Rattle.moo_function.specs.Check.{refusal}
 use Rattle.moo_text_function.specs.Answers.{IsMade}
 use Rattle.moo_table.specs.World.{World}
-use Rattle.moo_world_function.specs.Order.{checked}
-use Rattle.moo_world_function.specs.Objects.{is_valid, valid, parent, children, max_object, listed_players, is_player, change_parent}
+use Rattle.moo_world_function.specs.Objects.{valid, parent, children, max_object, listed_players, is_player, change_parent}
 use Rattle.moo_world_function.specs.Properties.{properties, property_info, is_clear_property, add_property, set_property_info, clear_property, delete_property}
 use Rattle.moo_world_function.specs.Verbs.{listed_verbs, verb_info, verb_args, add_verb, set_verb_info, set_verb_args, delete_verb}
 
@@ -94,7 +91,6 @@ looked_or w (Some (Err e)) changed = Err e
 abbrev pub answer : Function → World → ℤ → List Tree → Result (Tree × World) ErrorCode
 answer f w p args = looked_or w (looking f w p args) (changing f w p args)
 
--- A call: the number of the arguments, then their types, then whether their objects are valid, come before what the function
--- itself looks at. None for a function of another kind.
-abbrev pub world_call : Function → World → ℤ → List Tree → Option (Result (Tree × World) ErrorCode)
-world_call f w p args = if is_of_world f then Some (checked (refusal (is_valid w) (row f) args) (answer f w p args)) else None
+-- the same, and none for a function of another kind
+abbrev pub world_answer : Function → World → ℤ → List Tree → Option (Result (Tree × World) ErrorCode)
+world_answer f w p args = if is_of_world f then Some (answer f w p args) else None

@@ -14,11 +14,6 @@ asked None allowed r = if allowed then r else Err Permission
 abbrev pub changes : Option ErrorCode → Bool → World → Result (Tree × World) ErrorCode
 changes raises allowed after = asked raises allowed (Ok (integer (pos 0), after))
 
--- what a call is refused for comes before all else
-abbrev pub checked : {X : Type 0} → Option ErrorCode → Result X ErrorCode → Result X ErrorCode
-checked (Some e) r = Err e
-checked None r = r
-
 -- what an argument gives, or the error in it, which comes before the function's own rule
 abbrev pub given : {X Y : Type 0} → Result X ErrorCode → (X → Result Y ErrorCode) → Result Y ErrorCode
 given (Err e) f = Err e

@@ -1,11 +1,8 @@
-//! A call of a built-in function over the world.
+//! The built-in functions over the world.
 ghost use Rattle.std.specs.Prelude.{◌≡◌};
 ghost use Rattle.moo_value.specs.View.{trees};
-ghost use Rattle.moo_world_function.specs.Answers.{Does, DoesSome, GivesSome, LacksOnly, LacksOnlySome, RefusesFirst};
-ghost use Rattle.moo_function.specs.Table.{row};
-ghost use Rattle.moo_function.specs.Check.{refusal};
-ghost use Rattle.moo_world_function.specs.Objects.{is_valid};
-ghost use Rattle.moo_world_function.specs.Calls.{is_of_world, looking, changing, answer, world_call, ChangeMayLack, MayLack};
+ghost use Rattle.moo_world_function.specs.Answers.{Does, DoesSome, GivesSome, LacksOnly, LacksOnlySome};
+ghost use Rattle.moo_world_function.specs.Calls.{is_of_world, looking, changing, answer, world_answer, ChangeMayLack, MayLack};
 
 use crate::giving::{add_property, set_property_info};
 use crate::made::TYPE_MISMATCH;
@@ -13,7 +10,6 @@ use crate::objects::{change_parent, children, is_player, max_object, parent, pla
 use crate::properties::{
     clear_property, delete_property, is_clear_property, properties, property_info,
 };
-use crate::refusing::refusal;
 use crate::verb_changes::{add_verb, delete_verb, set_verb_args, set_verb_info};
 use crate::verbs::{verb_args, verb_info, verbs};
 use moo_function::Function;
@@ -22,10 +18,9 @@ use moo_value::Value;
 use moo_world::World;
 use std::alloc::Global;
 
-/// Calls a function that looks at the world or changes it, for a programmer. A wrong number of arguments raises E_ARGS,
-/// then one of a wrong type E_TYPE, then an object that isn't valid E_INVARG; then comes what the function itself looks
-/// at, and the programmer's right last. A raise and want of memory leave the world as it was. `None`, with nothing
-/// changed, where the function is another one.
+/// What a function that looks at the world or changes it gives a programmer, for arguments that fit its row of the table
+/// (`refusal`): what the function itself looks at comes first, and the programmer's right last. A raise and want of memory
+/// leave the world as it was. `None`, with nothing changed, where the function is another one.
 pub fn call_world(
     alloc: Global,
     function: Function,
@@ -33,17 +28,13 @@ pub fn call_world(
     world: &mut World,
     programmer: i32,
 ) -> Option<Result<Value, OperationFault>>
-    ensures answer { DoesSome result world.old world.new (world_call function world.old programmer (trees args.now)) }
-    ensures refused { RefusesFirst result (refusal (is_valid world.old) (row function) (trees args.now)) }
+    ensures answer { DoesSome result world.old world.new (world_answer function world.old programmer (trees args.now)) }
     ensures memory { LacksOnlySome result (MayLack function world.old programmer (trees args.now)) }
 {
     if !is_of_world(function) {
         return None;
     }
-    match refusal(function, args, world) {
-        Some(error) => Some(Err(OperationFault::Raise(error))),
-        None => Some(answer(alloc, function, args, world, programmer)),
-    }
+    Some(answer(alloc, function, args, world, programmer))
 }
 
 fn is_of_world(function: Function) -> bool

@@ -4,5 +4,5 @@ use Rattle.moo_code_function.specs.Telling.{Faults}
 use Rattle.moo_plain.proofs.Joined.{unknown_called}
 use Rattle.moo_plain.proofs.call.call_found.Goals as goal
 
-pub returns-in_default : goal.returns-in_default
-returns-in_default c = λ name named. unknown_called Faults name (trees c.args.args.now) c.args.world.now c.args.caller c.raised.result (named ∙ c.in_default.is) c.raised.ensures
+pub returns-in_default-clause-call : goal.returns-in_default-clause-call
+returns-in_default-clause-call c = λ name named. unknown_called Faults name (trees c.args.args.now) c.args.world.now c.args.caller c.raised.result (named ∙ c.in_default.is) c.raised.ensures

@@ -16,10 +16,6 @@ seen r = record { name = r.name.now; needed = r.needed.now; optional = r.optiona
 abbrev pub is_count : Row → ℕ → Bool
 is_count row n = nat_le (length row.needed) n && (is_some row.more || nat_le n (length row.needed + length row.optional))
 
--- the greatest number of arguments, if there is one
-abbrev pub greatest_count : Row → Option ℕ
-greatest_count row = if is_some row.more then None else Some (length row.needed + length row.optional)
-
 -- what the argument at a place must be
 abbrev pub kind_at : Row → ℕ → Kind
 kind_at row place = unwrap_or (slice_get (row.needed ++ row.optional) place) (unwrap_or row.more Any)

@@ -1,8 +1,8 @@
 //! What is checked before a function looks at its arguments: how many there are, and what they are.
-ghost use Rattle.std.specs.Prelude.{◌≡◌, length};
+ghost use Rattle.std.specs.Prelude.{◌≡◌};
 ghost use Rattle.moo_value.specs.View.{tree, trees};
 ghost use Rattle.moo_function.specs.Table.{row};
-ghost use Rattle.moo_function.specs.Check.{is_count, greatest_count, kind_at, fits, all_fit, mismatch, seen, is_property_info, is_verb_info, is_verb_arguments, are_lines};
+ghost use Rattle.moo_function.specs.Check.{is_count, kind_at, fits, all_fit, mismatch, seen, is_property_info, is_verb_info, is_verb_arguments, are_lines};
 ghost use Rattle.moo_value.specs.Tree.{list_of};
 
 use crate::function::Function;
@@ -22,24 +22,6 @@ impl Function {
             return Some(ErrorCode::TypeMismatch);
         }
         None
-    }
-
-    /// The least number of arguments.
-    pub fn least_count(self) -> usize
-        ensures { result ≡ length (row self).needed }
-    {
-        self.row().needed.len()
-    }
-
-    /// The greatest number of arguments, or `None` where there is no greatest.
-    pub fn greatest_count(self) -> Option<usize>
-        ensures { result ≡ greatest_count (row self) }
-    {
-        let row = self.row();
-        match row.more {
-            Some(_) => None,
-            None => Some(row.needed.len() + row.optional.len()),
-        }
     }
 
     /// What the argument at a place has to be, counted from 0.

@@ -1,10 +1,9 @@
 -- Where loops and cleanups lead.
-use Rattle.std.specs.Prelude.{ℕ, Bool, true, false, List, Option, Some, None, Result, Ok, Err, if◌then◌else◌}
+use Rattle.std.specs.Prelude.{ℕ, ℤ, Bool, true, false, List, Option, Some, None, Result, Ok, Err, if◌then◌else◌}
 use Rattle.std.specs.Str.{bytes_eq}
 use Rattle.moo_value.specs.declared.error_code.ErrorCode.{ErrorCode}
 use Rattle.moo_value.specs.declared.error_code.ErrorCode.TheVariants.{TypeMismatch}
 use Rattle.moo_value.specs.Tree.{Tree, integer, object}
-use Rattle.std.specs.Prelude.{ℤ}
 use Rattle.moo_value.specs.Compare.{folded}
 use Rattle.moo_outcome.specs.declared.frame.TraceEntry.{TraceEntry}
 use Rattle.moo_outcome.specs.declared.leading.Span.{Span}

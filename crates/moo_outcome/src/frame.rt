@@ -1,4 +1,6 @@
-//! Frames, and what a traceback tells of them.
+//! Frames, and what a traceback tells of them: 'Naming Values Within a Verb' and 'MOO Tasks' of the LambdaMOO
+//! Programmer's Manual, 'Variables' and 'Tracebacks' of docs/LANGUAGE.md. Objects are told by their numbers, #-1 for
+//! none.
 ghost use Rattle.std.specs.Prelude.{◌≡◌, ◌++◌, IfOk, OnOk};
 ghost use Rattle.moo_outcome.specs.State.{trace_frame};
 ghost use Rattle.moo_outcome.specs.Seen.{trace_of};
@@ -15,48 +17,66 @@ pub struct Frame {
     pub program: Program,
     /// The d bit: errors are raised. Without it an expression that fails has the error as its value.
     pub d: bool,
+    /// With whose rights the code begins.
     pub programmer: i32,
+    /// The object that the verb was called on.
     pub this: i32,
     /// The object that has the verb.
     pub definer: i32,
+    /// The object whose verb made the call: its `this`.
     pub caller: i32,
+    /// The player who began the task, or another that a wizard called for.
     pub player: i32,
+    /// The direct object of the command.
     pub dobj: i32,
+    /// The indirect object of the command.
     pub iobj: i32,
     /// All names of the verb.
     pub names: MooStr,
     /// The name that it was called by.
     pub verb: MooStr,
+    /// What stands behind the first word of the command.
     pub argstr: MooStr,
+    /// The words of the direct object.
     pub dobjstr: MooStr,
+    /// The preposition, as it stands in the command.
     pub prepstr: MooStr,
+    /// The words of the indirect object.
     pub iobjstr: MooStr,
+    /// The arguments of the call, or the words of the command.
     pub args: MooList,
 }
 
-/// What is told of one frame of a task.
+/// What is told of one frame of a task, by a traceback, by `callers` and to a handler.
 #[derive(Drop)]
 pub struct TraceFrame {
+    /// The object that the verb was called on.
     pub this: i32,
+    /// The name that it was called by.
     pub verb: MooStr,
+    /// With whose rights the frame runs now.
     pub programmer: i32,
+    /// The object that has the verb.
     pub definer: i32,
     pub player: i32,
+    /// All names of the verb, which a traceback shows.
     pub names: MooStr,
 }
 
 /// A step from the running code down to the one that began the task.
 #[derive(Drop)]
 pub enum TraceEntry {
+    /// A frame of a verb, or of a program that is typed in.
     Verb(TraceFrame),
     /// A built-in function that called what stands before it, by its name.
     BuiltIn(MooStr),
 }
 
-/// The running frame and what it was called from, the nearest first, with what is round the task.
+/// The running frame and what it was called from, with what is round the task.
 #[derive(Drop)]
 pub struct CallStack<'a> {
     pub running: Frame,
+    /// The nearest first.
     pub callers: Vec<TraceEntry>,
     pub surroundings: &'a Surroundings,
 }
@@ -129,5 +149,6 @@ fn append(all: &mut Vec<TraceEntry>, entries: &[TraceEntry]) -> Result<(), Alloc
 #[derive(Drop)]
 pub struct Activation {
     pub variables: Variables,
+    /// With whose rights the code goes on: `set_task_perms` changes it.
     pub programmer: i32,
 }

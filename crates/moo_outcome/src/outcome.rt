@@ -51,14 +51,18 @@ impl Raise {
 #[derive(Drop)]
 pub enum Stop {
     Raised(Raise),
+    /// No tick was left: the entries from where it was wanted. No handler and no cleanup runs.
     OutOfTicks(Vec<TraceEntry>),
+    /// Memory was wanting.
     Memory,
 }
 
 /// Where a statement leads.
 #[derive(Drop)]
 pub enum Flow {
+    /// To the next statement.
     Next,
+    /// Out of the program, with its value.
     Return(Value),
     /// Out of the loop of this name, or out of the innermost.
     Break(Option<MooStr>),

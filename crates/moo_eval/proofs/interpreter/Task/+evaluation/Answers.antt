@@ -55,7 +55,7 @@ compute-returns-in-List-clause-meaning t c =
 
 pub compute-returns-in_ok-literal_value-in-Literal-clause-meaning : goal.compute-returns-in_ok-literal_value-in-Literal-clause-meaning
 compute-returns-in_ok-literal_value-in-Literal-clause-meaning t c =
-    λ k. rw (c.in-Literal.is, c.in_ok-literal_value-in-Literal.ensures) (applies no_more no_more literal_is)
+    λ k. rw (c.in-Literal.is, c.in_ok-literal_value-in-Literal.ensures.value) (applies no_more no_more literal_is)
 
 pub unary-returns-clause-meaning : goal.unary-returns-clause-meaning
 unary-returns-clause-meaning t c =
@@ -614,11 +614,11 @@ perform-returns-in-While-clause-meaning t c =
 
 pub perform-returns-in_ok-copied_name-in-Break-clause-meaning : goal.perform-returns-in_ok-copied_name-in-Break-clause-meaning
 perform-returns-in_ok-copied_name-in-Break-clause-meaning t c =
-    λ k. rw (c.in-Break.is, c.in_ok-copied_name-in-Break.ensures) breaks_out
+    λ k. rw (c.in-Break.is, c.in_ok-copied_name-in-Break.ensures.copy) breaks_out
 
 pub perform-returns-in_ok-copied_name-in-Continue-clause-meaning : goal.perform-returns-in_ok-copied_name-in-Continue-clause-meaning
 perform-returns-in_ok-copied_name-in-Continue-clause-meaning t c =
-    λ k. rw (c.in-Continue.is, c.in_ok-copied_name-in-Continue.ensures) continues_on
+    λ k. rw (c.in-Continue.is, c.in_ok-copied_name-in-Continue.ensures.copy) continues_on
 
 pub perform-returns-in-TryExcept-clause-meaning : goal.perform-returns-in-TryExcept-clause-meaning
 perform-returns-in-TryExcept-clause-meaning t c =

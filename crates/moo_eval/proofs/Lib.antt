@@ -11,3 +11,7 @@ pub mod UniqueTask
 pub mod Onward
 pub mod Wider
 pub mod Choices
+mod Room
+mod Ticking
+mod Following
+mod Entering

@@ -28,7 +28,7 @@ mutual
   later_result T (spent z) = stays
   later_result T (begins z d f) = later_twice takes_tick (later_computed T d)
 
-  later_computed : (T : Telling) {c : Context} {e : Expr} {s s' : State} {o : Result Tree Failure} → Computes T c e s o s' → Later s s'
+  pub later_computed : (T : Telling) {c : Context} {e : Expr} {s s' : State} {o : Result Tree Failure} → Computes T c e s o s' → Later s s'
   later_computed T (operands_end d) = later_list T d
   later_computed T (places_end d g) = later_twice (later_list T d) (later_list T g)
   later_computed T (applies d g a) = later_twice (later_list T d) (later_twice (later_list T g) (later_applied T a))
@@ -121,7 +121,7 @@ mutual
   later_run T (statement_spent z) = stays
   later_run T (statement_begins z d) = later_twice takes_tick (later_done T d)
 
-  later_done : (T : Telling) {c : Context} {t : Stmt} {s s' : State} {o : Result Flow Stop} → Does T c t s o s' → Later s s'
+  pub later_done : (T : Telling) {c : Context} {t : Stmt} {s s' : State} {o : Result Flow Stop} → Does T c t s o s' → Later s s'
   later_done T gives_zero = stays
   later_done T (gives d g) = later_result T d
   later_done T (evaluates d g) = later_result T d

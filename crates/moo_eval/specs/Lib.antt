@@ -1,5 +1,6 @@
 pub mod Operands
 pub mod Meaning
+pub mod Frames
 pub mod Task
 pub mod Seen
 pub mod Hooks
@@ -7,3 +8,4 @@ pub mod Ends
 pub mod Typed
 pub mod Line
 pub mod Laws
+pub mod HookLaws

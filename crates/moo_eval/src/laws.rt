@@ -1,7 +1,10 @@
 //! The laws of evaluation.
 ghost use Rattle.moo_eval.specs.Laws.{LaterAfterExpressions, LaterAfterStatements, LaterAfterCalls, LaterAfterHooks, TasksEndInTime};
+ghost use Rattle.moo_eval.specs.Laws.{TicksOfExpressions, TicksOfStatements, TicksOfTurns};
+ghost use Rattle.moo_eval.specs.Laws.{FramesInExpressions, FramesInStatements, FramesInHooks, FramesInTasks};
 ghost use Rattle.moo_eval.specs.Laws.{ProgramsAreNotChosen, ExpressionsByChoice, StatementsByChoice, TasksByChoice, TextsByChoice};
 ghost use Rattle.moo_eval.specs.Laws.{OneResultOfExpressionsBy, OneResultOfStatementsBy, OneResultOfTasksBy};
+ghost use Rattle.moo_eval.specs.HookLaws.{CreateAnswersItsObject, MoveAnswersZero};
 ghost use Rattle.moo_eval.specs.Line.{OneEndOfText};
 ghost use Rattle.moo_eval.specs.Task.{OneResultOfExpressions, OneResultOfStatements, OneResultOfTasks};
 
@@ -27,6 +30,21 @@ pub fn ticks_never_rise()
     ensures tasks { TasksEndInTime }
 {}
 
+/// Each expression, each statement and each turn of a loop takes a tick. Where none is left it is out of ticks, and changes nothing.
+pub fn ticks_are_taken()
+    ensures expressions { TicksOfExpressions }
+    ensures statements { TicksOfStatements }
+    ensures turns { TicksOfTurns }
+{}
+
+/// At most 50 frames stand while a verb runs, or a program of `eval`: its own, and those that wait for it.
+pub fn at_most_fifty_frames()
+    ensures expressions { FramesInExpressions }
+    ensures statements { FramesInStatements }
+    ensures hooks { FramesInHooks }
+    ensures tasks { FramesInTasks }
+{}
+
 /// Where each text that is no program is told one of its faults, chosen once for all, what comes about is among what the program may
 /// come to.
 pub fn chosen_faults_may_be_told()
@@ -42,4 +60,10 @@ pub fn one_result_of_single_faults()
     ensures expressions { OneResultOfExpressionsBy }
     ensures statements { OneResultOfStatementsBy }
     ensures tasks { OneResultOfTasksBy }
+{}
+
+/// Functions that call verbs answer their own, whatever these verbs answer: `create` the object that it has made, `move` 0.
+pub fn functions_answer_their_own()
+    ensures creation { CreateAnswersItsObject }
+    ensures moves { MoveAnswersZero }
 {}

@@ -1,4 +1,3 @@
-use Rattle.std.proofs.Common.{arith}
 use Rattle.moo_code_function.specs.Telling.{Faults}
 use Rattle.moo_call.proofs.Onward.{later_twice, later_call}
 use Rattle.moo_hook.proofs.Onward.{later_start}

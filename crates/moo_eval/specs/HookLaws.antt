@@ -1,0 +1,18 @@
+-- Laws of the functions that call verbs.
+use Rattle.std.specs.Prelude.{◌≡◌, pos, List, length, Ok}
+use Rattle.moo_value.specs.Tree.{Tree, integer, object}
+use Rattle.moo_function.specs.declared.function.Function.TheVariants as function
+use Rattle.moo_outcome.specs.State.{Context}
+use Rattle.moo_access.specs.State.{State}
+use Rattle.moo_code_function.specs.Telling.{Faults}
+use Rattle.moo_hook.specs.Progressing.{Progress}
+use Rattle.moo_hook.specs.Calls.{Starts}
+use Rattle.moo_eval.specs.Meaning.{Proceeds}
+
+-- `create` answers the object that it has made, whatever its `initialize` answers or does
+abbrev pub CreateAnswersItsObject : Type 0
+CreateAnswersItsObject = (c : Context) (args : List Tree) (p : Progress) (s s' s'' : State) (v : Tree) → Starts Faults c function.Create args s p s' → Proceeds Faults c p s' (Ok v) s'' → v ≡ object (pos (length s.world.objects))
+
+-- `move` answers 0, whatever the verbs that it calls answer or do
+abbrev pub MoveAnswersZero : Type 0
+MoveAnswersZero = (c : Context) (args : List Tree) (p : Progress) (s s' s'' : State) (v : Tree) → Starts Faults c function.Move args s p s' → Proceeds Faults c p s' (Ok v) s'' → v ≡ integer (pos 0)

@@ -1,10 +1,7 @@
 -- What the exits of a function say.
 use Rattle.std.proofs.Common.{◌≡◌, ℕ, ℤ, Option, Some, None, List, [], ◌∷◌, ◌++◌, append_assoc, false, Result, Ok, Err, IfErr, refl, sym, ap, ◌∙◌, subst}
-use Rattle.std.proofs.lemmas.List.{map-append}
-use Rattle.moo_value.specs.declared.value.Value.{Value}
 use Rattle.moo_value.specs.declared.error_code.ErrorCode.{ErrorCode}
 use Rattle.moo_value.specs.Tree.{Tree}
-use Rattle.moo_value.specs.View.{tree, trees}
 use Rattle.moo_operation.specs.declared.fault.OperationFault.{OperationFault}
 use Rattle.moo_operation.specs.declared.fault.OperationFault.TheVariants as fault
 use Rattle.moo_operation.specs.Answer.{IsRefused}
@@ -23,6 +20,7 @@ use Rattle.moo_access.specs.State.{State}
 use Rattle.moo_code_function.specs.Telling.{Telling}
 use Rattle.moo_access.specs.Calls.{write_property}
 use Rattle.moo_access.specs.Target.{owned}
+use Rattle.moo_access.specs.Entering.{after_list}
 use Rattle.moo_outcome.specs.Handling.{Guarded, guarded_before}
 use Rattle.moo_outcome.specs.Outcome.{Stop, Failure, Flow, fails, answers, goes_on}
 use Rattle.moo_eval.specs.Operands.{before}
@@ -40,11 +38,13 @@ before-before xs ys (Ok ws) = ap Ok (sym (append_assoc xs ys ws))
 before-before xs ys (Err f) = refl
 
 -- the values so far with those of one more item
-pub gathered : (vs us : List Value) (ys : List Tree) (o : Result (List Tree) Failure) → trees us ≡ trees vs ++ ys → before (trees vs) (before ys o) ≡ before (trees us) o
-gathered vs us ys o p = before-before (trees vs) ys o ∙ ap (λ x. before x o) (sym p)
+pub gathered : (ts us ys : List Tree) (o : Result (List Tree) Failure) → us ≡ ts ++ ys → before ts (before ys o) ≡ before us o
+gathered ts us ys o p = before-before ts ys o ∙ ap (λ x. before x o) (sym p)
 
-pub trees_pushed : (vs us : List Value) (v : Value) → us ≡ vs ++ v ∷ [] → trees us ≡ trees vs ++ tree v ∷ []
-trees_pushed vs us v p = ap trees p ∙ map-append tree vs (v ∷ [])
+-- where the list of the arguments fails, so does the call
+pub unlisted : {A : Type 0} {failure : Failure} (r : Result Tree ErrorCode) (next : Result A ErrorCode) → answers r ≡ Err failure → answers (after_list r next) ≡ Err failure
+unlisted {failure = failure} (Ok t) next h = let e : ◌≡◌ {A = Result Tree Failure} (Ok t) (Err failure) = h in cc
+unlisted {failure = failure} (Err code) next h = let e : ◌≡◌ {A = Result Tree Failure} (Err (fails code)) (Err failure) = h in let f : fails code ≡ failure = cc in ap Err f
 
 -- a flow other than on leads elsewhere
 pub goes_on-not : (flow : code_flow.Flow) → (flow ≡ flow_case.Next → ⊥) → goes_on (Ok (flow_of flow)) ≡ false

@@ -59,7 +59,8 @@ impl Task {
     {
         let base = self.evaluate(world, active, stack, indexed, base)?;
         let name = self.evaluate(world, active, stack, indexed, name)?;
-        let args = self.evaluate_all(world, active, stack, indexed, items)?;
+        let values = self.evaluate_all(world, active, stack, indexed, items)?;
+        let args = values.into_arguments(self.alloc())?;
         let called = enter_verb(self.alloc(), world, stack, active, &base, &name, args)?;
         self.run_called(world, called)
     }
@@ -93,7 +94,8 @@ impl Task {
         ensures meaning { IsKnownFailure result → Computes Faults (context_of stack.now indexed.entry) (call name.now (items_of items.now)) (state_of self.old world.old active.old) (seen_answer result) (state_of self.new world.new active.new) }
         ensures ticks { self.new.ticks_left ≤ self.old.ticks_left }
     {
-        let args = self.evaluate_all(world, active, stack, indexed, items)?;
+        let values = self.evaluate_all(world, active, stack, indexed, items)?;
+        let args = values.into_values(self.alloc())?;
         let Some(function) = verb_caller(name) else {
             return self.call_function(world, active, stack, name, args);
         };
@@ -165,7 +167,10 @@ impl Task {
     {
         match codes {
             Codes::Any => Ok(Vec::new(self.alloc())),
-            Codes::Listed(items) => self.evaluate_all(world, active, stack, indexed, items),
+            Codes::Listed(items) => {
+                let values = self.evaluate_all(world, active, stack, indexed, items)?;
+                Ok(values.into_values(self.alloc())?)
+            }
         }
     }
 }

@@ -5,7 +5,7 @@ ghost use Rattle.moo_program.specs.View.{tree, items_of};
 ghost use Rattle.moo_value.specs.View.{tree as tree_of, trees};
 ghost use Rattle.moo_outcome.specs.Outcome.{out_of_ticks};
 ghost use Rattle.moo_eval.specs.Meaning.{Evaluates, Computes, EvaluatesAll};
-ghost use Rattle.moo_outcome.specs.Seen.{context_of, trace_of, stop_of, seen_value, seen_answer, seen_answers, HadMemory, IsKnown, IsKnownFailure};
+ghost use Rattle.moo_outcome.specs.Seen.{context_of, trace_of, stop_of, seen_value, seen_answer, seen_by, HadMemory, IsKnown, IsKnownFailure};
 ghost use Rattle.moo_call.specs.Tasks.{most_ticks};
 ghost use Rattle.moo_call.specs.Calls.{CallsFunction};
 ghost use Rattle.moo_code_function.specs.Telling.{Faults};
@@ -18,8 +18,8 @@ use moo_call::{Ticks, call_function};
 use moo_hook::{Progress, Stage, resume_call};
 use moo_operation as operation;
 use moo_outcome::{
-    Activation, CallStack, Failure, Notice, Stop, literal_value, measure, push, read_variable,
-    settle, splice,
+    Activation, CallStack, Failure, Gathered, Notice, Stop, literal_value, measure, read_variable,
+    settle,
 };
 use moo_program::operator::{BinaryOperator, LogicOperator, UnaryOperator};
 use moo_program::{Expr, Item};
@@ -200,20 +200,20 @@ impl Task {
         stack: &CallStack<'_>,
         indexed: Option<&Value>,
         items: &[Item],
-    ) -> Result<Vec<Value>, Failure>
-        ensures meaning { IsKnownFailure result → EvaluatesAll Faults (context_of stack.now indexed.entry) (items_of items.now) (state_of self.old world.old active.old) (seen_answers result) (state_of self.new world.new active.new) }
+    ) -> Result<Gathered, Failure>
+        ensures meaning { IsKnownFailure result → EvaluatesAll Faults (context_of stack.now indexed.entry) (items_of items.now) (state_of self.old world.old active.old) (seen_by (λ values. values) result) (state_of self.new world.new active.new) }
         ensures ticks { self.new.ticks_left ≤ self.old.ticks_left }
     {
-        let mut values = Vec::new(self.alloc);
+        let mut values = Gathered::with_room(self.alloc, items.len())?;
         for item in items {
             match item {
                 Item::Element(expr) => {
                     let value = self.evaluate(world, active, stack, indexed, expr)?;
-                    push(&mut values, value)?;
+                    values.push(value)?;
                 }
                 Item::Splice(expr) => {
                     let value = self.evaluate(world, active, stack, indexed, expr)?;
-                    splice(&mut values, value)?;
+                    values.splice(self.alloc, value)?;
                 }
                 Item::Optional(..) => return Err(Failure::Fails(ErrorCode::TypeMismatch)),
             }
@@ -352,6 +352,7 @@ impl Task {
         ensures ticks { self.new.ticks_left ≤ self.old.ticks_left }
     {
         let values = self.evaluate_all(world, active, stack, indexed, items)?;
-        Ok(operation::list(self.alloc, values)?)
+        let list = values.into_list(self.alloc)?;
+        Ok(Value::List(list))
     }
 }

@@ -4,6 +4,7 @@ use Rattle.std.proofs.lemmas.List.{append-nil}
 use Rattle.std.proofs.lemmas.Int.{to_z-of_z}
 use Rattle.std.proofs.Math.ListN.{drop_of_length-le}
 use Rattle.moo_outcome.specs.Outcome.{fails, stops, answers, passes, next}
+use Rattle.moo_value.specs.Tree.{list_of}
 use Rattle.moo_value.specs.View.{tree, trees}
 use Rattle.moo_program.specs.View.{tree as expression, items_of, codes_of, block, handlers_of}
 use Rattle.moo_eval.specs.declared.interpreter.Task.{Task}
@@ -15,7 +16,7 @@ use Rattle.moo_eval.specs.Meaning.{EvaluatesAll, Stores, spent, begins, operands
 use Rattle.moo_value.specs.declared.error_code.ErrorCode.TheVariants.{TypeMismatch}
 use Rattle.moo_access.specs.SeenTarget.{path_of, steps_of}
 use Rattle.moo_eval.proofs.Caught.{guards_end, passes_on, none_left, known_caught}
-use Rattle.moo_eval.proofs.Exits.{refused, gathered, trees_pushed, same_state, optional_ends, goes_on-not, state_at, no_flow, guarded_on, property_put, runs_at}
+use Rattle.moo_eval.proofs.Exits.{refused, gathered, unlisted, same_state, optional_ends, goes_on-not, state_at, no_flow, guarded_on, property_put, runs_at}
 use Rattle.moo_outcome.proofs.Rest.{drop_next, next_tree}
 use Rattle.moo_program.proofs.Rows.{row_items, row_block, row_arms, row_handlers}
 use Rattle.std.specs.Option.{option_map}
@@ -27,9 +28,6 @@ use Rattle.moo_outcome.specs.SeenHandling.{guarded_of}
 use Rattle.moo_eval.proofs.Counting.{narrow, next_number, not_below, reached}
 use Rattle.moo_outcome.specs.Handling.{guarded, guarded_before}
 use Rattle.moo_eval.specs.Operands.{before}
-use Rattle.std.specs.declared.vec.Vec as code_vec
-use Rattle.std.specs.declared.alloc.Global as code_global
-use Rattle.moo_value.specs.declared.value.Value as code_value
 use Rattle.moo_eval.proofs.interpreter.Task.+evaluation.Goals as goal
 use Rattle.moo_eval.proofs.interpreter.Task.+evaluation.Goals.{evaluate_all-in-Element+in_ok-value-in-Element+in_ok-push-in-Element, evaluate_all-in-Splice+in_ok-value-in-Splice+in_ok-splice-in-Splice}
 
@@ -151,7 +149,7 @@ range-returns-in_err-range-clause-meaning t c =
 
 pub list-returns-clause-meaning : goal.list-returns-clause-meaning
 list-returns-clause-meaning t c =
-    λ k. applies (c.in_ok-values.ensures.meaning tt) no_more (list_is (ap answers c.in_ok-list.ensures))
+    λ k. applies (c.in_ok-values.ensures.meaning tt) no_more (list_is (ap answers c.in_ok-list.ensures.limits ∙ ap (λ ts. Ok (list_of ts)) (sym c.in_ok-list.ensures.ok)))
 
 pub list-returns-in_err-values-clause-meaning : goal.list-returns-in_err-values-clause-meaning
 list-returns-in_err-values-clause-meaning t c =
@@ -159,7 +157,7 @@ list-returns-in_err-values-clause-meaning t c =
 
 pub list-returns-in_err-list-clause-meaning : goal.list-returns-in_err-list-clause-meaning
 list-returns-in_err-list-clause-meaning t c =
-    let p = err_from_is_err_and c.from_residual-in_err-list.result c.from_residual-in_err-list.ensures.1 in rw (p.1, p.2) (λ k. applies (c.in_ok-values.ensures.meaning tt) no_more (list_is (refused _ _ c.in_err-list.ensures k)))
+    let p = err_from_is_err_and c.from_residual-in_err-list.result c.from_residual-in_err-list.ensures.1 in rw (p.1, p.2) (λ k. applies (c.in_ok-values.ensures.meaning tt) no_more (list_is (c.in_err-list.ensures.err k)))
 
 pub evaluate_all-loop-item-preserved : goal.evaluate_all-loop-item-preserved
 evaluate_all-loop-item-preserved t c =
@@ -169,9 +167,9 @@ evaluate_all-loop-item-preserved t c =
         rest = λ o s d.
             let e = rw (w.self-is, w.world-is, w.active-is) at d in
             let more = tree w.in_ok-value-in-Element.value ∷ [] in
-            let sums = trees_pushed c.loop-item.values.items c.match-item.values.items w.in_ok-value-in-Element.value (ap (λ (x : code_vec.Vec code_value.Value code_global.Global). x.items) w.values-is ∙ w.in_ok-push-in-Element.ensures) in
+            let sums = w.values-is ∙ w.in_ok-push-in-Element.ensures in
             subst (λ r. EvaluatesAll Faults (context_of c.args.stack.now c.args.indexed) (items_of c.args.items.now) (state_of c.args.self.now c.args.world.now c.args.active.now) r s)
-            (gathered c.loop-item.values.items c.match-item.values.items more o sums)
+            (gathered c.loop-item.values c.match-item.values more o sums)
             (c.loop-item.invariant.rest (before more o) s (rw (drop_next c.args.items.now c.loop-item.item-index c.item-item.result c.loop-item-test.true c.item-item.is, w.in-Element.is, ← w.deref.ensures) (element_then (w.in_ok-value-in-Element.ensures.meaning tt) e refl)));
       }
       | evaluate_all-in-Splice+in_ok-value-in-Splice+in_ok-splice-in-Splice w ↦ record {
@@ -179,9 +177,9 @@ evaluate_all-loop-item-preserved t c =
         rest = λ o s d.
             let e = rw (w.self-is, w.world-is, w.active-is) at d in
             let more = w.in_ok-splice-in-Splice.ensures.ok.0 in
-            let sums = ap (λ (x : code_vec.Vec code_value.Value code_global.Global). trees x.items) w.values-is ∙ w.in_ok-splice-in-Splice.ensures.ok.2 in
+            let sums = w.values-is ∙ w.in_ok-splice-in-Splice.ensures.ok.2 in
             subst (λ r. EvaluatesAll Faults (context_of c.args.stack.now c.args.indexed) (items_of c.args.items.now) (state_of c.args.self.now c.args.world.now c.args.active.now) r s)
-            (gathered c.loop-item.values.items c.match-item.values.items more o sums)
+            (gathered c.loop-item.values c.match-item.values more o sums)
             (c.loop-item.invariant.rest (before more o) s (rw (drop_next c.args.items.now c.loop-item.item-index c.item-item.result c.loop-item-test.true c.item-item.is, w.in-Splice.is, ← w.deref-in-Splice.ensures) (splice_then (w.in_ok-value-in-Splice.ensures.meaning tt) w.in_ok-splice-in-Splice.ensures.ok.1 e refl)));
       }
     ]
@@ -192,7 +190,7 @@ evaluate_all-returns-clause-meaning t c =
 
 pub evaluate_all-returns-in_err-value-in-Element-clause-meaning : goal.evaluate_all-returns-in_err-value-in-Element-clause-meaning
 evaluate_all-returns-in_err-value-in-Element-clause-meaning t c =
-    let p = err_from_is_err_and c.from_residual.result c.from_residual.ensures.1 in rw (p.1, p.2) (λ k. c.loop-item.invariant.rest (Err (stops (stop_of c.in_err-value-in-Element.field-0.0))) _ (rw (drop_next c.args.items.now c.loop-item.item-index c.item-item.result c.loop-item-test.true c.item-item.is, c.in-Element.is, ← c.deref.ensures) (element_stops (c.in_err-value-in-Element.ensures.meaning k))))
+    let p = err_from_is_err_and c.from_residual-in_err-value-in-Element.result c.from_residual-in_err-value-in-Element.ensures.1 in rw (p.1, p.2) (λ k. c.loop-item.invariant.rest (Err (stops (stop_of c.in_err-value-in-Element.field-0.0))) _ (rw (drop_next c.args.items.now c.loop-item.item-index c.item-item.result c.loop-item-test.true c.item-item.is, c.in-Element.is, ← c.deref.ensures) (element_stops (c.in_err-value-in-Element.ensures.meaning k))))
 
 pub evaluate_all-returns-in_err-value-in-Splice-clause-meaning : goal.evaluate_all-returns-in_err-value-in-Splice-clause-meaning
 evaluate_all-returns-in_err-value-in-Splice-clause-meaning t c =
@@ -226,21 +224,21 @@ pub assign-returns-clause-meaning : goal.assign-returns-clause-meaning
 assign-returns-clause-meaning t c =
     λ k. applies no_more no_more (assign_is (assigns (c.in_ok-path.ensures.meaning tt) (c.in_ok-value.ensures.meaning tt) (c.in_ok-store.ensures.meaning tt) refl))
 
-pub call-returns-in_err-args-clause-meaning : goal.call-returns-in_err-args-clause-meaning
-call-returns-in_err-args-clause-meaning t c =
-    let p = err_from_is_err_and c.from_residual.result c.from_residual.ensures.1 in rw (p.1, p.2) (λ k. operands_end (c.in_err-args.ensures.meaning k))
+pub call-returns-in_err-values-clause-meaning : goal.call-returns-in_err-values-clause-meaning
+call-returns-in_err-values-clause-meaning t c =
+    let p = err_from_is_err_and c.from_residual.result c.from_residual.ensures.1 in rw (p.1, p.2) (λ k. operands_end (c.in_err-values.ensures.meaning k))
 
 pub call-returns-in_default-clause-meaning : goal.call-returns-in_default-clause-meaning
 call-returns-in_default-clause-meaning t c =
-    λ k. applies (c.in_ok-args.ensures.meaning tt) no_more (call_is (sym c.verb_caller.ensures ∙ none_left _ c.in_default.not-Some) (c.call_function.ensures.call k))
+    λ k. applies (c.in_ok-values.ensures.meaning tt) no_more (call_is (sym c.verb_caller.ensures ∙ none_left _ c.in_default.not-Some) (rw c.in_ok-args.ensures at (c.call_function.ensures.call k)))
 
 pub call-returns-in_err-first-clause-meaning : goal.call-returns-in_err-first-clause-meaning
 call-returns-in_err-first-clause-meaning t c =
-    let p = err_from_is_err_and c.from_residual-in_err-first.result c.from_residual-in_err-first.ensures.1 in rw (p.1, p.2) (λ k. applies (c.in_ok-args.ensures.meaning tt) no_more (call_runs (sym c.verb_caller.ensures ∙ c.in-Some.is) (c.in_err-first.ensures _ _ k) is_done))
+    let p = err_from_is_err_and c.from_residual-in_err-first.result c.from_residual-in_err-first.ensures.1 in rw (p.1, p.2) (λ k. applies (c.in_ok-values.ensures.meaning tt) no_more (call_runs (sym c.verb_caller.ensures ∙ c.in-Some.is) (rw c.in_ok-args.ensures at (c.in_err-first.ensures c.evaluate_all.new.self.ticks_left c.evaluate_all.new.self.notices.items k)) is_done))
 
 pub call-returns-clause-meaning : goal.call-returns-clause-meaning
 call-returns-clause-meaning t c =
-    λ k. applies (c.in_ok-args.ensures.meaning tt) no_more (call_runs (sym c.verb_caller.ensures ∙ c.in-Some.is) (c.in_ok-first.ensures _ _ tt) (c.proceed.ensures.meaning k))
+    λ k. applies (c.in_ok-values.ensures.meaning tt) no_more (call_runs (sym c.verb_caller.ensures ∙ c.in-Some.is) (rw c.in_ok-args.ensures at (c.in_ok-first.ensures c.evaluate_all.new.self.ticks_left c.evaluate_all.new.self.notices.items tt)) (c.proceed.ensures.meaning k))
 
 pub proceed-returns-in_err-pending-clause-meaning : goal.proceed-returns-in_err-pending-clause-meaning
 proceed-returns-in_err-pending-clause-meaning t c =
@@ -266,13 +264,17 @@ pub verb_call-returns-in_err-name-clause-meaning : goal.verb_call-returns-in_err
 verb_call-returns-in_err-name-clause-meaning t c =
     let p = err_from_is_err_and c.from_residual-in_err-name.result c.from_residual-in_err-name.ensures.1 in rw (p.1, p.2) (λ k. operands_end (element_then (c.in_ok-base.ensures.meaning tt) (element_stops (c.in_err-name.ensures.meaning k)) refl))
 
-pub verb_call-returns-in_err-args-clause-meaning : goal.verb_call-returns-in_err-args-clause-meaning
-verb_call-returns-in_err-args-clause-meaning t c =
-    let p = err_from_is_err_and c.from_residual-in_err-args.result c.from_residual-in_err-args.ensures.1 in rw (p.1, p.2) (λ k. operands_end (element_then (c.in_ok-base.ensures.meaning tt) (element_then (c.in_ok-name.ensures.meaning tt) (c.in_err-args.ensures.meaning k) refl) refl))
+pub verb_call-returns-in_err-values-clause-meaning : goal.verb_call-returns-in_err-values-clause-meaning
+verb_call-returns-in_err-values-clause-meaning t c =
+    let p = err_from_is_err_and c.from_residual-in_err-values.result c.from_residual-in_err-values.ensures.1 in rw (p.1, p.2) (λ k. operands_end (element_then (c.in_ok-base.ensures.meaning tt) (element_then (c.in_ok-name.ensures.meaning tt) (c.in_err-values.ensures.meaning k) refl) refl))
 
 pub verb_call-returns-clause-meaning : goal.verb_call-returns-clause-meaning
 verb_call-returns-clause-meaning t c =
-    λ k. let h = c.run_called.ensures.meaning c.evaluate_all.new.active k in applies (element_then (c.in_ok-base.ensures.meaning tt) (element_then (c.in_ok-name.ensures.meaning tt) (c.in_ok-args.ensures.meaning tt) refl) refl) no_more (verb_runs (c.in_ok-called.ensures tt) h.runs h.leaves h.gives)
+    λ k. let h = c.run_called.ensures.meaning c.evaluate_all.new.active k in applies (element_then (c.in_ok-base.ensures.meaning tt) (element_then (c.in_ok-name.ensures.meaning tt) (c.in_ok-values.ensures.meaning tt) refl) refl) no_more (verb_runs (rw c.in_ok-args.ensures.ok at (c.in_ok-called.ensures tt)) h.runs h.leaves h.gives)
+
+pub verb_call-returns-in_err-args-clause-meaning : goal.verb_call-returns-in_err-args-clause-meaning
+verb_call-returns-in_err-args-clause-meaning t c =
+    let p = err_from_is_err_and c.from_residual-in_err-args.result c.from_residual-in_err-args.ensures.1 in rw (p.1, p.2) (λ k. applies (element_then (c.in_ok-base.ensures.meaning tt) (element_then (c.in_ok-name.ensures.meaning tt) (c.in_ok-values.ensures.meaning tt) refl) refl) no_more (verb_fails (unlisted _ _ (c.in_err-args.ensures.err k))))
 
 pub run_called-returns-clause-meaning : goal.run_called-returns-clause-meaning
 run_called-returns-clause-meaning t c =
@@ -280,7 +282,7 @@ run_called-returns-clause-meaning t c =
 
 pub verb_call-returns-in_err-called-clause-meaning : goal.verb_call-returns-in_err-called-clause-meaning
 verb_call-returns-in_err-called-clause-meaning t c =
-    let p = err_from_is_err_and c.from_residual-in_err-called.result c.from_residual-in_err-called.ensures.1 in rw (p.1, p.2) (λ k. applies (element_then (c.in_ok-base.ensures.meaning tt) (element_then (c.in_ok-name.ensures.meaning tt) (c.in_ok-args.ensures.meaning tt) refl) refl) no_more (verb_fails (c.in_err-called.ensures k)))
+    let p = err_from_is_err_and c.from_residual-in_err-called.result c.from_residual-in_err-called.ensures.1 in rw (p.1, p.2) (λ k. applies (element_then (c.in_ok-base.ensures.meaning tt) (element_then (c.in_ok-name.ensures.meaning tt) (c.in_ok-values.ensures.meaning tt) refl) refl) no_more (verb_fails (rw c.in_ok-args.ensures.ok at (c.in_err-called.ensures k))))
 
 pub catch-returns-in_err-values-clause-meaning : goal.catch-returns-in_err-values-clause-meaning
 catch-returns-in_err-values-clause-meaning t c =
@@ -322,9 +324,13 @@ pub guards-returns-in-Any-clause-meaning : goal.guards-returns-in-Any-clause-mea
 guards-returns-in-Any-clause-meaning t c =
     λ k. rw (c.in-Any.is, c.new.ensures.items) no_more
 
-pub guards-returns-in-Listed-clause-meaning : goal.guards-returns-in-Listed-clause-meaning
-guards-returns-in-Listed-clause-meaning t c =
-    λ k. rw (c.in-Listed.is, row_items, ← c.deref.ensures.value) (c.evaluate_all.ensures.meaning k)
+pub guards-returns-in_ok-into_values-in-Listed-clause-meaning : goal.guards-returns-in_ok-into_values-in-Listed-clause-meaning
+guards-returns-in_ok-into_values-in-Listed-clause-meaning t c =
+    λ k. rw (c.in-Listed.is, row_items, ← c.deref.ensures.value, c.in_ok-into_values-in-Listed.ensures) (c.in_ok-values-in-Listed.ensures.meaning tt)
+
+pub guards-returns-in_err-values-in-Listed-clause-meaning : goal.guards-returns-in_err-values-in-Listed-clause-meaning
+guards-returns-in_err-values-in-Listed-clause-meaning t c =
+    let p = err_from_is_err_and c.from_residual.result c.from_residual.ensures.1 in rw (p.1, p.2) (λ k. rw (c.in-Listed.is, row_items, ← c.deref.ensures.value) (c.in_err-values-in-Listed.ensures.meaning k))
 
 pub locate-returns-in_err-root-clause-meaning : goal.locate-returns-in_err-root-clause-meaning
 locate-returns-in_err-root-clause-meaning t c =

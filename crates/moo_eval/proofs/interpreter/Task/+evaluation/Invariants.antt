@@ -97,7 +97,7 @@ decreases-set_defaults l = 6 * l.self.now.ticks_left + 1
 abbrev pub invariant-evaluate_all-loop-item : goal.invariant-evaluate_all-loop-item
 invariant-evaluate_all-loop-item l = record {
   ticks : l.self.ticks_left ≤ l.fn.self.ticks_left;
-  rest : (o : Result (List Tree) Failure) (s : State) → EvaluatesAll Faults (context_of l.stack l.indexed) (items_of (drop l.item-index l.items)) (state_of l.self l.world l.active) o s → EvaluatesAll Faults (context_of l.stack l.indexed) (items_of l.items) (state_of l.fn.self l.fn.world l.fn.active) (before (trees l.values.items) o) s;
+  rest : (o : Result (List Tree) Failure) (s : State) → EvaluatesAll Faults (context_of l.stack l.indexed) (items_of (drop l.item-index l.items)) (state_of l.self l.world l.active) o s → EvaluatesAll Faults (context_of l.stack l.indexed) (items_of l.items) (state_of l.fn.self l.fn.world l.fn.active) (before l.values o) s;
 }
 
 -- where the rest leads, the whole target leads

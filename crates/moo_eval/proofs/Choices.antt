@@ -7,8 +7,8 @@ use Rattle.moo_table.specs.World.{World}
 use Rattle.moo_outcome.specs.declared.frame.Frame.{Frame}
 use Rattle.moo_outcome.specs.declared.notice.Notice.{Notice}
 use Rattle.moo_outcome.specs.Surroundings.{Surroundings}
-use Rattle.moo_code_function.specs.Telling.{Telling, Choice, PassesPrograms}
-use Rattle.moo_call.proofs.Unique.{TellsOne}
+use Rattle.moo_code_function.specs.Telling.{Telling, Faults, Choice, PassesPrograms}
+use Rattle.moo_eval.proofs.Agreed.{Agree}
 use Rattle.moo_call.proofs.Wider.{Wider}
 use Rattle.moo_eval.specs.Task.{End, TaskEnds}
 use Rattle.moo_eval.specs.Laws.{ChoosesFaults, Texts, faults_of, HaveOneFault}
@@ -17,11 +17,12 @@ use Rattle.moo_eval.proofs.Wider.{wider_block}
 pub wider_end : {T U : Telling} → Wider T U → {around : Surroundings} {start : Frame} {before after : World} {end : End} {notices : List Notice} → TaskEnds T around start before end after notices → TaskEnds U around start before end after notices
 wider_end w d = record { outcome = d.outcome; last = d.last; runs = wider_block w d.runs; ends = d.ends; leaves = d.leaves; asks = d.asks }
 
--- texts of which each has one fault are told one
-pub tells_one : (texts : Texts) → HaveOneFault texts → TellsOne (faults_of texts)
-tells_one texts have = record {
-  one = λ lines f g p q. have lines f g p.0 p.1 q.1;
+-- of texts of which each has one fault the program tells no other
+pub one_fault_told : (texts : Texts) → HaveOneFault texts → Agree (faults_of texts) Faults
+one_fault_told texts have = record {
+  same = λ lines f g p q. have lines f g p.0 p.1 q;
   none = λ lines b f parsed p. parsed_is_not_blamed Known lines f.line f.kind b p.1.0 p.1.1 parsed;
+  neither = λ lines b f parsed p. parsed_is_not_blamed Known lines f.line f.kind b p.0 p.1 parsed;
 }
 
 none_there : (o : Option SyntaxFault) → ((f : SyntaxFault) → o ≡ Some f → ⊥) → o ≡ None

@@ -14,4 +14,6 @@ pub mod Choices
 mod Room
 mod Ticking
 mod Following
+mod Agreed
+mod Begun
 mod Entering

@@ -98,12 +98,12 @@ faults_of texts lines f = IsTrue (texts lines) × Faults lines f
 abbrev pub HaveOneFault : Texts → Type 0
 HaveOneFault texts = (lines : List (List ℕ)) (f g : SyntaxFault) → IsTrue (texts lines) → Faults lines f → Faults lines g → f ≡ g
 
--- Where no text that is told a fault has two, there is at most one result.
+-- What comes about where these texts alone are told a fault, each of which has one, is all that the program may come to.
 abbrev pub OneResultOfExpressionsBy : Type 0
-OneResultOfExpressionsBy = (texts : Texts) → HaveOneFault texts → (c : Context) (e : Expr) (s s' t : State) (o p : Result Tree Stop) → Evaluates (faults_of texts) c e s o s' → Evaluates (faults_of texts) c e s p t → (o ≡ p) × (s' ≡ t)
+OneResultOfExpressionsBy = (texts : Texts) → HaveOneFault texts → (c : Context) (e : Expr) (s s' t : State) (o p : Result Tree Stop) → Evaluates (faults_of texts) c e s o s' → Evaluates Faults c e s p t → (o ≡ p) × (s' ≡ t)
 
 abbrev pub OneResultOfStatementsBy : Type 0
-OneResultOfStatementsBy = (texts : Texts) → HaveOneFault texts → (c : Context) (b : Block) (s s' t : State) (o p : Result Flow Stop) → RunsAll (faults_of texts) c b s o s' → RunsAll (faults_of texts) c b s p t → (o ≡ p) × (s' ≡ t)
+OneResultOfStatementsBy = (texts : Texts) → HaveOneFault texts → (c : Context) (b : Block) (s s' t : State) (o p : Result Flow Stop) → RunsAll (faults_of texts) c b s o s' → RunsAll Faults c b s p t → (o ≡ p) × (s' ≡ t)
 
 abbrev pub OneResultOfTasksBy : Type 0
-OneResultOfTasksBy = (texts : Texts) → HaveOneFault texts → (around : Surroundings) (start : Frame) (before after instead : World) (end other : End) (notices others : List Notice) → TaskEnds (faults_of texts) around start before end after notices → TaskEnds (faults_of texts) around start before other instead others → (end ≡ other) × (after ≡ instead) × (notices ≡ others)
+OneResultOfTasksBy = (texts : Texts) → HaveOneFault texts → (around : Surroundings) (start : Frame) (before after instead : World) (end other : End) (notices others : List Notice) → TaskEnds (faults_of texts) around start before end after notices → TaskEnds Faults around start before other instead others → (end ≡ other) × (after ≡ instead) × (notices ≡ others)

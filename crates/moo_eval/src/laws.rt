@@ -55,7 +55,8 @@ pub fn chosen_faults_may_be_told()
     ensures texts { TextsByChoice }
 {}
 
-/// Where no text that is told a fault has two, there is at most one result, with nothing chosen.
+/// What comes about where some texts alone are told a fault, none of which has two, is the one result that the program may come to, with
+/// nothing chosen.
 pub fn one_result_of_single_faults()
     ensures expressions { OneResultOfExpressionsBy }
     ensures statements { OneResultOfStatementsBy }

@@ -3,6 +3,7 @@ use Rattle.moo_grammar.specs.declared.names.Names.TheVariants.{Known}
 use Rattle.moo_grammar.proofs.Unique.{one_program_of_text}
 use Rattle.moo_code_function.specs.Telling.{chosen_by}
 use Rattle.moo_call.proofs.Unique.{chosen_once}
+use Rattle.moo_eval.proofs.Agreed.{alike}
 use Rattle.moo_eval.specs.Task.{TaskEnds}
 use Rattle.moo_hook.specs.Evaluating.{typed_frame}
 use Rattle.moo_eval.specs.Typed.{nowhere}
@@ -15,4 +16,4 @@ returns c = λ choice passes text end other d d'.
     let p = d.parsed in
     let q = d'.parsed in
     let same = one_program_of_text Known (text ∷ []) d.program d'.program (record { spots = p.spots; tokens = p.tokens; program = p.program }) (record { spots = q.spots; tokens = q.tokens; program = q.program }) in
-    (one_end (chosen_by choice) (chosen_once choice passes) d.ends (subst (λ x. TaskEnds (chosen_by choice) nowhere (typed_frame x (negsuc 0) (negsuc 0) (negsuc 0)) no_world other d'.after d'.notices) (sym same) d'.ends)).0
+    (one_end (chosen_by choice) (chosen_by choice) (alike (chosen_by choice) (chosen_once choice passes)) d.ends (subst (λ x. TaskEnds (chosen_by choice) nowhere (typed_frame x (negsuc 0) (negsuc 0) (negsuc 0)) no_world other d'.after d'.notices) (sym same) d'.ends)).0

@@ -14,10 +14,15 @@ const VALUES: &str = r#" --> 0
 {"abcde"[2..$], "abc"[3..2], {1, 2, 3}[$]} --> {"bcde", "", 3}
 {1, 2, 3}[{1, 2}[$] + $ - 3] --> 2
 {NUM, int, OBJ, STR, ERR, LIST, FLOAT} --> {0, 0, 1, 2, 3, 4, 9}
+{"a" || x, "" || {}, "a" && {1}, #1 && x, 0 && x} --> {"a", {}, {1}, #1, 0}
+{x = 1, x + (x = 5), (x = 2) * x, x} --> {1, 6, 4, 2}
 {Player, this, caller, dobj, iobj, verb, args, argstr} --> {#-1, #-1, #-1, #-1, #-1, "", {}, ""}
 "a" + 1 --> Type mismatch
 {1, @2, 1 / 0} --> Type mismatch
 0 && 1 / 0 || size --> Variable not found
+x + 1 / 0 --> Variable not found
+1 / 0 + x --> Division by zero
+"abc"[x..1 / 0] --> Variable not found
 {1, 2}[3] --> Range error"#;
 
 const CATCHES: &str = r#"`{1, 2}[3] ! E_RANGE => "none"' --> "none"
@@ -110,6 +115,8 @@ ticks_left() --> 99998
 {valid(#0), max_object(), callers(), caller_perms()} --> {0, #-1, {}, #-1}
 set_task_perms(#0) --> Permission denied
 raise(E_PERM, "mine") --> mine
+create(#-1).name --> ""
+{create(#-1), valid(#0), #0.owner, max_object(), parent(#0)} --> {#0, 1, #0, #0, #-1}
 length() --> Incorrect number of arguments
 {`length(1) ! ANY', `length() ! ANY'} --> {E_TYPE, E_ARGS}"##;
 

@@ -9,6 +9,8 @@ mod functions;
 #[cfg(test)]
 mod hooks;
 #[cfg(test)]
+mod hostile;
+#[cfg(test)]
 mod limits;
 #[cfg(test)]
 mod operations;
@@ -24,3 +26,5 @@ mod tasks;
 mod values;
 #[cfg(test)]
 mod verbs;
+#[cfg(test)]
+mod wizard;

@@ -1,7 +1,9 @@
 //! What no row of programs shows: the limits of ticks, frames and values.
 
-use crate::support::{end, ends, happens, is, joined, typed};
-use moo_eval::eval_line;
+use crate::support::{
+    add_verb, end, ends, env, five_objects, happens, is, joined, text, typed, verb,
+};
+use moo_eval::{Ended, eval_line, run_task};
 use moo_value::MooStr;
 use moo_world::World;
 use std::alloc::Global;
@@ -111,7 +113,8 @@ fn nothing_goes_past_the_limits(rt: HostRuntime) -> Result<(), Fail> {
 
 // Lists that are spliced in stand in order. Past the limit of weight they are E_QUOTA, for the arguments of a verb before
 // what is called is looked at, however many there are.
-const SPLICED: &str = r##"l = {1, 2}; m = {3, @l, 4}; return {{@l, 5, @m, @{}, 6, @{@l, 7, @{8}}}, {@l, @l, 9}, {0, @l}, {@{}, @l}, {@{}}}; --> {{1, 2, 5, 3, 1, 2, 4, 6, 1, 2, 7, 8}, {1, 2, 1, 2, 9}, {0, 1, 2}, {1, 2}, {}}
+const SPLICED: &str =
+    r##"l = {1, 2}; m = {3, @l, 4}; return {{@l, 5, @m, @{}, 6, @{@l, 7, @{8}}}, {@l, @l, 9}, {0, @l}, {@{}, @l}, {@{}}}; --> {{1, 2, 5, 3, 1, 2, 4, 6, 1, 2, 7, 8}, {1, 2, 1, 2, 9}, {0, 1, 2}, {1, 2}, {}}
 l = {1, 2}; m = {@l}; m[1] = 9; return {l, m, {@l, 3}, {@m}, l, tostr(@l, @{"a", @m}, @{}, 5)}; --> {{1, 2}, {9, 2}, {1, 2, 3}, {9, 2}, {1, 2}, "12a925"}
 x = 1; return {x, @{x = 2, x}, x = 3, x, `{1, @x, x = 4} ! ANY', x}; --> {1, 2, 2, 3, 3, E_TYPE, 3}
 l = {1}; for i in [1..19] l = {@l, @l}; endfor m = l[1..475711]; n = {@l, @m}; return {length(n), length({@n}), `{@n, 1} ! ANY', `{1, @n} ! ANY', length({@l[2..$], @m, 1})}; --> {999999, 999999, E_QUOTA, E_QUOTA, 999999}
@@ -120,4 +123,51 @@ s = "@l, "; for i in [1..11] s = s + s; endfor p = "l = {1}; for i in [1..19] l 
 #[test]
 fn spliced_lists_are_shared(rt: HostRuntime) -> Result<(), Fail> {
     happens(rt.alloc(), SPLICED)
+}
+
+// What is told of frames is a value too. The error of a handler's is raised out of its `try`, also without the debug bit.
+#[test]
+fn what_is_told_of_frames_has_limits(rt: HostRuntime) -> Result<(), Fail> {
+    let alloc = rt.alloc();
+    let mut world = five_objects(alloc)?;
+    add_verb(alloc, &mut world, "raises := return 1 / 0;")?;
+    add_verb(alloc, &mut world, "asks := return `callers() ! ANY => 1';")?;
+    let handled = "try #1:raises(); except e (ANY) return 1; except (ANY) return 2; endtry";
+    for (d, source, told) in [
+        (true, handled, "Resource limit exceeded"),
+        (false, handled, "Resource limit exceeded"),
+        (true, "return #1:asks();", "1"),
+    ] {
+        let mut start = typed(alloc, source)?;
+        start.d = d;
+        start.verb = long(alloc, 999_999)?;
+        if !is(end(alloc, &mut world, start)?, told) {
+            return Err(Fail::from(source));
+        }
+    }
+    Ok(())
+}
+
+// The frame that begins the task is one of the fifty.
+#[test]
+fn a_task_has_fifty_frames(rt: HostRuntime) -> Result<(), Fail> {
+    let alloc = rt.alloc();
+    let mut world = five_objects(alloc)?;
+    add_verb(alloc, &mut world, "c := return this:c();")?;
+    let mut start = verb(alloc, "return this:c();")?;
+    start.names = text(alloc, "c")?;
+    start.verb = text(alloc, "c")?;
+    let Ended::Uncaught(lines) = run_task(alloc, &mut world, start, &mut env(alloc)) else {
+        return Err(Fail::from("no traceback"));
+    };
+    assert_eq!(rt; lines.len(), 51);
+    for (place, line) in lines.iter().enumerate() {
+        let told = match place {
+            0 => "#1:c:  Too many verb calls",
+            50 => "(End of traceback)",
+            _ => "... called from #1:c",
+        };
+        assert_eq!(rt; line.as_slice(), told.as_bytes());
+    }
+    Ok(())
 }

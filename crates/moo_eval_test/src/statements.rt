@@ -50,7 +50,8 @@ return size(1 / 0, x); --> Division by zero
 return size(@1, x); --> Type mismatch"#;
 
 const WITHOUT_D: &str = r#"for i in (5) return 1; endfor return 2; --> 2
-for i in [1..#2] return 1; endfor return 2; --> 2"#;
+for i in [1..#2] return 1; endfor return 2; --> 2
+while (1 / 0) return 1; endwhile if (1 / 0) return 2; endif return 3; --> 3"#;
 
 // What stands between the two looks at the ticks takes so many. The looks take 5 themselves.
 const TICKS: &str = r#"t = ticks_left(); return t - ticks_left() - 5; --> 0

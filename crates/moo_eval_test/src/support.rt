@@ -60,8 +60,8 @@ pub fn shown(alloc: Global, ended: Ended) -> Result<Vec<u8>, Fail> {
     }
 }
 
-// The moment 0 without connections.
-fn env(alloc: Global) -> TaskEnv {
+/// The moment 0 without connections.
+pub fn env(alloc: Global) -> TaskEnv {
     TaskEnv {
         surroundings: Surroundings {
             moment: 0,
@@ -138,7 +138,8 @@ pub fn happens(alloc: Global, rows: &'static str) -> Result<(), Fail> {
     Ok(())
 }
 
-fn add_verb(alloc: Global, world: &mut World, row: &'static str) -> Result<(), Fail> {
+/// Makes the verb of a row `NAMES := PROGRAM`.
+pub fn add_verb(alloc: Global, world: &mut World, row: &'static str) -> Result<(), Fail> {
     let Some((names, source)) = row.split_once(" := ") else {
         return Err(Fail::from(row));
     };

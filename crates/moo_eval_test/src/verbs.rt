@@ -8,6 +8,9 @@ z := ;
 x = 1; return {#2:fo(1, "a"), x}; --> {{#2, #1, #3, "fo", {1, "a"}, 2}, 1}
 return #2:z(); --> 0
 return #7:z(); --> #1:t:  Invalid indirection
+return {add_verb(#1, {#3, "xd", "bare"}, {"this", "none", "this"}), #2:bare(1)}; --> {0, 0}
+l*ook gaze := 1 / 0;
+return #2:loo(); --> #1:l*ook gaze (this == #2):  Division by zero / ... called from #1:t
 n := return 1;
 return set_verb_info(#1, "n", {#3, "rd", "n"}); --> 0
 return #2:n(); --> #1:t:  Verb not found
@@ -43,6 +46,7 @@ const PROPERTIES: &str =
     r#"return {add_property(#1, "hidden", 7, {#3, ""}), add_property(#1, "shown", 8, {#3, "r"})}; --> {0, 0}
 set_task_perms(#4); return {`(1).hidden ! ANY', `#9.hidden ! ANY', `#2.absent ! ANY', `#2.hidden ! ANY', #2.SHOWN, #2.location}; --> {E_TYPE, E_INVIND, E_PROPNF, E_PERM, 8, #-1}
 set_task_perms(#4); return {`#2.absent = 1 ! ANY', `#2.name = 1 ! ANY', `#2.owner = #2 ! ANY', `#2.location = 1 ! ANY', `#2.shown = 1 ! ANY'}; --> {E_PROPNF, E_TYPE, E_PERM, E_PERM, E_PERM}
+return {`#2.contents = {} ! ANY', `#2.contents = 1 ! ANY', `#2.location = "" ! ANY'}; --> {E_PERM, E_PERM, E_PERM}
 return {#2.hidden, #2.shown = 9, `#2.location = #1 ! ANY', #2.shown, #1.shown}; --> {7, 9, E_PERM, 9, 8}
 s = "a"; for i in [1..19] s = s + s; endfor #2.shown = {s, 1}; return {`#2.shown[2] = s ! ANY', #2.shown[2], #2.shown[2] = 3, #2.shown[2]}; --> {E_QUOTA, 1, 3, 3}"#;
 
@@ -51,6 +55,8 @@ closed := return 1;
 return {set_verb_info(#1, "closed", {#3, "rd", "closed"}), add_verb(#2, {#3, "r", "do"}, {"none", "none", "none"})}; --> {0, 0}
 return {`(2):do() ! ANY', `#9:do() ! ANY', `#2:closed() ! ANY', `#2:(1)() ! ANY', `#2:doi(1 / 0) ! ANY'}; --> {E_TYPE, E_INVIND, E_VERBNF, E_TYPE, E_DIV}
 argstr = 5; player = #2; return #2:Do(); --> {"Do", 5, #2, #1, #-1}
+shows := return {argstr, dobj, dobjstr, prepstr, iobj, iobjstr};
+argstr = 1; dobj = 2; dobjstr = 3; prepstr = 4; iobj = 5; iobjstr = 6; return #2:shows(); --> {1, 2, 3, 4, 5, 6}
 player = 7; return #2:done(); --> {"done", "", #3, #1, #-1}
 set_task_perms(#4); player = #2; return #2:doin(); --> {"doin", "", #3, #1, #-1}"#;
 
@@ -68,6 +74,7 @@ return {`set_task_perms() ! ANY', `set_task_perms(3) ! ANY', `callers(1) ! ANY',
 raise(E_PERM); --> #1:t:  Permission denied
 raise(E_PERM, "mine"); --> #1:t:  mine
 try raise(E_PERM, "mine", {7}); except e (ANY) return e; endtry --> {E_PERM, "mine", {7}, {{#1, "t", #3, #1, #3}}}
+try raise(E_DIV); except e (ANY) return e; endtry --> {E_DIV, "Division by zero", 0, {{#1, "t", #3, #1, #3}}}
 return {`raise(E_RANGE, "x") ! E_RANGE', `raise() ! ANY', `raise(7) ! ANY', `raise(E_DIV, 7) ! ANY'}; --> {E_RANGE, E_ARGS, E_TYPE, E_TYPE}"#;
 
 #[test]
@@ -91,7 +98,17 @@ return this:calls(); --> #1:raises:  Division by zero / ... called from #1:calls
 return this:catches(); --> "caught"
 return `this:spins() ! ANY => 1'; --> #1:spins:  Task ran out of ticks / ... called from #1:t
 try this:spins(); finally #1.name = "cleaned"; endtry --> #1:spins:  Task ran out of ticks / ... called from #1:t
-return #1.name; --> "Root Class""#;
+return #1.name; --> "Root Class"
+a := return {1 / 0, 2};
+return {set_verb_info(#1, "a", {#3, "rx", "a"}), #1:a()}; --> {0, {E_DIV, 2}}
+evals := return {eval(), eval(1), eval("x"), eval("return 1;")};
+spoils := return {1 / 0, eval("1 / 0;"), 1};
+return {set_verb_info(#1, "evals", {#3, "rx", "evals"}), set_verb_info(#1, "spoils", {#3, "rx", "spoils"})}; --> {0, 0}
+return this:evals(); --> {E_ARGS, E_TYPE, {0, {"Line 1:  Parse error"}}, {1, 1}}
+return this:spoils(); --> Division by zero / ... called from built-in function eval() / ... called from #1:spoils / ... called from #1:t
+return `this:spoils() ! E_DIV => #1.name'; --> "Root Class"
+return set_verb_info(#1, "evals", {#4, "rx", "evals"}); --> 0
+return this:evals(); --> {E_ARGS, E_TYPE, E_PERM, E_PERM}"#;
 
 #[test]
 fn what_is_raised_passes_callers(rt: HostRuntime) -> Result<(), Fail> {

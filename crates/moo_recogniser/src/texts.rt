@@ -60,7 +60,7 @@ pub static FORMS: [[&str; 2]; 31] = [
 ];
 
 /// Statements of each form.
-pub static STATEMENTS: [[&str; 2]; 15] = [
+pub static STATEMENTS: [[&str; 2]; 17] = [
     ["", ""],
     [";;", ""],
     ["return;return ;", "return;\nreturn;\n"],
@@ -71,6 +71,14 @@ pub static STATEMENTS: [[&str; 2]; 15] = [
         "if (a)\nb;\nelseif (c)\nelseif (d)\ne;\nelse\nf;\ng;\nendif\n",
     ],
     ["if (a) else endif", "if (a)\nelse\nendif\n"],
+    [
+        "if(a)b;elseif(c)else d;endif",
+        "if (a)\nb;\nelseif (c)\nelse\nd;\nendif\n",
+    ],
+    [
+        "try a;except e(E_DIV,E_PERM)b;except(any)endtry",
+        "try\na;\nexcept e (E_DIV, E_PERM)\nb;\nexcept (ANY)\nendtry\n",
+    ],
     ["for x in (y) ; x; endfor", "for x in (y)\nx;\nendfor\n"],
     [
         "for x in [1..2] while (0) continue x; break; endwhile endfor",

@@ -31,7 +31,7 @@ return {add_property(#1, "size", 5, {#3, "c"}), chparent(#2, #-1), parent(#2), `
 
 const VERBS: &str =
     r#"return {add_verb(#2, {#3, "rd", "look l*ook"}, {"this", "none", "this"}), verbs(#2), verb_info(#2, "look"), verb_info(#2, 1), verb_args(#2, "loo")}; --> {0, {"look l*ook"}, {#3, "rd", "look l*ook"}, {#3, "rd", "look l*ook"}, {"this", "none", "this"}}
-return {`verbs() ! ANY', `verbs(1) ! ANY', `verbs(#9) ! ANY', `verb_info(#2) ! ANY', `verb_info(#2, {}) ! ANY', `verb_info(#9, 1) ! ANY', `verb_info(#2, 2) ! ANY', `verb_info(#2, 0) ! ANY', `verb_info(#2, "x") ! ANY'}; --> {E_ARGS, E_TYPE, E_INVARG, E_ARGS, E_TYPE, E_INVARG, E_VERBNF, E_VERBNF, E_VERBNF}
+return {`verbs() ! ANY', `verbs(1) ! ANY', `verbs(#9) ! ANY', `verb_info(#2) ! ANY', `verb_info(#2, {}) ! ANY', `verb_info(#9, 1) ! ANY', `verb_info(#2, 2) ! ANY', `verb_info(#2, 0) ! ANY', `verb_info(#2, -1) ! ANY', `verb_info(#2, "x") ! ANY'}; --> {E_ARGS, E_TYPE, E_INVARG, E_ARGS, E_TYPE, E_INVARG, E_VERBNF, E_VERBNF, E_VERBNF, E_VERBNF}
 return {`verb_args(#2) ! ANY', `verb_args(#2, #2) ! ANY', `verb_args(#9, 1) ! ANY', `verb_args(#2, 2) ! ANY'}; --> {E_ARGS, E_TYPE, E_INVARG, E_VERBNF}
 return {`add_verb(#2, {#3, "", "x"}) ! ANY', `add_verb(#2, {#3, ""}, {"this", "none", "this"}) ! ANY', `add_verb(#9, {#3, "", "x"}, {"this", "none", "this"}) ! ANY', `add_verb(#2, {#3, "", ""}, {"this", "none", "this"}) ! ANY', `add_verb(#2, {#3, "", "x"}, {"this", "near", "this"}) ! ANY'}; --> {E_ARGS, E_TYPE, E_INVARG, E_INVARG, E_INVARG}
 return {set_verb_args(#2, "look", {"any", "using", "none"}), verb_args(#2, 1), `set_verb_args(#2, 1, {"all", "none", "none"}) ! ANY', `set_verb_args(#2, 2, {"any", "none", "none"}) ! ANY', `set_verb_args(#2, 1, {"any"}) ! ANY', `set_verb_args(#2, 1) ! ANY'}; --> {0, {"any", "with/using", "none"}, E_INVARG, E_VERBNF, E_TYPE, E_ARGS}
@@ -51,11 +51,17 @@ return {`set_verb_code(#1, "t1") ! ANY', `set_verb_code(#1, "t1", "") ! ANY', `s
 set_task_perms(#4); return {`set_verb_code(#1, "no", {}) ! ANY', `set_verb_code(#1, "t1", {}) ! ANY'}; --> {E_VERBNF, E_PERM}
 return {set_verb_code(#1, "t1", {}), #1:t1(), verb_code(#1, "t1")}; --> {{}, 0, {}}"#;
 
+// A fault that is too long to be told, of which nothing is set, and a listing that is too heavy for a list.
+const HEAVY_CODE: &str = r#"t1 := return 7;
+x = "aaaaaaaaaa"; x = strsub(x, "a", x); x = strsub(x, "a", "aaaaaaaaaa"); s = strsub(x, "a", x[1..999]) + x[1..990] + "();"; return {`set_verb_code(#1, "t1", {s}) ! ANY', `eval(s) ! ANY', verb_code(#1, "t1")}; --> {E_QUOTA, E_QUOTA, {"return 7;"}}
+x = "aaaaaaaaaa"; x = strsub(x, "a", x); x = strsub(x, "a", "aaaaaaaaaa"); s = strsub(x, "a", x[1..930]); l = strsub(x[1..30], "a", strsub(x, "a", "1,")); return {set_verb_code(#1, "t1", {"\"" + s + "\";{" + l + "1};"}), `verb_code(#1, "t1") ! ANY'}; --> {{}, E_QUOTA}"#;
+
 #[test]
 fn functions_look_at_the_world_and_change_it(rt: HostRuntime) -> Result<(), Fail> {
     let alloc = rt.alloc();
     happens(alloc, OBJECTS)?;
     happens(alloc, PROPERTIES)?;
     happens(alloc, VERBS)?;
-    happens(alloc, CODE)
+    happens(alloc, CODE)?;
+    happens(alloc, HEAVY_CODE)
 }

@@ -9,12 +9,13 @@ ghost use Rattle.moo_program.specs.Tree.{no_statement};
 ghost use Rattle.moo_operation.specs.Places.{made_list};
 ghost use Rattle.moo_access.specs.Entering.{entered_verb, entered_from, entered_found, found_verb, verb_there, called_verb, frames, has_frame_left, object_or, player_of_call, called_frame, is_frame, with_taken, called_variables, entered};
 ghost use Rattle.moo_access.specs.SeenCalled.{entered_of, found_of};
+ghost use Rattle.moo_outcome.specs.Given.{given_name};
 ghost use Rattle.moo_outcome.specs.Outcome.{answers};
 ghost use Rattle.moo_outcome.specs.Seen.{context_of, variables_of, failure_of, seen_by, IsKnownFailure, HadMemoryIn};
 
 use moo_grammar::Program;
 use moo_object::{Need, Verb};
-use moo_outcome::{Activation, CallStack, Failure, Frame, Stop, TraceEntry, Variables};
+use moo_outcome::{Activation, CallStack, Failure, Frame, Given, Stop, TraceEntry, Variables};
 use moo_rights::Rights;
 use moo_value::{ErrorCode, ListFault, MooList, MooStr, Value};
 use moo_world::{VerbAt, World};
@@ -255,25 +256,25 @@ fn called_variables(
     ensures { IfOk result (λ variables. variables_of variables ≡ called_variables frame.now (variables_of caller.now)) }
 {
     let mut variables = Variables::first(alloc, frame)?;
-    take_over(&mut variables, caller, "argstr")?;
-    take_over(&mut variables, caller, "dobj")?;
-    take_over(&mut variables, caller, "dobjstr")?;
-    take_over(&mut variables, caller, "prepstr")?;
-    take_over(&mut variables, caller, "iobj")?;
-    take_over(&mut variables, caller, "iobjstr")?;
+    take_over(&mut variables, caller, Given::Argstr)?;
+    take_over(&mut variables, caller, Given::Dobj)?;
+    take_over(&mut variables, caller, Given::Dobjstr)?;
+    take_over(&mut variables, caller, Given::Prepstr)?;
+    take_over(&mut variables, caller, Given::Iobj)?;
+    take_over(&mut variables, caller, Given::Iobjstr)?;
     Ok(variables)
 }
 
-// Sets a variable as it stands elsewhere, if it is set there. The letters of the name are small.
+// Sets a variable as it stands elsewhere, if it is set there.
 fn take_over(
     variables: &mut Variables,
     elsewhere: &Variables,
-    name: &'static str,
+    given: Given,
 ) -> Result<(), AllocError>
-    ensures { OnOk result (variables_of variables.new ≡ with_taken (variables_of variables.old) name.now (variables_of elsewhere.now (folded name.now))) }
+    ensures { OnOk result (variables_of variables.new ≡ with_taken (variables_of variables.old) (given_name given) (variables_of elsewhere.now (folded (given_name given)))) }
 {
-    match elsewhere.get(name.as_bytes()) {
-        Some(value) => variables.set_given(name, value.try_clone()?),
+    match elsewhere.get_given(given) {
+        Some(value) => variables.set_given(given, value.try_clone()?),
         None => Ok(()),
     }
 }

@@ -197,6 +197,10 @@ given_place name rest g e =
     ∙ ap (λ n. or_after 18 (place n given_names) (position (is_own name) rest)) (sym same)
     ∙ ap (λ o. or_after 18 o (position (is_own name) rest)) (place_own g)
 
+-- so does its own name
+pub own_place : (g : Given) (rest : List (List ℕ)) → position (is_own (given_name g)) (given_names ++ rest) ≡ Some (given_slot g)
+own_place g rest = given_place (given_name g) rest g (named_own g)
+
 -- another name stands after them
 pub other_place : (name : List ℕ) (rest : List (List ℕ)) → given_of name ≡ None → position (is_own name) (given_names ++ rest) ≡ option_map (λ i. 18 + i) (position (is_own name) rest)
 unfolding given_names

@@ -4,7 +4,7 @@ ghost use Rattle.moo_outcome.specs.Given.{given_name, given_slot, given_of, is_g
 
 /// A variable that every frame has (the manual's section on the built-in variables).
 #[derive(Clone, Copy)]
-pub(crate) enum Given {
+pub enum Given {
     Num,
     Int,
     Obj,
@@ -52,7 +52,8 @@ impl Given {
         self.name().as_bytes().eq_ignore_ascii_case(name)
     }
 
-    fn name(self) -> &'static str
+    /// How it is spelled.
+    pub(crate) fn name(self) -> &'static str
         ensures { result.now ≡ given_name self }
     {
         match self {

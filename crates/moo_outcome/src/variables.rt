@@ -3,6 +3,7 @@ ghost use Rattle.std.specs.Prelude.{◌≡◌, ℕ, ◌<◌, ◌≤◌, ◌++◌
 ghost use Rattle.std.specs.Str.{bytes_eq};
 ghost use Rattle.moo_value.specs.View.{tree};
 ghost use Rattle.moo_value.specs.Compare.{folded};
+ghost use Rattle.moo_outcome.specs.Given.{given_name};
 ghost use Rattle.moo_outcome.specs.Variables.{bind, with_variable, first_bindings, value_of_name};
 ghost use Rattle.moo_outcome.specs.Seen.{own_name, value_among, variables_of, names_of, seen_values, bound_values};
 
@@ -54,13 +55,13 @@ impl Variables {
     }
 
     /// Sets a variable that every frame has.
-    pub fn set_given(&mut self, name: &'static str, value: Value) -> Result<(), AllocError>
-        ensures { OnOk result (variables_of self.new ≡ with_variable (variables_of self.old) (bind name.now (tree value))) }
+    pub fn set_given(&mut self, given: Given, value: Value) -> Result<(), AllocError>
+        ensures { OnOk result (variables_of self.new ≡ with_variable (variables_of self.old) (bind (given_name given) (tree value))) }
     {
-        match self.slot(name.as_bytes()) {
+        match self.place(given) {
             Some(slot) => self.values[slot] = Some(value),
             None => self.others.push(Variable {
-                name: Name::Given(name),
+                name: Name::Given(given.name()),
                 value,
             })?,
         }
@@ -81,6 +82,16 @@ impl Variables {
         Ok(())
     }
 
+    /// The value of a variable that every frame has.
+    pub fn get_given(&self, given: Given) -> Option<&Value>
+        ensures { option_map (λ v. tree v.now) result ≡ variables_of self.now (folded (given_name given)) }
+    {
+        match self.place(given) {
+            Some(slot) => self.values[slot].as_ref(),
+            None => self.other(given.name().as_bytes()),
+        }
+    }
+
     /// The value of a variable, or `None` where it isn't set.
     pub fn get(&self, name: &[u8]) -> Option<&Value>
         ensures { option_map (λ v. tree v.now) result ≡ variables_of self.now (folded name.now) }
@@ -88,6 +99,19 @@ impl Variables {
         match self.slot(name) {
             Some(slot) => self.values[slot].as_ref(),
             None => self.other(name),
+        }
+    }
+
+    // The slot of a variable that every frame has.
+    fn place(&self, given: Given) -> Option<usize>
+        ensures some { IfSome result (λ i. (position (λ own. bytes_eq (folded own) (folded (given_name given))) (names_of self.now) ≡ Some i) × (i < length self.now.values.items)) }
+        ensures none { IfNone result ((i : ℕ) → position (λ own. bytes_eq (folded own) (folded (given_name given))) (names_of self.now) ≡ Some i → length self.now.values.items ≤ i) }
+    {
+        let slot = given.slot();
+        if slot < self.values.len() {
+            Some(slot)
+        } else {
+            None
         }
     }
 

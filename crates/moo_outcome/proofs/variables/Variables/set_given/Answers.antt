@@ -1,4 +1,4 @@
-use Rattle.std.proofs.Common.{refl}
+use Rattle.moo_outcome.specs.Given.{given_name}
 use Rattle.moo_outcome.specs.Seen.{value_among, variables_of, names_of}
 use Rattle.moo_outcome.proofs.Stored.{set_slot, set_elsewhere}
 use Rattle.moo_outcome.proofs.variables.Variables.set_given.Goals as goal
@@ -6,10 +6,10 @@ use Rattle.moo_outcome.proofs.variables.Variables.set_given.Goals as goal
 pub returns-in-Some : goal.returns-in-Some
 unfolding variables_of
 returns-in-Some c =
-    let found = rw c.as_bytes.ensures.value at c.in-Some.ensures.some in
-    set_slot c.args.name.now c.args.value (names_of c.args.self.now) c.args.self.now.values.items (value_among c.args.self.now.others.items) c.in-Some.slot found.0 found.1
+    let found = c.in-Some.ensures.some in
+    set_slot (given_name c.args.given) c.args.value (names_of c.args.self.now) c.args.self.now.values.items (value_among c.args.self.now.others.items) c.in-Some.slot found.0 found.1
 
 pub returns-in_ok-push-in-None : goal.returns-in_ok-push-in-None
 unfolding variables_of
 returns-in_ok-push-in-None c =
-    rw c.in_ok-push-in-None.ensures.items (set_elsewhere c.args.name.now _ (names_of c.args.self.now) c.args.self.now.values.items c.args.self.now.others.items refl (rw c.as_bytes.ensures.value at c.in-None.ensures.none))
+    rw c.in_ok-push-in-None.ensures.items (set_elsewhere (given_name c.args.given) _ (names_of c.args.self.now) c.args.self.now.values.items c.args.self.now.others.items c.name.ensures c.in-None.ensures.none)

@@ -1,4 +1,4 @@
-use Rattle.std.proofs.Common.{◌≡◌, ◌+◌, ◌<◌, ◌≤◌, ◌++◌, Some, position, length, sym, ap, subst, ◌∙◌, arith, rules}
+use Rattle.std.proofs.Common.{◌≡◌, ◌+◌, ◌<◌, ◌≤◌, Some, position, length, sym, ap, subst, ◌∙◌, arith, rules}
 use Rattle.moo_program.specs.Slots.{slots}
 use Rattle.moo_outcome.specs.Seen.{names_of}
 use Rattle.moo_outcome.proofs.Names.{is_own}

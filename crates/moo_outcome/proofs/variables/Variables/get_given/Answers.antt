@@ -1,0 +1,23 @@
+use Rattle.std.proofs.Common.{sym, ap, ◌∙◌}
+use Rattle.std.specs.Option.{option_map}
+use Rattle.moo_value.specs.Compare.{folded}
+use Rattle.moo_value.specs.View.{tree}
+use Rattle.moo_outcome.specs.Given.{given_name}
+use Rattle.moo_outcome.specs.Seen.{value_among, variables_of, names_of}
+use Rattle.moo_outcome.proofs.Names.{lent, slot_at, no_slot}
+use Rattle.moo_outcome.proofs.variables.Variables.get_given.Goals as goal
+
+pub returns-in-Some : goal.returns-in-Some
+unfolding variables_of
+returns-in-Some c =
+    let found = c.in-Some.ensures.some in
+    lent c.as_ref.result
+    ∙ ap (option_map (λ v. tree v)) (c.as_ref.ensures.value ∙ c.index.ensures)
+    ∙ sym (slot_at (given_name c.args.given) (names_of c.args.self.now) c.args.self.now.values.items (value_among c.args.self.now.others.items) c.index.result.now c.in-Some.slot found.0 found.1)
+
+pub returns-in-None : goal.returns-in-None
+unfolding variables_of
+returns-in-None c =
+    c.other.ensures
+    ∙ ap (λ n. value_among c.args.self.now.others.items (folded n)) (c.as_bytes.ensures.value ∙ c.name.ensures)
+    ∙ sym (no_slot (given_name c.args.given) (names_of c.args.self.now) c.args.self.now.values.items (value_among c.args.self.now.others.items) c.in-None.ensures.none)

@@ -21,6 +21,11 @@ abbrev pub allowed_value : World → ℤ → ℤ → List ℕ → Result Tree Er
 allowed_value w programmer o name =
     if may_read_property w programmer o name then or_error (value_got w (number_of w.objects o) (folded name)) PropertyNotFound else Err Permission
 
+-- what is raised before the right is asked for
+abbrev pub read_raises : World → Tree → Tree → Option ErrorCode
+read_raises w (object o) (string name) = get_raises w (number_of w.objects o) (folded name)
+read_raises w _ _ = Some TypeMismatch
+
 -- The value of a property: the object has to be valid and to have it, and the programmer needs the right to read it.
 abbrev pub read_property : World → ℤ → Tree → Tree → Result Tree ErrorCode
 read_property w programmer (object o) (string name) =

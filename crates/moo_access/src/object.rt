@@ -1,11 +1,11 @@
 //! Properties of objects: 'Getting and Setting the Values of Properties' of the LambdaMOO Programmer's Manual,
 //! 'Expressions' of docs/LANGUAGE.md.
-ghost use Rattle.std.specs.Prelude.{◌≡◌, IfErr};
+ghost use Rattle.std.specs.Prelude.{◌≡◌, None, IfErr};
 ghost use Rattle.moo_value.specs.View.{tree};
 ghost use Rattle.moo_access.specs.Fault.{failed};
-ghost use Rattle.moo_access.specs.Calls.{read_property, write_property};
+ghost use Rattle.moo_access.specs.Calls.{read_raises, read_property, write_property};
 ghost use Rattle.moo_outcome.specs.Outcome.{answers};
-ghost use Rattle.moo_outcome.specs.Seen.{seen_answer, seen_by, IsKnownFailure};
+ghost use Rattle.moo_outcome.specs.Seen.{seen_answer, seen_by, IsKnownFailure, LacksOnlyIn};
 
 use moo_outcome::{Failure, Stop};
 use moo_rights::Rights;
@@ -23,7 +23,8 @@ pub fn read_property(
     base: &Value,
     name: &Value,
 ) -> Result<Value, Failure>
-    ensures { IsKnownFailure result → answers (read_property world.now programmer (tree base.now) (tree name.now)) ≡ seen_answer result }
+    ensures value { IsKnownFailure result → answers (read_property world.now programmer (tree base.now) (tree name.now)) ≡ seen_answer result }
+    ensures memory { IfErr result (LacksOnlyIn (read_raises world.now (tree base.now) (tree name.now) ≡ None)) }
 {
     let (Value::Obj(o), Value::Str(name)) = (base, name) else {
         return Err(Failure::Fails(ErrorCode::TypeMismatch));

@@ -1,5 +1,5 @@
 -- A task ends as its statements lead.
-use Rattle.std.proofs.Common.{◌≡◌, ℕ, ℤ, List, [], ◌++◌, Option, None, Result, refl, subst}
+use Rattle.std.proofs.Common.{◌≡◌, ℕ, ℤ, List, [], ◌++◌, Option, None, Result, refl, sym, subst, ◌∙◌, append-nil}
 use Rattle.moo_table.specs.World.{World}
 use Rattle.moo_outcome.specs.declared.frame.Frame.{Frame}
 use Rattle.moo_outcome.specs.declared.frame.TraceEntry.{TraceEntry}
@@ -16,7 +16,7 @@ use Rattle.moo_call.specs.Tasks.{most_ticks}
 use Rattle.moo_eval.specs.declared.task.Ended as code
 use Rattle.moo_eval.specs.declared.task.Ended.TheVariants as ended
 use Rattle.moo_eval.specs.Meaning.{RunsAll}
-use Rattle.moo_eval.specs.Ends.{IfEnded, LeavesNotices}
+use Rattle.moo_eval.specs.Ends.{IfEnded, LeavesNotices, IsBegunBy}
 use Rattle.moo_eval.specs.Task.{TaskEnds, first_context, first_state, end_of}
 
 pub task_ends : (around : Surroundings) (start : Frame) (before : World) (old new : List Notice) (result : code.Ended) (last : State) (outcome : Result Flow Stop) (Known : Type 0)
@@ -37,3 +37,10 @@ first_runs around start before callers ticks variables programmer notices b o la
     let context : ◌≡◌ {A = Context} (record { frame = start; callers = callers; indexed = None; surroundings = around }) (first_context around start) = λ i. record { frame = start; callers = p i; indexed = None; surroundings = around } in
     let state : ◌≡◌ {A = State} (record { ticks = ticks; world = before; variables = variables; programmer = programmer; notices = notices }) (first_state start before) = λ i. record { ticks = q i; world = before; variables = r i; programmer = v i; notices = m i } in
     subst (λ x. RunsAll Faults (first_context around start) x (first_state start before) o last) u (subst (λ x. RunsAll Faults x b (first_state start before) o last) context (subst (λ x. RunsAll Faults (record { frame = start; callers = callers; indexed = None; surroundings = around }) b x o last) state d))
+
+-- notices that stay, with others behind them or without
+pub behind : (old new more : List Notice) → new ≡ old ++ more → IsBegunBy old new
+behind old new more added = (more, added)
+
+pub unchanged : (old new : List Notice) → new ≡ old → IsBegunBy old new
+unchanged old new same = ([], same ∙ sym (append-nil old))

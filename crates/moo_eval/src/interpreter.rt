@@ -1,5 +1,5 @@
 //! Expressions.
-ghost use Rattle.std.specs.Prelude.{◌≡◌, ◌-◌, ◌<◌, ◌≤◌, [], ◌++◌, None, IfOk, IfErr, OnOk};
+ghost use Rattle.std.specs.Prelude.{◌≡◌, ◌-◌, ◌<◌, ◌≤◌, [], ◌++◌, None, IfOk, IfErr, OnOk, OnErr};
 ghost use Rattle.moo_program.specs.Tree.{unary, binary, logic, conditional, index, range, list};
 ghost use Rattle.moo_program.specs.View.{tree, items_of};
 ghost use Rattle.moo_value.specs.View.{tree as tree_of, trees};
@@ -50,7 +50,8 @@ impl Task {
 
     /// Puts the notices behind these.
     pub(crate) fn leave_notices(&mut self, notices: &mut Vec<Notice>) -> Result<(), AllocError>
-        ensures { OnOk result (notices.new.items ≡ notices.old.items ++ self.old.notices.items) }
+        ensures left { OnOk result (notices.new.items ≡ notices.old.items ++ self.old.notices.items) }
+        ensures kept { OnErr result (notices.new.items ≡ notices.old.items) }
     {
         notices.append(&mut self.notices)
     }

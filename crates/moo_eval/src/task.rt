@@ -5,7 +5,7 @@ ghost use Rattle.moo_outcome.specs.Variables.{first_bindings, value_of_name};
 ghost use Rattle.moo_outcome.specs.Seen.{surroundings_of, variables_of};
 ghost use Rattle.moo_code_function.specs.Telling.{Faults};
 ghost use Rattle.moo_eval.specs.Task.{TaskEnds, end_of};
-ghost use Rattle.moo_eval.specs.Ends.{IfEnded, LeavesNotices};
+ghost use Rattle.moo_eval.specs.Ends.{IfEnded, LeavesNotices, IsBegunBy};
 
 use crate::interpreter::Task;
 use moo_outcome::{Activation, CallStack, Flow, Frame, Stop, TaskEnv, Variables, traceback_lines};
@@ -27,11 +27,13 @@ pub enum Ended {
 }
 
 /// Runs the program of a frame, with 100,000 ticks, in the surroundings of `env`, which stay. What it changed in the
-/// world stays too, however it ends, and its notices come behind those of `env`. Errors of the program are no errors of
-/// this: they end the task as `Ended` tells.
+/// world stays too, however it ends, and its notices come behind those of `env`, which stay also where memory is
+/// wanting. Errors of the program are no errors of this: they end the task as `Ended` tells.
+#[tactic(auto, using(crate::proofs::Ending::unchanged))]
 pub fn run_task(alloc: Global, world: &mut World, start: Frame, env: &mut TaskEnv) -> Ended
     ensures ends { IfEnded result (λ end. LeavesNotices env.old.notices.items (TaskEnds Faults (surroundings_of env.old.surroundings) start world.old end world.new) env.new.notices.items) }
     ensures kept { env.new.surroundings ≡ env.old.surroundings }
+    ensures notices { IsBegunBy env.old.notices.items env.new.notices.items }
 {
     match Variables::first(alloc, &start) {
         Ok(variables) => run_frame(alloc, world, start, variables, env),
@@ -39,6 +41,7 @@ pub fn run_task(alloc: Global, world: &mut World, start: Frame, env: &mut TaskEn
     }
 }
 
+#[tactic(auto, using(crate::proofs::Ending::behind, crate::proofs::Ending::unchanged))]
 fn run_frame(
     alloc: Global,
     world: &mut World,
@@ -49,6 +52,7 @@ fn run_frame(
     requires { variables_of variables ≡ value_of_name (first_bindings start) }
     ensures ends { IfEnded result (λ end. LeavesNotices env.old.notices.items (TaskEnds Faults (surroundings_of env.old.surroundings) start world.old end world.new) env.new.notices.items) }
     ensures kept { env.new.surroundings ≡ env.old.surroundings }
+    ensures notices { IsBegunBy env.old.notices.items env.new.notices.items }
 {
     let mut active = Activation {
         variables,

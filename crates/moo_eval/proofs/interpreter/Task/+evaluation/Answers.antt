@@ -254,7 +254,7 @@ property-returns-in_err-name-clause-meaning t c =
 
 pub property-returns-clause-meaning : goal.property-returns-clause-meaning
 property-returns-clause-meaning t c =
-    λ k. applies (element_then (c.in_ok-base.ensures.meaning tt) (element_then (c.in_ok-name.ensures.meaning tt) no_more refl) refl) no_more (let f : SFits w32 c.evaluate-2.new.active.programmer = search rules in property_is (rw (to_z-of_z w32 c.evaluate-2.new.active.programmer f) at (c.read_property.ensures k)))
+    λ k. applies (element_then (c.in_ok-base.ensures.meaning tt) (element_then (c.in_ok-name.ensures.meaning tt) no_more refl) refl) no_more (let f : SFits w32 c.evaluate-2.new.active.programmer = search rules in property_is (rw (to_z-of_z w32 c.evaluate-2.new.active.programmer f) at (c.read_property.ensures.value k)))
 
 pub verb_call-returns-in_err-base-clause-meaning : goal.verb_call-returns-in_err-base-clause-meaning
 verb_call-returns-in_err-base-clause-meaning t c =

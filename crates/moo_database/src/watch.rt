@@ -1,5 +1,5 @@
 //! What was seen of an input, an output and the memory: whether one has failed.
-ghost use Rattle.std.specs.Prelude.{◌≡◌, ◌<◌, ◌≤◌, [], length, take, true, false, IfErr, IfNone, IfOk, IfSome, OnErr, OnOk};
+ghost use Rattle.std.specs.Prelude.{◌≡◌, ◌<◌, ◌≤◌, ◌+◌, [], length, take, true, false, IfErr, IfNone, IfOk, IfSome, OnErr, OnOk};
 ghost use Rattle.std.specs.Io.KnownBytes.{Appends, Consumes, IsAtEnd};
 ghost use Rattle.moo_database.specs.Refused.{without_memory, IsEarned};
 ghost use Rattle.moo_database.specs.Watching.{most_reads, HasFailed, HasLacked, Remembers};
@@ -38,6 +38,7 @@ impl Watch {
         ensures refusal { result ≡ without_memory }
         ensures earned { IsEarned self.new result }
         ensures remembers { Remembers self.old self.new }
+        ensures counted { self.new.reads ≡ self.old.reads }
     {
         self.lacked = true;
         Refusal::Memory
@@ -48,6 +49,7 @@ impl Watch {
         ensures failed { HasFailed self.new }
         ensures earned { IsEarned self.new result }
         ensures remembers { Remembers self.old self.new }
+        ensures counted { self.new.reads ≡ self.old.reads }
     {
         self.failed = true;
         match Refusal::from(error) {
@@ -67,6 +69,8 @@ impl Watch {
         ensures some { IfOk result (λ r. IfSome r (λ n. (n ≤ length buffer.new) × Consumes (I.remaining input.old) (I.remaining input.new) (take n buffer.new))) }
         ensures end { IfOk result (λ r. IfNone r (Consumes (I.remaining input.old) (I.remaining input.new) [] × IsAtEnd (I.remaining input.new))) }
         ensures count { OnOk result ((self.old.reads < self.new.reads) × (self.new.reads ≤ most_reads)) }
+        // It counts once at most.
+        ensures counted { self.new.reads ≤ self.old.reads + 1 }
         ensures failed { OnErr result (HasFailed self.new) }
         ensures earned { IfErr result (IsEarned self.new) }
         ensures remembers { Remembers self.old self.new }
@@ -93,6 +97,7 @@ impl Watch {
         ensures failed { OnErr result (HasFailed self.new) }
         ensures earned { IfErr result (IsEarned self.new) }
         ensures remembers { Remembers self.old self.new }
+        ensures counted { self.new.reads ≡ self.old.reads }
     {
         if let Err(error) = output.write_all(text) {
             return Err(self.fail(error));

@@ -39,6 +39,15 @@ fn evaluates_lines(rt: HostRuntime) {
             "{\"abcde\"[2..$], \"abc\"[3..2], {1, 2, 3}[$]}\n",
             "{\"bcde\", \"\", 3}\n",
         ),
+        (
+            "{({a, ?b = 7, @c} = {1}), a, b, c}\n",
+            "{{1}, 1, 7, {}}\n",
+        ),
+        ("`{1, 2}[3] ! E_RANGE => \"none\"'\n", "\"none\"\n"),
+        (
+            "`{1, 2}[3] ! E_TYPE => \"none\"'\n",
+            "#-1:Input to EVAL:  Range error\n(End of traceback)\n",
+        ),
         ("{1, @{2, 3}, 3 in {1, 2, 3}}\n", "{1, 2, 3, 3}\n"),
         ("\"\" ? \"a\" | \"b\"\n", "\"b\"\n"),
         ("1; return 2\n", "1\n"),
@@ -102,6 +111,28 @@ fn tells_faults(rt: HostRuntime) {
     assert!(rt; gives(alloc, b"2.5\n", 5, b"Line 1:  Bad token\n"));
     assert!(rt; gives(alloc, b"1\r\n", 5, b"Line 1:  Bad token\n"));
     assert!(rt; gives(alloc, b"\"\xff\"\n", 5, b"Line 1:  Bad token\n"));
+}
+
+// A 1 behind so many signs, in so many parentheses.
+fn nested(alloc: Global, signs: usize, parentheses: usize) -> Result<Vec<u8>, AllocError> {
+    let mut line = vec![in alloc; b'!'; signs]?;
+    let opening = vec![in alloc; b'('; parentheses]?;
+    let closing = vec![in alloc; b')'; parentheses]?;
+    line.extend_from_slice(&opening)?;
+    line.push(b'1')?;
+    line.extend_from_slice(&closing)?;
+    Ok(line)
+}
+
+#[test]
+fn answers_lines_up_to_a_depth(rt: HostRuntime) -> Result<(), Fail> {
+    let alloc = rt.alloc();
+    let deep = b"Line 1:  Too deeply nested\n";
+    assert!(rt; gives(alloc, nested(alloc, 98, 0)?.as_slice(), 0, b"1\n"));
+    assert!(rt; gives(alloc, nested(alloc, 99, 0)?.as_slice(), 5, deep));
+    assert!(rt; gives(alloc, nested(alloc, 0, 200)?.as_slice(), 0, b"1\n"));
+    assert!(rt; gives(alloc, nested(alloc, 0, 201)?.as_slice(), 5, deep));
+    Ok(())
 }
 
 // An integer behind so many blanks.

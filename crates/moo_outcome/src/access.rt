@@ -1,19 +1,17 @@
 //! Values that a node reads or gathers.
-ghost use Rattle.std.specs.Prelude.{◌≡◌, ◌++◌, ◌∷◌, [], List, Ok, Err, IfOk, IfErr, OnOk, OnErr, IsSomeAnd};
-ghost use Rattle.moo_value.specs.Tree.{Tree};
+ghost use Rattle.std.specs.Prelude.{◌≡◌, ◌++◌, ◌∷◌, [], IfOk, IfErr, OnOk, OnErr, IsSomeAnd};
 ghost use Rattle.moo_value.specs.Faults.{TakesMemory};
-ghost use Rattle.moo_operation.specs.Places.{spliced_of};
 ghost use Rattle.moo_value.specs.declared.error_code.ErrorCode.TheVariants.{VariableNotFound};
 ghost use Rattle.moo_value.specs.Compare.{folded};
-ghost use Rattle.moo_value.specs.View.{tree, trees};
+ghost use Rattle.moo_value.specs.View.{tree};
 ghost use Rattle.moo_program.specs.Tree.{literal_value};
 ghost use Rattle.moo_outcome.specs.Outcome.{answers, or_error};
 ghost use Rattle.moo_outcome.specs.State.{measured};
-ghost use Rattle.moo_outcome.specs.Seen.{variables_of, indexed_of, failure_of, seen_answer, HadMemoryIn, IsKnownFailure, LacksOnlyIn};
+ghost use Rattle.moo_outcome.specs.Seen.{variables_of, indexed_of, failure_of, seen_answer, IsKnownFailure, LacksOnlyIn};
 
 use crate::frame::Activation;
 use crate::outcome::Failure;
-use moo_operation::{length_of, spliced};
+use moo_operation::length_of;
 use moo_program::Literal;
 use moo_value::{ErrorCode, MooStr, Value};
 use std::alloc::AllocError;
@@ -57,16 +55,6 @@ pub fn push(values: &mut Vec<Value>, value: Value) -> Result<(), AllocError>
     ensures { OnOk result (values.new.items ≡ values.old.items ++ value ∷ []) }
 {
     values.push(value)?;
-    Ok(())
-}
-
-/// Puts the elements of a list at the end.
-pub fn splice(values: &mut Vec<Value>, list: Value) -> Result<(), Failure>
-    ensures ok { OnOk result ((more : List Tree) × (answers (spliced_of (tree list)) ≡ Ok more) × (trees values.new.items ≡ trees values.old.items ++ more)) }
-    ensures err { IfErr result (λ failure. HadMemoryIn failure → answers (spliced_of (tree list)) ≡ Err (failure_of failure)) }
-{
-    let elements = spliced(&list)?;
-    append(values, elements)?;
     Ok(())
 }
 

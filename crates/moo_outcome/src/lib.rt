@@ -17,7 +17,7 @@ mod surroundings;
 mod traceback;
 mod variables;
 
-pub use access::{literal_value, measure, push, read_variable, splice};
+pub use access::{literal_value, measure, push, read_variable};
 pub use catching::{caught, settle_codes};
 pub use frame::{Activation, CallStack, Frame, TraceEntry, TraceFrame};
 pub use gathered::Gathered;

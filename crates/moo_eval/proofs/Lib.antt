@@ -14,6 +14,8 @@ pub mod Choices
 mod Room
 mod Ticking
 mod Following
+mod Recycling
 mod Agreed
 mod Begun
 mod Entering
+mod Functions

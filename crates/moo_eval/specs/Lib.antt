@@ -9,3 +9,4 @@ pub mod Typed
 pub mod Line
 pub mod Laws
 pub mod HookLaws
+pub mod Functions

@@ -4,7 +4,8 @@ ghost use Rattle.moo_eval.specs.Laws.{TicksOfExpressions, TicksOfStatements, Tic
 ghost use Rattle.moo_eval.specs.Laws.{FramesInExpressions, FramesInStatements, FramesInHooks, FramesInTasks};
 ghost use Rattle.moo_eval.specs.Laws.{ProgramsAreNotChosen, ExpressionsByChoice, StatementsByChoice, TasksByChoice, TextsByChoice};
 ghost use Rattle.moo_eval.specs.Laws.{OneResultOfExpressionsBy, OneResultOfStatementsBy, OneResultOfTasksBy};
-ghost use Rattle.moo_eval.specs.HookLaws.{CreateAnswersItsObject, MoveAnswersZero};
+ghost use Rattle.moo_eval.specs.HookLaws.{CreateAnswersItsObject, MoveAnswersZero, RecycledIsGone};
+ghost use Rattle.moo_eval.specs.Functions.{EachFunctionHasAGroup};
 ghost use Rattle.moo_eval.specs.Line.{OneEndOfText};
 ghost use Rattle.moo_eval.specs.Task.{OneResultOfExpressions, OneResultOfStatements, OneResultOfTasks};
 
@@ -63,8 +64,16 @@ pub fn one_result_of_single_faults()
     ensures tasks { OneResultOfTasksBy }
 {}
 
-/// Functions that call verbs answer their own, whatever these verbs answer: `create` the object that it has made, `move` 0.
+/// What these functions answer, where they answer, is their own, whatever the verbs that they call answer or do: `create` the object that
+/// it has made, `move` and `recycle` 0. What was recycled is no object then, and the last notice says so.
 pub fn functions_answer_their_own()
     ensures creation { CreateAnswersItsObject }
     ensures moves { MoveAnswersZero }
+    ensures recycling { RecycledIsGone }
+{}
+
+/// No function of the table is without a group: each is of the task, calls verbs, is over the objects of the world or on code, or gives or
+/// raises something of values.
+pub fn every_function_has_a_group()
+    ensures { EachFunctionHasAGroup }
 {}

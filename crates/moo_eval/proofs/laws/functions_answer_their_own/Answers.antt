@@ -1,4 +1,5 @@
 use Rattle.moo_eval.proofs.Following.{create_answers, move_answers}
+use Rattle.moo_eval.proofs.Recycling.{recycle_leaves}
 use Rattle.moo_eval.proofs.laws.functions_answer_their_own.Goals as goal
 
 pub returns-clause-creation : goal.returns-clause-creation
@@ -6,3 +7,6 @@ returns-clause-creation k = λ c args p s s' s'' v b d. create_answers b d
 
 pub returns-clause-moves : goal.returns-clause-moves
 returns-clause-moves k = λ c args p s s' s'' v b d. move_answers b d
+
+pub returns-clause-recycling : goal.returns-clause-recycling
+returns-clause-recycling k = λ c o p s s' s'' v b d. recycle_leaves o b d

@@ -103,8 +103,10 @@ impl Task {
         self.proceed(world, active, stack, first)
     }
 
-    // A function that calls verbs goes on until it ends.
+    // A function that calls verbs goes on until it ends. Not inlined, as `call_function` and `start_call`: nested calls would
+    // each hold its room on the stack.
     #[cycle(evaluation)]
+    #[inline(never)]
     fn proceed<'a>(
         &mut self,
         world: &mut World,

@@ -98,6 +98,7 @@ impl Task {
     }
 
     /// Calls a built-in function, which may look at the ticks that are left and leave notices.
+    #[inline(never)]
     pub(crate) fn call_function(
         &mut self,
         world: &mut World,

@@ -44,6 +44,7 @@ fn calls_verbs(function: Function) -> bool
 /// Begins a call of a function that calls verbs, and tells what comes first: its answer, a verb, or a stage. A wrong
 /// number of arguments raises E_ARGS, then one of a wrong type E_TYPE, then an object that isn't valid E_INVARG; then
 /// comes what the function itself looks at. Another function, with which no call comes here, raises E_TYPE.
+#[inline(never)]
 pub fn start_call<'a>(
     alloc: Global,
     world: &mut World,

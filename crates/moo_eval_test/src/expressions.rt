@@ -49,6 +49,9 @@ $name --> Invalid indirection
 #0:name(1, 2) --> Invalid indirection
 $name(1) --> Invalid indirection
 1:(y)(z) --> Variable not found
+y:(1 / 0)(1) --> Variable not found
+#0:(1 / 0)(z) --> Division by zero
+y.(1 / 0) --> Variable not found
 1:name(1 / 0) --> Division by zero
 1:name(@2) --> Type mismatch
 #0.name = 1 --> Invalid indirection
@@ -133,6 +136,7 @@ x[1..2][1] = 3 --> Line 1:  Illegal assignment target
 const WITHOUT_D: &str = r#"return {1 / 0, 2}; --> {E_DIV, 2}
 return {a[b = 1] = 2, `b ! ANY', x = 1 / 0, x}; --> {E_VARNF, E_VARNF, E_DIV, E_DIV}
 return {a = {1}, a[2] = 3, a}; --> {{1}, E_RANGE, {1}}
+a = 5; return {({a, b} = {1}), ({a, b} = 6), a}; --> {E_ARGS, E_TYPE, 5}
 return {`1 / 0 ! E_DIV => 7', size(2)}; --> {E_DIV, E_INVARG}
 return {raise(E_PERM, "no", 7), length(1), callers(1)}; --> {E_PERM, E_TYPE, E_ARGS}"#;
 

@@ -7,6 +7,7 @@ const PASSES: &str = r#"p := return {this, verb, args, caller, player, callers()
 2:p := return pass(@args, 9);
 return #2:p(1); --> {#2, "p", {1, 9}, #2, #3, {{#2, "p", #3, #2, #3}, {#1, "t", #3, #1, #3}}}
 pass(); --> #1:t:  Invalid indirection
+s = "a"; for i in [1..19] s = s + s; endfor return {`pass(s, s) ! ANY', `pass(s) ! ANY'}; --> {E_QUOTA, E_INVIND}
 2:q := pass();
 #2:q(); --> #2:q:  Verb not found / ... called from #1:t
 r := 1 / 0;

@@ -73,6 +73,7 @@ eval("notify(#3, \"a\");"); #1:t(); --> #1:t:  Verb not found => notify#3a
 set_task_perms(#4); return `recycle(#2) ! ANY'; --> E_PERM =>
 notify(#3, "a"); 1 / 0; notify(#3, "b"); --> #1:t:  Division by zero => notify#3a
 while (1) endwhile --> #1:t:  Task ran out of ticks =>
+notify(#3, "a"); while (1) endwhile --> #1:t:  Task ran out of ticks => notify#3a
 set_task_perms(#4); return {`notify(#3, "hi") ! ANY', notify(#4, "me"), `boot_player(#3) ! ANY', `dump_database() ! ANY', `shutdown("x") ! ANY', `server_log("x") ! ANY'}; --> {E_PERM, 1, E_PERM, E_PERM, E_PERM, E_PERM} => notify#4me
 set_task_perms(#4); return {`set_player_flag(#4, 1) ! ANY', is_player(#4), `set_player_flag(#99, 1) ! ANY', `set_player_flag(4, 1) ! ANY', `set_player_flag(#99) ! ANY'}; --> {E_PERM, 0, E_INVARG, E_TYPE, E_ARGS} =>
 return {`notify(#3) ! ANY', `notify(3, "") ! ANY', `boot_player("x") ! ANY', `shutdown(1) ! ANY', `server_log() ! ANY', `dump_database(1) ! ANY'}; --> {E_ARGS, E_TYPE, E_TYPE, E_TYPE, E_ARGS, E_ARGS} =>"#;

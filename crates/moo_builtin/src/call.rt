@@ -1,4 +1,4 @@
-//! A call of a built-in function.
+//! What the functions over values alone give, and how an error is raised.
 ghost use Rattle.std.specs.Prelude.{◌≡◌, IfNone};
 ghost use Rattle.moo_value.specs.View.{tree, trees};
 ghost use Rattle.moo_builtin.specs.Calls.{plainly, plain_answer, raised_by, answer, ShowsSome, GivesSome, Raises, Tells};

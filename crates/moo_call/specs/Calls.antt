@@ -40,7 +40,7 @@ is_of_task function.Shutdown = true
 is_of_task function.ServerLog = true
 is_of_task _ = false
 
--- what each of them does for arguments that fit its row
+-- what each of them does for arguments that fit its row; no other function comes here
 abbrev pub task_reply : Function → Context → List Tree → State → Reply
 task_reply function.TicksLeft c args s = (Ok (integer (pos s.ticks)), s)
 task_reply function.Callers c args s = (answers (listed (frame_lists c.callers)), s)
@@ -70,6 +70,7 @@ caller c s = record { programmer = s.programmer; moment = c.surroundings.moment 
 abbrev pub ComesTo : Replies → Context → State → Result Tree Failure → State → Type 0
 ComesTo Such c s r s' = (reply : Result Tree Raised) × (w : World) × Such reply w × (r ≡ told c.frame.d (trace c s) reply) × (s' ≡ record s { world = w })
 
+-- the function, where it is one of the task
 abbrev pub task_function : Option Function → Option Function
 task_function None = None
 task_function (Some f) = if is_of_task f then Some f else None

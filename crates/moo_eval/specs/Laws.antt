@@ -98,7 +98,7 @@ faults_of texts lines f = IsTrue (texts lines) × Faults lines f
 abbrev pub HaveOneFault : Texts → Type 0
 HaveOneFault texts = (lines : List (List ℕ)) (f g : SyntaxFault) → IsTrue (texts lines) → Faults lines f → Faults lines g → f ≡ g
 
--- What comes about where these texts alone are told a fault, each of which has one, is all that the program may come to.
+-- What comes about where these texts alone are told a fault, none of which has two, is all that the program may come to.
 abbrev pub OneResultOfExpressionsBy : Type 0
 OneResultOfExpressionsBy = (texts : Texts) → HaveOneFault texts → (c : Context) (e : Expr) (s s' t : State) (o p : Result Tree Stop) → Evaluates (faults_of texts) c e s o s' → Evaluates Faults c e s p t → (o ≡ p) × (s' ≡ t)
 

@@ -22,6 +22,7 @@ pub data End : Type 0 where
   uncaught : List (List ℕ) → End
   out_of_ticks : List (List ℕ) → End
 
+-- the end of this outcome; no jump leaves a program of the grammar
 abbrev pub end_of : Result Flow Stop → End
 end_of (Ok next) = value (integer (pos 0))
 end_of (Ok (returned v)) = value v

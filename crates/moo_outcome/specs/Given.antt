@@ -63,6 +63,6 @@ is_given name g = bytes_eq (folded (given_name g)) (folded name)
 abbrev pub given_of : List ℕ → Option Given
 given_of name = find (is_given name) all_given
 
--- the one whose name is so long and begins with this small letter
+-- for private clauses: the one whose name is so long and begins with this small letter
 abbrev pub likely : ℕ → ℕ → Option Given
 likely count letter = find (λ g. (length (given_name g) == count) && (get_or (folded (given_name g)) 0 0 == letter)) all_given

@@ -2,7 +2,8 @@
 ghost use Rattle.std.specs.Prelude.{◌≡◌, find};
 ghost use Rattle.moo_outcome.specs.Given.{given_name, given_slot, given_of, is_given, likely};
 
-/// A variable that every frame has (the manual's section on the built-in variables).
+/// A variable that every frame has ('Naming Values Within a Verb' of the LambdaMOO
+/// Programmer's Manual).
 #[derive(Clone, Copy)]
 pub enum Given {
     Num,

@@ -8,7 +8,7 @@ use Rattle.moo_table.specs.World.{World}
 use Rattle.moo_world.specs.Calls.{number_of}
 use Rattle.moo_world.specs.NamedProperties.{get_raises, value_got}
 use Rattle.moo_world.specs.EditCalls.{set_raises, world_set}
-use Rattle.moo_rights.specs.Rights.{may_read_property, may_write_property}
+use Rattle.moo_world.specs.Rights.{may_read_property, may_write_property}
 use Rattle.moo_outcome.specs.Outcome.{or_error}
 
 -- an answer, where nothing is raised before it

@@ -14,7 +14,7 @@ use Rattle.moo_world.specs.declared.looking.VerbAt.{VerbAt}
 use Rattle.moo_world.specs.Calls.{number_of}
 use Rattle.moo_world.specs.VerbCalls.{verb_place}
 use Rattle.moo_world.specs.Numbered.{object_numbered, verb_numbered}
-use Rattle.moo_rights.specs.Rights.{is_wizard}
+use Rattle.moo_world.specs.Rights.{is_wizard}
 use Rattle.moo_outcome.specs.Variables.{bind, first_bindings, value_of_name, with_variable}
 use Rattle.moo_outcome.specs.State.{Context, entries}
 use Rattle.moo_outcome.specs.Outcome.{or_error}

@@ -16,9 +16,8 @@ ghost use Rattle.moo_outcome.specs.Seen.{context_of, variables_of, failure_of, s
 use moo_grammar::Program;
 use moo_object::{Need, Verb};
 use moo_outcome::{Activation, CallStack, Failure, Frame, Given, Stop, TraceEntry, Variables};
-use moo_rights::Rights;
+use moo_world::{Rights, VerbAt, World};
 use moo_value::{ErrorCode, ListFault, MooList, MooStr, Value};
-use moo_world::{VerbAt, World};
 use std::alloc::{AllocError, Global};
 
 /// How many frames a task may have.

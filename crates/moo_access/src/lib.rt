@@ -1,4 +1,5 @@
 //! What evaluation reaches in a world: properties, verbs to run, and what targets of assignments set.
+//! A room behind `moo_eval`.
 #![tactic(auto)]
 
 mod entering;

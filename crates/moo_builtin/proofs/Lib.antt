@@ -1,1 +1,4 @@
-pub mod NewLists
+mod Joined
+mod Lacking
+pub mod Once
+pub mod Wider

@@ -1,118 +1,63 @@
--- What the functions over values alone answer.
-use Rattle.std.specs.Prelude.{◌≡◌, ℕ, pos, false, List, [], ◌∷◌, Option, None, Some, Result, Ok, Err}
+-- A call of a plain function: one that calls no verb, leaves no notice, and looks at no frame, tick or connection.
+use Rattle.std.specs.Prelude.{◌≡◌, ℕ, List, Bool, if◌then◌else◌, Option, None, Some, Result, Ok, Err}
 use Rattle.moo_value.specs.declared.error_code.ErrorCode.{ErrorCode}
-use Rattle.moo_value.specs.declared.error_code.ErrorCode.TheVariants.{TypeMismatch}
-use Rattle.moo_value.specs.declared.value.Value.{Value}
-use Rattle.moo_value.specs.Errors.{error_message}
-use Rattle.moo_value.specs.Tree.{Tree, integer, error, string}
-use Rattle.moo_value.specs.View.{tree}
-use Rattle.moo_operation.specs.declared.fault.OperationFault.{OperationFault}
-use Rattle.moo_operation.specs.declared.fault.OperationFault.TheVariants as fault
+use Rattle.moo_value.specs.declared.error_code.ErrorCode.TheVariants.{InvalidArgument}
+use Rattle.moo_value.specs.Tree.{Tree}
 use Rattle.moo_function.specs.declared.function.Function.{Function}
-use Rattle.moo_function.specs.declared.function.Function.TheVariants as function
-use Rattle.moo_builtin.specs.declared.call.Outcome.{Outcome}
-use Rattle.moo_builtin.specs.declared.call.Outcome.TheVariants as outcome
-use Rattle.moo_text_function.specs.Answers.{GivesUnless, IsMade}
-use Rattle.moo_text_function.specs.Conversions.{to_text, to_literal, to_integer, to_object}
-use Rattle.moo_text_function.specs.Texts.{compare, is_exact, index, last_index, substitute}
-use Rattle.moo_builtin.specs.Looks.{type_of, length_of, equal, time, server_version}
-use Rattle.moo_builtin.specs.Numbers.{absolute, least, greatest}
-use Rattle.moo_builtin.specs.Lists.{list_append, list_insert, list_set, list_delete, set_add, set_remove, is_member}
+use Rattle.moo_function.specs.Table.{row}
+use Rattle.moo_function.specs.Names.{function_of}
+use Rattle.moo_function.specs.Check.{refusal}
+use Rattle.moo_value_function.specs.Calls.{Raised, plainly, answer}
+use Rattle.moo_table.specs.World.{World}
+use Rattle.moo_world_function.specs.Objects.{is_valid}
+use Rattle.moo_world_function.specs.Calls.{is_of_world, answer as world_answer}
+use Rattle.moo_code_function.specs.Telling.{Telling}
+use Rattle.moo_code_function.specs.Answers.{Outcomes}
+use Rattle.moo_code_function.specs.Calls.{is_of_code, Answers}
+use Rattle.moo_builtin.specs.declared.call.Caller.{Caller}
 
--- an error that is raised, with its message and its value
-pub record Raised : Type 0 where
-  pub code : ErrorCode
-  pub message : List ℕ
-  pub value : Tree
+-- what a function looks at beside its arguments: nothing, the objects of the world, or the code of a verb
+pub data Field : Type 0 where
+  values : Field
+  objects : Field
+  code : Field
 
--- an error with its own message and 0
-abbrev pub plainly : ErrorCode → Raised
-plainly e = record { code = e; message = error_message e; value = integer (pos 0) }
+abbrev pub field : Function → Field
+field f = if is_of_world f then objects else if is_of_code f then code else values
 
--- what each function over values alone gives for arguments that fit its row, where an error has its own message; the
--- others are not of this crate
-abbrev pub plain_answer : Function → ℕ → List Tree → Option (Result Tree ErrorCode)
-plain_answer function.TypeOf moment args = Some (type_of args)
-plain_answer function.Length moment args = Some (length_of args)
-plain_answer function.ToText moment args = Some (to_text args)
-plain_answer function.ToLiteral moment args = Some (to_literal args)
-plain_answer function.ToInteger moment args = Some (to_integer args)
-plain_answer function.ToNumber moment args = Some (to_integer args)
-plain_answer function.ToObject moment args = Some (to_object args)
-plain_answer function.Equal moment args = Some (equal args)
-plain_answer function.Compare moment args = Some (compare args)
-plain_answer function.Minimum moment args = Some (least args)
-plain_answer function.Maximum moment args = Some (greatest args)
-plain_answer function.Absolute moment args = Some (absolute args)
-plain_answer function.Index moment args = Some (index args)
-plain_answer function.LastIndex moment args = Some (last_index args)
-plain_answer function.Substitute moment args = Some (substitute args)
-plain_answer function.ListAppend moment args = Some (list_append args)
-plain_answer function.ListInsert moment args = Some (list_insert args)
-plain_answer function.ListSet moment args = Some (list_set args)
-plain_answer function.ListDelete moment args = Some (list_delete args)
-plain_answer function.SetAdd moment args = Some (set_add args)
-plain_answer function.SetRemove moment args = Some (set_remove args)
-plain_answer function.IsMember moment args = Some (is_member args)
-plain_answer function.Time moment args = Some (time moment args)
-plain_answer function.ServerVersion moment args = Some (server_version args)
-plain_answer _ moment args = None
+-- an answer as it is given, an error as it is raised
+abbrev pub raising : Result Tree ErrorCode → Result Tree Raised
+raising (Ok v) = Ok v
+raising (Err e) = Err (plainly e)
 
--- such an answer, with the errors as they are raised
-abbrev pub simply : Option (Result Tree ErrorCode) → Option (Result Tree Raised)
-simply None = None
-simply (Some (Ok t)) = Some (Ok t)
-simply (Some (Err e)) = Some (Err (plainly e))
+-- an answer with the world after it; an error leaves the world as it is
+abbrev pub Leaves : Result (Tree × World) ErrorCode → World → Result Tree Raised → World → Type 0
+Leaves (Ok p) w r after = (r ≡ Ok p.0) × (after ≡ p.1)
+Leaves (Err e) w r after = (r ≡ Err (plainly e)) × (after ≡ w)
 
--- the error that `raise` raises, with a message and a value of its own where they are given
-abbrev pub raised_by : List Tree → Raised
-raised_by (error e ∷ []) = plainly e
-raised_by (error e ∷ string s ∷ []) = record { code = e; message = s; value = integer (pos 0) }
-raised_by (error e ∷ string s ∷ t ∷ []) = record { code = e; message = s; value = t }
-raised_by _ = plainly TypeMismatch
+-- one of the outcomes
+abbrev pub IsOf : Outcomes → Result Tree Raised → World → Type 0
+IsOf Such r after = (reply : Result Tree ErrorCode) × Such reply after × (r ≡ raising reply)
 
--- what each function over values alone gives, or raises, for arguments that fit its row
-abbrev pub answer : Function → ℕ → List Tree → Option (Result Tree Raised)
-answer function.Raise moment args = Some (Err (raised_by args))
-answer f moment args = simply (plain_answer f moment args)
+-- what a function over values gives; one that is not plain raises E_INVARG
+abbrev pub given : Option (Result Tree Raised) → Result Tree Raised
+given None = Err (plainly InvalidArgument)
+given (Some r) = r
 
--- Memory may be wanting for a string or a list that is made, and where a search folds letters, which is done in copies.
-abbrev pub MayLack : Function → List Tree → Result Tree ErrorCode → Type 0
-MayLack function.Index args r = is_exact args ≡ false
-MayLack function.LastIndex args r = is_exact args ≡ false
-MayLack f args r = IsMade r
+-- What the function itself looks at, as the definitions of its field have it, with the programmer's right at the end.
+abbrev pub Follows : Field → Telling → Function → List Tree → World → Caller → Result Tree Raised → World → Type 0
+Follows values T f args w c r after = (r ≡ given (answer f c.moment args)) × (after ≡ w)
+Follows objects T f args w c r after = Leaves (world_answer f w c.programmer args) w r after
+Follows code T f args w c r after = IsOf (Answers T f w c.programmer args) r after
 
--- the same of an answer as it is given, and for the message of an error that is raised
-abbrev pub CallMayLack : Function → List Tree → Result Tree Raised → Type 0
-CallMayLack f args (Ok t) = MayLack f args (Ok t)
-CallMayLack f args (Err r) = Unit {0}
-
--- the outcome is this, or memory is wanting where it may
-abbrev pub Shows : Function → List Tree → Outcome → Result Tree Raised → Type 0
-Shows f args (outcome.Value v) r = r ≡ Ok (tree v)
-Shows f args (outcome.Raise e message v) r = r ≡ Err (record { code = e; message = message; value = tree v })
-Shows f args outcome.Memory r = CallMayLack f args r
-
--- the same of a function that may be another crate's: it has no outcome here
-abbrev pub ShowsSome : Function → List Tree → Option Outcome → Option (Result Tree Raised) → Type 0
-ShowsSome f args None r = r ≡ None
-ShowsSome f args (Some o) None = ⊥
-ShowsSome f args (Some o) (Some r) = Shows f args o r
-
--- what a function over values alone gives; none for a function of another crate
-abbrev pub GivesSome : Function → List Tree → Option (Result Value OperationFault) → Option (Result Tree ErrorCode) → Type 0
-GivesSome f args None r = r ≡ None
-GivesSome f args (Some a) None = ⊥
-GivesSome f args (Some a) (Some r) = GivesUnless (MayLack f args r) a r
-
--- an outcome raises an error, or is short of memory for its message
-abbrev pub Raises : Outcome → Raised → Type 0
-Raises (outcome.Value v) r = ⊥
-Raises (outcome.Raise e message v) r = r ≡ record { code = e; message = message; value = tree v }
-Raises outcome.Memory r = Unit {0}
-
--- an outcome is an answer of the program
-abbrev pub Tells : Outcome → Result Value OperationFault → Type 0
-Tells o (Ok v) = o ≡ outcome.Value v
-Tells o (Err (fault.Raise e)) = Raises o (plainly e)
-Tells o (Err fault.Memory) = o ≡ outcome.Memory
+-- A call by a name, its letters in any case: what it answers or raises, and the world after it. A name of no function raises E_INVARG. The
+-- number of the arguments, then their types, then whether their objects are valid come before what the function itself looks at.
+pub data CallsPlain (T : Telling) (name : List ℕ) (args : List Tree) (w : World) (c : Caller) : Result Tree Raised → World → Type 0 where
+  unknown : function_of name ≡ None →
+      CallsPlain T name args w c (Err (plainly InvalidArgument)) w
+  refused : {f : Function} {e : ErrorCode} →
+      function_of name ≡ Some f → refusal (is_valid w) (row f) args ≡ Some e →
+      CallsPlain T name args w c (Err (plainly e)) w
+  follows : {f : Function} {r : Result Tree Raised} {after : World} →
+      function_of name ≡ Some f → refusal (is_valid w) (row f) args ≡ None → Follows (field f) T f args w c r after →
+      CallsPlain T name args w c r after

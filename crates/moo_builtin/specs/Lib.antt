@@ -1,6 +1,5 @@
--- What the functions over values alone answer.
-pub mod Answers
-pub mod Looks
-pub mod Numbers
-pub mod Lists
+-- The calls of plain functions.
 pub mod Calls
+pub mod Outcomes
+pub mod Lacking
+pub mod Laws

@@ -1,124 +1,124 @@
-//! What the functions over values alone give, and how an error is raised.
-ghost use Rattle.std.specs.Prelude.{◌≡◌, IfNone};
-ghost use Rattle.moo_value.specs.View.{tree, trees};
-ghost use Rattle.moo_builtin.specs.Calls.{plainly, plain_answer, raised_by, answer, ShowsSome, GivesSome, Raises, Tells};
+//! A call of a plain function.
+ghost use Rattle.std.specs.Prelude.{◌≡◌, ℕ, List, None, Some};
+ghost use Rattle.moo_value.specs.View.{trees};
+ghost use Rattle.moo_value_function.specs.Calls.{answer, Shows};
+ghost use Rattle.moo_function.specs.Names.{function_of};
+ghost use Rattle.moo_code_function.specs.Telling.{Faults};
+ghost use Rattle.moo_builtin.specs.Calls.{field, given, Follows, CallsPlain};
+ghost use Rattle.moo_builtin.specs.Outcomes.{IsReply, Unless};
+ghost use Rattle.moo_builtin.specs.Lacking.{AnswerMayLack, CallMayLack, LacksOnly};
 
-use crate::lists::{
-    is_member, list_append, list_delete, list_insert, list_set, set_add, set_remove,
-};
-use crate::looks::{equal, length_of, server_version, time, type_of};
-use crate::numbers::{absolute, greatest, least};
+use moo_code_function::call_code;
 use moo_function::Function;
-use moo_operation::OperationFault;
-use moo_text_function::{
-    compare, index, last_index, substitute, to_integer, to_literal, to_object, to_text,
-};
 use moo_value::{ErrorCode, MooStr, Value};
+use moo_value_function::{Outcome, answer, raised, settled};
+use moo_world::World;
+use moo_world_function::{call_world, refusal};
 use std::alloc::Global;
 
-/// What a call comes to.
-#[derive(Drop)]
-pub enum Outcome {
-    /// It answers a value.
-    Value(Value),
-    /// It raises an error, with a message and a value.
-    Raise(ErrorCode, MooStr, Value),
-    /// Memory was refused.
-    Memory,
+/// For whom a call is made, and when: in seconds since 1970.
+#[derive(Clone, Copy, Debug)]
+pub struct Caller {
+    pub programmer: i32,
+    pub moment: u32,
 }
 
-/// What a function over values alone gives, or raises, for arguments that fit its row of the table, at a moment in seconds
-/// since 1970. `None` where the function is another one; the arguments then stay as they are.
-pub fn answer(alloc: Global, function: Function, args: &mut [Value], moment: u32) -> Option<Outcome>
-    ensures value { ShowsSome function (trees args.old) result (answer function moment (trees args.old)) }
-    ensures unchanged { IfNone result (args.new ≡ args.old) }
+/// Calls a plain function by its name, letters folded. A name of no function raises E_INVARG. A wrong number of arguments
+/// raises E_ARGS, then one of a wrong type E_TYPE, then an object that isn't valid E_INVARG; then comes what the function
+/// itself looks at, and the programmer's right last. A function that isn't plain raises E_INVARG. A raise and want of
+/// memory leave the world as it was. Memory is wanting only for a list, a string or a change that is made, for the
+/// copies of a search that folds letters, on the code of verbs, or for the message of an error. The arguments may be
+/// taken out of their places, where it raises too.
+pub fn call_plain(
+    alloc: Global,
+    name: &MooStr,
+    args: &mut [Value],
+    world: &mut World,
+    caller: Caller,
+) -> Outcome
+    ensures call { IsReply result world.old world.new (CallsPlain Faults name.now (trees args.old) world.old caller) }
+    ensures memory { LacksOnly result (CallMayLack (function_of name.now) (trees args.old) world.old caller) }
 {
-    match function {
-        Function::Raise => Some(raise(alloc, args)),
-        _ => {
-            let answer = plain_answer(alloc, function, args, moment)?;
-            Some(settled(alloc, answer))
-        }
-    }
+    let function = Function::from_name(name.as_bytes());
+    call_found(alloc, function, args, world, caller)
 }
 
-/// What a function over values alone gives for arguments that fit its row of the table, where each error has its own
-/// message. `None` where the function is another one; the arguments then stay as they are.
-pub fn plain_answer(
+/// The same by the function of the name, where there is one.
+pub fn call_found(
+    alloc: Global,
+    function: Option<Function>,
+    args: &mut [Value],
+    world: &mut World,
+    caller: Caller,
+) -> Outcome
+    ensures call { (name : List ℕ) → function_of name ≡ function → IsReply result world.old world.new (CallsPlain Faults name (trees args.old) world.old caller) }
+    ensures memory { LacksOnly result (CallMayLack function (trees args.old) world.old caller) }
+{
+    let Some(function) = function else {
+        return raised(alloc, ErrorCode::InvalidArgument);
+    };
+    called(alloc, function, args, world, caller)
+}
+
+// A call of a function of the table.
+fn called(
     alloc: Global,
     function: Function,
     args: &mut [Value],
-    moment: u32,
-) -> Option<Result<Value, OperationFault>>
-    ensures value { GivesSome function (trees args.old) result (plain_answer function moment (trees args.old)) }
-    ensures unchanged { IfNone result (args.new ≡ args.old) }
+    world: &mut World,
+    caller: Caller,
+) -> Outcome
+    ensures call { (name : List ℕ) → function_of name ≡ Some function → IsReply result world.old world.new (CallsPlain Faults name (trees args.old) world.old caller) }
+    ensures memory { LacksOnly result (CallMayLack (Some function) (trees args.old) world.old caller) }
 {
-    Some(match function {
-        Function::TypeOf => type_of(args),
-        Function::Length => length_of(args),
-        Function::ToText => to_text(alloc, args),
-        Function::ToLiteral => to_literal(alloc, args),
-        Function::ToInteger | Function::ToNumber => to_integer(args),
-        Function::ToObject => to_object(args),
-        Function::Equal => equal(args),
-        Function::Compare => compare(args),
-        Function::Minimum => least(args),
-        Function::Maximum => greatest(args),
-        Function::Absolute => absolute(args),
-        Function::Index => index(alloc, args),
-        Function::LastIndex => last_index(alloc, args),
-        Function::Substitute => substitute(alloc, args),
-        Function::ListAppend => list_append(alloc, args),
-        Function::ListInsert => list_insert(alloc, args),
-        Function::ListSet => list_set(alloc, args),
-        Function::ListDelete => list_delete(alloc, args),
-        Function::SetAdd => set_add(alloc, args),
-        Function::SetRemove => set_remove(alloc, args),
-        Function::IsMember => is_member(args),
-        Function::Time => time(args, moment),
-        Function::ServerVersion => server_version(alloc, args),
-        _ => return None,
-    })
+    let refused = refusal(function, args, world);
+    unless_refused(alloc, refused, function, args, world, caller)
 }
 
-/// The outcome of this answer, an error with its own message and 0.
-pub fn settled(alloc: Global, answer: Result<Value, OperationFault>) -> Outcome
-    ensures { Tells result answer }
+// What a function gives, unless its arguments are refused.
+fn unless_refused(
+    alloc: Global,
+    refused: Option<ErrorCode>,
+    function: Function,
+    args: &mut [Value],
+    world: &mut World,
+    caller: Caller,
+) -> Outcome
+    ensures call { IsReply result world.old world.new (Unless refused world.old (Follows (field function) Faults function (trees args.old) world.old caller)) }
+    ensures memory { LacksOnly result (refused ≡ None → AnswerMayLack (field function) function (trees args.old) world.old caller) }
 {
-    match answer {
-        Ok(value) => Outcome::Value(value),
-        Err(OperationFault::Raise(error)) => raised(alloc, error),
-        Err(OperationFault::Memory) => Outcome::Memory,
+    match refused {
+        Some(error) => raised(alloc, error),
+        None => followed(alloc, function, args, world, caller),
     }
 }
 
-// `raise`: an error with its own message and 0, or with those that are given.
-fn raise(alloc: Global, args: &[Value]) -> Outcome
-    ensures { Raises result (raised_by (trees args.now)) }
+// What a function gives for arguments that fit its row of the table.
+fn followed(
+    alloc: Global,
+    function: Function,
+    args: &mut [Value],
+    world: &mut World,
+    caller: Caller,
+) -> Outcome
+    ensures call { IsReply result world.old world.new (Follows (field function) Faults function (trees args.old) world.old caller) }
+    ensures memory { LacksOnly result (AnswerMayLack (field function) function (trees args.old) world.old caller) }
 {
-    match args {
-        [Value::Err(error)] => raised(alloc, *error),
-        [Value::Err(error), Value::Str(message)] => raised_with(*error, message, &Value::Int(0)),
-        [Value::Err(error), Value::Str(message), value] => raised_with(*error, message, value),
-        _ => raised(alloc, ErrorCode::TypeMismatch),
+    if let Some(answer) = call_world(alloc, function, args, world, caller.programmer) {
+        return settled(alloc, answer);
     }
+    if let Some(answer) = call_code(alloc, function, args, world, caller.programmer) {
+        return settled(alloc, answer);
+    }
+    over_values(alloc, function, args, caller.moment)
 }
 
-fn raised_with(error: ErrorCode, message: &MooStr, value: &Value) -> Outcome
-    ensures { Raises result (record { code = error; message = message.now; value = tree value.now }) }
+// What a function over values gives, for arguments that fit its row of the table.
+fn over_values(alloc: Global, function: Function, args: &mut [Value], moment: u32) -> Outcome
+    ensures { Shows function (trees args.old) result (given (answer function moment (trees args.old))) }
 {
-    match (message.try_clone(), value.try_clone()) {
-        (Ok(message), Ok(value)) => Outcome::Raise(error, message, value),
-        _ => Outcome::Memory,
-    }
-}
-
-/// An error with its own message and 0, or want of memory for the message.
-pub fn raised(alloc: Global, error: ErrorCode) -> Outcome
-    ensures { Raises result (plainly error) }
-{
-    match MooStr::try_from_bytes(alloc, error.message().as_bytes()) {
-        Ok(message) => Outcome::Raise(error, message, Value::Int(0)),
-        Err(_) => Outcome::Memory,
+    match answer(alloc, function, args, moment) {
+        Some(outcome) => outcome,
+        None => raised(alloc, ErrorCode::InvalidArgument),
     }
 }

@@ -1,10 +1,8 @@
-//! The built-in functions over values alone.
+//! The plain built-in functions: those that call no verb, leave no notice, and look at no frame, tick or connection.
 #![tactic(auto)]
 
 mod call;
-mod lists;
-mod looks;
-mod made;
-mod numbers;
+pub mod laws;
 
-pub use call::{Outcome, answer, plain_answer, raised, settled};
+pub use call::{Caller, call_found, call_plain};
+pub use moo_value_function::Outcome;

@@ -10,7 +10,7 @@ use Rattle.moo_function.specs.Check.{refusal}
 use Rattle.moo_operation.specs.Truth.{is_true}
 use Rattle.moo_world.specs.Calls.{number_of}
 use Rattle.moo_world.specs.PlayerCalls.{set_player_raises}
-use Rattle.moo_rights.specs.Rights.{controls}
+use Rattle.moo_world.specs.Rights.{controls}
 use Rattle.moo_world_function.specs.Objects.{is_valid}
 use Rattle.moo_outcome.specs.declared.notice.Notice.{Notice}
 use Rattle.moo_outcome.specs.Outcome.{Failure}

@@ -9,11 +9,11 @@ use Rattle.moo_function.specs.Names.{function_of}
 use Rattle.moo_function.specs.Table.{row}
 use Rattle.moo_function.specs.Check.{refusal}
 use Rattle.moo_operation.specs.Truth.{is_true}
-use Rattle.moo_builtin.specs.Calls.{Raised}
+use Rattle.moo_value_function.specs.Calls.{Raised}
 use Rattle.moo_table.specs.World.{World}
 use Rattle.moo_world.specs.Calls.{number_of}
 use Rattle.moo_world.specs.PlayerCalls.{set_player_raises, world_set_player}
-use Rattle.moo_rights.specs.Rights.{controls}
+use Rattle.moo_world.specs.Rights.{controls}
 use Rattle.moo_world_function.specs.Objects.{is_valid}
 use Rattle.moo_outcome.specs.declared.frame.TraceEntry.{TraceEntry}
 use Rattle.moo_outcome.specs.declared.notice.Notice.{Notice}
@@ -22,7 +22,7 @@ use Rattle.moo_outcome.specs.Outcome.{Failure, fails}
 use Rattle.moo_outcome.specs.State.{Context}
 use Rattle.moo_access.specs.State.{State, trace}
 use Rattle.moo_code_function.specs.Telling.{Telling, Faults}
-use Rattle.moo_plain.proofs.Once.{raised}
+use Rattle.moo_builtin.proofs.Once.{raised}
 use Rattle.moo_call.specs.Tasks.{Reply, set_task_perms, told}
 use Rattle.moo_call.specs.Asking.{noticed, leaves, is_run_by_wizard, notify, boot_player, dump_database, shutdown, server_log, flagged, set_player_flag}
 use Rattle.moo_call.specs.Calls.{task_reply, unless_refused, caller, task_function, CallsAs}

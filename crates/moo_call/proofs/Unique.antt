@@ -8,8 +8,8 @@ use Rattle.moo_outcome.specs.Outcome.{Failure}
 use Rattle.moo_outcome.specs.State.{Context}
 use Rattle.moo_access.specs.State.{State, trace}
 use Rattle.moo_code_function.specs.Telling.{Telling}
-use Rattle.moo_plain.proofs.Once.{plain_once}
-pub use Rattle.moo_plain.proofs.Once.{TellsOne, chosen_once}
+use Rattle.moo_builtin.proofs.Once.{plain_once}
+pub use Rattle.moo_builtin.proofs.Once.{TellsOne, chosen_once}
 use Rattle.moo_call.specs.Tasks.{told}
 use Rattle.moo_call.specs.Calls.{task_function, caller, CallsAs, CallsFunction}
 

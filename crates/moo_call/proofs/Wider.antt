@@ -7,8 +7,8 @@ use Rattle.moo_outcome.specs.Outcome.{Failure}
 use Rattle.moo_outcome.specs.State.{Context}
 use Rattle.moo_access.specs.State.{State}
 use Rattle.moo_code_function.specs.Telling.{Telling}
-use Rattle.moo_plain.proofs.Wider.{plain_wider}
-pub use Rattle.moo_plain.proofs.Wider.{Wider}
+use Rattle.moo_builtin.proofs.Wider.{plain_wider}
+pub use Rattle.moo_builtin.proofs.Wider.{Wider}
 use Rattle.moo_call.specs.Calls.{task_function, caller, CallsAs, CallsFunction}
 
 wider_as : {T U : Telling} → Wider T U → (f : Option Function) (c : Context) (name : List ℕ) (args : List Tree) (s s' : State) (r : Result Tree Failure) → CallsAs T f c name args s r s' → CallsAs U f c name args s r s'

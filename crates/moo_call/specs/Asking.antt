@@ -7,7 +7,7 @@ use Rattle.moo_operation.specs.Truth.{is_true}
 use Rattle.moo_table.specs.World.{World}
 use Rattle.moo_world.specs.Calls.{number_of}
 use Rattle.moo_world.specs.PlayerCalls.{set_player_raises, world_set_player}
-use Rattle.moo_rights.specs.Rights.{controls, is_wizard}
+use Rattle.moo_world.specs.Rights.{controls, is_wizard}
 use Rattle.moo_outcome.specs.declared.notice.Notice.{Notice}
 use Rattle.moo_outcome.specs.declared.notice.Notice.TheVariants as notice
 use Rattle.moo_outcome.specs.Outcome.{fails}

@@ -8,7 +8,7 @@ use Rattle.moo_function.specs.declared.function.Function.TheVariants as function
 use Rattle.moo_function.specs.Table.{row}
 use Rattle.moo_function.specs.Names.{function_of}
 use Rattle.moo_function.specs.Check.{refusal}
-use Rattle.moo_builtin.specs.Calls.{Raised}
+use Rattle.moo_value_function.specs.Calls.{Raised}
 use Rattle.moo_table.specs.World.{World}
 use Rattle.moo_world_function.specs.Objects.{is_valid}
 use Rattle.moo_outcome.specs.Handling.{frame_lists, listed}
@@ -16,9 +16,9 @@ use Rattle.moo_outcome.specs.Outcome.{Failure, fails, answers}
 use Rattle.moo_outcome.specs.State.{Context}
 use Rattle.moo_access.specs.State.{State, trace}
 use Rattle.moo_code_function.specs.Telling.{Telling}
-use Rattle.moo_plain.specs.declared.call.Caller.{Caller}
-use Rattle.moo_plain.specs.Calls.{CallsPlain}
-use Rattle.moo_plain.specs.Outcomes.{Replies}
+use Rattle.moo_builtin.specs.declared.call.Caller.{Caller}
+use Rattle.moo_builtin.specs.Calls.{CallsPlain}
+use Rattle.moo_builtin.specs.Outcomes.{Replies}
 use Rattle.moo_call.specs.Tasks.{Reply, nearest_programmer, set_task_perms, told}
 use Rattle.moo_call.specs.Connections.{connected_players, elapsed_since, last_heard, last_login}
 use Rattle.moo_call.specs.Asking.{notify, boot_player, set_player_flag, dump_database, shutdown, server_log}

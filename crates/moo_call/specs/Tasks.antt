@@ -2,8 +2,8 @@
 use Rattle.std.specs.Prelude.{ℕ, ℤ, pos, negsuc, Bool, List, [], ◌∷◌, Result, Ok, Err, if◌then◌else◌}
 use Rattle.moo_value.specs.declared.error_code.ErrorCode.TheVariants.{TypeMismatch, Permission}
 use Rattle.moo_value.specs.Tree.{Tree, integer, object, error}
-use Rattle.moo_rights.specs.Rights.{controls}
-use Rattle.moo_builtin.specs.Calls.{Raised}
+use Rattle.moo_world.specs.Rights.{controls}
+use Rattle.moo_value_function.specs.Calls.{Raised}
 use Rattle.moo_outcome.specs.declared.frame.TraceEntry.{TraceEntry}
 use Rattle.moo_outcome.specs.declared.frame.TraceEntry.TheVariants.{Verb, BuiltIn}
 use Rattle.moo_outcome.specs.Outcome.{raised, Failure, fails, stops}

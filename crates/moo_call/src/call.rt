@@ -10,15 +10,15 @@ ghost use Rattle.moo_outcome.specs.Seen.{context_of, seen_answer, IsKnownFailure
 ghost use Rattle.moo_call.specs.Calls.{unless_refused, task_reply, task_function, caller, ComesTo, CallsFunction};
 ghost use Rattle.moo_call.specs.Seen.{state_at};
 ghost use Rattle.moo_code_function.specs.Telling.{Faults};
-ghost use Rattle.moo_plain.specs.Calls.{CallsPlain};
+ghost use Rattle.moo_builtin.specs.Calls.{CallsPlain};
 
 use crate::raising::raised_here;
 use crate::task::{is_of_task, task_reply};
 use crate::ticks::Ticks;
-use moo_builtin::Outcome;
+use moo_value_function::Outcome;
 use moo_function::Function;
 use moo_outcome::{Activation, CallStack, Failure, Notice, Stop};
-use moo_plain::{Caller, call_found};
+use moo_builtin::{Caller, call_found};
 use moo_value::{MooStr, Value};
 use moo_world::World;
 use moo_world_function::refusal;

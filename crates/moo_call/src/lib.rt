@@ -1,4 +1,5 @@
 //! Calls of built-in functions in a running task.
+//! A room behind `moo_eval`.
 #![tactic(auto)]
 
 mod asking;

@@ -18,7 +18,7 @@ use Rattle.moo_table.specs.World.{World, nothing}
 use Rattle.moo_world.specs.Calls.{number_of}
 use Rattle.moo_world.specs.Numbered.{object_numbered, verb_numbered}
 use Rattle.moo_world.specs.VerbCalls.{program_raises, world_with_object}
-use Rattle.moo_rights.specs.Rights.{may_write_this_verb}
+use Rattle.moo_world.specs.Rights.{may_write_this_verb}
 use Rattle.moo_world_function.specs.Order.{asked}
 use Rattle.moo_world_function.specs.Verbs.{chosen, on_verb}
 use Rattle.moo_code_function.specs.Answers.{Outcomes, Only, Then}

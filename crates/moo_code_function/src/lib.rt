@@ -1,4 +1,5 @@
 //! The built-in functions that list the code of a verb and set it.
+//! A room behind `moo_builtin`.
 #![tactic(auto)]
 
 mod answers;

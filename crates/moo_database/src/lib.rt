@@ -1,4 +1,5 @@
 //! What `moo check` and `moo copy` do, over a reader and a writer, and why the program gives up.
+//! A room behind `moo`.
 #![tactic(auto)]
 
 mod check;

@@ -1,4 +1,5 @@
 //! Objects as lines of a database text.
+//! A room behind `moo_dbtext`.
 #![tactic(auto)]
 
 mod field;

@@ -1,4 +1,5 @@
 //! A whole database text with its programs as trees, read in pieces.
+//! A room behind `moo_dbtext`.
 #![tactic(auto)]
 
 mod database;

@@ -1,4 +1,5 @@
 //! A whole database text: its records, read in pieces.
+//! A room behind `moo_dbtext`.
 #![tactic(auto)]
 
 mod db_reader;

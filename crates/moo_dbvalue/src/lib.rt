@@ -1,4 +1,5 @@
 //! Values as lines of a database text, and the numbers and strings that stand on a line.
+//! A room behind `moo_dbtext`.
 #![tactic(auto)]
 
 mod fault;

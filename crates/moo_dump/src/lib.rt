@@ -1,4 +1,5 @@
 //! The text of a world, as a database is written.
+//! A room behind `moo_dbtext`.
 #![tactic(auto)]
 
 mod behind;

@@ -11,7 +11,7 @@ use Rattle.moo_syntax.specs.declared.syntax_fault.SyntaxFault.{SyntaxFault}
 use Rattle.moo_function.specs.declared.function.Function.{Function}
 use Rattle.moo_function.specs.declared.function.Function.TheVariants.{VerbCode, SetVerbCode}
 use Rattle.moo_function.specs.Names.{function_of}
-use Rattle.moo_builtin.specs.Calls.{Raised}
+use Rattle.moo_value_function.specs.Calls.{Raised}
 use Rattle.moo_table.specs.World.{World}
 use Rattle.moo_world_function.specs.Calls.{answer as world_answer}
 use Rattle.moo_outcome.specs.Outcome.{Failure}
@@ -22,8 +22,8 @@ use Rattle.moo_code_function.specs.Answers.{Outcomes, Then}
 use Rattle.moo_code_function.specs.Setting.{told_fault, with_code, verb_to_set, given_lines, IsSet, SetsText, SetsCode}
 use Rattle.moo_code_function.specs.Calls.{Answers}
 use Rattle.moo_code_function.proofs.Once.{TellsOne, only_once, same_program}
-use Rattle.moo_plain.specs.declared.call.Caller.{Caller}
-use Rattle.moo_plain.specs.Calls.{Field, values, objects, code, field, raising, Leaves, IsOf, Follows, CallsPlain, unknown, refused, follows}
+use Rattle.moo_builtin.specs.declared.call.Caller.{Caller}
+use Rattle.moo_builtin.specs.Calls.{Field, values, objects, code, field, raising, Leaves, IsOf, Follows, CallsPlain, unknown, refused, follows}
 use Rattle.moo_call.specs.Tasks.{told}
 use Rattle.moo_call.specs.Calls.{task_function, caller, CallsAs, CallsFunction}
 

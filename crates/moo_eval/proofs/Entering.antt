@@ -12,7 +12,7 @@ use Rattle.moo_object.specs.declared.verb.Verb.{Verb}
 use Rattle.moo_table.specs.World.{World}
 use Rattle.moo_world.specs.Calls.{number_of, place_of, create_raises, move_raises}
 use Rattle.moo_world.specs.RecycleCalls.{recycle_raises}
-use Rattle.moo_rights.specs.Rights.{controls, may_own}
+use Rattle.moo_world.specs.Rights.{controls, may_own}
 use Rattle.moo_program.specs.Tree.{Block}
 use Rattle.moo_function.specs.declared.function.Function.{Function}
 use Rattle.moo_function.specs.declared.function.Function.TheVariants as function

@@ -7,7 +7,7 @@ use Rattle.moo_operation.specs.Truth.{is_true}
 use Rattle.moo_function.specs.declared.function.Function.TheVariants as function
 use Rattle.moo_table.specs.World.{World}
 use Rattle.moo_world.specs.Calls.{number_of, place_of, create_raises, move_raises}
-use Rattle.moo_rights.specs.Rights.{controls, may_own}
+use Rattle.moo_world.specs.Rights.{controls, may_own}
 use Rattle.moo_outcome.specs.Outcome.{Failure, fails, stops}
 use Rattle.moo_outcome.specs.State.{Context}
 use Rattle.moo_access.specs.State.{State}

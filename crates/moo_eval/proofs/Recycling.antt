@@ -14,7 +14,7 @@ use Rattle.moo_world.specs.Calls.{number_of, place_of, move_raises, world_move}
 use Rattle.moo_world.specs.EditCalls.{set_raises, world_set}
 use Rattle.moo_world.specs.RecycleCalls.{recycle_raises, world_recycle}
 use Rattle.moo_world.specs.VerbCalls.{world_with_object}
-use Rattle.moo_rights.specs.Rights.{may_own}
+use Rattle.moo_world.specs.Rights.{may_own}
 use Rattle.moo_outcome.specs.declared.notice.Notice.{Notice}
 use Rattle.moo_outcome.specs.declared.notice.Notice.TheVariants.{Recycle}
 use Rattle.moo_outcome.specs.State.{Context}

@@ -2,8 +2,8 @@
 use Rattle.std.specs.Prelude.{◌≡◌, ℕ, false, List, Option, None}
 use Rattle.moo_value.specs.Tree.{Tree}
 use Rattle.moo_function.specs.declared.function.Function.{Function}
-use Rattle.moo_builtin.specs.Calls.{answer}
-use Rattle.moo_plain.specs.Calls.{values, field}
+use Rattle.moo_value_function.specs.Calls.{answer}
+use Rattle.moo_builtin.specs.Calls.{values, field}
 use Rattle.moo_call.specs.Calls.{is_of_task}
 use Rattle.moo_hook.specs.Calls.{calls_verbs}
 

@@ -1,4 +1,5 @@
 //! A parser of expressions: from a place among tokens to the tree that stands there.
+//! A room behind `moo_syntax`.
 #![tactic(auto)]
 
 mod cursor;

@@ -1,5 +1,6 @@
 //! Forests: trees of numbered nodes, each with the list of its children in order.
 //! The world has two: what an object inherits from, and where it is.
+//! A room behind `moo_world`.
 #![tactic(auto)]
 
 ghost use Rattle.std.specs.Prelude.{◌≡◌, ◌≢◌, ◌+◌, ◌<◌, ◌++◌, ◌∷◌, [], ◌↔◌, Option, length, IsTrue, IfOk, OnOk, OnErr, IsOk, true, false, vec_len, slice_index_or, take, ◌-◌};

@@ -1,5 +1,6 @@
 //! The table of the built-in functions: what each is called, which arguments it takes, and which calls are refused
 //! before a function looks at its arguments.
+//! A room behind `moo_builtin`.
 #![tactic(auto)]
 
 mod check;

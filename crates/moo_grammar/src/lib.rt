@@ -1,4 +1,5 @@
 //! The grammar of programs.
+//! A room behind `moo_syntax`.
 #![tactic(auto)]
 
 pub mod laws;

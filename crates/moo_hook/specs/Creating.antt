@@ -4,7 +4,7 @@ use Rattle.std.specs.Ordering.{int_eq}
 use Rattle.moo_value.specs.declared.error_code.ErrorCode.TheVariants.{Permission, Quota}
 use Rattle.moo_table.specs.World.{World}
 use Rattle.moo_world.specs.Calls.{place_of, create_raises, world_create}
-use Rattle.moo_rights.specs.Rights.{controls, may_inherit_from}
+use Rattle.moo_world.specs.Rights.{controls, may_inherit_from}
 use Rattle.moo_hook.specs.declared.progress.Stage.TheVariants.{Created}
 use Rattle.moo_hook.specs.Progressing.{Calling, Progress, refuses, after_raise, hook}
 use Rattle.moo_hook.specs.Quota.{quota, is_used_up, with_quota}

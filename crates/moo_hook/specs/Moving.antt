@@ -5,7 +5,7 @@ use Rattle.moo_value.specs.declared.error_code.ErrorCode.TheVariants.{InvalidArg
 use Rattle.moo_value.specs.Tree.{integer, object}
 use Rattle.moo_table.specs.World.{World}
 use Rattle.moo_world.specs.Calls.{number_of, place_of, move_raises, world_move}
-use Rattle.moo_rights.specs.Rights.{is_wizard, may_own}
+use Rattle.moo_world.specs.Rights.{is_wizard, may_own}
 use Rattle.moo_hook.specs.declared.progress.Stage.{Stage}
 use Rattle.moo_hook.specs.declared.progress.Stage.TheVariants.{Accepting, Leaving, Entering}
 use Rattle.moo_hook.specs.Progressing.{Calling, Progress, gives, refuses, after_raise, hook}

@@ -7,7 +7,7 @@ use Rattle.moo_table.specs.World.{World, nothing}
 use Rattle.moo_world.specs.Calls.{number_of, place_of, move_raises, world_move}
 use Rattle.moo_world.specs.Numbered.{object_numbered}
 use Rattle.moo_world.specs.RecycleCalls.{recycle_raises, world_recycle}
-use Rattle.moo_rights.specs.Rights.{may_own}
+use Rattle.moo_world.specs.Rights.{may_own}
 use Rattle.moo_hook.specs.declared.progress.Stage.TheVariants.{Emptying, Recycled}
 use Rattle.moo_hook.specs.Progressing.{Calling, Progress, stage_next, refuses, after_raise, hook}
 use Rattle.moo_hook.specs.Quota.{quota, with_quota}

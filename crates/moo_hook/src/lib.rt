@@ -1,5 +1,6 @@
 //! The built-in functions that call verbs, and `eval`, which runs a program, stage by stage: what each does between two
 //! verbs, and which verb comes next.
+//! A room behind `moo_eval`.
 #![tactic(auto)]
 
 mod call;

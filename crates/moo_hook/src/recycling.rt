@@ -13,9 +13,8 @@ use crate::objects::first_inside;
 use crate::progress::{Progress, Stage, told};
 use crate::quota::{change_quota, quota};
 use moo_outcome::{Activation, CallStack, Failure};
-use moo_rights::Rights;
+use moo_world::{Rights, World};
 use moo_value::{ErrorCode, Value};
-use moo_world::World;
 use std::alloc::Global;
 
 /// Begins to take an object away: E_PERM where it isn't the programmer's. Its `recycle` is called.

@@ -1,4 +1,5 @@
 //! From a database text to the world that it saves.
+//! A room behind `moo_dbtext`.
 #![tactic(auto)]
 
 mod db_reader;

@@ -1,4 +1,5 @@
 //! One object of the world by itself, and the names that go with it.
+//! A room behind `moo_world`.
 #![tactic(auto)]
 
 mod bits;

@@ -1,4 +1,5 @@
 //! What the operators of the language give for values.
+//! A room behind `moo_eval`.
 #![tactic(auto)]
 
 mod arithmetic;

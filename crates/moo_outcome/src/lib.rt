@@ -1,5 +1,6 @@
 //! What evaluation rests on: frames and their variables, how evaluation may end, tracebacks, and how scatters deal
 //! values to names.
+//! A room behind `moo_eval`.
 #![tactic(auto)]
 
 mod access;

@@ -1,4 +1,5 @@
 //! Programs as trees.
+//! A room behind `moo_syntax`.
 #![tactic(auto)]
 
 pub mod laws;

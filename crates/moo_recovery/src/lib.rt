@@ -1,4 +1,5 @@
 //! A server's start: the saved world that a disk holds.
+//! A room behind `moo_checkpoint`.
 #![tactic(auto)]
 
 mod open_fault;

@@ -1,4 +1,5 @@
 //! From the records of a database to the world that they say.
+//! A room behind `moo_dbtext`.
 #![tactic(auto)]
 
 mod counts;

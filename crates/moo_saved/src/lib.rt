@@ -1,4 +1,5 @@
 //! A saved world, and which bytes spell it.
+//! A room behind `moo_dbtext`.
 #![tactic(auto)]
 
 pub mod laws;

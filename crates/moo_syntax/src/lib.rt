@@ -8,6 +8,7 @@ mod reader;
 mod statement;
 mod syntax_fault;
 
-pub use moo_grammar::Names;
+pub use moo_grammar::{Names, Program};
+pub use moo_program::{Expr, Stmt};
 pub use reader::parse;
 pub use syntax_fault::{SyntaxFault, SyntaxFaultKind};

@@ -1,5 +1,6 @@
 //! The table of objects by number, and their trees: what a change of one object asks for in the
 //! others, tested and made over slices. The world stands on it.
+//! A room behind `moo_world`.
 #![tactic(auto)]
 
 pub mod clashing;

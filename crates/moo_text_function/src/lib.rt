@@ -1,4 +1,5 @@
 //! The built-in functions on strings, and those from and to strings.
+//! A room behind `moo_builtin`.
 #![tactic(auto)]
 
 mod conversion;

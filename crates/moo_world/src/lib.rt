@@ -20,6 +20,7 @@ mod properties;
 mod property_info;
 mod recycling;
 mod restoring;
+mod rights;
 mod setting;
 mod verbs;
 
@@ -32,6 +33,7 @@ pub use moo_object::{
     PropCell, PropPerms, Verb, VerbArgs, VerbPerms,
 };
 pub use moo_table::MOST;
+pub use rights::{Action, Rights};
 use std::marker::Model;
 
 /// The objects by their numbers, which count from 0, and the players.

@@ -9,7 +9,7 @@ use Rattle.moo_forest.specs.Forest.{above_of, below_of}
 use Rattle.moo_table.specs.World.{World}
 use Rattle.moo_world.specs.Numbered.{object_numbered}
 use Rattle.moo_world.specs.Calls.{number_of, place_of, highest, chparent_raises, world_chparent}
-use Rattle.moo_rights.specs.Rights.{may_own, may_inherit_from}
+use Rattle.moo_world.specs.Rights.{may_own, may_inherit_from}
 use Rattle.moo_world_function.specs.Order.{changes}
 use Rattle.moo_world.specs.NamedProperties.{truth, number_of_place, objects_list}
 

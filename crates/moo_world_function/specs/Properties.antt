@@ -14,7 +14,7 @@ use Rattle.moo_world.specs.InfoCalls.{set_info_raises, world_set_info}
 use Rattle.moo_world.specs.NamedProperties.{truth}
 use Rattle.moo_world.specs.Numbered.{object_numbered, cell_numbered}
 use Rattle.moo_world.specs.PropertyCalls.{info_raises, add_property_raises, world_define, delete_property_raises, world_undefine}
-use Rattle.moo_rights.specs.Rights.{is_wizard, controls, may_read_object, may_write_object, may_read_property, may_write_property}
+use Rattle.moo_world.specs.Rights.{is_wizard, controls, may_read_object, may_write_object, may_read_property, may_write_property}
 use Rattle.moo_world_text.specs.Permissions.{prop_perms_text}
 use Rattle.moo_world_function.specs.declared.forms.GivenProperty.{GivenProperty}
 use Rattle.moo_world_function.specs.Forms.{given_property}

@@ -16,7 +16,7 @@ use Rattle.moo_table.specs.World.{World}
 use Rattle.moo_world.specs.Calls.{number_of}
 use Rattle.moo_world.specs.Numbered.{object_numbered, verb_numbered}
 use Rattle.moo_world.specs.VerbCalls.{verb_raises, verb_info_raises, add_verb_raises, world_with_object}
-use Rattle.moo_rights.specs.Rights.{is_wizard, controls, may_read_object, may_write_object, may_read_this_verb, may_write_this_verb}
+use Rattle.moo_world.specs.Rights.{is_wizard, controls, may_read_object, may_write_object, may_read_this_verb, may_write_this_verb}
 use Rattle.moo_world_text.specs.Permissions.{verb_perms_text}
 use Rattle.moo_world_text.specs.Specifiers.{object_specifier_text, preposition_specifier_text}
 use Rattle.moo_world_function.specs.declared.forms.GivenVerb.{GivenVerb}

@@ -2,14 +2,13 @@
 ghost use Rattle.std.specs.Prelude.{◌≡◌, ◌&&◌};
 ghost use Rattle.std.specs.Option.{option_copied};
 ghost use Rattle.moo_world.specs.Numbered.{cell_numbered, verb_numbered};
-ghost use Rattle.moo_rights.specs.Rights.{controls, may_own, may_write_object, may_write_property, may_write_this_verb};
+ghost use Rattle.moo_world.specs.Rights.{controls, may_own, may_write_object, may_write_property, may_write_this_verb};
 ghost use Rattle.moo_world_function.specs.Objects.{may_be_parent};
 ghost use Rattle.moo_world_function.specs.Properties.{may_give_cell};
 ghost use Rattle.moo_world_function.specs.Verbs.{may_give_verb};
 
 use moo_object::{PropCell, Verb, cell_named};
-use moo_rights::Rights;
-use moo_world::World;
+use moo_world::{Rights, World};
 
 /// Whether the programmer owns an object and may make it inherit from another, or from none.
 pub fn may_reparent(o: i32, to: i32, world: &World, programmer: i32) -> bool

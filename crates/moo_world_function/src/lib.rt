@@ -1,4 +1,5 @@
 //! The built-in functions that look at the world or change it, but call no verb.
+//! A room behind `moo_builtin`.
 #![tactic(auto)]
 
 mod allowed;

@@ -1,6 +1,6 @@
 // Calls of the plain built-in functions.
-use moo_builtin::Outcome;
-use moo_plain::{Caller, call_plain};
+use moo_value_function::Outcome;
+use moo_builtin::{Caller, call_plain};
 use moo_value::{MooStr, Value};
 use moo_world::{World, WorldFault};
 use std::alloc::Global;

@@ -1,4 +1,5 @@
 //! How the permissions of properties and verbs, and the specifiers of verbs, are written and read.
+//! A room behind `moo_builtin`.
 #![tactic(auto)]
 
 pub mod laws;

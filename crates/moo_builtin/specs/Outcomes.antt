@@ -1,0 +1,24 @@
+-- How an outcome of the program stands to what a call comes to.
+use Rattle.std.specs.Prelude.{◌≡◌, Option, None, Some, Result, Ok, Err}
+use Rattle.moo_value.specs.declared.error_code.ErrorCode.{ErrorCode}
+use Rattle.moo_value.specs.Tree.{Tree}
+use Rattle.moo_value.specs.View.{tree}
+use Rattle.moo_value_function.specs.declared.call.Outcome.{Outcome}
+use Rattle.moo_value_function.specs.declared.call.Outcome.TheVariants as outcome
+use Rattle.moo_value_function.specs.Calls.{Raised, plainly}
+use Rattle.moo_table.specs.World.{World}
+
+-- what a call may come to: an answer or a raise, and the world after it
+abbrev pub Replies : Type 1
+Replies = Result Tree Raised → World → Type 0
+
+-- the outcome and the world after it are such; a raise and want of memory leave the world as it was
+abbrev pub IsReply : Outcome → World → World → Replies → Type 0
+IsReply (outcome.Value v) old new Such = Such (Ok (tree v)) new
+IsReply (outcome.Raise e message v) old new Such = Such (Err (record { code = e; message = message; value = tree v })) new × (new ≡ old)
+IsReply outcome.Memory old new Such = new ≡ old
+
+-- For private clauses: what a call is refused for comes before what the function gives.
+abbrev pub Unless : Option ErrorCode → World → Replies → Replies
+Unless (Some e) w Such r after = (r ≡ Err (plainly e)) × (after ≡ w)
+Unless None w Such r after = Such r after

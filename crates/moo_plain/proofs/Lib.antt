@@ -1,4 +1,0 @@
-mod Joined
-mod Lacking
-pub mod Once
-pub mod Wider

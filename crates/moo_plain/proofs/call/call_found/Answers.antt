@@ -1,8 +1,0 @@
-use Rattle.std.proofs.Common.{◌∙◌}
-use Rattle.moo_value.specs.View.{trees}
-use Rattle.moo_code_function.specs.Telling.{Faults}
-use Rattle.moo_plain.proofs.Joined.{unknown_called}
-use Rattle.moo_plain.proofs.call.call_found.Goals as goal
-
-pub returns-in_default-clause-call : goal.returns-in_default-clause-call
-returns-in_default-clause-call c = λ name named. unknown_called Faults name (trees c.args.args.now) c.args.world.now c.args.caller c.raised.result (named ∙ c.in_default.is) c.raised.ensures

@@ -1,5 +1,0 @@
-use Rattle.moo_plain.proofs.Once as law
-use Rattle.moo_plain.proofs.laws.raises_change_nothing.Goals as goal
-
-pub returns : goal.returns
-returns c = law.raises_change_nothing

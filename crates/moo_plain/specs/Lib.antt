@@ -1,5 +1,0 @@
--- The calls of plain functions.
-pub mod Calls
-pub mod Outcomes
-pub mod Lacking
-pub mod Laws

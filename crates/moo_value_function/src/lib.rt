@@ -1,0 +1,11 @@
+//! The built-in functions over values alone.
+//! A room behind `moo_builtin`.
+#![tactic(auto)]
+
+mod call;
+mod lists;
+mod looks;
+mod made;
+mod numbers;
+
+pub use call::{Outcome, answer, plain_answer, raised, settled};

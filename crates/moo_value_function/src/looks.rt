@@ -1,0 +1,90 @@
+//! Functions that look at any value, the time and the server's version.
+ghost use Rattle.std.specs.Prelude.{◌≡◌};
+ghost use Rattle.moo_value.specs.View.{tree, trees};
+ghost use Rattle.moo_operation.specs.Truth.{same_tree, truth_value};
+ghost use Rattle.moo_text_function.specs.Answers.{Gives};
+ghost use Rattle.moo_value_function.specs.Looks.{type_number, type_of, length_of, equal, time, server_version};
+
+use crate::made::TYPE_MISMATCH;
+use moo_operation::OperationFault;
+use moo_value::{MooStr, Value, same};
+use std::alloc::Global;
+
+/// `typeof`: the number of the type.
+pub fn type_of(args: &[Value]) -> Result<Value, OperationFault>
+    ensures { Gives result (type_of (trees args.now)) }
+{
+    match args {
+        [value] => Ok(Value::Int(type_number(value))),
+        _ => Err(TYPE_MISMATCH),
+    }
+}
+
+fn type_number(value: &Value) -> i32
+    ensures { result ≡ type_number (tree value.now) }
+{
+    match value {
+        Value::Int(_) => 0,
+        Value::Obj(_) => 1,
+        Value::Str(_) => 2,
+        Value::Err(_) => 3,
+        Value::List(_) => 4,
+    }
+}
+
+/// `length` of a string or a list.
+#[tactic(auto, using(moo_text_function::proofs::Making::weaker))]
+pub fn length_of(args: &[Value]) -> Result<Value, OperationFault>
+    ensures { Gives result (length_of (trees args.now)) }
+{
+    match args {
+        [value] => moo_operation::length_of(value),
+        _ => Err(TYPE_MISMATCH),
+    }
+}
+
+/// `equal`: whether two values are the same, letters not folded.
+pub fn equal(args: &[Value]) -> Result<Value, OperationFault>
+    ensures { Gives result (equal (trees args.now)) }
+{
+    match args {
+        [a, b] => Ok(truth_value(is_same(a, b))),
+        _ => Err(TYPE_MISMATCH),
+    }
+}
+
+/// Whether two values are the same.
+pub fn is_same(a: &Value, b: &Value) -> bool
+    ensures { result ≡ same_tree (tree a.now) (tree b.now) }
+{
+    same(a, b)
+}
+
+fn truth_value(test: bool) -> Value
+    ensures { tree result ≡ truth_value test }
+{
+    Value::Int(i32::from(test))
+}
+
+/// `time`: the moment, in seconds since the beginning of 1970, in 32 bits with a sign.
+pub fn time(args: &[Value], moment: u32) -> Result<Value, OperationFault>
+    ensures { Gives result (time moment (trees args.now)) }
+{
+    match args {
+        [] => Ok(Value::Int(moment.cast_signed())),
+        _ => Err(TYPE_MISMATCH),
+    }
+}
+
+/// `server_version`: the version of the server that this one follows, and its profile.
+pub fn server_version(alloc: Global, args: &[Value]) -> Result<Value, OperationFault>
+    ensures { Gives result (server_version (trees args.now)) }
+{
+    let [] = args else {
+        return Err(TYPE_MISMATCH);
+    };
+    match MooStr::try_from_bytes(alloc, "1.8-integer".as_bytes()) {
+        Ok(version) => Ok(Value::Str(version)),
+        Err(_) => Err(OperationFault::Memory),
+    }
+}

@@ -1,0 +1,20 @@
+//! Answers of functions.
+ghost use Rattle.moo_value_function.specs.Answers.{Follows};
+
+use moo_operation::OperationFault;
+use moo_value::{ErrorCode, ListFault, MooList, Value};
+
+pub const TYPE_MISMATCH: OperationFault = OperationFault::Raise(ErrorCode::TypeMismatch);
+
+pub const RANGE: OperationFault = OperationFault::Raise(ErrorCode::Range);
+
+/// What comes of making a list.
+pub fn list_answer(made: Result<MooList, ListFault>) -> Result<Value, OperationFault>
+    ensures { Follows made result }
+{
+    match made {
+        Ok(list) => Ok(Value::List(list)),
+        Err(ListFault::TooLarge) => Err(OperationFault::Raise(ErrorCode::Quota)),
+        Err(ListFault::Memory) => Err(OperationFault::Memory),
+    }
+}

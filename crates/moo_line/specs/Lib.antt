@@ -1,0 +1,4 @@
+pub mod Rest
+pub mod Lines
+pub mod Reading
+pub mod Inner

@@ -1,0 +1,11 @@
+//! The words of a line, and what is typed in it: the first word and the rest.
+//! A room behind `moo_command`.
+#![tactic(auto)]
+
+pub mod laws;
+mod reading;
+mod text;
+mod typed;
+
+pub use reading::{skip_blanks, words};
+pub use typed::{Typed, read_typed, typed_behind};

@@ -1,0 +1,18 @@
+//! Strings of bytes that are known to be allowed.
+ghost use Rattle.std.specs.Prelude.{◌≡◌, IfOk};
+ghost use Rattle.moo_value.specs.Size.{IsString};
+
+use moo_value::{MooStr, ValueFault};
+use std::alloc::{AllocError, Global};
+
+/// The string of bytes that are one. `Err` where memory is wanting.
+pub(crate) fn string_of(alloc: Global, bytes: Vec<u8>) -> Result<MooStr, AllocError>
+    requires { IsString bytes.items }
+    ensures { IfOk result (λ string. string ≡ bytes.items) }
+{
+    match MooStr::try_from_vec(alloc, bytes) {
+        Ok(string) => Ok(string),
+        Err(ValueFault::Memory) => Err(AllocError),
+        Err(ValueFault::BadByte | ValueFault::TooHeavy) => unreachable!(),
+    }
+}

@@ -1,0 +1,50 @@
+//! What is typed in a line: its first word, the rest as it stands there, and the words of the rest.
+ghost use Rattle.std.specs.Prelude.{◌≡◌, ◌≤◌, IfOk, IfSome, IfNone, [], drop, length};
+ghost use Rattle.moo_words.specs.Words.{Words};
+ghost use Rattle.moo_words.specs.Typed.{IsTyped, unindented};
+
+use crate::reading::{read_word, read_words, skip_blanks};
+use moo_value::MooStr;
+use std::alloc::{AllocError, Global};
+
+/// The first word of a line, the rest as it is typed, and its words.
+#[derive(Drop)]
+pub struct Typed {
+    pub verb: MooStr,
+    pub rest: MooStr,
+    pub args: Vec<MooStr>,
+}
+
+/// What is typed in a line of any length, or `None` where it has no word. `Err` where memory is wanting.
+pub fn read_typed(alloc: Global, line: &MooStr) -> Result<Option<Typed>, AllocError>
+    ensures some { IfOk result (λ typed. IfSome typed (λ t. IsTyped line.now t.verb t.rest t.args.items)) }
+    ensures none { IfOk result (λ typed. IfNone typed (Words line.now [])) }
+{
+    let bytes = line.as_bytes();
+    let at = skip_blanks(bytes, 0);
+    if at == bytes.len() {
+        return Ok(None);
+    }
+    let (verb, behind) = read_word(alloc, bytes, at)?;
+    let typed = typed_behind(alloc, verb, line, behind)?;
+    Ok(Some(typed))
+}
+
+/// What is typed in a line behind a place, after this verb. `Err` where memory is wanting.
+pub fn typed_behind(
+    alloc: Global,
+    verb: MooStr,
+    line: &MooStr,
+    behind: usize,
+) -> Result<Typed, AllocError>
+    requires { behind ≤ length line.now }
+    ensures verb { IfOk result (λ t. t.verb ≡ verb) }
+    ensures rest { IfOk result (λ t. t.rest ≡ unindented (drop behind line.now)) }
+    ensures args { IfOk result (λ t. Words (drop behind line.now) t.args.items) }
+{
+    let bytes = line.as_bytes();
+    let at = skip_blanks(bytes, behind);
+    let rest = line.part(alloc, at, bytes.len())?;
+    let args = read_words(alloc, bytes, behind)?;
+    Ok(Typed { verb, rest, args })
+}

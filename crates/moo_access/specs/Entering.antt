@@ -21,6 +21,7 @@ use Rattle.moo_outcome.specs.Outcome.{or_error}
 use Rattle.moo_outcome.specs.declared.frame.Frame.{Frame}
 use Rattle.moo_outcome.specs.declared.frame.TraceEntry.{TraceEntry}
 use Rattle.moo_outcome.specs.declared.frame.TraceEntry.TheVariants as entry
+use Rattle.moo_access.specs.declared.entering.Call.{Call}
 
 -- what a called verb begins with
 pub record Entered : Type 0 where
@@ -71,27 +72,43 @@ object_or other (Some (list es)) = other
 abbrev pub player_of_call : World → Frame → (List ℕ → Option Tree) → ℤ → ℤ
 player_of_call w f variables programmer = if is_wizard w programmer then object_or f.player (variables (codes "player")) else f.player
 
--- The frame of a verb that is called on an object: its owner is the programmer, and it has the d bit of its verb. A verb
+-- The frame of a verb, with the object that has it: its owner is the programmer, and it has the d bit of its verb. A verb
 -- without a program runs as one with an empty program.
-abbrev pub called_frame : Frame → ℤ → ℤ → ℤ × Verb → List ℕ → List Tree → Frame
-called_frame f player this found name vs = record {
+abbrev pub verb_frame : ℤ × Verb → Call → Frame
+verb_frame found call = record {
   program = unwrap_or found.1.program no_statement;
   d = found.1.perms.debug;
   programmer = found.1.owner;
-  this = this;
+  this = call.this;
   definer = found.0;
+  caller = call.caller;
+  player = call.player;
+  dobj = call.dobj;
+  iobj = call.iobj;
+  names = found.1.names;
+  verb = call.verb;
+  argstr = call.argstr;
+  dobjstr = call.dobjstr;
+  prepstr = call.prepstr;
+  iobjstr = call.iobjstr;
+  args = call.args;
+}
+
+-- the frame of a verb that is called on an object from another frame, which hands on what it knows of the command
+abbrev pub called_frame : Frame → ℤ → ℤ → ℤ × Verb → List ℕ → List Tree → Frame
+called_frame f player this found name vs = verb_frame found (record {
+  this = this;
   caller = f.this;
   player = player;
   dobj = f.dobj;
   iobj = f.iobj;
-  names = found.1.names;
   verb = name;
   argstr = f.argstr;
   dobjstr = f.dobjstr;
   prepstr = f.prepstr;
   iobjstr = f.iobjstr;
   args = vs;
-}
+})
 
 -- the variables that tell of the command
 abbrev pub command_names : List (List ℕ)

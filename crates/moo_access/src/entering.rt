@@ -7,7 +7,7 @@ ghost use Rattle.moo_value.specs.Compare.{folded};
 ghost use Rattle.moo_value.specs.View.{tree, trees};
 ghost use Rattle.moo_program.specs.Tree.{no_statement};
 ghost use Rattle.moo_operation.specs.Places.{made_list};
-ghost use Rattle.moo_access.specs.Entering.{entered_verb, entered_from, entered_found, found_verb, verb_there, called_verb, frames, has_frame_left, object_or, player_of_call, called_frame, is_frame, with_taken, called_variables, entered};
+ghost use Rattle.moo_access.specs.Entering.{entered_verb, entered_from, entered_found, found_verb, verb_there, called_verb, frames, has_frame_left, object_or, player_of_call, verb_frame, called_frame, is_frame, with_taken, called_variables, entered};
 ghost use Rattle.moo_access.specs.SeenCalled.{entered_of, found_of};
 ghost use Rattle.moo_outcome.specs.Given.{given_name};
 ghost use Rattle.moo_outcome.specs.Outcome.{answers};
@@ -16,8 +16,8 @@ ghost use Rattle.moo_outcome.specs.Seen.{context_of, variables_of, failure_of, s
 use moo_grammar::Program;
 use moo_object::{Need, Verb};
 use moo_outcome::{Activation, CallStack, Failure, Frame, Given, Stop, TraceEntry, Variables};
-use moo_world::{Rights, VerbAt, World};
 use moo_value::{ErrorCode, ListFault, MooList, MooStr, Value};
+use moo_world::{Rights, VerbAt, World};
 use std::alloc::{AllocError, Global};
 
 /// How many frames a task may have.
@@ -30,11 +30,28 @@ pub struct Called<'a> {
     pub active: Activation,
 }
 
-// A verb, and the object that has it.
+/// A verb that was found, and the object that has it.
 #[derive(Clone, Copy)]
-struct Found<'a> {
-    definer: i32,
-    verb: &'a Verb,
+pub struct Found<'a> {
+    pub definer: i32,
+    pub verb: &'a Verb,
+}
+
+/// What a frame is told beside its verb: what the verb is called on, by whom and by what name, and the command. Objects
+/// are told by their numbers, #-1 for none; each field is that of `Frame`.
+#[derive(Drop)]
+pub struct Call {
+    pub this: i32,
+    pub caller: i32,
+    pub player: i32,
+    pub dobj: i32,
+    pub iobj: i32,
+    pub verb: MooStr,
+    pub argstr: MooStr,
+    pub dobjstr: MooStr,
+    pub prepstr: MooStr,
+    pub iobjstr: MooStr,
+    pub args: MooList,
 }
 
 /// Enters the verb that a call names, with its owner's rights: E_QUOTA for a list of arguments past
@@ -119,20 +136,23 @@ fn found_verb<'a>(world: &'a World, this: i32, name: &MooStr) -> Result<Found<'a
     if world.object(this).is_none() {
         return Err(ErrorCode::InvalidIndirection);
     }
-    match called_verb(world, this, name) {
+    match called_verb(world, this, name.as_bytes()) {
         Some(found) => Ok(found),
         None => Err(ErrorCode::VerbNotFound),
     }
 }
 
-fn called_verb<'a>(world: &'a World, this: i32, name: &MooStr) -> Option<Found<'a>>
-    ensures { option_map found_of result ≡ called_verb world.now this name.now }
+/// The verb that an object is called by this name with, of those that can be executed: the first that fits of its own,
+/// and then of its ancestors'. An object that isn't valid has none.
+pub fn called_verb<'a>(world: &'a World, object: i32, name: &[u8]) -> Option<Found<'a>>
+    ensures { option_map found_of result ≡ called_verb world.now object name.now }
 {
-    let place = world.find_verb(this, name.as_bytes(), Need::Call)?;
+    let place = world.find_verb(object, name, Need::Call)?;
     verb_there(world, place)
 }
 
-fn verb_there(world: &World, place: VerbAt) -> Option<Found<'_>>
+/// The verb at a place, if there is one.
+pub fn verb_there(world: &World, place: VerbAt) -> Option<Found<'_>>
     ensures { option_map found_of result ≡ verb_there world.now place }
 {
     let verb = world.object(place.definer)?.verb(place.index)?;
@@ -191,29 +211,50 @@ fn called_frame(
 ) -> Result<Frame, AllocError>
     ensures { IfOk result (λ frame. frame ≡ called_frame caller.now player this (found_of found.entry) name.now args) }
 {
-    let verb = found.verb;
-    Ok(Frame {
-        program: program_of(alloc, verb)?,
-        d: verb.perms.debug,
-        programmer: verb.owner,
+    let call = Call {
         this,
-        definer: found.definer,
         caller: caller.this,
         player,
         dobj: caller.dobj,
         iobj: caller.iobj,
-        names: verb.names.try_clone()?,
         verb: name.try_clone()?,
         argstr: caller.argstr.try_clone()?,
         dobjstr: caller.dobjstr.try_clone()?,
         prepstr: caller.prepstr.try_clone()?,
         iobjstr: caller.iobjstr.try_clone()?,
         args,
+    };
+    verb_frame(alloc, found, call)
+}
+
+/// The frame of a verb that was found: its owner is the programmer, and it has the d bit and the program of its verb. The
+/// error is want of memory.
+pub fn verb_frame(alloc: Global, found: Found<'_>, call: Call) -> Result<Frame, AllocError>
+    ensures { IfOk result (λ frame. frame ≡ verb_frame (found_of found.entry) call) }
+{
+    let verb = found.verb;
+    Ok(Frame {
+        program: program_of(alloc, verb)?,
+        d: verb.perms.debug,
+        programmer: verb.owner,
+        this: call.this,
+        definer: found.definer,
+        caller: call.caller,
+        player: call.player,
+        dobj: call.dobj,
+        iobj: call.iobj,
+        names: verb.names.try_clone()?,
+        verb: call.verb,
+        argstr: call.argstr,
+        dobjstr: call.dobjstr,
+        prepstr: call.prepstr,
+        iobjstr: call.iobjstr,
+        args: call.args,
     })
 }
 
-// The program of a verb, an empty one where it has none. It is shared: it goes on as it is when the verb gets another.
-fn program_of(alloc: Global, verb: &Verb) -> Result<Program, AllocError>
+/// The program of a verb, an empty one where it has none. It is shared: it goes on as it is when the verb gets another.
+pub fn program_of(alloc: Global, verb: &Verb) -> Result<Program, AllocError>
     ensures { IfOk result (λ program. program ≡ unwrap_or verb.now.program no_statement) }
 {
     match &verb.program {

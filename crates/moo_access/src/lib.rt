@@ -6,7 +6,10 @@ mod entering;
 mod object;
 mod target;
 
-pub use entering::{Called, MOST_FRAMES, enter_verb, enter_verb_from, has_frame_left};
+pub use entering::{
+    Call, Called, Found, MOST_FRAMES, called_verb, enter_verb, enter_verb_from, has_frame_left,
+    program_of, verb_frame, verb_there,
+};
 pub use object::{read_property, write_property};
 pub use target::{
     Path, Places, Root, Spot, Step, Target, as_property, push_step, rebuilt, root_alone,

@@ -8,8 +8,8 @@ ghost use Rattle.moo_outcome.specs.Outcome.{answers};
 ghost use Rattle.moo_outcome.specs.Seen.{seen_answer, seen_by, IsKnownFailure, LacksOnlyIn};
 
 use moo_outcome::{Failure, Stop};
-use moo_world::{Rights, World, WorldFault};
 use moo_value::{ErrorCode, Value};
+use moo_world::{Rights, World, WorldFault};
 use std::alloc::Global;
 
 /// The value of a property, read with the rights of a programmer: E_TYPE where the base is no object or the name no

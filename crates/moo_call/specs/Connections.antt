@@ -1,5 +1,5 @@
 -- What the functions that look at the open connections give.
-use Rattle.std.specs.Prelude.{ℕ, ◌+◌, ◌-◌, ◌^◌, ◌%◌, ℤ, negsuc, List, [], ◌∷◌, ◌++◌, Bool, true, false, Option, None, Some, Result, Err, if◌then◌else◌}
+use Rattle.std.specs.Prelude.{ℕ, ◌+◌, ◌-◌, ◌^◌, ◌%◌, ℤ, List, [], ◌∷◌, ◌++◌, Bool, true, false, Option, None, Some, Result, Err, if◌then◌else◌}
 use Rattle.std.specs.Int.{w32, cast_signed}
 use Rattle.std.specs.Option.{unwrap_or, option_map}
 use Rattle.std.specs.Ordering.{int_eq}
@@ -11,11 +11,7 @@ use Rattle.moo_operation.specs.Places.{made_list}
 use Rattle.moo_outcome.specs.declared.surroundings.Connection.{Connection}
 use Rattle.moo_outcome.specs.declared.surroundings.Login.{Login}
 use Rattle.moo_outcome.specs.Outcome.{or_error}
-use Rattle.moo_outcome.specs.Surroundings.{Surroundings}
-
--- the number that a connection goes by while nobody is connected on it: -2 - c
-abbrev pub own_number : ℕ → ℤ
-own_number c = negsuc (c + 1)
+use Rattle.moo_outcome.specs.Surroundings.{Surroundings, own_number}
 
 -- the player on a connection; where there is none the connection's own number, if those are asked for too
 abbrev pub who : (all : Bool) → ℕ → Option Login → List Tree

@@ -13,8 +13,8 @@ ghost use Rattle.moo_call.specs.Seen.{state_at};
 
 use moo_operation::is_true;
 use moo_outcome::{Activation, Failure, Notice, Stop};
-use moo_world::{Rights, World, WorldFault};
 use moo_value::{ErrorCode, Value};
+use moo_world::{Rights, World, WorldFault};
 use std::alloc::AllocError;
 
 /// `notify(o, line)`: asks for a line to be sent to o, and answers 1. E_PERM for others than o itself and wizards.

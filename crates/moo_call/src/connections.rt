@@ -4,10 +4,10 @@ ghost use Rattle.std.specs.Prelude.{◌≡◌, ◌++◌, OnOk};
 ghost use Rattle.moo_value.specs.View.{tree, trees};
 ghost use Rattle.moo_outcome.specs.Outcome.{answers};
 ghost use Rattle.moo_outcome.specs.Seen.{surroundings_of, seen_answer, IsKnownFailure};
-ghost use Rattle.moo_call.specs.Connections.{own_number, who, is_asked, connected_players, connected, elapsed, elapsed_since, last_heard, last_login};
+ghost use Rattle.moo_call.specs.Connections.{who, is_asked, connected_players, connected, elapsed, elapsed_since, last_heard, last_login};
 
 use moo_operation::{self as operation, is_true};
-use moo_outcome::{Connection, Failure, Login, Surroundings, push};
+use moo_outcome::{Connection, Failure, Login, Surroundings, own_number, push};
 use moo_value::{ErrorCode, Value};
 use std::alloc::{AllocError, Global};
 
@@ -15,15 +15,14 @@ use std::alloc::{AllocError, Global};
 /// there and true, so are the numbers of connections on which nobody is. E_QUOTA for a list past its limits.
 pub(crate) fn connected_players(
     alloc: Global,
-    around: &Surroundings,
+    around: &Surroundings<'_>,
     args: &[Value],
 ) -> Result<Value, Failure>
     ensures { IsKnownFailure result → answers (connected_players (surroundings_of around.now) (trees args.now)) ≡ seen_answer result }
 {
     let all = is_asked(args);
-    let connections = around.connections.as_slice();
     let mut players = Vec::new(alloc);
-    for connection in connections {
+    for connection in around.connections {
         push_who(&mut players, all, connection)?;
     }
     Ok(operation::list(alloc, players)?)
@@ -50,22 +49,15 @@ fn push_who(players: &mut Vec<Value>, all: bool, connection: &Connection) -> Res
     }
 }
 
-// The number that a connection goes by while nobody is connected on it.
-fn own_number(number: u16) -> i32
-    ensures { result ≡ own_number number }
-{
-    -2 - i32::from(number)
-}
-
 /// `idle_seconds`: the seconds since bytes came last on a player's connection, or where none have come since it was
 /// opened. E_INVARG where nobody is connected by this number.
-pub(crate) fn idle_seconds(around: &Surroundings, args: &[Value]) -> Result<Value, Failure>
+pub(crate) fn idle_seconds(around: &Surroundings<'_>, args: &[Value]) -> Result<Value, Failure>
     ensures { answers (elapsed_since last_heard (surroundings_of around.now) (trees args.now)) ≡ seen_answer result }
 {
     let [Value::Obj(player)] = args else {
         return Err(Failure::Fails(ErrorCode::TypeMismatch));
     };
-    let Some((connection, _)) = connected(*player, &around.connections) else {
+    let Some((connection, _)) = connected(*player, around.connections) else {
         return Err(Failure::Fails(ErrorCode::InvalidArgument));
     };
     let heard = connection.heard.unwrap_or(connection.opened);
@@ -73,13 +65,13 @@ pub(crate) fn idle_seconds(around: &Surroundings, args: &[Value]) -> Result<Valu
 }
 
 /// `connected_seconds`: the seconds since a player's login. E_INVARG where nobody is connected by this number.
-pub(crate) fn connected_seconds(around: &Surroundings, args: &[Value]) -> Result<Value, Failure>
+pub(crate) fn connected_seconds(around: &Surroundings<'_>, args: &[Value]) -> Result<Value, Failure>
     ensures { answers (elapsed_since last_login (surroundings_of around.now) (trees args.now)) ≡ seen_answer result }
 {
     let [Value::Obj(player)] = args else {
         return Err(Failure::Fails(ErrorCode::TypeMismatch));
     };
-    let Some((_, login)) = connected(*player, &around.connections) else {
+    let Some((_, login)) = connected(*player, around.connections) else {
         return Err(Failure::Fails(ErrorCode::InvalidArgument));
     };
     Ok(elapsed(login.moment, around.moment))

@@ -15,8 +15,8 @@ use crate::ticks::Ticks;
 use moo_function::Function;
 use moo_operation as operation;
 use moo_outcome::{Activation, CallStack, Failure, Notice, TraceEntry, frame_lists};
-use moo_world::{Rights, World};
 use moo_value::{ErrorCode, Value};
+use moo_world::{Rights, World};
 use std::alloc::Global;
 
 /// Whether a function looks at the task or its connections, or leaves a notice.

@@ -111,7 +111,7 @@ module _ (o : ℤ) (old : List Notice) where
   unfolding taken_away
   taken_on s w h =
       raised_on (IsOfRecycle o old) (IsRecycled o old) s w (recycle_raises (number_of w.objects o)) _
-      (λ e. (refl, h, gone_with_quota (world_recycle w (number_of w.objects o)) (owner_of w o) (quota w (owner_of w o)) (pos 1) o (gone w o e)))
+      (λ e. (refl, h, gone_with_quota (world_recycle w (number_of w.objects o)) (owner_of w o) (quota (world_recycle w (number_of w.objects o)) (owner_of w o)) (pos 1) o (gone w o e)))
 
   moved_out_on : (k : Calling) (s : State) (w : World) (inside : ℤ) → IsBegunBy old s.notices → GoesOnFrom (IsOfRecycle o old) (IsRecycled o old) s (moved_out k w o inside)
   unfolding moved_out

@@ -15,6 +15,6 @@ mod typed;
 
 pub use line::{EvalLine, eval_line};
 pub use moo_hook::typed_frame;
-pub use moo_outcome::{Connection, Frame, Login, Notice, TaskEnv};
+pub use moo_outcome::{Connection, Frame, Login, Notice, Surroundings, TaskEnv};
 pub use task::{Ended, run_task};
 pub use typed::run_typed;

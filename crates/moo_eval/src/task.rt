@@ -31,7 +31,7 @@ pub enum Ended {
 /// of memory the notices of `env` stay and begin those that stand there, and of the world no more is promised than that
 /// it is whole. Errors of the program are no errors of this: they end the task as `Ended` tells.
 #[tactic(auto, using(crate::proofs::Ending::unchanged))]
-pub fn run_task(alloc: Global, world: &mut World, start: Frame, env: &mut TaskEnv) -> Ended
+pub fn run_task(alloc: Global, world: &mut World, start: Frame, env: &mut TaskEnv<'_>) -> Ended
     ensures ends { IfEnded result (λ end. LeavesNotices env.old.notices.items (TaskEnds Faults (surroundings_of env.old.surroundings) start world.old end world.new) env.new.notices.items) }
     ensures kept { env.new.surroundings ≡ env.old.surroundings }
     ensures notices { IsBegunBy env.old.notices.items env.new.notices.items }
@@ -48,7 +48,7 @@ fn run_frame(
     world: &mut World,
     start: Frame,
     variables: Variables,
-    env: &mut TaskEnv,
+    env: &mut TaskEnv<'_>,
 ) -> Ended
     requires { variables_of variables ≡ value_of_name (first_bindings start) }
     ensures ends { IfEnded result (λ end. LeavesNotices env.old.notices.items (TaskEnds Faults (surroundings_of env.old.surroundings) start world.old end world.new) env.new.notices.items) }

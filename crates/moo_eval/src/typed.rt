@@ -38,13 +38,13 @@ pub fn run_typed(
 }
 
 // The moment 0 without connections.
-fn nowhere(alloc: Global) -> TaskEnv
+fn nowhere(alloc: Global) -> TaskEnv<'static>
     ensures { surroundings_of result.surroundings ≡ nowhere }
 {
     TaskEnv {
         surroundings: Surroundings {
             moment: 0,
-            connections: Vec::new(alloc),
+            connections: &[],
         },
         notices: Vec::new(alloc),
     }

@@ -114,6 +114,11 @@ return {#3.ownership_quota, #4.ownership_quota}; --> {6, 6}
 initialize := this.owner.ownership_quota = 50;
 return {create(#1), #5.owner, #3.ownership_quota}; --> {#5, #3, 50}"#;
 
+// The quota that grows is looked up once the object is gone: what its owner inherits then.
+const LOST: &str = r#"for i in [1..2] create(#1); endfor --> 0
+return {add_property(#1, "ownership_quota", 5, {#3, "r"}), chparent(#5, #4)}; --> {0, 0}
+#4.ownership_quota = 9; #4.owner = #5; return {#5.ownership_quota, recycle(#4), #5.ownership_quota, #3.ownership_quota}; --> {9, 0, 6, 5}"#;
+
 // A verb goes on where it has recycled what it is defined on, or whose rights it has: with nothing above it, and no rights.
 const GONE: &str =
     r#"2:gone := recycle(this); return {valid(this), callers(), `pass() ! ANY', `this:gone() ! ANY'};
@@ -131,7 +136,7 @@ fn verbs_interfere_with_moves(rt: HostRuntime) -> Result<(), Fail> {
 
 #[test]
 fn verbs_interfere_with_birth_and_death(rt: HostRuntime) -> Result<(), Fail> {
-    for rows in [CREATED, RECYCLED, RIGHTS, GONE] {
+    for rows in [CREATED, RECYCLED, RIGHTS, LOST, GONE] {
         happens(rt.alloc(), rows)?;
     }
     Ok(())

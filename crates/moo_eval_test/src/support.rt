@@ -61,11 +61,11 @@ pub fn shown(alloc: Global, ended: Ended) -> Result<Vec<u8>, Fail> {
 }
 
 /// The moment 0 without connections.
-pub fn env(alloc: Global) -> TaskEnv {
+pub fn env(alloc: Global) -> TaskEnv<'static> {
     TaskEnv {
         surroundings: Surroundings {
             moment: 0,
-            connections: Vec::new(alloc),
+            connections: &[],
         },
         notices: Vec::new(alloc),
     }

@@ -8,29 +8,19 @@ use moo_value::Value;
 use std::alloc::Global;
 use std::test::Fail;
 
-// Player #3 on connection 1, nobody on 2, player #4 on 4, at a moment.
-fn env(alloc: Global, moment: u32) -> Result<TaskEnv, Fail> {
-    let mut connections = Vec::new(alloc);
+// Player #3 on connection 1, nobody on 2, player #4 on 4.
+fn connections() -> [Connection; 3] {
     let login = |player, moment| Some(Login { player, moment });
-    for (number, login, opened, heard) in [
+    [
         (1, login(3, 100), 50, Some(400)),
         (2, None, 60, None),
         (4, login(4, 300), 70, None),
-    ] {
-        connections.push(Connection {
-            number,
-            login,
-            opened,
-            heard,
-        })?;
-    }
-    let surroundings = Surroundings {
-        moment,
-        connections,
-    };
-    Ok(TaskEnv {
-        surroundings,
-        notices: Vec::new(alloc),
+    ]
+    .map(|(number, login, opened, heard)| Connection {
+        number,
+        login,
+        opened,
+        heard,
     })
 }
 
@@ -80,11 +70,18 @@ return {`notify(#3) ! ANY', `notify(3, "") ! ANY', `boot_player("x") ! ANY', `sh
 
 // Each program ends so and leaves these notices, run at a moment over a world of its own as a verb of the wizard's on #1.
 fn asks(alloc: Global, moment: u32, rows: &'static str) -> Result<(), Fail> {
+    let connections = connections();
     for row in rows.lines() {
         let Some((source, told)) = row.split_once(" --> ") else {
             return Err(Fail::from(row));
         };
-        let mut env = env(alloc, moment)?;
+        let mut env = TaskEnv {
+            surroundings: Surroundings {
+                moment,
+                connections: &connections,
+            },
+            notices: Vec::new(alloc),
+        };
         let mut world = five_objects(alloc)?;
         let mut found = shown(
             alloc,

@@ -23,11 +23,16 @@ recycling k w o = if may_own w k.programmer o then recycle_calls k w o (codes "r
 abbrev pub owner_of : World → ℤ → ℤ
 owner_of w o = (unwrap_or (object_numbered w o) nothing).owner
 
--- the object is taken away, where no verb has done so, and no longer counts for its owner
+-- the world in which an object no longer counts for this owner
+abbrev pub uncounted : World → ℤ → World
+uncounted w owner = with_quota w owner (quota w owner) (pos 1)
+
+-- The object is taken away, where no verb has done so, and no longer counts for its owner: the quota is the one that is
+-- found once the object is gone.
 unfoldable pub taken_away : World → ℤ → Progress × World
 taken_away w o =
     let x = number_of w.objects o in
-    after_raise w (recycle_raises x) (stage_next (Recycled o), with_quota (world_recycle w x) (owner_of w o) (quota w (owner_of w o)) (pos 1))
+    after_raise w (recycle_raises x) (stage_next (Recycled o), uncounted (world_recycle w x) (owner_of w o))
 
 -- what is in it is moved out, and the object is told
 unfoldable pub moved_out : Calling → World → ℤ → ℤ → Progress × World

@@ -9,8 +9,8 @@ use crate::hook::hook;
 use crate::progress::{Progress, Stage, told};
 use crate::quota::{change_quota, is_used_up, quota};
 use moo_outcome::{Activation, CallStack, Failure};
-use moo_world::{Rights, World};
 use moo_value::ErrorCode;
+use moo_world::{Rights, World};
 use std::alloc::Global;
 
 /// Makes an object: E_PERM where the parent isn't fertile, then E_QUOTA where the owner may not own more or there is no

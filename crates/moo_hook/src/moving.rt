@@ -9,8 +9,8 @@ use crate::hook::{hook, one_object};
 use crate::objects::{is_nowhere, is_place, location};
 use crate::progress::{Progress, Stage, told};
 use moo_outcome::{Activation, CallStack, Failure};
-use moo_world::{Rights, World};
 use moo_value::{ErrorCode, Value};
+use moo_world::{Rights, World};
 use std::alloc::Global;
 
 /// Begins to move an object: E_INVARG where the place is neither an object nor #-1, then E_PERM where the object isn't

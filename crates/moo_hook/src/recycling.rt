@@ -13,8 +13,8 @@ use crate::objects::first_inside;
 use crate::progress::{Progress, Stage, told};
 use crate::quota::{change_quota, quota};
 use moo_outcome::{Activation, CallStack, Failure};
-use moo_world::{Rights, World};
 use moo_value::{ErrorCode, Value};
+use moo_world::{Rights, World};
 use std::alloc::Global;
 
 /// Begins to take an object away: E_PERM where it isn't the programmer's. Its `recycle` is called.
@@ -65,13 +65,13 @@ fn move_out<'a>(
     call_verb(alloc, world, stack, active, o, "exitfunc", args)
 }
 
-// The object no longer counts for its owner.
+// The object no longer counts for its owner, whose quota is the one that is found once the object is gone.
 fn take_away<'a>(alloc: Global, world: &mut World, o: i32) -> Result<Progress<'a>, Failure>
     ensures { IsKnownFailure result → taken_away world.old o ≡ (seen_progress result, world.new) }
 {
     let owner = owner_of(world, o);
-    let left = quota(alloc, world, owner)?;
     told(world.recycle_bare(alloc, o))?;
+    let left = quota(alloc, world, owner)?;
     change_quota(world, owner, left, 1);
     Ok(Progress::StageNext(Stage::Recycled(o)))
 }

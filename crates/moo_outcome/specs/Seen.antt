@@ -70,7 +70,7 @@ abbrev pub indexed_of : Option (Bor Value) → Option Tree
 indexed_of indexed = option_map (λ v. tree v.now) indexed
 
 abbrev pub surroundings_of : code_surroundings.Surroundings → Surroundings
-surroundings_of s = record { moment = s.moment; connections = s.connections.items }
+surroundings_of s = record { moment = s.moment; connections = s.connections.now }
 
 -- what the program is given
 abbrev pub context_of : CallStack → Option (Bor Value) → Context

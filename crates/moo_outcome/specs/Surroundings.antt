@@ -1,5 +1,6 @@
 -- What is round a task, and stays while it runs.
-use Rattle.std.specs.Prelude.{ℕ, List}
+use Rattle.std.specs.Prelude.{ℕ, ◌+◌, ℤ, negsuc, List, map}
+use Rattle.std.specs.List.Sorted.{IsStrictlyIncreasing}
 use Rattle.moo_outcome.specs.declared.surroundings.Connection.{Connection}
 
 pub record Surroundings : Type 0 where
@@ -7,3 +8,11 @@ pub record Surroundings : Type 0 where
   pub moment : ℕ
   -- those that are open, in the order of their numbers
   pub connections : List Connection
+
+-- the number that a connection goes by while nobody is connected on it: -2 - c
+abbrev pub own_number : ℕ → ℤ
+own_number c = negsuc (c + 1)
+
+-- connections stand in the order of their numbers, each number once
+abbrev pub AreInOrder : List Connection → Type 0
+AreInOrder cs = IsStrictlyIncreasing (map (λ c. c.number) cs)

@@ -78,7 +78,7 @@ pub struct CallStack<'a> {
     pub running: Frame,
     /// The nearest first.
     pub callers: Vec<TraceEntry>,
-    pub surroundings: &'a Surroundings,
+    pub surroundings: &'a Surroundings<'a>,
 }
 
 impl TraceFrame {

@@ -86,6 +86,13 @@ impl Gathered {
         Ok(())
     }
 
+    /// How many values there are, at most 2^64 - 1.
+    pub fn len(&self) -> usize
+        ensures { result ≡ min (length self.now) (2 ^ 64 - 1) }
+    {
+        count(&self.stretches).saturating_add(self.last.len())
+    }
+
     /// The values.
     pub fn into_values(self, alloc: Global) -> Result<Vec<Value>, AllocError>
         ensures { IfOk result (λ values. trees values.items ≡ self) }

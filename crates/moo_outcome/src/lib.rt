@@ -30,6 +30,6 @@ pub use leading::{Span, after_finally, after_turn, copied_name, no_turn, runs_fi
 pub use notice::Notice;
 pub use outcome::{Account, Failure, Flow, Raise, Stop, raised, settle};
 pub use scatter::{LeftOut, dealt, missing, set_shares};
-pub use surroundings::{Connection, Login, Surroundings, TaskEnv};
+pub use surroundings::{Connection, Login, Surroundings, TaskEnv, own_number};
 pub use traceback::traceback_lines;
 pub use variables::Variables;

@@ -1,4 +1,6 @@
 //! What a task finds round it, and what it leaves to be done when it has ended.
+ghost use Rattle.std.specs.Prelude.{◌≡◌};
+ghost use Rattle.moo_outcome.specs.Surroundings.{own_number};
 
 use crate::notice::Notice;
 
@@ -22,17 +24,24 @@ pub struct Connection {
 }
 
 /// What is round a task, and stays while it runs: the moment, in seconds, and the open connections, in the order of their
-/// numbers.
-#[derive(Drop)]
-pub struct Surroundings {
+/// numbers. Their row is lent, so that beginning a task copies none of them.
+#[derive(Clone, Copy)]
+pub struct Surroundings<'a> {
     pub moment: u32,
-    pub connections: Vec<Connection>,
+    pub connections: &'a [Connection],
 }
 
 /// What a task is given beside the world: its surroundings, and where it leaves its notices.
 #[derive(Drop)]
-pub struct TaskEnv {
-    pub surroundings: Surroundings,
+pub struct TaskEnv<'a> {
+    pub surroundings: Surroundings<'a>,
     /// In the order in which they are to be met.
     pub notices: Vec<Notice>,
+}
+
+/// The number that a connection goes by while nobody is connected on it: -2 - c, where c is its number.
+pub fn own_number(number: u16) -> i32
+    ensures { result ≡ own_number number }
+{
+    -2 - i32::from(number)
 }

@@ -4,8 +4,7 @@ use Rattle.std.proofs.lemmas.Int.{to_z-of_z}
 use Rattle.std.proofs.lemmas.Result.{err_from_is_err_and}
 use Rattle.moo_hook.specs.declared.progress.Stage.TheVariants.{Recycled}
 use Rattle.moo_hook.specs.Progressing.{stage_next}
-use Rattle.moo_hook.specs.Quota.{quota, with_quota}
-use Rattle.moo_hook.specs.Recycling.{owner_of, taken_away}
+use Rattle.moo_hook.specs.Recycling.{owner_of, uncounted, taken_away}
 use Rattle.moo_hook.proofs.Raised.{refused, changed}
 use Rattle.moo_hook.proofs.recycling.take_away.Goals as goal
 
@@ -23,4 +22,4 @@ returns c =
     let f : SFits w32 c.owner_of-owner.result = search rules in
     let owner = to_z-of_z w32 c.owner_of-owner.result f ∙ simp o at c.owner_of-owner.ensures in
     let left = simp owner at c.in_ok-left.ensures in
-    λ k. changed c.recycle_bare.result c.in_ok-told.field-0 _ _ _ _ (λ x. (stage_next (Recycled c.args.o), with_quota x (owner_of c.args.world.now c.args.o) (quota c.args.world.now (owner_of c.args.world.now c.args.o)) (pos 1))) _ (simp o at c.recycle_bare.ensures.world) (sym c.in_ok-told.ensures) (ap (λ x. (stage_next (Recycled c.args.o), x)) (sym (simp (owner, left) at c.change_quota.ensures)) ∙ ap (λ n. (stage_next (Recycled n), c.change_quota.new.world)) (sym o))
+    λ k. changed c.recycle_bare.result c.in_ok-told.field-0 _ _ _ _ (λ x. (stage_next (Recycled c.args.o), uncounted x (owner_of c.args.world.now c.args.o))) _ (simp o at c.recycle_bare.ensures.world) (sym c.in_ok-told.ensures) (ap (λ x. (stage_next (Recycled c.args.o), x)) (sym (simp (owner, left) at c.change_quota.ensures)) ∙ ap (λ n. (stage_next (Recycled n), c.change_quota.new.world)) (sym o))

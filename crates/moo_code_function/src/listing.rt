@@ -11,9 +11,9 @@ use crate::answers::{PERMISSION, QUOTA, TYPE_MISMATCH, VERB_NOT_FOUND, listed};
 use moo_grammar::Program;
 use moo_object::Verb;
 use moo_operation::{OperationFault, is_true};
-use moo_world::{Rights, World};
 use moo_unparse::{ListFault, Memory, list_full, list_full_indented, list_short};
 use moo_value::{MooStr, Value};
+use moo_world::{Rights, World};
 use moo_world_function::{chosen, numbered_verb};
 use std::alloc::Global;
 

@@ -15,9 +15,9 @@ ghost use Rattle.moo_code_function.specs.Setting.{is_programmer, may_program, pl
 use crate::answers::{QUOTA, TYPE_MISMATCH, listed};
 use moo_grammar::{Names, Program};
 use moo_operation::OperationFault;
-use moo_world::{Rights, World, WorldFault};
 use moo_syntax::{SyntaxFault, SyntaxFaultKind, parse};
 use moo_value::{ErrorCode, MooStr, Value, ValueFault};
+use moo_world::{Rights, World, WorldFault};
 use moo_world_function::chosen;
 use std::alloc::{AllocError, Global};
 

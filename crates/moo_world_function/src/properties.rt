@@ -15,8 +15,8 @@ use crate::made::{
     INVALID_ARGUMENT, PERMISSION, TYPE_MISMATCH, changed, listed, permitted, told, truth,
 };
 use moo_operation::OperationFault;
-use moo_world::{PropPerms, Rights, World, WorldFault};
 use moo_value::{MooStr, Value};
+use moo_world::{PropPerms, Rights, World, WorldFault};
 use moo_world_text::prop_perms_text;
 use std::alloc::{AllocError, Global};
 

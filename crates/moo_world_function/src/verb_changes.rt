@@ -14,8 +14,8 @@ use crate::forms::{GivenVerb, given_args, given_verb};
 use crate::made::{TYPE_MISMATCH, VERB_NOT_FOUND, changed, permitted};
 use crate::verbs::chosen;
 use moo_operation::OperationFault;
-use moo_world::{Rights, VerbArgs, World};
 use moo_value::Value;
+use moo_world::{Rights, VerbArgs, World};
 
 /// `delete_verb(o, v)`: takes a verb away, and answers 0. Raises E_VERBNF where v is none of o's verbs, and E_PERM for
 /// who may not write o. Takes no memory.

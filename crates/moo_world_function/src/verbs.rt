@@ -12,8 +12,8 @@ use crate::allowed::numbered_verb;
 use crate::made::{INVALID_ARGUMENT, PERMISSION, TYPE_MISMATCH, VERB_NOT_FOUND, listed};
 use moo_object::{Need, Object, Verb};
 use moo_operation::OperationFault;
-use moo_world::{Rights, World};
 use moo_value::{MooStr, Value};
+use moo_world::{Rights, World};
 use moo_world_text::{object_specifier_text, preposition_specifier_text, verb_perms_text};
 use std::alloc::{AllocError, Global};
 

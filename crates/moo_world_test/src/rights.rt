@@ -1,7 +1,7 @@
 // Who may do what: the owner #4, the wizard #3, somebody else, #5, and #-1, who is nobody.
 use crate::args::{Args, list};
-use moo_world::{Action, Rights, World, WorldFault};
 use moo_value::Value;
+use moo_world::{Action, Rights, World, WorldFault};
 use std::alloc::Global;
 
 const OWNER_WIZARD_OTHERS: [i32; 4] = [4, 3, 5, -1];

@@ -10,4 +10,4 @@ mod writing;
 
 pub use object_reader::ObjectReader;
 pub use object_record::{ObjectRecord, PropertyRecord, VerbRecord};
-pub use writing::{put_names, put_numbers, put_object};
+pub use writing::{put_names, put_numbers};

@@ -72,7 +72,7 @@ pub record Passes (s : Taken) (bytes line : List ℕ) (t : Taken) : Type 0 where
   pub is : line ≡ front ++ 10 ∷ []
   pub clean : HasNoEnd front
   pub past : IsPast s front t
-  pub before : IsTaken s bytes
+  pub before : IsTaken limited s bytes
   pub does : Does s.progress.section s.progress (s.rest ++ front) t.progress
 
 pub line_passes : (bytes line : List ℕ) (s t : Taken) → IsWholeLine line → taken_on limited begin bytes ≡ Ok s → taken_on limited begin (bytes ++ line) ≡ Ok t → Passes s bytes line t
@@ -286,7 +286,7 @@ at_dot old new bytes line o v whole before e some = record { after = after; pass
     past = line_past l p.front (taken_of new) p.clean (ap (taken_on limited l) (sym p.is) ∙ e)
 
     free : is_open l.progress.object l.progress.verb l.progress.text.programs ≡ true
-    free = sym (ap (λ (r : Progress). is_open r.object r.verb l.progress.text.programs) before.alike.progress.rest) ∙ sym (open_alike s.progress.text.programs l.progress.text.programs s.progress.object s.progress.verb before.alike.progress.same) ∙ free_in s.progress.section s.progress p.before.slack p.before.is.keeps d.section
+    free = sym (ap (λ (r : Progress). is_open r.object r.verb l.progress.text.programs) before.alike.progress.rest) ∙ sym (open_alike s.progress.text.programs l.progress.text.programs s.progress.object s.progress.verb before.alike.progress.same) ∙ free_in limited s.progress.section s.progress p.before.slack p.before.is.keeps d.section
 
     had : entry_at (sources_at new) o v ≡ Some s.progress.source
     had =

@@ -8,7 +8,7 @@ use Rattle.moo_dbvalue.specs.declared.fault.Refusal.{Refusal}
 use Rattle.moo_dbvalue.specs.declared.fault.Refusal.TheVariants as refusal
 use Rattle.moo_dbrecord.specs.Programs.{entry_at}
 use Rattle.moo_dbrecord.specs.Texts.{Text, Spells, SpellsWithin}
-use Rattle.moo_dbrecord.specs.Answer.{StopsAt, answer_to, front_lines, StandWithoutLimits, IsMemoryOrSize}
+use Rattle.moo_dbrecord.specs.Answer.{StopsAt, answer_to, front_lines, Stand, StandWithoutLimits, IsMemoryOrSize}
 use Rattle.moo_dbrecord.specs.Faults.{kind_of, kind_of_refusal}
 use Rattle.moo_dbrecord.specs.declared.dump.Dump.{Dump}
 use Rattle.moo_dbrecord.specs.declared.db_reader.RecordFault.{RecordFault}
@@ -19,7 +19,8 @@ use Rattle.moo_dbrecord.specs.declared.fault.ProgramFault.{ProgramFault}
 use Rattle.moo_dbrecord.specs.declared.fault.ProgramFaultKind.{ProgramFaultKind}
 use Rattle.moo_dbrecord.specs.declared.fault.ProgramFaultKind.TheVariants as program
 use Rattle.moo_dbrecord.proofs.AnswerFound.{answer_found}
-use Rattle.moo_dbrecord.proofs.AnswerLarge.{is_large}
+use Rattle.moo_dbrecord.proofs.AnswerLarge.{is_large, is_past}
+use Rattle.moo_dbrecord.proofs.DumpSmall.{answer_spelled}
 use Rattle.moo_dbrecord.proofs.ReadLaws.{one_text, within_limits, is_only, is_within, is_in_place, is_too_large}
 use Rattle.moo_dbprogram.specs.Says.{Says, HasPrograms, HasProgramsWithin}
 use Rattle.moo_dbprogram.specs.Faults.{IsOfLine, IsOfLimits}
@@ -98,8 +99,8 @@ too_deep o v n program.BadLoopName h = absurd (h (λ e. cc))
 abbrev refused_records : RecordFault → Result Dump RecordFault
 refused_records e = Err e
 
-pub is_found : (bytes : List ℕ) (r : Result Database DbFault) → Answers r bytes → IfOk r (λ d. (t : Text) × (Spells bytes t × Says t d))
-is_found bytes (Ok d) h = (h.text, (answer_found limited bytes h.text h.records, h.says))
+pub is_found : (bytes : List ℕ) (r : Result Database DbFault) → Answers r bytes → IfOk r (λ d. (t : Text) × (SpellsWithin bytes t × Says t d))
+is_found bytes (Ok d) h = (h.text, (answer_spelled bytes h.text h.records, h.says))
 is_found bytes (Err e) h = tt
 
 ok_says : (bytes : List ℕ) (d : Database) (t : Text) → IsRead bytes d → Spells bytes t → Says t d
@@ -149,6 +150,10 @@ is_placed bytes (Err e) h = λ f. is_in_place bytes (refused_records (faulty e.l
 pub is_sized : (bytes : List ℕ) (r : Result Database DbFault) → Answers r bytes → IfErr r (λ e. e.kind ≡ kind.TooLarge → (more : List ℕ) (t : Text) → ¬ (SpellsWithin (front_lines e.line bytes ++ more) t))
 is_sized bytes (Ok d) h = tt
 is_sized bytes (Err e) h = λ f. is_too_large bytes (refused_records (faulty e.line line.TooLarge)) (of_records bytes e line.TooLarge h f) refl
+
+pub is_told_past : (bytes : List ℕ) (r : Result Database DbFault) → Answers r bytes → IfErr r (λ e. e.kind ≡ kind.TooLarge → ¬ (Stand limited e.line bytes))
+is_told_past bytes (Ok d) h = tt
+is_told_past bytes (Err e) h = λ f. is_past bytes (refused_records (faulty e.line line.TooLarge)) (of_records bytes e line.TooLarge h f) refl
 
 pub is_told_large : (bytes : List ℕ) (r : Result Database DbFault) → Answers r bytes → IfErr r (λ e. e.kind ≡ kind.TooLarge → StandWithoutLimits e.line bytes)
 is_told_large bytes (Ok d) h = tt

@@ -4,7 +4,7 @@ ghost use Rattle.moo_dbvalue.specs.Lines.{Line, limited};
 ghost use Rattle.moo_dbrecord.specs.Programs.{entry_at};
 ghost use Rattle.moo_dbrecord.specs.Texts.{Text, Spells, SpellsWithin, text_of};
 ghost use Rattle.moo_dbrecord.specs.Sparing.{AreAlikeTaken, has_objects};
-ghost use Rattle.moo_dbrecord.specs.Answer.{IsGoing, Stops, HasNoEnd, taken_of, taken_on, begin, front_lines, StandWithoutLimits};
+ghost use Rattle.moo_dbrecord.specs.Answer.{IsGoing, Stops, HasNoEnd, taken_of, taken_on, begin, front_lines, Stand, StandWithoutLimits};
 ghost use Rattle.moo_dbrecord.specs.declared.fault.ProgramFault.{ProgramFault};
 ghost use Rattle.moo_dbrecord.specs.declared.fault.DbFault.{DbFault};
 ghost use Rattle.moo_dbprogram.specs.Says.{IsParsedAs, programs_of, Says, HasPrograms, HasProgramsWithin};
@@ -234,8 +234,8 @@ fn read_all(alloc: Global, bytes: &[u8]) -> Result<Database, DbFault>
 
 /// What the bytes of a whole text say line by line, with its programs.
 pub fn read_programs(alloc: Global, bytes: &[u8]) -> Result<Database, DbFault>
-    // What is read is spelled so.
-    ensures found { IfOk result (λ d. (t : Text) × (Spells bytes.now t × Says t d)) }
+    // What is read is spelled so, within the limits.
+    ensures found { IfOk result (λ d. (t : Text) × (SpellsWithin bytes.now t × Says t d)) }
     // What is spelled so, each source a program, is read, unless memory ends it or it is past a limit.
     ensures only { (t : Text) → Spells bytes.now t → HasPrograms t → MatchResult result (Says t) (λ e. IsOfLimits e.kind) }
     // What is within the limits is read, unless memory ends it.
@@ -248,6 +248,8 @@ pub fn read_programs(alloc: Global, bytes: &[u8]) -> Result<Database, DbFault>
     ensures size { IfErr result (λ e. e.kind ≡ DbFaultKind.TooLarge → (more : List ℕ) (t : Text) → ¬ (SpellsWithin (front_lines e.line bytes.now ++ more) t)) }
     // A size is told only of a line that can stand there but for its size.
     ensures large { IfErr result (λ e. e.kind ≡ DbFaultKind.TooLarge → StandWithoutLimits e.line bytes.now) }
+    // And that can't stand there with it.
+    ensures past { IfErr result (λ e. e.kind ≡ DbFaultKind.TooLarge → ¬ (Stand limited e.line bytes.now)) }
     // The answer of a reader that is fed the same bytes in any pieces.
     ensures exact { Answers result bytes.now }
 {

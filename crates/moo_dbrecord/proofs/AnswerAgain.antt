@@ -19,7 +19,7 @@ use Rattle.moo_dbrecord.proofs.TakenLaws.{taken_on-append, line_taken}
 use Rattle.moo_dbrecord.proofs.AnswerFound.{no_slack, start_is}
 
 -- the bytes of lines that are read are taken
-lines_taken : (z : Sizes) (ls : List Line) (n : ℕ) (p q : Progress) (k : Slack) → IsProgress p k → run z p ls ≡ Ok q → (m : ℕ) × (taken_on z (record { lines = n; progress = p; rest = [] }) (unlines ls) ≡ Ok (record { lines = m; progress = q; rest = [] }))
+lines_taken : (z : Sizes) (ls : List Line) (n : ℕ) (p q : Progress) (k : Slack) → IsProgress z p k → run z p ls ≡ Ok q → (m : ℕ) × (taken_on z (record { lines = n; progress = p; rest = [] }) (unlines ls) ≡ Ok (record { lines = m; progress = q; rest = [] }))
 unfolding taken_on line_ended
 lines_taken z [] n p q k is e = (n, ap (λ (x : Progress). Ok (record { lines = n; progress = x; rest = [] })) (ok_is p q e))
 lines_taken z (l ∷ ls) n p q k is e =
@@ -31,7 +31,7 @@ lines_taken z (l ∷ ls) n p q k is e =
     let stepped : line_ended z s l ≡ Ok (record { lines = n + 1; progress = b.0; rest = [] }) = ap (λ (r : Result Progress LineFault). and_then (told (n + 1) r) (λ x. Ok (record { lines = n + 1; progress = x; rest = [] }))) b.1 in
     (more.0, ap (taken_on z s) (append_assoc l (10 ∷ []) (unlines ls)) ∙ line_taken z s l (unlines ls) clean ∙ ap (λ (r : Result Taken Told). and_then r (λ t. taken_on z t (unlines ls))) stepped ∙ more.1)
   where
-    counted : (x : Section) → Keeps x p k → length p.text.objects < 2 ^ 64
+    counted : (x : Section) → Keeps z x p k → length p.text.objects < 2 ^ 64
     counted section.Header h = let none : length p.text.objects ≡ 0 = ap length h.0.objects in omega arith
     counted section.ObjectCount h = let none : length p.text.objects ≡ 0 = ap length h.0.objects in omega arith
     counted section.ProgramCount h = let none : length p.text.objects ≡ 0 = ap length h.0.objects in omega arith
@@ -47,9 +47,9 @@ lines_taken z (l ∷ ls) n p q k is e =
     counted section.Suspended h = omega (arith, h.objects)
     counted section.ConnectionCount h = omega (arith, h.objects)
     counted section.Connection h = omega (arith, h.objects)
-    counted section.End h = omega (arith, h.object_count)
+    counted section.End h = omega (arith, h.objects)
 
-    present : (x : Section) → Keeps x p k → x ≡ section.Connection → IsPresent p.text.form
+    present : (x : Section) → Keeps z x p k → x ≡ section.Connection → IsPresent p.text.form
     present section.Connection h e = h.form
     present section.Header h e = absurd cc
     present section.ObjectCount h e = absurd cc
@@ -71,7 +71,7 @@ pub answer_again : (z : Sizes) (bytes : List ℕ) (t : Text) (k : Slack) → IsW
 unfolding answer_to finished
 answer_again z bytes t k h lines =
     let a = text_again z t k h in
-    let b = lines_taken z (text_lines t k) 0 start a.0 no_slack start_is a.1 in
+    let b = lines_taken z (text_lines t k) 0 start a.0 no_slack (start_is z) a.1 in
     ap (answer_to z) lines ∙ ap (λ (r : Result Taken Told). and_then r finished) b.1 ∙ ap (told (b.0 + 1)) a.2
 
 -- a fault of a line stands past the lines before it

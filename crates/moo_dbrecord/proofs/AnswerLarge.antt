@@ -1,5 +1,5 @@
 -- A size is told only of a line that can stand there but for its size.
-use Rattle.std.proofs.Common.{◌≡◌, ◌≢◌, ℕ, suc, ◌+◌, Bool, true, false, cond, eqb, List, [], ◌∷◌, ◌++◌, Result, Ok, Err, inl, inr, refl, sym, ap, subst, ◌∙◌, arith}
+use Rattle.std.proofs.Common.{◌≡◌, ◌≢◌, ℕ, suc, ◌+◌, Bool, true, false, cond, eqb, List, [], ◌∷◌, ◌++◌, Result, Ok, Err, inl, inr, refl, sym, ap, subst, ◌∙◌, append-nil, zero-add, arith}
 use Rattle.std.specs.Prelude.{IfErr, nat_lt}
 use Rattle.moo_dbvalue.specs.declared.fault.LineFault.{LineFault}
 use Rattle.moo_dbvalue.specs.declared.fault.LineFault.TheVariants.{TooLarge, Truncated}
@@ -9,11 +9,12 @@ use Rattle.moo_dbvalue.specs.Lines.{Line, unlimited, limited, Cut}
 use Rattle.moo_dbvalue.proofs.Strictness.{IsTaken, NeverLarge, Strict}
 use Rattle.moo_dbrecord.specs.Texts.{Text, text_of}
 use Rattle.moo_dbrecord.specs.DumpReading.{Progress, dump_step, end_of, ended}
-use Rattle.moo_dbrecord.specs.Answer.{Told, Taken, told, and_then, line_ended, taken_on, unended, finished_with, finished, begin, answer_to, StopsAt, Answers, IsOfSize, front_lines, StandWithoutLimits}
+use Rattle.moo_dbrecord.specs.Answer.{Told, Taken, told, and_then, line_ended, taken_on, unended, finished_with, finished, begin, answer_to, StopsAt, Answers, IsOfSize, front_lines, Stand as StandUnder, StandWithoutLimits}
 use Rattle.moo_dbrecord.specs.declared.dump.Dump.{Dump}
 use Rattle.moo_dbrecord.specs.declared.dump_reader.Section.{Section}
 use Rattle.moo_dbrecord.specs.declared.dump_reader.Section.TheVariants as section
 use Rattle.moo_dbrecord.specs.declared.db_reader.RecordFault.{RecordFault}
+use Rattle.moo_dbrecord.proofs.AnswerAgain.{same_fault}
 use Rattle.moo_dbrecord.proofs.DumpCut.{dump_cut}
 use Rattle.moo_dbrecord.proofs.DumpStrict.{dump_strict}
 
@@ -162,6 +163,23 @@ answer_large bytes n h =
     let t = at_line n begin bytes (before_end n (taken_on limited begin bytes) h) in
     let same : suc t.more ≡ n = omega (arith, t.line) in
     record { state = t.state; taken = ap (λ (i : ℕ). taken_on unlimited begin (front_lines i bytes)) (sym same) ∙ t.taken; lines = t.lines }
+
+-- under the limits it can't stand
+answer_past : (bytes : List ℕ) (n : ℕ) → answer_to limited bytes ≡ err_text (told_at n TooLarge) → StandUnder limited n bytes → ⊥
+unfolding answer_to
+answer_past bytes n h stand =
+    let again = same_fault limited bytes begin (told_at n TooLarge) n [] (before_end n (taken_on limited begin bytes) h) (sym (zero-add n)) in
+    let stops : taken_on limited begin (front_lines n bytes) ≡ err_taken (told_at n TooLarge) = ap (taken_on limited begin) (sym (append-nil (front_lines n bytes))) ∙ again in
+    let stands = stand.taken in
+    cc
+
+past_kind : (k : Refusal) (n : ℕ) (bytes : List ℕ) → StopsAt k n (answer_to limited bytes) → IsOfSize k → StandUnder limited n bytes → ⊥
+past_kind refusal.Memory n bytes h is = absurd is
+past_kind (refusal.Fault f) n bytes h is = answer_past bytes n (h ∙ ap (λ (g : LineFault). err_text (told_at n g)) is)
+
+pub is_past : (bytes : List ℕ) (r : Result Dump RecordFault) → Answers text_of r (answer_to limited bytes) → IfErr r (λ e. IsOfSize e.kind → ¬ (StandUnder limited e.line bytes))
+is_past bytes (Ok d) h = tt
+is_past bytes (Err e) h = past_kind e.kind e.line bytes h
 
 large_kind : (k : Refusal) (n : ℕ) (bytes : List ℕ) → StopsAt k n (answer_to limited bytes) → IsOfSize k → StandWithoutLimits n bytes
 large_kind refusal.Memory n bytes h is = absurd is

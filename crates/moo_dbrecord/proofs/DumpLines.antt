@@ -4,10 +4,10 @@ use Rattle.std.specs.Prelude.{map}
 use Rattle.std.specs.Fmt.{signed_decimal}
 use Rattle.std.specs.List.{flat_map}
 use Rattle.std.proofs.lemmas.Bool.{ne_eqb}
-use Rattle.moo_value.specs.Tree.{IsText}
-use Rattle.moo_dbvalue.specs.Lines.{Line, Sizes, text_of, count_line}
+use Rattle.moo_dbvalue.specs.Lines.{Line, Sizes, unlimited, limited, IsStringOf, text_of, count_line}
 use Rattle.moo_dbvalue.proofs.Steps.{bind_ok}
 use Rattle.moo_dbvalue.proofs.TextLaws.{text_found}
+use Rattle.moo_dbvalue.proofs.ValueSmall.{text_small}
 use Rattle.moo_dbobject.specs.Objects.{Object, object_lines}
 use Rattle.moo_dbobject.specs.ObjectReading.{Draft, object_step}
 use Rattle.moo_dbobject.specs.declared.object_reader.Awaited.{Awaited}
@@ -50,10 +50,10 @@ notes_before i n line notes (Some x ∷ os) h =
     let other : eqb i n ≡ false = ne_eqb i n (λ e. omega arith) in
     rw other (ap (λ (ls : List Line). live_line i ∷ (object_lines x (notes i) ++ ls)) (notes_before (i + 1) n line notes os (omega arith)))
 
-pub notes_are_text : (n : ℕ) (line : Line) (notes : ℕ → Line) → IsText line → ((i : ℕ) → IsText (notes i)) → (i : ℕ) → IsText (with_note n line notes i)
-notes_are_text n line notes h hs i = decide (eqb i n)
+pub notes_are_strings : (s : Sizes) (n : ℕ) (line : Line) (notes : ℕ → Line) → IsStringOf s line → ((i : ℕ) → IsStringOf s (notes i)) → (i : ℕ) → IsStringOf s (with_note n line notes i)
+notes_are_strings s n line notes h hs i = decide (eqb i n)
   where
-    decide : (b : Bool) → IsText (cond b line (notes i))
+    decide : (b : Bool) → IsStringOf s (cond b line (notes i))
     decide true = h
     decide false = hs i
 
@@ -65,30 +65,33 @@ fills_push a (q ∷ ps) b p h free = (h.0, fills_push (with_source q.object q.ve
 
 -- ---- the note of an object is a string
 
-pub note_is_text : (s : Sizes) (aw : Awaited) (d : Draft) (note line : Line) (r : Draft × Option Object) → object_step s aw d line ≡ Ok r → IsText note → IsText (note_after aw note line)
+pub string_found : (s : Sizes) (line t : Line) → text_of s line ≡ Ok t → IsStringOf s t
+string_found unlimited line t e = (text_found unlimited line t e).0
+string_found limited line t e = text_small line t e
+
+pub note_is_string : (s : Sizes) (aw : Awaited) (d : Draft) (note line : Line) (r : Draft × Option Object) → object_step s aw d line ≡ Ok r → IsStringOf s note → IsStringOf s (note_after aw note line)
 unfolding object_step
-note_is_text s awaited.Note d note line r e h =
+note_is_string s awaited.Note d note line r e h =
     let b = bind_ok (text_of s line) (λ x. Ok (record d { awaited = awaited.Flags }, None)) r e in
-    let f = text_found s line b.0 b.1 in
-    subst IsText (sym f.1) f.0
-note_is_text s awaited.Name d note line r e h = h
-note_is_text s awaited.Flags d note line r e h = h
-note_is_text s awaited.Owner d note line r e h = h
-note_is_text s awaited.Location d note line r e h = h
-note_is_text s awaited.Contents d note line r e h = h
-note_is_text s awaited.Next d note line r e h = h
-note_is_text s awaited.Parent d note line r e h = h
-note_is_text s awaited.Child d note line r e h = h
-note_is_text s awaited.Sibling d note line r e h = h
-note_is_text s awaited.VerbCount d note line r e h = h
-note_is_text s awaited.VerbNames d note line r e h = h
-note_is_text s awaited.VerbOwner d note line r e h = h
-note_is_text s awaited.VerbBits d note line r e h = h
-note_is_text s awaited.VerbPreposition d note line r e h = h
-note_is_text s awaited.NameCount d note line r e h = h
-note_is_text s awaited.PropertyName d note line r e h = h
-note_is_text s awaited.CellCount d note line r e h = h
-note_is_text s awaited.Value d note line r e h = h
-note_is_text s awaited.Inside d note line r e h = h
-note_is_text s awaited.CellOwner d note line r e h = h
-note_is_text s awaited.CellPerms d note line r e h = h
+    subst (IsStringOf s) (sym (text_found s line b.0 b.1).1) (string_found s line b.0 b.1)
+note_is_string s awaited.Name d note line r e h = h
+note_is_string s awaited.Flags d note line r e h = h
+note_is_string s awaited.Owner d note line r e h = h
+note_is_string s awaited.Location d note line r e h = h
+note_is_string s awaited.Contents d note line r e h = h
+note_is_string s awaited.Next d note line r e h = h
+note_is_string s awaited.Parent d note line r e h = h
+note_is_string s awaited.Child d note line r e h = h
+note_is_string s awaited.Sibling d note line r e h = h
+note_is_string s awaited.VerbCount d note line r e h = h
+note_is_string s awaited.VerbNames d note line r e h = h
+note_is_string s awaited.VerbOwner d note line r e h = h
+note_is_string s awaited.VerbBits d note line r e h = h
+note_is_string s awaited.VerbPreposition d note line r e h = h
+note_is_string s awaited.NameCount d note line r e h = h
+note_is_string s awaited.PropertyName d note line r e h = h
+note_is_string s awaited.CellCount d note line r e h = h
+note_is_string s awaited.Value d note line r e h = h
+note_is_string s awaited.Inside d note line r e h = h
+note_is_string s awaited.CellOwner d note line r e h = h
+note_is_string s awaited.CellPerms d note line r e h = h

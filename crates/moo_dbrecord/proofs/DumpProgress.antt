@@ -4,12 +4,11 @@ use Rattle.std.specs.Prelude.{codes, FitsSigned, map}
 use Rattle.std.specs.Int.{w32}
 use Rattle.std.specs.Fmt.{signed_decimal}
 use Rattle.std.specs.List.{flat_map, AllByRecursion}
-use Rattle.moo_value.specs.Tree.{IsText}
-use Rattle.moo_dbvalue.specs.Lines.{Line, unlimited, count_line}
+use Rattle.moo_dbvalue.specs.Lines.{Line, Sizes, unlimited, IsStringOf, IsCountOf, count_line}
 use Rattle.moo_dbobject.specs.ObjectReading.{fresh_draft}
 use Rattle.moo_dbobject.proofs.ObjectFound.{draft_read, IsDraft}
 use Rattle.moo_dbrecord.specs.Programs.{blank_table, is_open, program_line, program_lines, Fills, IsSourceLine, IsProgramText}
-use Rattle.moo_dbrecord.specs.Texts.{Text, Slack, header_line, live_line, objects_lines, link_line, connections_line, tasks_lines, text_lines, IsEntry, IsLink, IsVersion, IsWritten}
+use Rattle.moo_dbrecord.specs.Texts.{Text, Slack, header_line, live_line, objects_lines, link_line, connections_line, tasks_lines, text_lines, IsEntry, IsLink, MayHave, IsVersion}
 use Rattle.moo_dbrecord.specs.DumpReading.{Progress}
 use Rattle.moo_dbrecord.specs.declared.dump.Form.TheVariants as form
 use Rattle.moo_dbrecord.specs.declared.dump_reader.Section.{Section}
@@ -45,14 +44,14 @@ progress_read section.ConnectionCount p k = programmed p.text k (length k.progra
 progress_read section.Connection p k = programmed p.text k (length k.programs) (tasks_lines (connections_line p.text.form (length p.text.links + suc p.left) ∷ map link_line p.text.links))
 progress_read section.End p k = text_lines p.text k
 
--- what it keeps of the parts that it has
-pub record HasFields (t : Text) (k : Slack) : Type 0 where
+-- what it keeps of the parts that it has, with limits on sizes or without: those of objects are another matter
+pub record HasFields (z : Sizes) (t : Text) (k : Slack) : Type 0 where
   pub version : IsVersion t.version
   pub unused : FitsSigned w32 k.unused
   pub players : AllByRecursion (FitsSigned w32) t.players
   pub objects : AllByRecursion (IsEntry unlimited) t.objects
-  pub notes : (n : ℕ) → IsText (k.notes n)
-  pub programs : AllByRecursion (IsProgramText unlimited) k.programs
+  pub notes : (n : ℕ) → IsStringOf z (k.notes n)
+  pub programs : AllByRecursion (IsProgramText z) k.programs
   pub links : AllByRecursion (IsLink t.form) t.links
 
 -- nothing was read of the last section
@@ -87,44 +86,55 @@ pub record IsAmongPrograms (n : ℕ) (t : Text) (k : Slack) : Type 0 where
   pub fills : Fills (blank_table t.objects) k.programs t.programs
   pub last : HasNoLinks t
 
-pub record IsAmongLinks (n : ℕ) (t : Text) (k : Slack) : Type 0 where
+pub record IsAmongLinks (z : Sizes) (n : ℕ) (t : Text) (k : Slack) : Type 0 where
   pub count : n < 2 ^ 31
+  pub few : IsCountOf z n
   pub objects : length t.objects < 2 ^ 31
   pub players : length t.players < 2 ^ 31
   pub programs : length k.programs < 2 ^ 31
   pub fills : Fills (blank_table t.objects) k.programs t.programs
   pub form : IsPresent t.form
 
+-- all has come
+pub record IsAtEnd (z : Sizes) (t : Text) (k : Slack) : Type 0 where
+  pub objects : length t.objects < 2 ^ 31
+  pub players : length t.players < 2 ^ 31
+  pub programs : length k.programs < 2 ^ 31
+  pub fills : Fills (blank_table t.objects) k.programs t.programs
+  pub form : MayHave t.version t.form
+  pub links : length t.links < 2 ^ 31
+  pub few : IsCountOf z (length t.links)
+
 -- the verb of the program that is read, and its lines so far
-pub record IsInProgram (p : Progress) : Type 0 where
+pub record IsInProgram (z : Sizes) (p : Progress) : Type 0 where
   pub object : p.object < 2 ^ 31
   pub verb : p.verb < 2 ^ 31
   pub free : is_open p.object p.verb p.text.programs ≡ true
-  pub source : AllByRecursion (IsSourceLine unlimited) p.source
+  pub source : AllByRecursion (IsSourceLine z) p.source
 
-abbrev pub Keeps : Section → Progress → Slack → Type 0
-Keeps section.Header p k = HasNoObjects 0 0 p k × (p.text.players ≡ [])
-Keeps section.ObjectCount p k = HasNoObjects 0 0 p k × (p.text.players ≡ [])
-Keeps section.ProgramCount p k = HasNoObjects p.objects_left 0 p k × (p.text.players ≡ [])
-Keeps section.Unused p k = HasNoObjects p.objects_left p.programs_left p k × (p.text.players ≡ [])
-Keeps section.PlayerCount p k = HasNoObjects p.objects_left p.programs_left p k × (p.text.players ≡ [])
-Keeps section.Player p k = HasNoObjects p.objects_left p.programs_left p k × (length p.text.players + suc p.left < 2 ^ 31)
-Keeps section.Head p k = IsAmongObjects (length p.text.objects + suc p.objects_left) p.programs_left p k × (p.draft ≡ fresh_draft)
-Keeps section.Object p k = IsAmongObjects (length p.text.objects + suc p.objects_left) p.programs_left p k
-Keeps section.ProgramHead p k = IsAmongPrograms (length k.programs + suc p.programs_left) p.text k × (p.source ≡ [])
-Keeps section.Source p k = IsAmongPrograms (length k.programs + suc p.programs_left) p.text k × IsInProgram p
-Keeps section.Clocks p k = IsAmongPrograms (length k.programs) p.text k
-Keeps section.Queued p k = IsAmongPrograms (length k.programs) p.text k
-Keeps section.Suspended p k = IsAmongPrograms (length k.programs) p.text k
-Keeps section.ConnectionCount p k = IsAmongPrograms (length k.programs) p.text k
-Keeps section.Connection p k = IsAmongLinks (length p.text.links + suc p.left) p.text k
-Keeps section.End p k = IsWritten unlimited p.text k
+abbrev pub Keeps : Sizes → Section → Progress → Slack → Type 0
+Keeps z section.Header p k = HasNoObjects 0 0 p k × (p.text.players ≡ [])
+Keeps z section.ObjectCount p k = HasNoObjects 0 0 p k × (p.text.players ≡ [])
+Keeps z section.ProgramCount p k = HasNoObjects p.objects_left 0 p k × (p.text.players ≡ [])
+Keeps z section.Unused p k = HasNoObjects p.objects_left p.programs_left p k × (p.text.players ≡ [])
+Keeps z section.PlayerCount p k = HasNoObjects p.objects_left p.programs_left p k × (p.text.players ≡ [])
+Keeps z section.Player p k = HasNoObjects p.objects_left p.programs_left p k × (length p.text.players + suc p.left < 2 ^ 31)
+Keeps z section.Head p k = IsAmongObjects (length p.text.objects + suc p.objects_left) p.programs_left p k × (p.draft ≡ fresh_draft)
+Keeps z section.Object p k = IsAmongObjects (length p.text.objects + suc p.objects_left) p.programs_left p k
+Keeps z section.ProgramHead p k = IsAmongPrograms (length k.programs + suc p.programs_left) p.text k × (p.source ≡ [])
+Keeps z section.Source p k = IsAmongPrograms (length k.programs + suc p.programs_left) p.text k × IsInProgram z p
+Keeps z section.Clocks p k = IsAmongPrograms (length k.programs) p.text k
+Keeps z section.Queued p k = IsAmongPrograms (length k.programs) p.text k
+Keeps z section.Suspended p k = IsAmongPrograms (length k.programs) p.text k
+Keeps z section.ConnectionCount p k = IsAmongPrograms (length k.programs) p.text k
+Keeps z section.Connection p k = IsAmongLinks z (length p.text.links + suc p.left) p.text k
+Keeps z section.End p k = IsAtEnd z p.text k
 
-pub record IsProgress (p : Progress) (k : Slack) : Type 0 where
-  pub text : HasFields p.text k
+pub record IsProgress (z : Sizes) (p : Progress) (k : Slack) : Type 0 where
+  pub text : HasFields z p.text k
   pub draft : IsDraft p.draft
-  pub keeps : Keeps p.section p k
+  pub keeps : Keeps z p.section p k
 
-pub record AddsTo (lines : List Line) (line : Line) (k : Slack) (p : Progress) : Type 0 where
+pub record AddsTo (z : Sizes) (lines : List Line) (line : Line) (k : Slack) (p : Progress) : Type 0 where
   pub read : progress_read p.section p k ≡ lines ++ line ∷ []
-  pub is : IsProgress p k
+  pub is : IsProgress z p k

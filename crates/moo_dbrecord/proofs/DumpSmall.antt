@@ -14,15 +14,15 @@ use Rattle.moo_dbobject.specs.Objects.{Verb, Object}
 use Rattle.moo_dbobject.specs.ObjectReading.{Draft, object_line}
 use Rattle.moo_dbobject.proofs.ObjectFound.{IsDraft}
 use Rattle.moo_dbobject.proofs.ObjectSmall.{IsSmallObject, IsSmallPart, IsSmallRead, fresh_small, object_small, object_within}
-use Rattle.moo_dbrecord.specs.Programs.{Row, Table, no_program, blank_entry, blank_table, is_open_in, is_open, with_source_in, with_source}
-use Rattle.moo_dbrecord.specs.Texts.{Text, Slack, IsEntry, Spells, HasRecordsWithin}
+use Rattle.moo_dbrecord.specs.Programs.{Row, Table, no_program, blank_entry, blank_table, is_open_in, is_open, with_source_in, with_source, Program, Fills}
+use Rattle.moo_dbrecord.specs.Texts.{Text, Slack, IsEntry, Spells, SpellsWithin, HasRecordsWithin}
 use Rattle.moo_dbrecord.specs.Headings.{version_of, head_of, program_head_of, tasks_of, connection_count_of, connection_of}
 use Rattle.moo_dbrecord.specs.DumpReading.{Progress, after_programs, after_objects, after_players, after_connections, with_object, after_head, after_object_line, after_source, dump_step, end_of, ended, start}
 use Rattle.moo_dbrecord.specs.Answer.{Told, Taken, told, and_then, line_ended, taken_on, finished, finished_with, begin, answer_to}
 use Rattle.moo_dbrecord.specs.declared.dump_reader.Section.{Section}
 use Rattle.moo_dbrecord.specs.declared.dump_reader.Section.TheVariants as section
 use Rattle.moo_dbrecord.proofs.DumpProgress.{progress_read, Keeps}
-use Rattle.moo_dbrecord.proofs.AnswerFound.{IsTaken, then_ok, told_ok, line_found, begins, answer_found}
+use Rattle.moo_dbrecord.proofs.AnswerFound.{IsTaken, then_ok, told_ok, line_found, begins, answer_read, answer_found}
 use Rattle.moo_dbrecord.proofs.Sources.{finished_text}
 
 abbrev pub IsSmallEntry : Option Object → Type 0
@@ -162,7 +162,7 @@ pushed_few p o d h small draft few blank =
     blank_push [] = refl
     blank_push (x ∷ os) = ap (λ (t : Table). blank_entry x ∷ t) (blank_push os)
 
-dump_small : (x : Section) (p : Progress) (k : Slack) (line : Line) (q : Progress) → IsSmallText p.text p.draft → Few x p → IsDraft p.draft → Keeps x p k → dump_step limited x p line ≡ Ok q → IsSmallProgress q
+dump_small : (x : Section) (p : Progress) (k : Slack) (line : Line) (q : Progress) → IsSmallText p.text p.draft → Few x p → IsDraft p.draft → Keeps limited x p k → dump_step limited x p line ≡ Ok q → IsSmallProgress q
 unfolding dump_step
 dump_small section.Header p k line q h few d keeps e = by_line (version_of line) (λ v. record p { section = section.ObjectCount; text = record p.text { version = v } }) q (λ v is. record { small = record { entries = h.entries; draft = h.draft }; few = tt }) e
 dump_small section.ObjectCount p k line q h few d keeps e = by_line (bounded_count_of limited line) (λ n. record p { section = section.ProgramCount; objects_left = n }) q
@@ -205,13 +205,13 @@ dump_small section.End p k line q h few d keeps e = absurd cc
 
 -- ---- bytes
 
-taken_small : (bs : List ℕ) (s t : Taken) (bytes : List ℕ) → IsTaken s bytes → IsSmallProgress s.progress → taken_on limited s bs ≡ Ok t → IsSmallProgress t.progress
+taken_small : (bs : List ℕ) (s t : Taken) (bytes : List ℕ) → IsTaken limited s bytes → IsSmallProgress s.progress → taken_on limited s bs ≡ Ok t → IsSmallProgress t.progress
 unfolding taken_on line_ended
 taken_small [] s t bytes h small e = let ok : Taken → Result Taken Told = λ x. Ok x in let f : ok s ≡ ok t = e in let same : s ≡ t = cc in
     subst (λ (u : Taken). IsSmallProgress u.progress) same small
 taken_small (b ∷ bs) s t bytes h small e = decide (eqb b 10) (λ u more k m f. taken_small bs u t more k m f) e
   where
-    decide : (is : Bool) → ((u : Taken) (more : List ℕ) → IsTaken u more → IsSmallProgress u.progress → taken_on limited u bs ≡ Ok t → IsSmallProgress t.progress)
+    decide : (is : Bool) → ((u : Taken) (more : List ℕ) → IsTaken limited u more → IsSmallProgress u.progress → taken_on limited u bs ≡ Ok t → IsSmallProgress t.progress)
         → cond is (and_then (line_ended limited s s.rest) (λ u. taken_on limited u bs)) (taken_on limited (record s { rest = s.rest ++ b ∷ [] }) bs) ≡ Ok t → IsSmallProgress t.progress
     decide true rest f =
         let c = then_ok (line_ended limited s s.rest) (λ u. taken_on limited u bs) t f in
@@ -256,12 +256,20 @@ entries_within [] h k = tt
 entries_within (None ∷ os) h k = (tt, entries_within os h.1 k.1)
 entries_within (Some o ∷ os) h k = (object_within o h.0 k.0, entries_within os h.1 k.1)
 
+-- programs that fill a table which has none are as many as it has then
+fills_many : (a : Table) (ps : List Program) (b : Table) → Fills a ps b → many b ≡ many a + length ps
+fills_many a [] b h = let same : many a ≡ many b = ap many h in omega arith
+fills_many a (p ∷ ps) b h =
+    let one = one_more a p.object p.verb p.source h.0 in
+    let rest = fills_many (with_source p.object p.verb p.source a) ps b h.1 in
+    omega arith
+
 pub answer_within : (bytes : List ℕ) (t : Text) → answer_to limited bytes ≡ Ok t → HasRecordsWithin t
 unfolding answer_to finished ended
 answer_within bytes t e =
     let b = then_ok (taken_on limited begin bytes) finished t e in
     let s = b.0 in
-    let small = taken_small bytes begin s [] begins start_small b.1 in
+    let small = taken_small bytes begin s [] (begins limited) start_small b.1 in
     let text = finished_text s t b.2 in
     let spells = answer_found limited bytes t e in
     last s s.rest b.2 text small spells
@@ -276,3 +284,33 @@ answer_within bytes t e =
           program_count = subst (λ (u : Text). many u.programs ≤ most_records) text few.programs;
         }
     last s (x ∷ rest) f text small spells = absurd cc
+
+-- what is read is within the limits, its lines too
+pub answer_spelled : (bytes : List ℕ) (t : Text) → answer_to limited bytes ≡ Ok t → SpellsWithin bytes t
+answer_spelled bytes t e =
+    let h = answer_read limited bytes t e in
+    let k = h.slack in
+    let w = h.whole.written in
+    let few = answer_within bytes t e in
+    let none = none_blank t.objects in
+    let as_many = fills_many (blank_table t.objects) k.programs t.programs w.fills in
+    let programs = few.program_count in
+    record {
+      slack = k;
+      written = record {
+        version = w.version;
+        unused = w.unused;
+        players = w.players;
+        player_count = few.player_count;
+        objects = few.objects;
+        notes = h.whole.sizes.notes;
+        object_count = few.object_count;
+        programs = h.whole.sizes.programs;
+        fills = w.fills;
+        program_count = omega arith;
+        form = w.form;
+        links = w.links;
+        link_count = h.whole.sizes.links;
+      };
+      lines = h.bytes_are ∙ ap unlines h.whole.lines;
+    }

@@ -17,6 +17,7 @@ use Rattle.moo_dbvalue.specs.Lines.{Line, ◌>>=◌, Sizes, unlimited, limited, 
 use Rattle.moo_dbvalue.proofs.LineLaws.{number_found, chosen_ok, both_true}
 use Rattle.moo_dbvalue.proofs.Steps.{bind_ok, ok_is, within_ok, within_true, branch}
 use Rattle.moo_dbvalue.proofs.TextLaws.{number_again, count_again, count_found}
+use Rattle.moo_dbvalue.proofs.ValueSmall.{within_is}
 use Rattle.moo_dbrecord.specs.Programs.{Table, is_open, program_line}
 use Rattle.moo_dbrecord.specs.Texts.{Link, header_front, header_line, live_line, recycled_line, link_line, connections_line, IsLink, IsVersion}
 use Rattle.moo_dbrecord.specs.Headings.{before, parts_of, behind, told_as, count_or, number_or, is_read, known_version, version_in, version_behind, version_of, head_of, verb_in, verb_behind, verb_named, open_verb, program_head_of, no_tasks, tasks_in, tasks_of, form_of, connections_in, connection_count_of, pair_in, connection_of}
@@ -290,6 +291,22 @@ connection_count_found s line c e = from (parts_of 32 line) refl e
         let g = form_found p.1 d.0 d.1 in
         subst (λ (x : Form × ℕ). IsPresent x.0 × (x.1 < 2 ^ 31) × (line ≡ connections_line x.0 x.1)) same
         (g.0, n.0, parts_found 32 line p is ∙ ap (λ (ds : Line). ds ++ 32 ∷ p.1) n.1 ∙ g.1 b.0)
+
+connection_few : (line : Line) (c : Form × ℕ) → connection_count_of limited line ≡ Ok c → c.1 ≤ most_records
+unfolding connection_count_of
+connection_few line c e = from (parts_of 32 line) e
+  where
+    from : (o : Option (Line × Line)) → connections_in limited o ≡ Ok c → c.1 ≤ most_records
+    from None f = absurd cc
+    from (Some p) f =
+        let b = bind_ok (count_or BadConnections p.0) (λ n. form_of p.1 >>= λ f. within limited (leb n most_records) (counted_form f n)) c f in
+        let d = bind_ok (form_of p.1) (λ f. within limited (leb b.0 most_records) (counted_form f b.0)) c b.2 in
+        let few = leb-true _ _ (within_is (leb b.0 most_records) (counted_form d.0 b.0) c d.2) in
+        subst (λ (x : Form × ℕ). x.1 ≤ most_records) (within_ok limited (leb b.0 most_records) (counted_form d.0 b.0) c d.2) few
+
+pub connection_count_few : (s : Sizes) (line : Line) (c : Form × ℕ) → connection_count_of s line ≡ Ok c → IsCountOf s c.1
+connection_count_few unlimited line c e = (connection_count_found unlimited line c e).1
+connection_count_few limited line c e = connection_few line c e
 
 pub connection_again : (f : Form) (who : ℤ) (listener : Option ℤ) → IsLink f (record { who = who; listener = listener }) → connection_of f (link_line (record { who = who; listener = listener })) ≡ Ok (record { who = who; listener = listener })
 unfolding connection_of

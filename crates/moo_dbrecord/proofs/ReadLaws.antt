@@ -13,6 +13,7 @@ use Rattle.moo_dbrecord.specs.declared.db_reader.RecordFault.{RecordFault}
 use Rattle.moo_dbrecord.proofs.AnswerFound.{answer_found}
 use Rattle.moo_dbrecord.proofs.AnswerAgain.{answer_again, no_spelling}
 use Rattle.moo_dbrecord.proofs.AnswerCut.{answer_cut}
+use Rattle.moo_dbrecord.proofs.DumpSmall.{answer_spelled}
 
 abbrev read : Text → Result Text Told
 read t = Ok t
@@ -36,8 +37,8 @@ one_text bytes t u h k = read_is t u (sym (answer_again unlimited bytes t h.slac
 pub within_limits : (bytes : List ℕ) (t : Text) → SpellsWithin bytes t → Spells bytes t
 within_limits bytes t h = answer_found limited bytes t (answer_again limited bytes t h.slack h.written h.lines)
 
-pub is_found : (bytes : List ℕ) (r : Result Dump RecordFault) → Answers text_of r (answer_to limited bytes) → IfOk r (λ d. Spells bytes (text_of d))
-is_found bytes (Ok d) h = answer_found limited bytes (text_of d) h
+pub is_found : (bytes : List ℕ) (r : Result Dump RecordFault) → Answers text_of r (answer_to limited bytes) → IfOk r (λ d. SpellsWithin bytes (text_of d))
+is_found bytes (Ok d) h = answer_spelled bytes (text_of d) h
 is_found bytes (Err e) h = tt
 
 -- what is spelled within the limits is read

@@ -185,26 +185,26 @@ step_does s section.Connection p line q free e = none_read refl (by_step (SameSo
 step_does s section.End p line q free e = absurd cc
 
 -- the verb whose program is read has none
-pub free_in : (x : Section) (p : Progress) (k : Slack) → Keeps x p k → x ≡ section.Source → is_open p.object p.verb p.text.programs ≡ true
-free_in section.Source p k h e = h.1.free
-free_in section.Header p k h e = absurd cc
-free_in section.ObjectCount p k h e = absurd cc
-free_in section.ProgramCount p k h e = absurd cc
-free_in section.Unused p k h e = absurd cc
-free_in section.PlayerCount p k h e = absurd cc
-free_in section.Player p k h e = absurd cc
-free_in section.Head p k h e = absurd cc
-free_in section.Object p k h e = absurd cc
-free_in section.ProgramHead p k h e = absurd cc
-free_in section.Clocks p k h e = absurd cc
-free_in section.Queued p k h e = absurd cc
-free_in section.Suspended p k h e = absurd cc
-free_in section.ConnectionCount p k h e = absurd cc
-free_in section.Connection p k h e = absurd cc
-free_in section.End p k h e = absurd cc
+pub free_in : (z : Sizes) (x : Section) (p : Progress) (k : Slack) → Keeps z x p k → x ≡ section.Source → is_open p.object p.verb p.text.programs ≡ true
+free_in z section.Source p k h e = h.1.free
+free_in z section.Header p k h e = absurd cc
+free_in z section.ObjectCount p k h e = absurd cc
+free_in z section.ProgramCount p k h e = absurd cc
+free_in z section.Unused p k h e = absurd cc
+free_in z section.PlayerCount p k h e = absurd cc
+free_in z section.Player p k h e = absurd cc
+free_in z section.Head p k h e = absurd cc
+free_in z section.Object p k h e = absurd cc
+free_in z section.ProgramHead p k h e = absurd cc
+free_in z section.Clocks p k h e = absurd cc
+free_in z section.Queued p k h e = absurd cc
+free_in z section.Suspended p k h e = absurd cc
+free_in z section.ConnectionCount p k h e = absurd cc
+free_in z section.Connection p k h e = absurd cc
+free_in z section.End p k h e = absurd cc
 
-pub line_does : (z : Sizes) (s : Taken) (bytes : List ℕ) (line : Line) (q : Progress) → IsTaken s bytes → dump_step z s.progress.section s.progress line ≡ Ok q → Does s.progress.section s.progress line q
-line_does z s bytes line q h e = step_does z s.progress.section s.progress line q (free_in s.progress.section s.progress h.slack h.is.keeps) e
+pub line_does : (z : Sizes) (s : Taken) (bytes : List ℕ) (line : Line) (q : Progress) → IsTaken z s bytes → dump_step z s.progress.section s.progress line ≡ Ok q → Does s.progress.section s.progress line q
+line_does z s bytes line q h e = step_does z s.progress.section s.progress line q (free_in z s.progress.section s.progress h.slack h.is.keeps) e
 
 -- ---- sources stay
 
@@ -226,13 +226,13 @@ does_stays {p = p} {q = q} (none_read h same) = same_stays p q same
 does_stays {p = p} {q = q} (reads_on verb h same) = same_stays p q same
 does_stays {p = p} {q = q} (ends is dot after h) = ended_stays p q h
 
-pub sources_stay : (z : Sizes) (bs : List ℕ) (s t : Taken) (bytes : List ℕ) → IsTaken s bytes → taken_on z s bs ≡ Ok t → Stays s.progress t.progress
+pub sources_stay : (z : Sizes) (bs : List ℕ) (s t : Taken) (bytes : List ℕ) → IsTaken z s bytes → taken_on z s bs ≡ Ok t → Stays s.progress t.progress
 unfolding taken_on line_ended
 sources_stay z [] s t bytes h e = let ok : Taken → Result Taken Told = λ x. Ok x in let f : ok s ≡ ok t = e in let same : s ≡ t = cc in
     subst (λ (u : Taken). Stays s.progress u.progress) same (λ o v source e. e)
 sources_stay z (b ∷ bs) s t bytes h e = decide (eqb b 10) refl (λ u more k f. sources_stay z bs u t more k f) e
   where
-    decide : (is : Bool) → eqb b 10 ≡ is → ((u : Taken) (more : List ℕ) → IsTaken u more → taken_on z u bs ≡ Ok t → Stays u.progress t.progress)
+    decide : (is : Bool) → eqb b 10 ≡ is → ((u : Taken) (more : List ℕ) → IsTaken z u more → taken_on z u bs ≡ Ok t → Stays u.progress t.progress)
         → cond is (and_then (line_ended z s s.rest) (λ u. taken_on z u bs)) (taken_on z (record s { rest = s.rest ++ b ∷ [] }) bs) ≡ Ok t → Stays s.progress t.progress
     decide true is rest f =
         let c = then_ok (line_ended z s s.rest) (λ u. taken_on z u bs) t f in
@@ -277,8 +277,8 @@ finished_text s t e = last s.rest e
     last [] f = end_text s.progress.section s.progress.text t (told_ok (s.lines + 1) (end_of s.progress.section s.progress.text) t f)
     last (x ∷ rest) f = absurd cc
 
-pub taken_so : (z : Sizes) (bytes : List ℕ) (s : Taken) → taken_on z begin bytes ≡ Ok s → IsTaken s bytes
-taken_so z bytes s e = taken_found z bytes begin s [] begins e
+pub taken_so : (z : Sizes) (bytes : List ℕ) (s : Taken) → taken_on z begin bytes ≡ Ok s → IsTaken z s bytes
+taken_so z bytes s e = taken_found z bytes begin s [] (begins z) e
 
 pub taken_unlimited : (bytes : List ℕ) (s : Taken) → taken_on limited begin bytes ≡ Ok s → taken_on unlimited begin bytes ≡ Ok s
 taken_unlimited bytes s e = elim (taken_cut begin bytes) [

@@ -1,22 +1,14 @@
 -- Records that are written one after another.
-use Rattle.std.proofs.Common.{◌≡◌, ℕ, suc, ◌+◌, ◌<◌, ◌≤◌, true, false, List, [], ◌∷◌, ◌++◌, length, take, get_or, Option, Some, None, refl, sym, ap, ◌∙◌, append_assoc, arith, add-zero}
-use Rattle.std.proofs.Math.Nat.{zero-add}
-use Rattle.std.proofs.Math.Seq.{take-length}
-use Rattle.std.specs.Prelude.{map, option_map, pos}
+use Rattle.std.proofs.Common.{◌≡◌, ℕ, suc, ◌+◌, ◌<◌, List, [], ◌∷◌, ◌++◌, length, take, get_or, Option, sym, ap, ◌∙◌, append_assoc, arith, add-zero}
+use Rattle.std.specs.Prelude.{map, pos}
 use Rattle.std.specs.Fmt.{signed_decimal}
 use Rattle.std.specs.List.{flat_map}
-use Rattle.std.specs.Option.{is_some}
-use Rattle.std.specs.Global.{Vec}
-use Rattle.std.proofs.lemmas.List.{take_more, map-append, length-append, length-map, length-take-le, append-nil}
-use Rattle.std.proofs.lemmas.List.Concat.{flat_map-append}
+use Rattle.std.proofs.lemmas.List.{take_more, map-append, length-map, length-take-le, append-nil}
 use Rattle.moo_dbvalue.specs.Lines.{Line, unlines, count_line}
 use Rattle.moo_dbvalue.proofs.WritingLaws.{Appends, appends_then}
-use Rattle.moo_dbobject.specs.Objects.{Object, object_of}
-use Rattle.moo_dbobject.specs.declared.object_record.ObjectRecord.{ObjectRecord}
-use Rattle.moo_dbrecord.specs.Programs.{Row, Table, source_of, row_of, Program, program_lines}
+use Rattle.moo_dbrecord.specs.Programs.{Row, Table, Program, program_lines}
 use Rattle.moo_dbrecord.specs.Texts.{Text, header_line, objects_lines, tasks_lines, connections_lines}
 use Rattle.moo_dbrecord.specs.Writing.{verb_programs, row_programs, table_programs, no_notes, canonical_lines}
-use Rattle.moo_dbrecord.proofs.DumpLines.{objects_lines_push}
 
 -- ---- one more of a list
 
@@ -38,21 +30,6 @@ source_more source i line old mid new lt is so_far more =
     let whole : take (i + 1) source ≡ take i source ++ line ∷ [] = take_more source i line lt ∙ ap (λ (l : Line). take i source ++ l ∷ []) (sym is) in
     grown old mid new (take i source) (line ∷ []) (take (i + 1) source) whole so_far more
 
--- ---- objects
-
-abbrev pub entry_of : Option ObjectRecord → Option Object
-entry_of e = option_map object_of e
-
-pub entries_more : (os : List (Option ObjectRecord)) (i : ℕ) (o : Option ObjectRecord) (old mid new : List ℕ) → i < length os → o ≡ get_or os i o
-    → mid ≡ old ++ unlines (objects_lines 0 (map entry_of (take i os)) no_notes) → new ≡ mid ++ unlines (objects_lines i (entry_of o ∷ []) no_notes)
-    → new ≡ old ++ unlines (objects_lines 0 (map entry_of (take (i + 1) os)) no_notes)
-entries_more os i o old mid new lt is so_far more =
-    let before = map entry_of (take i os) in
-    let whole : objects_lines 0 (map entry_of (take (i + 1) os)) no_notes ≡ objects_lines 0 before no_notes ++ objects_lines i (entry_of o ∷ []) no_notes =
-    ap (λ (es : List (Option Object)). objects_lines 0 es no_notes) (mapped_more entry_of os i o lt is) ∙ objects_lines_push 0 before (entry_of o) no_notes
-    ∙ ap (λ (n : ℕ). objects_lines 0 before no_notes ++ objects_lines n (entry_of o ∷ []) no_notes) (zero-add (length before) ∙ so_many entry_of os i lt) in
-    grown old mid new (objects_lines 0 before no_notes) (objects_lines i (entry_of o ∷ []) no_notes) (objects_lines 0 (map entry_of (take (i + 1) os)) no_notes) whole so_far more
-
 -- ---- programs
 
 pub row_programs_push : (o v : ℕ) (row : Row) (p : Option (List Line)) → row_programs o v (row ++ p ∷ []) ≡ row_programs o v row ++ verb_programs o (v + length row) p
@@ -69,74 +46,6 @@ table_programs_push o (r ∷ table) row =
 
 abbrev pub programs_lines : List Program → List Line
 programs_lines ps = flat_map program_lines ps
-
-pub row_more : (o : ℕ) (row : List (Option (Vec Line))) (i : ℕ) (p : Option (Vec Line)) (old mid new : List ℕ) → i < length row → p ≡ get_or row i p
-    → mid ≡ old ++ unlines (programs_lines (row_programs o 0 (map source_of (take i row)))) → new ≡ mid ++ unlines (programs_lines (verb_programs o i (source_of p)))
-    → new ≡ old ++ unlines (programs_lines (row_programs o 0 (map source_of (take (i + 1) row))))
-row_more o row i p old mid new lt is so_far more =
-    let before = map source_of (take i row) in
-    let whole : programs_lines (row_programs o 0 (map source_of (take (i + 1) row))) ≡ programs_lines (row_programs o 0 before) ++ programs_lines (verb_programs o i (source_of p)) =
-    ap (λ (r : Row). programs_lines (row_programs o 0 r)) (mapped_more source_of row i p lt is)
-    ∙ ap programs_lines (row_programs_push o 0 before (source_of p) ∙ ap (λ (n : ℕ). row_programs o 0 before ++ verb_programs o n (source_of p)) (zero-add (length before) ∙ so_many source_of row i lt))
-    ∙ flat_map-append program_lines (row_programs o 0 before) (verb_programs o i (source_of p)) in
-    grown old mid new (programs_lines (row_programs o 0 before)) (programs_lines (verb_programs o i (source_of p))) (programs_lines (row_programs o 0 (map source_of (take (i + 1) row)))) whole so_far more
-
-pub table_more : (table : List (Vec (Option (Vec Line)))) (i : ℕ) (row : Vec (Option (Vec Line))) (old mid new : List ℕ) → i < length table → row ≡ get_or table i row
-    → mid ≡ old ++ unlines (programs_lines (table_programs 0 (map row_of (take i table)))) → new ≡ mid ++ unlines (programs_lines (row_programs i 0 (row_of row)))
-    → new ≡ old ++ unlines (programs_lines (table_programs 0 (map row_of (take (i + 1) table))))
-table_more table i row old mid new lt is so_far more =
-    let before = map row_of (take i table) in
-    let whole : programs_lines (table_programs 0 (map row_of (take (i + 1) table))) ≡ programs_lines (table_programs 0 before) ++ programs_lines (row_programs i 0 (row_of row)) =
-    ap (λ (t : Table). programs_lines (table_programs 0 t)) (mapped_more row_of table i row lt is)
-    ∙ ap programs_lines (table_programs_push 0 before (row_of row) ∙ ap (λ (n : ℕ). table_programs 0 before ++ row_programs n 0 (row_of row)) (zero-add (length before) ∙ so_many row_of table i lt))
-    ∙ flat_map-append program_lines (table_programs 0 before) (row_programs i 0 (row_of row)) in
-    grown old mid new (programs_lines (table_programs 0 before)) (programs_lines (row_programs i 0 (row_of row))) (programs_lines (table_programs 0 (map row_of (take (i + 1) table)))) whole so_far more
-
--- ---- how many programs there are
-
-abbrev programs_of : Option (List Line) → ℕ
-programs_of None = 0
-programs_of (Some s) = 1
-
-pub one_or_none : (o v : ℕ) (p : Option (List Line)) → length (verb_programs o v p) ≡ programs_of p
-one_or_none o v None = refl
-one_or_none o v (Some s) = refl
-
--- the numbers of the object and of the first verb don't matter
-pub same_count : (o p v w : ℕ) (row : Row) → length (row_programs o v row) ≡ length (row_programs p w row)
-same_count o p v w [] = refl
-same_count o p v w (None ∷ row) = same_count o p (v + 1) (w + 1) row
-same_count o p v w (Some s ∷ row) = ap suc (same_count o p (v + 1) (w + 1) row)
-
-pub row_count_more : (row : List (Option (Vec Line))) (i : ℕ) (p : Option (Vec Line)) → i < length row → p ≡ get_or row i p
-    → length (row_programs 0 0 (map source_of (take (i + 1) row))) ≡ length (row_programs 0 0 (map source_of (take i row))) + programs_of (source_of p)
-row_count_more row i p lt is =
-    let before = map source_of (take i row) in
-    ap (λ (r : Row). length (row_programs 0 0 r)) (mapped_more source_of row i p lt is) ∙ ap length (row_programs_push 0 0 before (source_of p))
-    ∙ length-append (row_programs 0 0 before) (verb_programs 0 (0 + length before) (source_of p)) ∙ ap (λ (n : ℕ). length (row_programs 0 0 before) + n) (one_or_none 0 (0 + length before) (source_of p))
-
-pub row_count_some : (row : List (Option (Vec Line))) (i : ℕ) (p : Option (Vec Line)) (n : ℕ) → i < length row → p ≡ get_or row i p → is_some p ≡ true
-    → n ≡ length (row_programs 0 0 (map source_of (take i row))) → n + 1 ≡ length (row_programs 0 0 (map source_of (take (i + 1) row)))
-row_count_some row i None n lt is some so_far = absurd cc
-row_count_some row i (Some s) n lt is some so_far = ap (λ (k : ℕ). k + 1) so_far ∙ sym (row_count_more row i (Some s) lt is)
-
-pub row_count_none : (row : List (Option (Vec Line))) (i : ℕ) (p : Option (Vec Line)) (n : ℕ) → i < length row → p ≡ get_or row i p → is_some p ≡ false
-    → n ≡ length (row_programs 0 0 (map source_of (take i row))) → n ≡ length (row_programs 0 0 (map source_of (take (i + 1) row)))
-row_count_none row i None n lt is none so_far = so_far ∙ sym (row_count_more row i None lt is ∙ add-zero (length (row_programs 0 0 (map source_of (take i row)))))
-row_count_none row i (Some s) n lt is none so_far = absurd cc
-
-pub row_counted : (row : List (Option (Vec Line))) (i n : ℕ) → i ≤ length row → length row ≤ i → n ≡ length (row_programs 0 0 (map source_of (take i row)))
-    → (o : ℕ) → n ≡ length (row_programs o 0 (map source_of row))
-row_counted row i n low high so_far o =
-    let end : i ≡ length row = omega arith in
-    so_far ∙ ap (λ (r : List (Option (Vec Line))). length (row_programs 0 0 (map source_of r))) (ap (λ (k : ℕ). take k row) end ∙ take-length row) ∙ same_count 0 o 0 0 (map source_of row)
-
-pub table_count_more : (table : List (Vec (Option (Vec Line)))) (i : ℕ) (row : Vec (Option (Vec Line))) → i < length table → row ≡ get_or table i row
-    → length (table_programs 0 (map row_of (take (i + 1) table))) ≡ length (table_programs 0 (map row_of (take i table))) + length (row_programs 0 0 (row_of row))
-table_count_more table i row lt is =
-    let before = map row_of (take i table) in
-    ap (λ (t : Table). length (table_programs 0 t)) (mapped_more row_of table i row lt is) ∙ ap length (table_programs_push 0 before (row_of row))
-    ∙ length-append (table_programs 0 before) (row_programs (0 + length before) 0 (row_of row)) ∙ ap (λ (n : ℕ). length (table_programs 0 before) + n) (same_count (0 + length before) 0 0 0 (row_of row))
 
 -- ---- the whole text
 

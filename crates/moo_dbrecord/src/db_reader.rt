@@ -6,7 +6,7 @@ ghost use Rattle.moo_dbrecord.specs.declared.db_reader.RecordFault.{RecordFault}
 ghost use Rattle.moo_dbrecord.specs.DumpReading.{progress_of, verb_read, dump_step};
 ghost use Rattle.moo_dbrecord.specs.Programs.{entry_at};
 ghost use Rattle.moo_dbrecord.specs.Sparing.{AreAlikeTaken, IsAt, AnswersBut, has_objects};
-ghost use Rattle.moo_dbrecord.specs.Answer.{Answers, HasTaken, IsGoing, HasFailed, StandWithoutLimits, taken_of, taken_on, line_ended, finished, answer_to, HasNoEnd, BeginsWithLine, IsOfLine, IsOfSize, IsReadOrTooLarge, front_lines};
+ghost use Rattle.moo_dbrecord.specs.Answer.{Answers, HasTaken, IsGoing, HasFailed, Stand, StandWithoutLimits, taken_of, taken_on, line_ended, finished, answer_to, HasNoEnd, BeginsWithLine, IsOfLine, IsOfSize, IsReadOrTooLarge, front_lines};
 
 use crate::dump::Dump;
 use crate::dump_reader::DumpReader;
@@ -215,8 +215,8 @@ fn read_all(alloc: Global, bytes: &[u8]) -> Result<Dump, RecordFault>
 
 /// What the bytes of a whole text say, line by line.
 pub fn read_records(alloc: Global, bytes: &[u8]) -> Result<Dump, RecordFault>
-    // What is read is spelled so.
-    ensures found { IfOk result (λ d. Spells bytes.now (text_of d)) }
+    // What is read is spelled so, within the limits.
+    ensures found { IfOk result (λ d. SpellsWithin bytes.now (text_of d)) }
     // What is spelled so is read, unless memory ends it or it is past a limit.
     ensures only { (t : Text) → Spells bytes.now t → IsReadOrTooLarge text_of t result }
     // What is within the limits is read, unless memory ends it.
@@ -227,6 +227,8 @@ pub fn read_records(alloc: Global, bytes: &[u8]) -> Result<Dump, RecordFault>
     ensures size { IfErr result (λ e. IsOfSize e.kind → (more : List ℕ) (t : Text) → ¬ (SpellsWithin (front_lines e.line bytes.now ++ more) t)) }
     // A size is told only of a line that can stand there but for its size.
     ensures large { IfErr result (λ e. IsOfSize e.kind → StandWithoutLimits e.line bytes.now) }
+    // And that can't stand there with it.
+    ensures past { IfErr result (λ e. IsOfSize e.kind → ¬ (Stand limited e.line bytes.now)) }
     // The answer of a reader that is fed the same bytes in any pieces.
     ensures exact { Answers text_of result (answer_to limited bytes.now) }
 {

@@ -61,6 +61,11 @@ pub fn copies_are_read_alike()
     ensures { (bytes : List ℕ) (t : Text) → Spells bytes t → answer_to unlimited (unlines (canonical_lines t)) ≡ Ok t }
 {}
 
+/// What is read under the limits on sizes is spelled within them.
+pub fn read_texts_are_spelled_within_limits()
+    ensures { (bytes : List ℕ) (t : Text) → answer_to limited bytes ≡ Ok t → SpellsWithin bytes t }
+{}
+
 /// What is read under the limits on sizes has objects within them, and no more records of a kind than there may be.
 pub fn read_texts_have_records_within_limits()
     ensures { (bytes : List ℕ) (t : Text) → answer_to limited bytes ≡ Ok t → HasRecordsWithin t }

@@ -5,7 +5,6 @@
 mod db_reader;
 mod dump;
 mod dump_reader;
-mod dump_writer;
 mod fault;
 mod heading;
 pub mod laws;
@@ -14,7 +13,6 @@ mod writing;
 
 pub use db_reader::{DbReader, RecordFault, read_records};
 pub use dump::{Connection, Dump, Form};
-pub use dump_writer::write_records;
 pub use fault::{DbFault, DbFaultKind, ProgramFault, ProgramFaultKind};
 pub use program_table::Source;
 pub use writing::{

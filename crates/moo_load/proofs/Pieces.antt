@@ -20,7 +20,7 @@ use Rattle.moo_load.specs.Loading.{IsRefusedSo, IsRefusedFrom, IsTextUntold, Loa
 use Rattle.moo_load.specs.Taking.{IsLoading, HasTaken, IsGoing, HasFailed}
 use Rattle.moo_load.specs.declared.world_reader.WorldReader.{WorldReader}
 use Rattle.moo_load.specs.Refusals.{Refuses}
-use Rattle.moo_load.proofs.Whole.{without_memory, told_begun, is_loaded_only, is_loaded_within, is_loaded_place, is_loaded_program, is_loaded_hierarchy, is_loaded_count, is_loaded_size, is_loaded_large}
+use Rattle.moo_load.proofs.Whole.{without_memory, told_begun, is_loaded_only, is_loaded_within, is_loaded_place, is_loaded_program, is_loaded_hierarchy, is_loaded_count, is_loaded_size, is_loaded_large, is_loaded_past}
 use Rattle.moo_saved.specs.declared.saved.Saved as stored
 
 pub refused_alone : (bytes : List ℕ) (e : DbFault) → IsRefusedFrom bytes e → IsRefusedSo bytes e
@@ -36,6 +36,7 @@ refusal_says bytes e h = record {
   count = is_loaded_count bytes (Err e) h;
   size = is_loaded_size bytes (Err e) h;
   large = is_loaded_large bytes (Err e) h;
+  past = is_loaded_past bytes (Err e) h;
 }
 
 pub answer_says : (bytes : List ℕ) (r : Result stored.Saved DbFault) → LoadAnswers r bytes → IfErr r (Refuses bytes)

@@ -16,20 +16,20 @@ use Rattle.moo_dbobject.specs.Objects as recorded
 use Rattle.moo_dbrecord.specs.Texts.{Text, IsEntry, Spells, SpellsWithin}
 use Rattle.moo_dbrecord.specs.Placing.{BeginsWithObjects}
 use Rattle.moo_dbrecord.proofs.Placed.{whole_begins}
-use Rattle.moo_dbrecord.specs.Answer.{answer_to, front_lines, StandWithoutLimits}
+use Rattle.moo_dbrecord.specs.Answer.{answer_to, front_lines, Stand, StandWithoutLimits}
 use Rattle.moo_dbrecord.specs.Faults.{kind_of, kind_of_refusal}
 use Rattle.moo_dbrecord.specs.declared.fault.DbFault.{DbFault}
 use Rattle.moo_dbrecord.specs.declared.fault.DbFaultKind.{DbFaultKind}
 use Rattle.moo_dbrecord.specs.declared.fault.DbFaultKind.TheVariants as kind
 use Rattle.moo_dbrecord.specs.declared.fault.ProgramFault.{ProgramFault}
 use Rattle.moo_dbrecord.proofs.AnswerFound.{answer_found}
-use Rattle.moo_dbrecord.proofs.DumpSmall.{answer_within, some_more, none_more, rows_more}
+use Rattle.moo_dbrecord.proofs.DumpSmall.{answer_within, answer_spelled, some_more, none_more, rows_more}
 use Rattle.moo_dbprogram.specs.Says.{Programs, HasSource, HaveSources}
 use Rattle.moo_dbprogram.specs.Faults.{IsProgramFault, IsOfLine, IsOfLimits}
 use Rattle.moo_dbprogram.specs.Reading.{IsRefused, IsRead}
 use Rattle.moo_dbprogram.specs.declared.database.Database.{Database}
 use Rattle.moo_dbprogram.proofs.Behind.{some_source}
-use Rattle.moo_dbprogram.proofs.Whole.{is_read_only, is_read_within, is_placed, is_sized, is_told_large}
+use Rattle.moo_dbprogram.proofs.Whole.{is_read_only, is_read_within, is_placed, is_sized, is_told_large, is_told_past}
 use Rattle.moo_restore.specs.Records.{Records}
 use Rattle.moo_restore.specs.Faults.{IsWellPlaced, HasItsCells, IsHierarchyFault, IsCountFault}
 use Rattle.moo_restore.specs.Restoring.{IsEntryWithin, AreWithinLimits, IsFaultOf}
@@ -193,6 +193,10 @@ pub is_found : (bytes : List ℕ) (r : Result stored.Saved DbFault) → LoadAnsw
 is_found bytes (Ok s) h = record { text = h.text; spelled = answer_found limited bytes h.text h.answer; says = loose_text h.text (saved_of s) h.is; shaped = shaped s.world h.sound }
 is_found bytes (Err e) h = tt
 
+pub is_found_within : (bytes : List ℕ) (r : Result stored.Saved DbFault) → LoadAnswers r bytes → IfOk r (λ s. SpellsSavedWithin bytes (saved_of s))
+is_found_within bytes (Ok s) h = record { text = h.text; spelled = answer_spelled bytes h.text h.answer; says = h.is; formed = h.sound }
+is_found_within bytes (Err e) h = tt
+
 pub has_source : (P : List Line → Block → Type 0) (t : Text) (s : Saved) (k : IsTextOf P t s) → (o v : ℕ) (x : List Line) → entry_at t.programs o v ≡ Some x → (b : Block) × P x b
 has_source P t s k o v x e = some_source P (entry_at k.records.programs o v) x (subst (λ (y : Option (List Line)). HasSource P y (entry_at k.records.programs o v)) e (k.sources o v))
 
@@ -263,6 +267,11 @@ pub is_loaded_large : (bytes : List ℕ) (r : Result stored.Saved DbFault) → L
 is_loaded_large bytes (Ok s) h = tt
 is_loaded_large bytes (Err e) (inl told) = is_told_large bytes (Err e) told.refused
 is_loaded_large bytes (Err e) (inr told) = λ is. absurd (no_object_line e line.TooLarge bytes told is)
+
+pub is_loaded_past : (bytes : List ℕ) (r : Result stored.Saved DbFault) → LoadAnswers r bytes → IfErr r (λ e. e.kind ≡ kind.TooLarge → ¬ (Stand limited e.line bytes))
+is_loaded_past bytes (Ok s) h = tt
+is_loaded_past bytes (Err e) (inl told) = is_told_past bytes (Err e) told.refused
+is_loaded_past bytes (Err e) (inr told) = λ is. absurd (no_object_line e line.TooLarge bytes told is)
 
 -- ---- what is answered
 

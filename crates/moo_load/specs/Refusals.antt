@@ -1,7 +1,8 @@
 -- Why bytes are refused.
 use Rattle.std.specs.Prelude.{◌≡◌, ℕ, List, ◌++◌}
+use Rattle.moo_dbvalue.specs.Lines.{limited}
 use Rattle.moo_dbrecord.specs.Texts.{Text, Spells, SpellsWithin}
-use Rattle.moo_dbrecord.specs.Answer.{front_lines, StandWithoutLimits}
+use Rattle.moo_dbrecord.specs.Answer.{front_lines, Stand, StandWithoutLimits}
 use Rattle.moo_dbrecord.specs.declared.fault.DbFault.{DbFault}
 use Rattle.moo_dbrecord.specs.declared.fault.DbFaultKind.TheVariants as kind
 use Rattle.moo_dbrecord.specs.declared.fault.ProgramFault.{ProgramFault}
@@ -28,3 +29,5 @@ pub record Refuses (bytes : List ℕ) (e : DbFault) : Type 0 where
   pub size : e.kind ≡ kind.TooLarge → (more : List ℕ) (t : Text) → ¬ (SpellsWithin (front_lines e.line bytes ++ more) t)
   -- a size is told only of a line that can stand there but for its size
   pub large : e.kind ≡ kind.TooLarge → StandWithoutLimits e.line bytes
+  -- and that can't stand there with it
+  pub past : e.kind ≡ kind.TooLarge → ¬ (Stand limited e.line bytes)

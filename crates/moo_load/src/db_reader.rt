@@ -1,7 +1,7 @@
 //! A database text that comes in pieces.
 ghost use Rattle.std.specs.Prelude.{◌++◌, ℕ, List, [], OnOk, IfOk, IfErr, IsErrOf};
 ghost use Rattle.moo_dbrecord.specs.declared.fault.DbFault.{DbFault};
-ghost use Rattle.moo_saved.specs.Saved.{saved_of, SpellsSaved};
+ghost use Rattle.moo_saved.specs.Saved.{saved_of, SpellsSavedWithin};
 ghost use Rattle.moo_load.specs.Loading.{LoadAnswers, IsRefusedFrom};
 ghost use Rattle.moo_load.specs.Refusals.{Refuses};
 ghost use Rattle.moo_load.specs.Feeding.{HasFed, IsWell, HasRefused};
@@ -65,9 +65,9 @@ impl DbReader {
 
     /// The saved world of the whole text, once all of it has been fed.
     pub fn finish(self, alloc: Global) -> Result<Saved, DbFault>
-        // What is read is spelled so.
-        ensures found { (bytes : List ℕ) → HasFed self bytes → IfOk result (λ s. SpellsSaved bytes (saved_of s)) }
-        // What is told where the text is refused says why, as the clauses of `read_db` do.
+        // What is read is spelled so, within the limits.
+        ensures found { (bytes : List ℕ) → HasFed self bytes → IfOk result (λ s. SpellsSavedWithin bytes (saved_of s)) }
+        // What is told where the text is refused says why.
         ensures refused { (bytes : List ℕ) → HasFed self bytes → IfErr result (Refuses bytes) }
         // The answer that `read_db` gives for the same bytes.
         ensures answer { (bytes : List ℕ) → HasFed self bytes → LoadAnswers result bytes }

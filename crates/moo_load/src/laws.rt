@@ -1,6 +1,9 @@
 //! What follows from the definitions.
-ghost use Rattle.std.specs.Prelude.{ℕ, List, Result};
+ghost use Rattle.std.specs.Prelude.{◌≢◌, ◌++◌, ℕ, List, Result};
 ghost use Rattle.moo_dbrecord.specs.declared.fault.DbFault.{DbFault};
+ghost use Rattle.moo_dbrecord.specs.declared.fault.ProgramFault.{ProgramFault};
+ghost use Rattle.moo_dbrecord.specs.declared.fault.ProgramFaultKind.TheVariants.{TooDeep};
+ghost use Rattle.moo_dbprogram.specs.Faults.{IsProgramFault, through_program};
 ghost use Rattle.moo_saved.specs.Saved.{Saved, SpellsSaved, SpellsSavedWithin};
 ghost use Rattle.moo_saved.specs.declared.saved.Saved as stored;
 ghost use Rattle.moo_load.specs.Loading.{IsRefusedSo, LoadAnswers, IsKnown, AreAlike};
@@ -11,9 +14,16 @@ pub fn saved_within_limits_is_saved()
     ensures { (bytes : List ℕ) (s : Saved) → SpellsSavedWithin bytes s → SpellsSaved bytes s }
 {}
 
-/// What a reader answers where it refuses bytes says why, as the clauses of `read_db` do.
+/// What is told where bytes are refused says why.
 pub fn a_refusal_says_why()
     ensures { (bytes : List ℕ) (e : DbFault) → IsRefusedSo bytes e → Refuses bytes e }
+{}
+
+/// Where a program's fault is told, too deep ones aside, no bytes that begin with those up to the dot of this program spell a
+/// saved world.
+pub fn no_saved_world_goes_on_from_a_program()
+    ensures { (bytes : List ℕ) (line o v : ℕ) (f : ProgramFault) (h : IsProgramFault bytes line o v f) → f.kind ≢ TooDeep
+        → (more : List ℕ) (s : Saved) → ¬ (SpellsSaved (through_program h.place.before o v h.source ++ more) s) }
 {}
 
 /// Bytes have one answer, want of memory aside: the same saved world, or the same fault on the same line. Of a program that is none

@@ -1,16 +1,15 @@
 //! The records of a database, and its programs, without a world.
 use crate::databases::LARGER;
 use moo_dbprogram::{Database, read_programs};
-use moo_dbrecord::{read_records, write_records};
+use moo_dbrecord::read_records;
 use std::test::Fail;
 
 #[test]
-fn records_are_read_and_written(rt: HostRuntime) -> Result<(), Fail> {
+fn records_are_read(rt: HostRuntime) -> Result<(), Fail> {
     let alloc = rt.alloc();
     let dump = read_records(alloc, LARGER)?;
     assert_eq!(rt; dump.version, 4);
     assert_eq!(rt; dump.objects.len(), 4);
-    assert!(rt; write_records(alloc, &dump)?.as_slice() == LARGER.as_slice());
     Ok(())
 }
 

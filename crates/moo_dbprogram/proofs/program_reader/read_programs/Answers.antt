@@ -1,4 +1,4 @@
-use Rattle.moo_dbprogram.proofs.Whole.{is_found, is_read_only, is_read_within, is_placed, is_sized, is_told_large}
+use Rattle.moo_dbprogram.proofs.Whole.{is_found, is_read_only, is_read_within, is_placed, is_sized, is_told_large, is_told_past}
 use Rattle.moo_dbprogram.proofs.program_reader.read_programs.Goals as goal
 
 pub returns-clause-found : goal.returns-clause-found
@@ -18,3 +18,6 @@ returns-clause-size c = is_sized c.args.bytes.now c.read_all.result c.read_all.e
 
 pub returns-clause-large : goal.returns-clause-large
 returns-clause-large c = is_told_large c.args.bytes.now c.read_all.result c.read_all.ensures
+
+pub returns-clause-past : goal.returns-clause-past
+returns-clause-past c = is_told_past c.args.bytes.now c.read_all.result c.read_all.ensures

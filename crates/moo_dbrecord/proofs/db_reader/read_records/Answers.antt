@@ -1,5 +1,5 @@
 use Rattle.moo_dbrecord.proofs.ReadLaws.{is_found, is_only, is_within, is_in_place, is_too_large}
-use Rattle.moo_dbrecord.proofs.AnswerLarge.{is_large}
+use Rattle.moo_dbrecord.proofs.AnswerLarge.{is_large, is_past}
 use Rattle.moo_dbrecord.proofs.db_reader.read_records.Goals as goal
 
 pub returns-clause-found : goal.returns-clause-found
@@ -19,3 +19,6 @@ returns-clause-size c = is_too_large c.args.bytes.now c.read_all.result c.read_a
 
 pub returns-clause-large : goal.returns-clause-large
 returns-clause-large c = is_large c.args.bytes.now c.read_all.result c.read_all.ensures
+
+pub returns-clause-past : goal.returns-clause-past
+returns-clause-past c = is_past c.args.bytes.now c.read_all.result c.read_all.ensures

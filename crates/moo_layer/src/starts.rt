@@ -1,0 +1,23 @@
+//! Sessions that start from a saved world.
+ghost use Rattle.std.specs.Prelude.{◌≡◌, ◌↔◌, ℕ, List, IfOk};
+ghost use Rattle.moo_saved.specs.Saved as saving;
+ghost use Rattle.moo_saved.specs.Saved.{saved_of, SpellsSavedWithin};
+ghost use Rattle.moo_dbtext.specs.Canonical.{canonical};
+ghost use Rattle.moo_layer.specs.Sessions.{Started};
+
+use crate::{Asked, Sessions};
+use moo_saved::Saved;
+use std::alloc::{AllocError, Global};
+
+/// Sessions that start from a saved world and are saved as database texts.
+pub trait Starts: Sessions {
+    /// The hooks of the start run.
+    fn start(alloc: Global, saved: Saved, moment: u32) -> Result<(Self, Asked), AllocError>
+        ensures starts { IfOk result (λ given. Started Self.layer (saved_of saved) moment given.0 given.1) };
+
+    /// The text of a saved world is its canonical one.
+    ghost text_is: { (s : saving.Saved) → Self.layer.meaning.text_of s ≡ canonical s };
+
+    /// A text spells what it spells within the limits, as database texts do.
+    ghost spells_is: { (c : List ℕ) (s : saving.Saved) → Self.layer.meaning.Spells c s ↔ SpellsSavedWithin c s };
+}

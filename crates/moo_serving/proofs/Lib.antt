@@ -1,0 +1,10 @@
+mod Calling
+mod Coming
+mod Heard
+mod Idle
+pub mod Joining
+mod Marked
+mod Out
+mod Reported
+mod Running
+mod Taken

@@ -77,12 +77,13 @@ const ERROR: &str = ":  Parse error";
 fn faults_are_told(rt: HostRuntime) -> Result<(), Fail> {
     let alloc = rt.alloc();
     let returned = ["return ", ";"];
-    let comment =
-        "/* a comment that alone has more bytes than a path of a program may have nodes, so that it is long */";
+    // More tokens than a path of a program may have nodes: what stands behind them is no fault of depth.
+    let before =
+        "1;1;1;1;1;1;1;1;1;1;1;1;1;1;1;1;1;1;1;1;1;1;1;1;1;1;1;1;1;1;1;1;1;1;1;1;1;1;1;1;1;1;1;1;1;1;1;1;1;1;1;1;1;1;1;1;1;1;1;1;";
     are_told(alloc, Names::Any, &BAD_TARGETS, returned, ["Line ", TARGET])?;
     are_told(alloc, Names::Any, &UNEXPECTED, returned, ["Line ", ERROR])?;
     are_told(alloc, Names::Known, &FAULTS, ["", ""], ["", ""])?;
-    are_told(alloc, Names::Known, &FAULTS, [comment, ""], ["", ""])
+    are_told(alloc, Names::Known, &FAULTS, [before, ""], ["", ""])
 }
 
 // The lines, each with an end, are this text with `end` behind it.

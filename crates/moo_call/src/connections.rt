@@ -21,9 +21,8 @@ pub(crate) fn connected_players(
     ensures { IsKnownFailure result → answers (connected_players (surroundings_of around.now) (trees args.now)) ≡ seen_answer result }
 {
     let all = is_asked(args);
-    let connections = around.connections;
     let mut players = Vec::new(alloc);
-    for connection in connections {
+    for connection in around.connections {
         push_who(&mut players, all, connection)?;
     }
     Ok(operation::list(alloc, players)?)

@@ -1,0 +1,5 @@
+pub mod Gathering
+pub mod Clients
+pub mod Connections
+pub mod Changes
+pub mod Streams

@@ -1,0 +1,19 @@
+//! The open connections of a server: who is on them, since when, and what each keeps (docs/SESSIONS.md).
+#![tactic(auto)]
+
+mod client;
+mod connections;
+mod gathering;
+mod hearing;
+mod keeping;
+mod leaving;
+mod lookup;
+mod opening;
+mod playing;
+mod sent;
+
+pub use client::Client;
+pub use connections::Connections;
+pub use gathering::Gathering;
+pub use moo_outcome::{Connection, Login, own_number};
+pub use sent::Sent;

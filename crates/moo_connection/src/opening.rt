@@ -1,0 +1,82 @@
+//! Connections that are opened and freed.
+ghost use Rattle.std.specs.Prelude.{◌≡◌, ◌≤◌, None, length, position, OnOk};
+ghost use Rattle.std.specs.List.{position_or_len, insert};
+ghost use Rattle.moo_connection.specs.Clients.{is_number, is_above, without_first};
+ghost use Rattle.moo_connection.specs.Connections.{client_here, AreInOrder, HaveOwnPlayers};
+ghost use Rattle.moo_connection.specs.Changes.{joined, freed};
+
+use crate::client::Client;
+use crate::connections::Connections;
+use std::alloc::AllocError;
+
+impl Connections {
+    /// A connection is opened at this moment, in seconds. `Err` where memory is wanting.
+    pub fn join(&mut self, number: u16, moment: u32) -> Result<(), AllocError>
+        requires { client_here number self.old ≡ None }
+        ensures { OnOk result (self.new ≡ joined number moment self.old) }
+    {
+        let client = Client::new(self.alloc, number, moment)?;
+        let place = place_for(&self.clients, number);
+        self.put(place, client)
+    }
+
+    fn put(&mut self, place: usize, client: Client) -> Result<(), AllocError>
+        requires inside { place ≤ length self.old.clients }
+        requires order { AreInOrder (insert self.old.clients place client) }
+        requires players { HaveOwnPlayers (insert self.old.clients place client) }
+        ensures { OnOk result (self.new ≡ record self.old { clients = insert self.old.clients place client }) }
+    {
+        let connection = client.connection;
+        self.clients.insert(place, client)?;
+        if self.row.insert(place, connection).is_err() {
+            let _client = self.clients.remove(place);
+            return Err(AllocError);
+        }
+        Ok(())
+    }
+
+    /// The number of a connection is free again.
+    pub fn free(&mut self, number: u16)
+        ensures { self.new ≡ freed number self.old }
+    {
+        free_number(&mut self.leaving, number);
+        let Some(place) = self.place_here(number) else {
+            return;
+        };
+        let _client = self.clients.remove(place);
+        let _connection = self.row.remove(place);
+    }
+}
+
+fn free_number(leaving: &mut Vec<u16>, number: u16)
+    ensures { leaving.new.items ≡ without_first (is_number number) leaving.old.items }
+{
+    if let Some(place) = place_of(leaving, number) {
+        let _number = leaving.remove(place);
+    }
+}
+
+fn place_of(numbers: &[u16], number: u16) -> Option<usize>
+    ensures { result ≡ position (is_number number) numbers.now }
+{
+    numbers.iter().position(|other| *other == number)
+}
+
+// The place before the first connection of a higher number.
+fn place_for(clients: &[Client], number: u16) -> usize
+    ensures place { result ≡ position_or_len (is_above number) clients.now }
+    ensures inside { result ≤ length clients.now }
+{
+    match place_above(clients, number) {
+        Some(place) => place,
+        None => clients.len(),
+    }
+}
+
+fn place_above(clients: &[Client], number: u16) -> Option<usize>
+    ensures { result ≡ position (is_above number) clients.now }
+{
+    clients
+        .iter()
+        .position(|client| number < client.connection.number)
+}

@@ -1,0 +1,5 @@
+pub mod Session
+pub mod State
+pub mod Sending
+pub mod Leaving
+pub mod Notices

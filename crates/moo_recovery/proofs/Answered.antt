@@ -13,7 +13,7 @@ use Rattle.moo_load.specs.declared.db_reader.DbReader.{DbReader}
 use Rattle.moo_load.specs.Feeding.{HasFed}
 use Rattle.moo_load.specs.Loading.{IsRefusedSo, IsRefusedFrom}
 use Rattle.moo_load.specs.Refusals.{Refuses}
-use Rattle.moo_load.proofs.Whole.{is_found, is_loaded_within}
+use Rattle.moo_load.proofs.Whole.{is_found, is_found_within, is_loaded_within}
 use Rattle.moo_load.proofs.Pieces.{refusal_says}
 use Rattle.moo_recovery.specs.Recovering.{CountsFault, IsToldAs, Keeps, Recovers, Tells, front_to}
 use Rattle.moo_recovery.specs.declared.open_fault.OpenFault.{OpenFault}
@@ -97,6 +97,10 @@ fed_to r old mid next end same is h = subst (λ (t : List ℕ). HasFed r (front_
 pub recovers_found : (text : List ℕ) (r : Result stored.Saved OpenFault) → Recovers text r → IfOk r (λ s. SpellsSaved text (saved_of s))
 recovers_found text (Ok s) h = is_found text (Ok s) h
 recovers_found text (Err e) h = tt
+
+pub recovers_sizes : (text : List ℕ) (r : Result stored.Saved OpenFault) → Recovers text r → IfOk r (λ s. SpellsSavedWithin text (saved_of s))
+recovers_sizes text (Ok s) h = is_found_within text (Ok s) h
+recovers_sizes text (Err e) h = tt
 
 pub recovers_within : (text : List ℕ) (r : Result stored.Saved OpenFault) → Recovers text r → (s : Saved) → SpellsSavedWithin text s
     → MatchResult r (λ x. saved_of x ≡ s) (λ e. (e ≡ Device) ⊎ (e ≡ Memory))

@@ -102,12 +102,16 @@ fn recover_all<D: Disk>(alloc: Global, disk: &mut D) -> Result<Saved, OpenFault>
 pub fn recover<D: Disk>(alloc: Global, disk: &mut D) -> Result<Saved, OpenFault>
     // What is answered is spelled by the main text.
     ensures found { D.honest disk.old → IfOk result (λ s. SpellsSaved (D.view disk.old).main_text (saved_of s)) }
+    // So it is within the limits on sizes.
+    ensures sizes { D.honest disk.old → IfOk result (λ s. SpellsSavedWithin (D.view disk.old).main_text (saved_of s)) }
     // What it spells within the limits is answered, unless the device fails or memory ends it.
     ensures within { D.honest disk.old → (s : saving.Saved) → SpellsSavedWithin (D.view disk.old).main_text s
         → MatchResult result (λ r. saved_of r ≡ s) (λ e. (e ≡ OpenFault.Device) ⊎ (e ≡ OpenFault.Memory)) }
     // Where the text is refused, this is what is told of it; want of memory is told by itself.
     ensures refused { D.honest disk.old → IfErr result (λ e. (f : DbFault) → e ≡ OpenFault.Db f
         → Refuses (D.view disk.old).main_text f × (f.kind ≢ kind.Memory)) }
+    // The answer that the reader gives for the same bytes.
+    ensures exact { D.honest disk.old → Recovers (D.view disk.old).main_text result }
     // The device is told where it failed in this call, and nowhere else.
     ensures device { CountsDevice (D.honest disk.old) (D.failures disk.old) (D.failures disk.new) result }
     // Nothing is written.

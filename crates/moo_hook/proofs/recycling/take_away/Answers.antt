@@ -12,7 +12,7 @@ pub returns-in_err-told : goal.returns-in_err-told
 unfolding taken_away
 returns-in_err-told c =
     let o = to_z-of_z w32 c.args.o c.ranges.o in
-    let p = err_from_is_err_and c.from_residual-in_err-told.result c.from_residual-in_err-told.ensures.1 in
+    let p = err_from_is_err_and c.from_residual.result c.from_residual.ensures.1 in
     rw (p.1, p.2) (λ k. refused c.recycle_bare.result _ _ _ _ _ _ (simp o at c.recycle_bare.ensures.world) (sym c.in_err-told.ensures) k)
 
 pub returns : goal.returns

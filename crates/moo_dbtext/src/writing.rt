@@ -8,7 +8,26 @@ ghost use Rattle.moo_dbtext.specs.Canonical.{canonical};
 use moo_dump::write_world;
 use moo_load::{DbFault, DbFaultKind, read_db};
 use moo_saved::Saved;
+use moo_world::World;
 use std::alloc::{AllocError, Global};
+
+/// The database text of a world, and of the numbers of those who are connected, for a caller that keeps the two apart.
+pub fn write_world_and_connected(
+    alloc: Global,
+    world: &World,
+    connected: &[i32],
+) -> Result<Vec<u8>, AllocError>
+    // It is the canonical text.
+    ensures canonical { IfOk result (λ bytes. bytes.items ≡ canonical (record { world = world.now; connected = connected.now })) }
+    // It spells the two, unless the number of those who are connected has more than 32 bits.
+    ensures spelled { IfOk result (λ bytes. IsCountOf unlimited (length connected.now) → SpellsSaved bytes.items (record { world = world.now; connected = connected.now })) }
+    // It is within the limits on sizes, where not too many are connected.
+    ensures within { IfOk result (λ bytes. IsCountOf limited (length connected.now) → SpellsSavedWithin bytes.items (record { world = world.now; connected = connected.now })) }
+{
+    world.is_well_formed();
+    let bytes = write_world(alloc, world, connected)?;
+    Ok(bytes)
+}
 
 /// The database text of a saved world.
 pub fn write_db(alloc: Global, saved: &Saved) -> Result<Vec<u8>, AllocError>
@@ -19,9 +38,7 @@ pub fn write_db(alloc: Global, saved: &Saved) -> Result<Vec<u8>, AllocError>
     // It is within the limits on sizes, where not too many are connected.
     ensures within { IfOk result (λ bytes. IsCountOf limited (length saved.now.connected.items) → SpellsSavedWithin bytes.items (saved_of saved.now)) }
 {
-    saved.world.is_well_formed();
-    let bytes = write_world(alloc, &saved.world, &saved.connected)?;
-    Ok(bytes)
+    write_world_and_connected(alloc, &saved.world, &saved.connected)
 }
 
 fn written(alloc: Global, saved: &Saved) -> Result<Vec<u8>, DbFault>

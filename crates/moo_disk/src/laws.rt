@@ -1,9 +1,11 @@
 //! What holds of calls one after another, whatever the disk is.
-ghost use Rattle.std.specs.Prelude.{◌≡◌, ◌⊎◌, ◌≤◌, ℕ, List, Contains};
-ghost use Rattle.moo_disk.specs.Disk.{Gains, IsLeftBy, LeavesOnly};
+ghost use Rattle.std.specs.Prelude.{◌≡◌, ◌⊎◌, ◌↔◌, ◌≤◌, ℕ, List, Contains};
+ghost use Rattle.moo_disk.specs.Disk.{Gains, IsLeftBy, KeepsMain, KeepsSpare, LeavesOnly};
+ghost use Rattle.moo_disk.specs.FailAt.{inner_of};
 ghost use Rattle.moo_disk.specs.Histories.{History};
+ghost use Rattle.moo_disk.specs.declared.fail_at.FailAt.{FailAt};
 
-use crate::Disk;
+use crate::{Disk, FailAt};
 
 /// All in all, calls bring what each of them brings, and the clock isn't set back.
 pub fn a_history_gains<D: Disk>()
@@ -31,4 +33,17 @@ pub fn a_settled_text_stays<D: Disk>()
 pub fn a_crash_leaves_what_may_be_left<D: Disk>()
     ensures { (disk left : D) (t : ℕ) → D.honest disk → t ≤ (D.view disk).clock
         → IsLeftBy (D.view disk) (D.view left) → (D.view disk).left_since t (D.view left).main_text }
+{}
+
+/// Between two calls a disk may be made to fail in another call, or in none: nothing is written or gained, and it is as honest as
+/// before.
+pub fn a_failing_disk_keeps_what_it_had<D: Disk>()
+    ensures main { (old new : FailAt D) → inner_of new ≡ inner_of old
+        → KeepsMain (⟦<FailAt<D> as Disk>⟧.view old) (⟦<FailAt<D> as Disk>⟧.view new) }
+    ensures spare { (old new : FailAt D) → inner_of new ≡ inner_of old
+        → KeepsSpare (⟦<FailAt<D> as Disk>⟧.view old) (⟦<FailAt<D> as Disk>⟧.view new) }
+    ensures honest { (old new : FailAt D) → inner_of new ≡ inner_of old
+        → ⟦<FailAt<D> as Disk>⟧.honest old ↔ ⟦<FailAt<D> as Disk>⟧.honest new }
+    ensures stands { (old new : FailAt D) → inner_of new ≡ inner_of old
+        → ⟦<FailAt<D> as Disk>⟧.stands old ↔ ⟦<FailAt<D> as Disk>⟧.stands new }
 {}

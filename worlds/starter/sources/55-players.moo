@@ -1,0 +1,410 @@
+// Players: what everybody can do, guests too.
+
+@property $player.password - wiz = 0
+@property $player.ownership_quota r wiz = 20
+@property $player.home r wiz = #2
+@property $player.last_place r wiz = #-1
+@property $player.last_connect r wiz = 0
+@property $player.last_disconnect r wiz = 0
+@property $player.first_connect r wiz = 0
+@property $player.lesson r = 1
+@property $player.gender rc = "they"
+
+@program $player:tell this none this rxd wiz
+notify(this, tostr(@args));
+.
+
+@program $player:tell_lines this none this rxd wiz
+for l in (args[1])
+  notify(this, tostr(l));
+endfor
+.
+
+@program $player:accept this none this rxd
+{what} = args;
+return !is_player(what) && length(this.contents) < 50;
+.
+
+@program $player:look_self this none this rxd
+{who} = args;
+lines = $string:lines(`this.description ! ANY => ""');
+g = `this.gender ! ANY => ""';
+g = g in {"she", "he", "it", "they"} ? g | "they";
+who:tell(this.name, " (", g, ")");
+who:tell_lines(lines ? lines | {"Nobody special, so far."});
+if (!is_player(this))
+  return;
+elseif (!(this in connected_players()))
+  who:tell("Asleep, somewhere.");
+elseif (idle_seconds(this) >= 300)
+  who:tell("Lost in thought for ", $time:span(idle_seconds(this)), ".");
+endif
+names = {};
+for o in (this.contents)
+  names = {@names, o.name};
+endfor
+if (names)
+  who:tell_lines($string:wrap("Carries: " + $string:join(names, ", ") + "."));
+endif
+.
+
+// Called when it has connected; args[1] is true for one that is new.
+@program $player:confunc this none this rxd wiz
+if (caller != #0 && caller != this)
+  raise(E_PERM);
+endif
+this.last_connect = time();
+if (valid(this.location))
+  this.location:look_self(this);
+else
+  for place in ({this.last_place, this.home, $login.start})
+    if ($isa(place, $room) && `place:accept(this) ! ANY => 0')
+      place:announce(this.name + " steps out of the mist.", {this});
+      move(this, place);
+      break;
+    endif
+  endfor
+endif
+if (args[1])
+  notify(this, "");
+  notify(this, "Welcome, " + this.name + "! If you are new to worlds like this, find the schoolroom:");
+  notify(this, "type  north,  then  east.  Or type  help.");
+elseif ($news.changed > this.last_disconnect)
+  notify(this, "There is news: type  news.");
+endif
+if (this.wizard && this.password == "")
+  notify(this, "");
+  notify(this, "!! YOU HAVE NO PASSWORD. Anybody who can reach this port can connect as you.");
+  notify(this, "!! Type  @password NEW  now. (It will stand readable in the world's file.)");
+endif
+.
+
+// Called when it has disconnected: it leaves the room, and comes back to it.
+@program $player:disfunc this none this rxd wiz
+if (caller != #0 && caller != this)
+  raise(E_PERM);
+endif
+this.last_disconnect = time();
+place = this.location;
+if (valid(place))
+  this.last_place = place;
+  // first the body goes: what verbs of the room do can't keep it there
+  move(this, #-1);
+  place:announce(this.name + " fades into the mist.", {this});
+endif
+.
+
+@program $player:"l*ook" any any any rd
+here = player.location;
+if (!argstr || argstr == "here")
+  if (!valid(here))
+    player:tell("You are nowhere. Type home.");
+    return;
+  endif
+  here:look_self(player);
+  here:noticed(player, "look", here);
+  return;
+endif
+if (prepstr == "at" && !dobjstr)
+  text = iobjstr;
+  o = iobj;
+elseif (prepstr in {"in", "inside", "into"} && !dobjstr)
+  o = valid(iobj) ? iobj | $match:object(iobjstr, player);
+  if ($match:found(o, iobjstr, player))
+    o:look_inside(player);
+  endif
+  return;
+elseif (prepstr in {"in", "on", "from"} && dobjstr && valid(iobj))
+  text = dobjstr;
+  o = (`iobj.opened ! ANY => 0') || iobj == player || iobj == here ? $match:among(text, iobj.contents) | #-3;
+else
+  text = argstr;
+  o = dobj;
+endif
+if (!valid(o))
+  o = o == #-2 ? o | $match:object(text, player);
+endif
+if ($match:found(o, text, player))
+  o:look_self(player);
+  if (valid(here))
+    here:noticed(player, "look", o);
+  endif
+endif
+.
+
+@program $player:"i*nventory" none none none rd
+names = {};
+for o in (player.contents)
+  names = {@names, o.name};
+endfor
+player:tell_lines($string:wrap(names ? "You carry: " + $string:join(names, ", ") + "." | "You carry nothing."));
+.
+
+@program $player:"@who who" any any any rd
+$login:who(player);
+.
+
+@program $player:"help @help ?" any any any rd
+$help:show(player, argstr);
+.
+
+@program $player:"news @news" none none none rd
+$news:show(player);
+.
+
+// `page` and `whisper` are wizards' verbs so that they can tell somebody else without a verb of his.
+@program $player:"page" any any any rd wiz
+i = index(argstr, " ");
+if (player != this)
+  return;
+elseif (!i)
+  player:tell("Page whom, and what? For example: page ", player.name, " hello");
+  return;
+endif
+text = $string:trim(argstr[i..$]);
+o = $match:player(args[1]);
+if (!valid(o))
+  player:tell(o == #-2 ? "More than one player's name begins so." | "There is no player of that name.");
+elseif (!(o in connected_players()))
+  player:tell(o.name, " isn't connected.");
+else
+  here = player.location;
+  notify(o, tostr(player.name, " pages you", valid(here) ? " from " + here.name | "", ": ", text));
+  player:tell("You page ", o.name, ".");
+  if (idle_seconds(o) >= 300)
+    player:tell(o.name, " has been idle for ", $time:span(idle_seconds(o)), ".");
+  endif
+endif
+.
+
+// whisper TEXT to NAME, or whisper NAME TEXT
+@program $player:"wh*isper" any any any rd wiz
+if (player != this)
+  return;
+endif
+here = player.location;
+people = {};
+for o in (valid(here) ? here.contents | {})
+  if (is_player(o))
+    people = {@people, o};
+  endif
+endfor
+n = length(args);
+if (n >= 3 && args[n - 1] == "to")
+  name = args[n];
+  text = $string:join(args[1..n - 2]);
+elseif (n >= 2)
+  name = args[1];
+  text = $string:join(args[2..n]);
+else
+  player:tell("For example: whisper \"the key is under the mat\" to ", player.name);
+  return;
+endif
+o = name == "me" ? player | $match:among(name, people);
+if ($match:found(o, name, player))
+  notify(o, tostr(player.name, " whispers to you: ", text));
+  player:tell("You whisper to ", o.name, ".");
+endif
+.
+
+@program $player:"@quit quit" none none none rd wiz
+if (player == this)
+  notify(player, "Goodbye.");
+  boot_player(player);
+endif
+.
+
+@program $player:"@desc*ribe" any any any rd wiz
+if (player != this)
+  return;
+endif
+set_task_perms(player);
+p = $string:split(args, "as");
+if (!p || !p[1])
+  player:tell("For example: @describe me as A quiet person with a wet umbrella.");
+  return;
+endif
+o = $match:object(p[1], player);
+if (!$match:found(o, p[1], player))
+  return;
+elseif (!$controls(player, o))
+  player:tell(o.name, " isn't yours.");
+  return;
+endif
+try
+  o.description = p[2];
+  player:tell(o == player ? "You are" | o.name + " is", " described.");
+except e (ANY)
+  player:tell("That can't be done: ", e[2], ".");
+  return;
+endtry
+if (valid(player.location))
+  player.location:noticed(player, "describe", o);
+endif
+.
+
+@program $player:@gender any any any rd wiz
+if (player != this)
+  return;
+endif
+set_task_perms(player);
+if (argstr in {"she", "he", "it", "they"})
+  player.gender = argstr;
+  player:tell("You are spoken of as \"", argstr, "\".");
+else
+  player:tell("Type  @gender she,  he,  it  or  they. You are \"", player.gender, "\".");
+endif
+.
+
+@program $player:home none none none rd wiz
+if (player != this)
+  return;
+endif
+here = player.location;
+// from nowhere the way leads to the first room, whatever became of the home
+dest = valid(here) && $isa(player.home, $room) ? player.home | $login.start;
+if (here == dest)
+  player:tell("You are at home.");
+  return;
+endif
+for place in ({dest, $login.start})
+  if (player.location == here && `place:accept(player) ! ANY => 0')
+    if (valid(here))
+      here:announce(player.name + " goes home.", {player});
+    endif
+    move(player, place);
+    place:announce(player.name + " comes home.", {player});
+  endif
+endfor
+.
+
+@program $player:@sethome none none none rd wiz
+if (player != this)
+  return;
+endif
+here = player.location;
+if (!$isa(here, $room) || !($controls(player, here) || `here.free_home ! ANY => 0'))
+  player:tell("You can't live here. A room of your own is a home: help @dig.");
+else
+  player.home = here;
+  player:tell("Your home is ", here.name, ".");
+endif
+.
+
+@program $player:@password any any any rd wiz
+if (player != this || !$isa(player, $builder))
+  player:tell("Guests have no password.");
+  return;
+elseif (player.password == "")
+  if (length(args) != 1)
+    player:tell("Type  @password NEW.");
+    return;
+  endif
+  new = args[1];
+elseif (length(args) != 2)
+  player:tell("Type  @password OLD NEW.");
+  return;
+elseif (!equal(player.password, args[1]))
+  player:tell("Your old password is another one.");
+  return;
+else
+  new = args[2];
+endif
+if (length(new) < 5 || length(new) > 60)
+  player:tell("A password has 5 to 60 characters.");
+else
+  player.password = new;
+  player:tell("Your password is changed. It stands readable in the world's file: use it nowhere else.");
+endif
+.
+
+@program $player:"@exam*ine examine exam" any any any rd
+o = valid(dobj) ? dobj | $match:object(argstr, player);
+if (!$match:found(o, argstr, player))
+  return;
+endif
+owner = o.owner;
+player:tell(o.name, " (", o, "), owned by ", valid(owner) ? owner.name | "nobody", " (", owner, ")");
+names = `o.aliases ! ANY => {}';
+if (names && typeof(names) == LIST)
+  player:tell_lines($string:wrap("Also called: " + $string:join(names[1..min(20, length(names))], ", ") + "."));
+endif
+player:tell("A kind of: ", valid(parent(o)) ? tostr(parent(o).name, " (", parent(o), ")") | "nothing");
+player:tell_lines($string:lines(`o.description ! ANY => ""'));
+if (o.contents && $controls(player, o))
+  inside = {};
+  for c in (o.contents[1..min(50, length(o.contents))])
+    inside = {@inside, tostr(c.name, " (", c, ")")};
+  endfor
+  player:tell_lines($string:wrap("Contents: " + $string:join(inside, ", ") + "."));
+endif
+lines = {};
+k = o;
+while (valid(k) && k != #1 && !(k in {$player, $builder, $prog, $wiz, $guest, $room}) && length(lines) < 40)
+  for i in [1..length(`verbs(k) ! E_PERM => {}')]
+    a = `verb_args(k, i) ! E_PERM => {}';
+    if (a && "this" in {a[1], a[3]} && a != {"this", "none", "this"})
+      w = $string:explode(verb_info(k, i)[3])[1];
+      w = strsub(w, "*", "");
+      d = a[1] == "this" ? " " + o.name | (a[1] == "any" ? " ANYTHING" | "");
+      d2 = a[3] == "this" ? " " + o.name | (a[3] == "any" ? " ANYTHING" | "");
+      q = a[2] in {"none", "any"} ? "" | " " + $string:explode(a[2], "/")[a[2] in {"at/to", "on top of/on/onto/upon"} ? 2 | 1];
+      lines = {@lines, tostr("  ", w, d, q, d2)};
+    endif
+  endfor
+  k = parent(k);
+endwhile
+if (lines)
+  player:tell("Commands:");
+  player:tell_lines(lines);
+endif
+.
+
+// post TEXT: writes on the board of the room
+@program $player:post any any any rd
+for o in (valid(player.location) ? player.location.contents | {})
+  if ($isa(o, $board))
+    return o:add(argstr);
+  endif
+endfor
+player:tell("There is no notice board here.");
+.
+
+// Guests: they lend a body, and leave it as they found it.
+
+@program $guest:disfunc this none this rxd wiz
+if (caller != #0)
+  raise(E_PERM);
+endif
+pass();
+this:restore();
+.
+
+@program $guest:confunc this none this rxd wiz
+if (caller != #0)
+  raise(E_PERM);
+endif
+// once more: a stop of the server, or a verb of a room, may have kept the last guest's body as it was
+this:restore();
+pass(0);
+notify(this, tostr("You are a guest, called ", this.name, ". Type  help  to see what you can do."));
+.
+
+// As it was lent: at home in the first room, undescribed, with empty hands.
+@program $guest:restore this none this rxd wiz
+if (caller != this)
+  raise(E_PERM);
+endif
+place = $isa(this.last_place, $room) && this.last_place.owner == $keeper ? this.last_place | $login.start;
+this.home = $login.start;
+this.last_place = #-1;
+this.lesson = 1;
+clear_property(this, "description");
+clear_property(this, "gender");
+if (valid(this.location))
+  `move(this, #-1) ! ANY';
+endif
+for o in (this.contents)
+  move(o, place);
+endfor
+.

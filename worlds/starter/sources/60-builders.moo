@@ -1,0 +1,410 @@
+// Builders: every player that was created. What they do is done with their own rights.
+
+@program $builder:@rename any any any rd wiz
+if (player != this)
+  return;
+endif
+p = $string:split(args, "to");
+if (!p || !p[1] || !p[2])
+  player:tell("For example: @rename lamp to brass lamp,lamp,light");
+  return;
+endif
+o = $match:object(p[1], player);
+if (!$match:found(o, p[1], player))
+  return;
+elseif (!$controls(player, o))
+  player:tell(o.name, " isn't yours.");
+  return;
+endif
+names = {};
+if (length(p[2]) > 600)
+  player:tell("That is too long for names.");
+  return;
+endif
+for n in ($string:explode(p[2], ","))
+  n = $string:trim(n);
+  fault = is_player(o) ? $login:name_fault(n, o) | $string:name_fault(n);
+  if (fault)
+    player:tell(fault);
+    return;
+  endif
+  names = {@names, n};
+  if (length(names) > 10)
+    player:tell("Ten names are enough.");
+    return;
+  endif
+endfor
+if (!names)
+  player:tell("A name is wanted.");
+  return;
+endif
+// only a wizard sets a player's name; so the verb is a wizard's, behind the questions above
+o.name = names[1];
+if (!is_player(o))
+  set_task_perms(player);
+endif
+`o.aliases = names[2..$] ! E_PROPNF, E_PERM';
+player:tell("It is called ", $string:join(names, ", "), " (", o, ") now.");
+.
+
+// @create PARENT named NAME,OTHER NAME
+@program $builder:@create any any any rd wiz
+if (player != this)
+  return;
+endif
+set_task_perms(player);
+p = $string:split(args, "named");
+p = p ? p | $string:split(args, "called");
+if (!p || !p[1] || !p[2])
+  player:tell("For example: @create $thing named brass lamp,lamp");
+  return;
+endif
+kind = $match:object(p[1], player);
+if (!$match:found(kind, p[1], player))
+  return;
+elseif ($isa(kind, $room) || $isa(kind, $exit))
+  player:tell("Rooms and exits are made by @dig.");
+  return;
+endif
+names = this:names_of(p[2]);
+if (!names)
+  return;
+endif
+try
+  o = create(kind);
+  o.name = names[1];
+  o.r = 1;
+  if (length(names) > 1)
+    o.aliases = names[2..$];
+  endif
+  move(o, player);
+  player:tell("You have made ", names[1], " (", o, "). ", this:quota_text());
+except e (E_QUOTA)
+  player:tell("Your quota is used up. @recycle something, or ask a wizard.");
+except e (ANY)
+  player:tell("That can't be made: ", e[2], ".");
+endtry
+.
+
+// The names in TEXT, or {} where one is no name (the player is told).
+@program $builder:names_of this none this rxd
+names = {};
+if (length(args[1]) > 600)
+  player:tell("That is too long for names.");
+  return {};
+endif
+for n in ($string:explode(args[1], ","))
+  n = $string:trim(n);
+  fault = $string:name_fault(n);
+  if (fault)
+    player:tell(fault);
+    return {};
+  endif
+  names = {@names, n};
+endfor
+if (!names || length(names) > 10)
+  player:tell("One to ten names are wanted.");
+  return {};
+endif
+return names;
+.
+
+@program $builder:quota_text this none this rxd
+q = `this.ownership_quota ! ANY => 0';
+return typeof(q) == INT ? tostr("You can make ", q, " more.") | "";
+.
+
+@program $builder:@quota none none none rd
+if (player == this)
+  player:tell(this:quota_text());
+endif
+.
+
+@program $builder:@recycle any any any rd wiz
+if (player != this)
+  return;
+endif
+set_task_perms(player);
+o = $match:object(argstr, player);
+if (!$match:found(o, argstr, player))
+  return;
+elseif (is_player(o))
+  player:tell("Players aren't recycled.");
+  return;
+elseif (!$controls(player, o))
+  player:tell(o.name, " isn't yours.");
+  return;
+endif
+name = tostr(o.name, " (", o, ")");
+try
+  recycle(o);
+  player:tell(name, " is gone. ", this:quota_text());
+except e (ANY)
+  player:tell("That can't be recycled: ", e[2], ".");
+endtry
+.
+
+// @dig NAME; @dig north,n to NAME or #12; @dig north,n|south,s to NAME
+@program $builder:"@dig @link" any any any rd wiz
+if (player != this)
+  return;
+endif
+set_task_perms(player);
+here = player.location;
+p = $string:split(args, "to");
+if (!argstr || (p && !(p[1] && p[2])) || (verb == "@link" && !p))
+  player:tell("For example: @dig The Attic   or: @dig up,u|down,d to The Attic   or: @link up,u to #12");
+  return;
+endif
+to = p ? p[2] | argstr;
+room = #-3;
+if (verb == "@link" || to[1] == "#" || to[1] == "$")
+  room = to == "here" ? here | $match:object(to, player);
+  if (!$isa(room, $room))
+    player:tell("There is no room ", $string:quoted(to), ".");
+    return;
+  endif
+elseif (fault = $string:name_fault(to))
+  player:tell(fault);
+  return;
+endif
+ways = {};
+for w in (p ? $string:explode(p[1], "|") | {})
+  names = this:names_of(w);
+  if (!names)
+    return;
+  endif
+  ways = {@ways, names};
+endfor
+if (length(ways) > 2)
+  player:tell("A way there, and perhaps a way back: that is all.");
+  return;
+endif
+fresh = !valid(room);
+if (ways && !(`here.free_exits ! ANY => 0') && !$controls(player, here))
+  player:tell("You can't make exits here: the room isn't yours. The meadow is free to all.");
+  return;
+elseif (length(ways) == 2 && !fresh && !$controls(player, room) && !`room.free_exits ! ANY => 0')
+  player:tell("You can't make an exit there: the room isn't yours.");
+  return;
+endif
+try
+  if (fresh)
+    room = create($room);
+    room.name = to;
+    room.r = 1;
+    player:tell("You have dug ", to, " (", room, ").");
+  endif
+  if (ways)
+    this:make_exit(ways[1], here, room);
+    if (length(ways) == 2)
+      this:make_exit(ways[2], room, here);
+    endif
+  elseif (fresh)
+    player:tell("Nothing leads there yet. Type  @go ", room, ".");
+  endif
+except e (E_QUOTA)
+  player:tell(e[2] == "Resource limit exceeded" ? "Your quota is used up." | "That can't be done: " + e[2] + ".");
+except e (ANY)
+  player:tell("That can't be done: ", e[2], ".");
+endtry
+player:tell(this:quota_text());
+.
+
+// Makes an exit with the caller's rights; one that can't be hung up is taken away again.
+@program $builder:make_exit this none this rxd wiz
+set_task_perms(caller_perms());
+{names, from, to} = args;
+e = create($exit);
+try
+  e.name = names[1];
+  e.aliases = names[2..$];
+  e.r = 1;
+  e:set_ends(from, to);
+  from:add_exit(e);
+except x (ANY)
+  recycle(e);
+  raise(x[1], x[2]);
+endtry
+this:tell("You have made the exit ", names[1], " (", e, ") from ", from.name, " to ", to.name, ".");
+return e;
+.
+
+// @go ROOM: to a room of one's own, or home
+@program $builder:@go any any any rd wiz
+if (player != this)
+  return;
+endif
+room = $match:object(argstr, player);
+if (!$match:found(room, argstr, player))
+  return;
+elseif (!$isa(room, $room) || !($controls(player, room) || room == player.home))
+  player:tell("You can go so to rooms of your own only.");
+  return;
+elseif (room == player.location)
+  player:tell("You are there.");
+  return;
+endif
+from = player.location;
+if (valid(from))
+  from:announce(player.name + " leaves by no exit that you can see.", {player});
+endif
+move(player, room);
+room:announce(player.name + " is here all of a sudden.", {player});
+.
+
+// @audit, @audit NAME, @audit NAME from #N
+@program $builder:@audit any any any rd
+if (player != this)
+  return;
+endif
+text = dobjstr ? dobjstr | "me";
+who = text == "me" ? player | $match:player(text);
+if (!$match:found(who, text, player))
+  return;
+endif
+o = prepstr == "from" ? toint(toobj(iobjstr)) | 0;
+o = max(o, 0);
+n = 0;
+end = toint(max_object());
+while (o <= end)
+  to = min(end, o + 99);
+  for x in [toobj(o)..toobj(to)]
+    if (valid(x) && x.owner == who)
+      n = n + 1;
+      place = x.location;
+      player:tell($string:right(x, 7), "  ", $string:left(x.name, 30), " ", valid(parent(x)) ? "[" + parent(x).name + "] " | "", valid(place) ? "in " + place.name | "");
+    endif
+  endfor
+  o = to + 1;
+  if (ticks_left() < 25000 && o <= end)
+    player:tell("That is the list up to #", to, ". For more: @audit ", who.name, " from #", o);
+    return;
+  endif
+endwhile
+player:tell(n, n == 1 ? " object." | " objects.");
+.
+
+// @set OBJECT.PROPERTY to VALUE: a number, #12, "text" or text
+@program $builder:@set any any any rd wiz
+if (player != this)
+  return;
+endif
+set_task_perms(player);
+i = index(argstr, " to ");
+if (!i)
+  player:tell("For example: @set lamp.lit to 1   or: @set north.leave_msg to climbs the stairs.");
+  return;
+endif
+p = $match:part($string:trim(argstr[1..i - 1]), ".", player);
+if (!p)
+  player:tell("A property is OBJECT.NAME.");
+  return;
+elseif (p[2] == "name" && $controls(player, p[1]))
+  // @rename looks at names: everybody has to be able to read and to type them
+  player:tell("Names are given with @rename.");
+  return;
+endif
+text = $string:trim(argstr[i + 4..$]);
+if (tostr(toint(text)) == text)
+  value = toint(text);
+elseif (text && text[1] == "#" && tostr(toobj(text)) == text)
+  value = toobj(text);
+elseif (length(text) > 1 && text[1] == "\"" && text[length(text)] == "\"")
+  value = text[2..length(text) - 1];
+else
+  value = text;
+endif
+try
+  p[1].(p[2]) = value;
+  player:tell(p[1].name, ".", p[2], " is ", toliteral(value), " now.");
+except e (ANY)
+  player:tell("That can't be done: ", e[2], ".");
+endtry
+.
+
+// @lock THING with KEY, @unlock THING
+@program $builder:@lock any with any rd wiz
+if (player != this)
+  return;
+endif
+set_task_perms(player);
+o = $match:object(dobjstr, player);
+key = $match:object(iobjstr, player);
+if ($match:found(o, dobjstr, player) && $match:found(key, iobjstr, player))
+  try
+    o.key = key;
+    player:tell(o.name, " opens for you and for whoever carries ", key.name, ".");
+  except e (ANY)
+    player:tell("That can't be locked: ", e[2], ".");
+  endtry
+endif
+.
+
+@program $builder:@unlock any none none rd wiz
+if (player != this)
+  return;
+endif
+set_task_perms(player);
+o = $match:object(dobjstr, player);
+if ($match:found(o, dobjstr, player))
+  try
+    o.key = #-1;
+    player:tell(o.name, " isn't locked.");
+  except e (ANY)
+    player:tell("That can't be unlocked: ", e[2], ".");
+  endtry
+endif
+.
+
+// @move THING to PLACE
+@program $builder:@move any at/to any rd wiz
+if (player != this)
+  return;
+endif
+set_task_perms(player);
+o = $match:object(dobjstr, player);
+to = $match:object(iobjstr, player);
+if (!$match:found(o, dobjstr, player) || !$match:found(to, iobjstr, player))
+  return;
+elseif (is_player(o) && !player.wizard)
+  player:tell("Players move themselves.");
+  return;
+endif
+try
+  move(o, to);
+  player:tell(o.name, " is in ", to.name, " now.");
+except e (ANY)
+  player:tell("That can't be moved: ", e[2], ".");
+endtry
+.
+
+// @eject NAME: out of a room of one's own
+@program $builder:@eject any none none rd wiz
+if (player != this)
+  return;
+endif
+here = player.location;
+if (!valid(here) || !$controls(player, here))
+  player:tell("This place isn't yours.");
+elseif (!valid(dobj) || dobj.location != here || dobj == player)
+  player:tell("Eject whom, or what?");
+elseif (dobj.wizard)
+  player:tell("Not a wizard.");
+else
+  name = dobj.name;
+  dest = is_player(dobj) ? $login.start | #-1;
+  if (is_player(dobj) && $isa(`dobj.home ! ANY => #-1', $room) && dobj.home != here)
+    dest = dobj.home;
+  elseif ($isa(dobj.owner, $player))
+    dest = is_player(dobj) ? dest | dobj.owner;
+  endif
+  if (dest == here)
+    player:tell("There is nowhere to send it.");
+    return;
+  endif
+  notify(dobj, tostr(player.name, " sends you away."));
+  move(dobj, dest);
+  player:tell(name, " is gone from here.");
+endif
+.

@@ -1,0 +1,2 @@
+pub mod Outbox
+pub mod Rows

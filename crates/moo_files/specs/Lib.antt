@@ -1,0 +1,2 @@
+-- What the disk over files says of itself.
+pub mod Files

@@ -59,8 +59,8 @@ if (valid(this.location))
 else
   for place in ({this.last_place, this.home, $login.start})
     if ($isa(place, $room) && `place:accept(this) ! ANY => 0')
-      place:announce(this.name + " steps out of the mist.", {this});
       move(this, place);
+      place:announce(this.name + " steps out of the mist.", {this});
       break;
     endif
   endfor
@@ -269,10 +269,11 @@ if (here == dest)
 endif
 for place in ({dest, $login.start})
   if (player.location == here && `place:accept(player) ! ANY => 0')
+    // first the move: what a room does with `announce` keeps nobody in it
+    move(player, place);
     if (valid(here))
       here:announce(player.name + " goes home.", {player});
     endif
-    move(player, place);
     place:announce(player.name + " comes home.", {player});
   endif
 endfor

@@ -246,10 +246,10 @@ elseif (room == player.location)
   return;
 endif
 from = player.location;
+move(player, room);
 if (valid(from))
   from:announce(player.name + " leaves by no exit that you can see.", {player});
 endif
-move(player, room);
 room:announce(player.name + " is here all of a sudden.", {player});
 .
 

@@ -1,0 +1,4 @@
+pub mod Called
+pub mod Moving
+pub mod Creating
+pub mod Recycling

@@ -1,0 +1,5 @@
+pub mod Verbs
+pub mod Moves
+pub mod Creates
+pub mod Recycles
+pub mod Laws

@@ -1,0 +1,48 @@
+//! Verbs of #0 that the server itself calls.
+ghost use Rattle.std.specs.Prelude.{◌≡◌, IfOk, []};
+ghost use Rattle.moo_value.specs.Size.{IsString};
+ghost use Rattle.moo_code_function.specs.Telling.{Faults};
+ghost use Rattle.moo_access.specs.SeenCalled.{found_of};
+ghost use Rattle.moo_task.specs.Frames.{server_frame};
+ghost use Rattle.moo_task.specs.Tasks.{CallsServerVerb};
+ghost use Rattle.moo_task.specs.Seen.{seen_answer};
+
+use crate::tasks::run;
+use moo_access::{Call, Found, called_verb, verb_frame};
+use moo_live::Live;
+use moo_outcome::Frame;
+use moo_value::{MooList, MooStr, Value, ValueFault};
+use std::alloc::{AllocError, Global};
+
+/// Calls a verb of #0 at this moment, in seconds, where there is one by this name that can be executed: with these
+/// arguments, this text behind the command and this player, who needs not be one. Answers the value of its task, if it has
+/// one. `Err` where memory is wanting.
+pub fn call_server_verb(
+    alloc: Global,
+    live: &mut Live,
+    moment: u32,
+    verb: &[u8],
+    player: i32,
+    args: MooList,
+    argstr: MooStr,
+) -> Result<Option<Value>, AllocError>
+    requires { IsString verb.now }
+    ensures { IfOk result (λ v. CallsServerVerb Faults moment verb.now player args argstr live.old (seen_answer v) live.new) }
+{
+    Err(AllocError)
+}
+
+/// The empty string.
+pub fn empty(alloc: Global) -> Result<MooStr, AllocError>
+    ensures { IfOk result (λ s. s ≡ []) }
+{
+    Err(AllocError)
+}
+
+/// The string of these bytes. `Err` where memory is wanting.
+pub fn name(alloc: Global, bytes: &[u8]) -> Result<MooStr, AllocError>
+    requires { IsString bytes.now }
+    ensures { IfOk result (λ s. s ≡ bytes.now) }
+{
+    Err(AllocError)
+}

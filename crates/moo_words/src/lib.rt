@@ -8,4 +8,5 @@ mod text;
 mod typed;
 
 pub use reading::{skip_blanks, words};
+pub use text::string_of;
 pub use typed::{Typed, read_typed, typed_behind};

@@ -6,7 +6,7 @@ use moo_value::{MooStr, ValueFault};
 use std::alloc::{AllocError, Global};
 
 /// The string of bytes that are one. `Err` where memory is wanting.
-pub(crate) fn string_of(alloc: Global, bytes: Vec<u8>) -> Result<MooStr, AllocError>
+pub fn string_of(alloc: Global, bytes: Vec<u8>) -> Result<MooStr, AllocError>
     requires { IsString bytes.items }
     ensures { IfOk result (λ string. string ≡ bytes.items) }
 {

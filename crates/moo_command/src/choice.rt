@@ -1,0 +1,159 @@
+//! Which verb a command runs (docs/COMMANDS.md, "Choosing a verb"). Nothing here takes memory.
+ghost use Rattle.std.specs.Prelude.{◌≡◌, ◌<◌, ◌∷◌, length, slice_get, IfSome};
+ghost use Rattle.std.specs.Option.{option_and_then, unwrap_or};
+ghost use Rattle.std.specs.List.{filter_map, position};
+ghost use Rattle.moo_forest.specs.Forest.{ancestors};
+ghost use Rattle.moo_table.specs.World.{most, nothing};
+ghost use Rattle.moo_world.specs.Calls.{number_of};
+ghost use Rattle.moo_command.specs.Choice.{agrees, takes, is_meant, chosen, chosen_on, meant_on, meant_in};
+ghost use Rattle.moo_command.specs.Seen.{command_of};
+
+use crate::command::Command;
+use crate::matching::room_of;
+use moo_forest::Forest;
+use moo_object::{Object, ObjectSpecifier, PrepositionSpecifier, Verb, fits_names};
+use moo_world::{VerbAt, World};
+
+/// The verb that a command runs, and the object that was looked on.
+#[derive(Clone, Copy)]
+pub struct Chosen {
+    pub this: i32,
+    pub found: VerbAt,
+}
+
+/// The verb that a player's command runs: the player, the room, the direct and the indirect object are looked on in turn,
+/// each with its ancestors, for a verb whose name fits and whose specifiers agree.
+pub fn choose_verb(world: &World, player: i32, command: &Command) -> Option<Chosen>
+    ensures { result ≡ chosen world.now player (command_of command.now) }
+{
+    let room = room_of(world, player);
+    first_chosen(world, command, &[player, room, command.dobj, command.iobj])
+}
+
+/// What is looked for on an object and its ancestors: a verb for a command.
+#[derive(Clone, Copy)]
+struct Wanted<'a> {
+    command: &'a Command,
+    looked_on: i32,
+}
+
+/// The verb on the first of these objects that has one.
+fn first_chosen(world: &World, command: &Command, places: &[i32]) -> Option<Chosen>
+    ensures { result ≡ slice_get (filter_map (chosen_on world.now (command_of command.now)) places.now) 0 }
+{
+    for place in places {
+        if let Some(chosen) = chosen_on(world, command, *place) {
+            return Some(chosen);
+        }
+    }
+    None
+}
+
+/// The verb on one object, or on the nearest of its ancestors that has one.
+fn chosen_on(world: &World, command: &Command, looked_on: i32) -> Option<Chosen>
+    ensures { result ≡ chosen_on world.now (command_of command.now) looked_on }
+{
+    let (definer, index) = meant_on(world, command, looked_on)?;
+    let found = VerbAt {
+        definer: definer as i32,
+        index,
+    };
+    Some(Chosen {
+        this: looked_on,
+        found,
+    })
+}
+
+fn meant_on(world: &World, command: &Command, looked_on: i32) -> Option<(usize, usize)>
+    ensures value { result ≡ option_and_then (meant_on world.now (command_of command.now) looked_on) (number_of world.now.objects looked_on) }
+    ensures low { IfSome result (λ found. found.0 < most) }
+{
+    world.is_well_formed();
+    let x = valid_number(world, looked_on)?;
+    let wanted = Wanted { command, looked_on };
+    nearest_meant(world.objects(), world.inheritance(), x, &wanted)
+}
+
+/// The number of a valid object.
+fn valid_number(world: &World, o: i32) -> Option<usize>
+    ensures value { result ≡ number_of world.now.objects o }
+    ensures inside { IfSome result (λ x. x < length world.now.objects) }
+{
+    if world.valid(o) {
+        usize::try_from(o).ok()
+    } else {
+        None
+    }
+}
+
+/// The nearest verb that is meant, as its object's number and its place.
+fn nearest_meant(
+    objects: &[Option<Object>],
+    tree: &Forest,
+    x: usize,
+    wanted: &Wanted<'_>,
+) -> Option<(usize, usize)>
+    requires many { length objects.now ≡ length tree.now }
+    requires first { x < length objects.now }
+    ensures value { result ≡ slice_get (filter_map (meant_in objects.now (command_of wanted.now.command.now) wanted.now.looked_on) (x ∷ ancestors tree.now x)) 0 }
+    ensures low { IfSome result (λ found. found.0 < length objects.now) }
+{
+    let mut at = x;
+    if let Some(index) = meant_in(&objects[x], wanted) {
+        return Some((x, index));
+    }
+    for _ in 0..objects.len() {
+        match tree.above(at) {
+            Some(up) => at = up,
+            None => return None,
+        }
+        if let Some(index) = meant_in(&objects[at], wanted) {
+            return Some((at, index));
+        }
+    }
+    None
+}
+
+/// The place of the first verb that is meant, of what stands at a number.
+fn meant_in(slot: &Option<Object>, wanted: &Wanted<'_>) -> Option<usize>
+    ensures { result ≡ position (is_meant (command_of wanted.now.command.now) wanted.now.looked_on) (unwrap_or slot.now nothing).verbs }
+{
+    match slot {
+        Some(object) => position_meant(object.verbs(), wanted),
+        None => None,
+    }
+}
+
+fn position_meant(verbs: &[Verb], wanted: &Wanted<'_>) -> Option<usize>
+    ensures { result ≡ position (is_meant (command_of wanted.now.command.now) wanted.now.looked_on) verbs.now }
+{
+    verbs.iter().position(|verb| is_meant(wanted, verb))
+}
+
+/// Whether the name fits a verb, and its specifiers agree.
+fn is_meant(wanted: &Wanted<'_>, verb: &Verb) -> bool
+    ensures { result ≡ is_meant (command_of wanted.now.command.now) wanted.now.looked_on verb.now }
+{
+    let Wanted { command, looked_on } = *wanted;
+    fits_names(verb.names.as_bytes(), command.verb.as_bytes())
+        && agrees(verb.args.direct, looked_on, command.dobj)
+        && takes(verb.args.preposition, command.prep)
+        && agrees(verb.args.indirect, looked_on, command.iobj)
+}
+
+fn agrees(specifier: ObjectSpecifier, looked_on: i32, object: i32) -> bool
+    ensures { result ≡ agrees specifier looked_on object }
+{
+    match specifier {
+        ObjectSpecifier::None => object == -1,
+        ObjectSpecifier::This => object == looked_on,
+        ObjectSpecifier::Any => true,
+    }
+}
+
+fn takes(specifier: PrepositionSpecifier, preposition: i32) -> bool
+    ensures { result ≡ takes specifier preposition }
+{
+    let number = specifier.number();
+    number == -2 || number == preposition
+}

@@ -1,0 +1,52 @@
+//! Which object a text names to a player (docs/COMMANDS.md, "Objects"). Nothing here takes memory.
+ghost use Rattle.std.specs.Prelude.{◌≡◌};
+ghost use Rattle.moo_command.specs.Objects.{matched, room_of, named, named_near, near};
+
+use crate::named::{Extent, Found, found_near};
+use crate::numbered::numbered;
+use moo_object::same_name;
+use moo_world::World;
+
+/// The object that a text names to a player: -1 for an empty text, -2 where it names several objects, -3 where it names none.
+pub fn match_object(world: &World, player: i32, text: &[u8]) -> i32
+    ensures { result ≡ matched world.now player text.now }
+{
+    if text.is_empty() {
+        return -1;
+    }
+    match numbered(world, text) {
+        Some(o) => o,
+        None => named(world, player, text),
+    }
+}
+
+/// The place of a player, -1 for none.
+pub fn room_of(world: &World, player: i32) -> i32
+    ensures { result ≡ room_of world.now player }
+{
+    world.location(player).unwrap_or(-1)
+}
+
+/// What a text names that is no number: the player, its place, or what is by the player.
+fn named(world: &World, player: i32, text: &[u8]) -> i32
+    ensures { result ≡ named world.now player text.now }
+{
+    if same_name(text, b"me") {
+        return player;
+    }
+    if same_name(text, b"here") {
+        return room_of(world, player);
+    }
+    named_near(world, player, text)
+}
+
+/// The object of this name by the player: a whole match beats a beginning.
+fn named_near(world: &World, player: i32, text: &[u8]) -> i32
+    ensures { result ≡ named_near world.now text.now (near world.now player) }
+{
+    let room = room_of(world, player);
+    match found_near(world, player, room, text, Extent::Whole) {
+        Found::Nothing => found_near(world, player, room, text, Extent::Beginning).number(),
+        found => found.number(),
+    }
+}

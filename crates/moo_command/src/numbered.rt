@@ -1,0 +1,87 @@
+//! Objects that are named by their numbers.
+ghost use Rattle.std.specs.Prelude.{◌≡◌, ◌≤◌, min, pos};
+ghost use Rattle.std.specs.Option.{option_map};
+ghost use Rattle.std.specs.List.{list_all};
+ghost use Rattle.moo_text_function.specs.Numerals.{is_digit, number};
+ghost use Rattle.moo_table.specs.World.{most};
+ghost use Rattle.moo_command.specs.Objects.{are_digits, negative, signed, typed_number, valid_or_none};
+
+use moo_world::{MOST, World};
+
+/// What `#`, perhaps a minus, and digits name: the object of this number, or -3 where it is not valid. `None` for any other
+/// text.
+pub(crate) fn numbered(world: &World, text: &[u8]) -> Option<i32>
+    ensures { result ≡ option_map (valid_or_none world.now) (typed_number text.now) }
+{
+    let (first, behind) = text.split_first()?;
+    if *first != b'#' {
+        return None;
+    }
+    signed(world, behind)
+}
+
+/// What a minus or none and digits name.
+fn signed(world: &World, text: &[u8]) -> Option<i32>
+    ensures { result ≡ option_map (valid_or_none world.now) (signed text.now) }
+{
+    world.is_well_formed();
+    let (first, behind) = text.split_first()?;
+    if *first == b'-' {
+        return below_zero(world, behind);
+    }
+    if !are_digits(text) {
+        return None;
+    }
+    Some(object_or_none(world, number_of(text)))
+}
+
+/// What digits behind a minus name: 0 is an object's number, and no number below it is.
+fn below_zero(world: &World, digits: &[u8]) -> Option<i32>
+    ensures { result ≡ option_map (valid_or_none world.now) (negative digits.now) }
+{
+    if !are_digits(digits) {
+        return None;
+    }
+    if number_of(digits) == 0 {
+        return Some(object_or_none(world, 0));
+    }
+    Some(-3)
+}
+
+/// The object of a number, or -3 where it is not valid.
+fn object_or_none(world: &World, number: usize) -> i32
+    requires { number ≤ most }
+    ensures { result ≡ valid_or_none world.now (pos number) }
+{
+    let o = number as i32;
+    if world.valid(o) { o } else { -3 }
+}
+
+/// The number that digits write, or `MOST` where it is greater.
+fn number_of(digits: &[u8]) -> usize
+    ensures value { result ≡ min (number digits.now) most }
+{
+    let mut number: usize = 0;
+    for digit in digits {
+        number = (number * 10 + usize::from(digit.saturating_sub(b'0'))).min(MOST);
+    }
+    number
+}
+
+fn are_digits(text: &[u8]) -> bool
+    ensures { result ≡ are_digits text.now }
+{
+    !text.is_empty() && has_digits_alone(text)
+}
+
+fn has_digits_alone(text: &[u8]) -> bool
+    ensures { result ≡ list_all is_digit text.now }
+{
+    text.iter().all(|byte| is_digit(*byte))
+}
+
+fn is_digit(byte: u8) -> bool
+    ensures { result ≡ is_digit byte }
+{
+    byte.is_ascii_digit()
+}

@@ -1,0 +1,125 @@
+//! What a typed line commands.
+ghost use Rattle.std.specs.Prelude.{◌≡◌, ◌≤◌, ◌<◌, ◌+◌, [], length, map, drop, IfOk, IfSome, IfNone};
+ghost use Rattle.std.specs.Option.{option_map};
+ghost use Rattle.moo_value.specs.Tree.{string};
+ghost use Rattle.moo_value.specs.Size.{list_weight, weight_limit, IsString};
+ghost use Rattle.moo_words.specs.Words.{Words};
+ghost use Rattle.moo_words.specs.Typed.{IsTyped};
+ghost use Rattle.moo_command.specs.Typed.{expanded, verb_of_sign};
+ghost use Rattle.moo_command.specs.Prepositions.{number_or_none};
+ghost use Rattle.moo_command.specs.Commands.{Commands, IsCommandOf};
+ghost use Rattle.moo_command.specs.Seen.{command_of};
+ghost use Rattle.moo_command.specs.Inner.{verb_leading};
+
+use crate::command::Command;
+use crate::matching::match_object;
+use crate::splitting::{Division, joined, split};
+use moo_object::Preposition;
+use moo_value::MooStr;
+use moo_words::laws::words_are_light;
+use moo_words::{Typed, read_typed, skip_blanks, string_of, typed_behind};
+use moo_world::World;
+use std::alloc::{AllocError, Global};
+
+/// What a player's line of any length commands. A quote, a colon or a semicolon that leads the line stands for `say`,
+/// `emote` or `eval`. A line without words has an empty verb and nothing else. `Err` where memory is wanting.
+pub fn parse_command(
+    alloc: Global,
+    world: &World,
+    player: i32,
+    line: &MooStr,
+) -> Result<Command, AllocError>
+    ensures { IfOk result (λ command. Commands world.now player line.now (command_of command)) }
+{
+    match typed_in(alloc, line)? {
+        Some(typed) => command(alloc, world, player, typed),
+        None => command(alloc, world, player, nothing_typed(alloc)?),
+    }
+}
+
+/// What is typed in a line, its sign written out, or `None` where it has no word.
+fn typed_in(alloc: Global, line: &MooStr) -> Result<Option<Typed>, AllocError>
+    ensures some { IfOk result (λ typed. IfSome typed (λ t. IsTyped (expanded line.now) t.verb t.rest t.args.items)) }
+    ensures none { IfOk result (λ typed. IfNone typed (Words (expanded line.now) [])) }
+    ensures light { IfOk result (λ typed. IfSome typed (λ t. list_weight (map (λ w. string w) t.args.items) ≤ weight_limit + 1)) }
+{
+    words_are_light();
+    let bytes = line.as_bytes();
+    let at = skip_blanks(bytes, 0);
+    let Some(verb) = verb_leading(&bytes[at..]) else {
+        return read_typed(alloc, line);
+    };
+    let verb = string_of(alloc, Vec::from_slice(alloc, verb)?)?;
+    let typed = typed_behind(alloc, verb, line, at + 1)?;
+    Ok(Some(typed))
+}
+
+/// The verb that a sign at a text's front stands for.
+fn verb_leading(text: &[u8]) -> Option<&'static [u8]>
+    ensures value { option_map (λ verb. verb.now) result ≡ verb_leading text.now }
+    ensures string { IfSome result (λ verb. IsString verb.now) }
+    ensures behind { IfSome result (λ verb. 0 < length text.now) }
+{
+    let sign = text.first()?;
+    verb_of_sign(*sign)
+}
+
+fn verb_of_sign(sign: u8) -> Option<&'static [u8]>
+    ensures { option_map (λ verb. verb.now) result ≡ verb_of_sign sign }
+{
+    match sign {
+        b'"' => Some(b"say"),
+        b':' => Some(b"emote"),
+        b';' => Some(b"eval"),
+        _ => None,
+    }
+}
+
+/// What is typed in a line without words.
+fn nothing_typed(alloc: Global) -> Result<Typed, AllocError>
+    ensures verb { IfOk result (λ t. t.verb ≡ []) }
+    ensures rest { IfOk result (λ t. t.rest ≡ []) }
+    ensures args { IfOk result (λ t. t.args.items ≡ []) }
+{
+    let verb = string_of(alloc, Vec::new(alloc))?;
+    let rest = verb.try_clone()?;
+    let args = Vec::new(alloc);
+    Ok(Typed { verb, rest, args })
+}
+
+/// The command of what is typed.
+fn command(alloc: Global, world: &World, player: i32, typed: Typed) -> Result<Command, AllocError>
+    requires { list_weight (map (λ w. string w) typed.args.items) ≤ weight_limit + 1 }
+    ensures { IfOk result (λ c. IsCommandOf world.now player typed.verb typed.rest typed.args.items (command_of c)) }
+{
+    let Typed { verb, rest, args } = typed;
+    let Division {
+        preposition,
+        at,
+        behind,
+    } = split(&args);
+    let dobjstr = joined(alloc, &args[..at])?;
+    let prepstr = joined(alloc, &args[at..behind])?;
+    let iobjstr = joined(alloc, &args[behind..])?;
+    Ok(Command {
+        verb,
+        argstr: rest,
+        dobj: match_object(world, player, dobjstr.as_bytes()),
+        prep: number_or_none(preposition),
+        iobj: match_object(world, player, iobjstr.as_bytes()),
+        args,
+        dobjstr,
+        prepstr,
+        iobjstr,
+    })
+}
+
+/// The number of a command's preposition, -1 for none.
+fn number_or_none(preposition: Option<Preposition>) -> i32
+    ensures { result ≡ number_or_none preposition }
+{
+    match preposition {
+        Some(preposition) => i32::from(preposition.number()),
+        None => -1,
+    }
+}

@@ -1,0 +1,58 @@
+//! How a preposition splits the words behind a verb.
+ghost use Rattle.std.specs.Prelude.{◌≡◌, ◌≤◌, ◌<◌, length, IfOk};
+ghost use Rattle.moo_value.specs.Size.{weight_limit};
+ghost use Rattle.moo_command.specs.Prepositions.{Splits, joined};
+ghost use Rattle.moo_command.specs.Inner.{parts_of};
+
+use crate::prepositions::preposition_at;
+use moo_object::Preposition;
+use moo_value::MooStr;
+use moo_words::string_of;
+use std::alloc::{AllocError, Global};
+
+/// Where a preposition stands among words: those before `at` come before it, those from `behind` on behind it.
+#[derive(Clone, Copy)]
+pub(crate) struct Division {
+    pub preposition: Option<Preposition>,
+    pub at: usize,
+    pub behind: usize,
+}
+
+/// The preposition that splits these words: the longest of those that begin leftmost.
+pub(crate) fn split(words: &[MooStr]) -> Division
+    ensures parts { Splits words.now (parts_of words.now result) }
+    ensures order { result.at ≤ result.behind }
+    ensures inside { result.behind ≤ length words.now }
+{
+    for at in 0..words.len() {
+        if let Some((preposition, length)) = preposition_at(&words[at..]) {
+            return Division {
+                preposition: Some(preposition),
+                at,
+                behind: at + length,
+            };
+        }
+    }
+    Division {
+        preposition: None,
+        at: words.len(),
+        behind: words.len(),
+    }
+}
+
+/// Words with one blank between. `Err` where memory is wanting.
+pub(crate) fn joined(alloc: Global, words: &[MooStr]) -> Result<MooStr, AllocError>
+    requires { length (joined words.now) < weight_limit }
+    ensures { IfOk result (λ text. text ≡ joined words.now) }
+{
+    let mut text = Vec::new(alloc);
+    let Some((first, others)) = words.split_first() else {
+        return string_of(alloc, text);
+    };
+    text.extend_from_slice(first.as_bytes())?;
+    for word in others {
+        text.push(b' ')?;
+        text.extend_from_slice(word.as_bytes())?;
+    }
+    string_of(alloc, text)
+}

@@ -66,6 +66,11 @@ abbrev pub is_dropped : {Sessions Saved : Type 0} → Meaning Sessions Saved →
 is_dropped m state (Receives c piece) = m.is_leaving state c
 is_dropped m state happening = false
 
+-- it may happen: a connection is opened under a number that none has
+abbrev pub IsApt : {Sessions Saved : Type 0} → Meaning Sessions Saved → Sessions → Happening → Type 0
+IsApt m state (Opens c) = m.is_open state c ≡ false
+IsApt m state happening = Unit {0}
+
 -- A layer in the program: its meaning, the state of a value, what waits of the events that were kept, and what is under way
 -- since.
 pub record Layer (S Sessions Saved : Type 0) : Type 1 where
@@ -89,7 +94,7 @@ pub record HandsOut {S Sessions Saved : Type 0} (l : Layer S Sessions Saved) (c 
   pub others : (k : ℕ) → k ≢ c → (l.waiting new).sent k ≡ (l.waiting old).sent k
   pub log : (l.waiting new).logged ≡ (l.waiting old).logged
   pub state : l.state new ≡ l.state old
-  pub under_way : l.under_way new ≡ l.under_way old
+  pub under_way : l.under_way old ≡ silence → l.under_way new ≡ silence
 
 -- what waited for the log is handed out, and nothing of it is left
 pub record HandsOutLog {S Sessions Saved : Type 0} (l : Layer S Sessions Saved) (lines : List (List ℕ)) (old new : S) : Type 0 where
@@ -97,7 +102,7 @@ pub record HandsOutLog {S Sessions Saved : Type 0} (l : Layer S Sessions Saved) 
   pub nothing : (l.waiting new).logged ≡ []
   pub others : (l.waiting new).sent ≡ (l.waiting old).sent
   pub state : l.state new ≡ l.state old
-  pub under_way : l.under_way new ≡ l.under_way old
+  pub under_way : l.under_way old ≡ silence → l.under_way new ≡ silence
 
 -- Sessions were started from a saved world, and this was asked for.
 pub record Started {S Sessions Saved : Type 0} (l : Layer S Sessions Saved) (saved : Saved) (moment : ℕ) (new : S) (asked : Asked) : Type 0 where

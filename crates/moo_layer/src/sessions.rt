@@ -1,7 +1,7 @@
 //! A layer of sessions: the world, those who are connected to it, and what waits to go out.
 ghost use Rattle.std.specs.Prelude.{◌≡◌, false, true, IfOk, Ok};
 ghost use Rattle.moo_saved.specs.Saved.{Saved};
-ghost use Rattle.moo_layer.specs.Sessions.{HandsOut, HandsOutLog, Happens, Layer, is_dropped, seen_happening, silence, then_out};
+ghost use Rattle.moo_layer.specs.Sessions.{HandsOut, HandsOutLog, Happens, IsApt, Layer, is_dropped, seen_happening, silence, then_out};
 
 use moo_value::MooStr;
 use std::alloc::AllocError;
@@ -40,6 +40,7 @@ pub trait Sessions: Drop {
 
     /// Something happens, with the hooks that it causes.
     fn happen(&mut self, moment: u32, happening: Happening) -> Result<Asked, AllocError>
+        requires { IsApt layer.meaning (layer.state self.old) (seen_happening happening) }
         ensures happens { IfOk result (Happens layer (seen_happening happening.entry) moment self.old self.new) }
         ensures waiting { layer.waiting self.new ≡ layer.waiting self.old }
         // Bytes for a connection that is leaving take no memory, and nothing is asked for.

@@ -2,15 +2,15 @@
 use Rattle.std.proofs.Common.{◌≡◌, ◌⊎◌, inl, inr, ⊎_elim, ℕ, List, [], ◌∷◌, ◌++◌, Option, Some, None, refl, sym, ◌∙◌, ap, subst, arith}
 use Rattle.moo_disk.specs.Disk.{DiskView, Gains, KeepsMain, NoText}
 use Rattle.moo_checkpoint.specs.Checkpoint.{text_of}
-use Rattle.moo_saved.specs.Saved.{Saved}
+use Rattle.moo_saved.specs.Saved.{Saved, SpellsSavedWithin}
 use Rattle.moo_layer.specs.Sessions.{Layer, Output, silence, then_out}
 use Rattle.moo_serving.specs.Traces.{Done, Trace}
 use Rattle.moo_serving.specs.Crash.{IsOneOf, texts_of_marks, last_of, since_done, NoneDone, Survives}
-use Rattle.moo_serving.specs.Meaning.{Entry, out_of}
+use Rattle.moo_serving.specs.Meaning.{Entry, State, out_of}
 use Rattle.moo_serving.specs.declared.serving.Open as declared
 use Rattle.moo_serving.specs.declared.serving.Serving.{Serving}
 use Rattle.moo_serving.specs.Server.{Hands, IsAlive, Lived, on_its_way, state_of, text_of_open, traces_under, waiting_of}
-use Rattle.moo_serving.specs.Calls.{Call, Calls, HandsOn, IsCallOf, IsKept, IsRun, LeavesMarked, Lent, One, Other, handed_in, lent_honest, lent_view, place_done}
+use Rattle.moo_serving.specs.Calls.{Call, Calls, HandsOn, IsCallOf, IsKept, IsRun, LeavesMarked, Lent, One, Other, StartsAgain, handed_in, lent_honest, lent_view, place_done}
 use Rattle.moo_serving.proofs.Joining.{Texts, gains_join, gains_less, one_of_left, one_of_right, one_of_either, one_of_last}
 use Rattle.moo_serving.proofs.Marked.{mark_at, mark_is_prefix}
 use Rattle.moo_serving.proofs.Out.{then_silence, then_then}
@@ -39,6 +39,17 @@ outs-append [] es' = refl
 outs-append (e ∷ es) es' = ap (λ (o : Output). then_out e.out o) (outs-append es es') ∙ sym (then_then e.out (out_of es) (out_of es'))
 
 module _ {S Sessions : Type 0} (l : Layer S Sessions Saved) where
+  -- what is kept is what a start finds
+  pub starts_again : {F : Type 0} (view : F → DiskView) (honest : F → Type 0) (start : State Sessions) (first : Saved) (es es' : List (Entry Saved)) (found : F) → honest found
+      → ((s : Saved) → l.meaning.Spells (view found).main_text s → SpellsSavedWithin (view found).main_text s)
+      → IsKept l start first es es' (view found).main_text → StartsAgain l view honest start first es es' found
+  starts_again view honest start first es es' found h within kept = record {
+    saved = kept.saved;
+    spelled = within kept.saved kept.spelled;
+    which = kept.which;
+    begins = λ server new again moment opened. sym (opened.only h kept.saved kept.spelled);
+  }
+
   -- what a disk of another type shows is what it shows as one of this type
   lived_under : {D X : Type 0} (view : X → DiskView) (honest : X → Type 0) (f : D → X) (before after : Serving S) (old new : D) (es : List (Entry Saved))
       → Lived l (λ d. view (f d)) (λ d. honest (f d)) before after old new es → Lived l view honest before after (f old) (f new) es

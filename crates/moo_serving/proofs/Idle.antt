@@ -1,9 +1,14 @@
--- Bytes for a connection that is leaving.
-use Rattle.std.proofs.Common.{◌≡◌, ℕ, Bool, true, false, refl, sym, ◌∙◌, ap}
-use Rattle.std.specs.Prelude.{◌&&◌, not}
+-- Events that a running server takes: bytes for a connection that is leaving, and openings of a number that none has.
+use Rattle.std.proofs.Common.{◌≡◌, ℕ, Option, Some, None, Bool, true, false, refl, sym, ◌∙◌, ap, subst}
+use Rattle.std.specs.Prelude.{◌&&◌, not, if◌then◌else◌}
 use Rattle.moo_layer.specs.Sessions.{Meaning}
-use Rattle.moo_serving.specs.Seen.{Event, Flush, is_flush, seen}
-use Rattle.moo_serving.specs.Meaning.{State, is_due, is_for_leaving, is_idle}
+use Rattle.moo_serving.specs.Courses.{is_closing}
+use Rattle.moo_serving.specs.Seen.{Event, Open, Bytes, Hangup, Moment, Flush, is_flush, seen}
+use Rattle.moo_serving.specs.declared.event.Cause.{Cause}
+use Rattle.moo_serving.specs.declared.event.Cause.TheVariants.{ConnectionInUse}
+use Rattle.moo_serving.specs.declared.event.Course.{Course}
+use Rattle.moo_serving.specs.declared.event.Course.TheVariants.{Running, Closing, Closed}
+use Rattle.moo_serving.specs.Meaning.{State, FindsFree, is_due, is_for_leaving, is_idle, is_passed_over, refusal, refusal_in}
 use Rattle.moo_serving.specs.declared.event.Event as given
 
 -- another event is none such
@@ -34,3 +39,22 @@ idle_if m state event due = false_if (is_for_leaving m state event) (is_due m st
 
 pub flush_leaves : {Sessions Saved : Type 0} (m : Meaning Sessions Saved) (state : State Sessions) (event : Event) → event ≡ Flush → is_idle m state event ≡ false
 flush_leaves m state event is = ap (is_idle m state) is
+
+-- what isn't refused nor passed over finds its number free
+pub finds_free : {Sessions Saved : Type 0} (m : Meaning Sessions Saved) (state : State Sessions) (event : Event)
+    → refusal m state event ≡ None → is_passed_over m state event ≡ false → FindsFree m state event
+finds_free m state (Open c) accepted counts = by_course state.course refl
+  where
+    open' : (b : Bool) → (if b then Some ConnectionInUse else None) ≡ None → b ≡ false
+    open' true is = absurd (cc)
+    open' false is = refl
+
+    by_course : (course : Course) → state.course ≡ course → m.is_open state.sessions c ≡ false
+    by_course Closed is =
+        let some : refusal_in m Closed state.moment state.sessions (Open c) ≡ None = subst (λ (k : Course). refusal_in m k state.moment state.sessions (Open c) ≡ None) is accepted in absurd (cc some)
+    by_course Closing is = let passed = subst (λ (k : Course). (is_closing k && true) ≡ false) is counts in absurd (cc passed)
+    by_course Running is = open' (m.is_open state.sessions c) (subst (λ (k : Course). refusal_in m k state.moment state.sessions (Open c) ≡ None) is accepted)
+finds_free m state (Bytes c piece) accepted counts = tt
+finds_free m state (Hangup c) accepted counts = tt
+finds_free m state (Moment moment) accepted counts = tt
+finds_free m state Flush accepted counts = tt

@@ -1,9 +1,9 @@
 -- The report of a checkpoint.
-use Rattle.std.proofs.Common.{◌≡◌, ◌≢◌, ℕ, List, Option, Some, None, Result, Ok, Err, OnOk, Bool, refl, sym, ◌∙◌, ap, subst, inl}
+use Rattle.std.proofs.Common.{◌≡◌, ◌≢◌, ◌↔◌, ℕ, List, Option, Some, None, Result, Ok, Err, OnOk, Bool, refl, sym, ◌∙◌, ap, subst, inl}
 use Rattle.std.specs.Prelude.{if◌then◌else◌}
 use Rattle.moo_disk.specs.Disk.{DiskView, LeavesOnly}
 use Rattle.moo_checkpoint.specs.Checkpoint.{text_of}
-use Rattle.moo_checkpoint.proofs.TurnLemmas.{fresh_continues}
+use Rattle.moo_checkpoint.proofs.TurnLemmas.{continues_within, fresh_continues}
 use Rattle.moo_serving.specs.declared.event.Course.TheVariants.{Closed}
 use Rattle.moo_serving.specs.declared.serving.Open.{Open}
 use Rattle.moo_serving.specs.declared.serving.Serving.{Serving}
@@ -17,6 +17,13 @@ use Rattle.moo_serving.specs.Server.{OpenFollows, Opens, Turns, is_last_of, stat
 pub on_ok_map : {T E P Q : Type 0} (result : Result T E) → (P → Q) → OnOk result P → OnOk result Q
 on_ok_map (Ok x) f p = f p
 on_ok_map (Err e) f p = p
+
+-- a disk that shows what the one within shows goes on exactly where that one does
+pub follows_within : {D E : Type 0} (view : D → DiskView) (honest stands : D → Type 0) (inner : E → D) (writing : Option Open) (disk : E)
+    → OpenFollows view honest stands writing (inner disk)
+    ↔ OpenFollows (λ e. view (inner e)) (λ e. honest (inner e)) (λ e. stands (inner e)) writing disk
+follows_within view honest stands inner None disk = (λ t. t, λ t. t)
+follows_within view honest stands inner (Some o) disk = continues_within view honest stands inner o.checkpoint disk
 
 some_is : {r s : Report} → Some r ≡ Some s → r ≡ s
 some_is is = cc

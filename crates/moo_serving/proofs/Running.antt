@@ -82,9 +82,6 @@ module _ {S Sessions Saved : Type 0} (l : Layer S Sessions Saved) where
   pub traces-append : (es es' : List (Entry Saved)) → traces_under l.meaning (es ++ es') ≡ traces_under l.meaning es ++ traces_under l.meaning es'
   traces-append es es' = map-append (trace_of l.meaning.text_of) es es'
 
-  pub same_self : (server : Serving S) → Same l server server
-  same_self server = record { state = refl; writing = refl; halted = refl; under_way = refl }
-
   module _ {D : Type 0} (view : D → DiskView) (honest : D → Type 0) where
     pub lived_none : (server : Serving S) (disk : D) → Lived l view honest server server disk disk []
     lived_none server disk = record {

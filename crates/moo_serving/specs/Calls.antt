@@ -1,7 +1,7 @@
 -- Calls of a server, one after another, and a stop at any moment.
 use Rattle.std.specs.Prelude.{◌≡◌, ◌⊎◌, ℕ, ◌+◌, ◌≤◌, List, [], ◌∷◌, ◌++◌, length, Option, Some, None}
 use Rattle.moo_disk.specs.Disk.{DiskView, KeepsMain}
-use Rattle.moo_saved.specs.Saved.{Saved}
+use Rattle.moo_saved.specs.Saved.{Saved, SpellsSavedWithin}
 use Rattle.moo_serving.specs.Traces.{Report, Done, Trace}
 use Rattle.moo_serving.specs.Crash.{IsOneOf, texts_of_marks, since_done, NoneDone}
 use Rattle.moo_layer.specs.Sessions.{Layer, Output, silence, then_out}
@@ -126,3 +126,12 @@ module _ {S Sessions : Type 0} (l : Layer S Sessions Saved) where
     pub spelled : l.meaning.Spells c saved
     pub which : (NoneDone (traces_under l.meaning entries) × (saved ≡ first))
         ⊎ IsPrefix start (place_done (traces_under l.meaning entries)) (entries ++ later) saved
+
+  -- Starting again over a disk: main spells, within the limits of database texts, the saved world after such a prefix, or that which was read
+  -- at the start, and a server that is opened over it begins from this world.
+  pub record StartsAgain {D : Type 0} (view : D → DiskView) (honest : D → Type 0) (start : State Sessions) (first : Saved) (entries later : List (Entry Saved)) (found : D) : Type 0 where
+    pub saved : Saved
+    pub spelled : SpellsSavedWithin (view found).main_text saved
+    pub which : (NoneDone (traces_under l.meaning entries) × (saved ≡ first))
+        ⊎ IsPrefix start (place_done (traces_under l.meaning entries)) (entries ++ later) saved
+    pub begins : (server : Serving S) (new : D) (again : Saved) (moment : ℕ) → Opened view honest server found new again moment → again ≡ saved

@@ -80,6 +80,11 @@ module _ {Sessions Saved : Type 0} (m : Meaning Sessions Saved) where
   abbrev pub refusal : State Sessions → Event → Option Cause
   refusal state event = refusal_in state.course state.moment state.sessions event
 
+  -- a connection is opened under a number that none has
+  abbrev pub FindsFree : State Sessions → Event → Type 0
+  FindsFree state (Open c) = m.is_open state.sessions c ≡ false
+  FindsFree state event = Unit {0}
+
   -- something happens to the sessions
   abbrev pub Hears : Happening → State Sessions → Output → State Sessions → Type 0
   Hears happening old out new =

@@ -157,7 +157,7 @@ module _ {S Sessions Saved : Type 0} (l : Layer S Sessions Saved) where
     pub state : state_of other ≡ state_of one
     pub writing : other.writing ≡ one.writing
     pub halted : other.halted ≡ one.halted
-    pub under_way : under_way_of other ≡ under_way_of one
+    pub under_way : under_way_of one ≡ silence → under_way_of other ≡ silence
 
   -- So much of what waits was handed out, and nothing else happened.
   pub record Hands (handed : Output) (one other : Serving S) : Type 0 where

@@ -1,19 +1,21 @@
 //! What holds of every list of calls, over the definitions alone. The disk of each call is one of a type, or of another,
 //! as one that has it within and makes a call fail.
-ghost use Rattle.std.specs.Prelude.{◌≡◌, ◌⊎◌, ◌++◌, ◌+◌, ◌/◌, ◌≤◌, ◌∷◌, [], length, Some, ℕ, List};
+ghost use Rattle.std.specs.Prelude.{◌≡◌, ◌⊎◌, ◌↔◌, ◌++◌, ◌+◌, ◌/◌, ◌≤◌, ◌∷◌, [], length, Some, ℕ, List};
 ghost use Rattle.moo_disk.specs.Disk.{KeepsMain};
-ghost use Rattle.moo_saved.specs.Saved.{Saved};
+ghost use Rattle.moo_disk.specs.FailAt.{inner_of};
+ghost use Rattle.moo_disk.specs.declared.fail_at.FailAt.{FailAt};
+ghost use Rattle.moo_saved.specs.Saved.{Saved, SpellsSavedWithin};
 ghost use Rattle.moo_layer.specs.Sessions.{then_out};
 ghost use Rattle.moo_serving.specs.Traces.{Done};
 ghost use Rattle.moo_serving.specs.Crash.{IsOneOf, last_of, since_done, texts_of_marks};
 ghost use Rattle.moo_serving.specs.Turns.{HasReport, flushes};
 ghost use Rattle.moo_serving.specs.Meaning.{Entry, out_of};
-ghost use Rattle.moo_serving.specs.Server.{IsAlive, Lived, state_of, traces_under, waiting_of};
-ghost use Rattle.moo_serving.specs.Calls.{Call, Calls, IsKept, LeavesMarked, Lent, One, Opened, handed_in, lent_honest, lent_view};
+ghost use Rattle.moo_serving.specs.Server.{Follows, IsAlive, Lived, Same, state_of, traces_under, waiting_of};
+ghost use Rattle.moo_serving.specs.Calls.{Call, Calls, IsKept, LeavesMarked, Lent, One, Opened, StartsAgain, handed_in, lent_honest, lent_view};
 ghost use Rattle.moo_serving.specs.declared.serving.Serving.{Serving};
 
-use moo_disk::Disk;
-use moo_layer::Sessions;
+use moo_disk::{Disk, FailAt};
+use moo_layer::{Sessions, Starts};
 
 /// Calls one after another do what all their events do, however the events are dealt to calls: the state, the
 /// marks, what a crash may leave, and the turns in which reports come.
@@ -105,4 +107,45 @@ pub fn a_start_reads_a_prefix_since_the_start<S: Sessions, D: Disk, E: Disk>()
         → Calls S.layer D.view D.honest E.view E.honest start (One opened) calls end last entries
         → (c : List ℕ) → (lent_view D.view E.view last).left_since (D.view first).clock c
         → IsKept S.layer (state_of S.layer start) saved [] entries c }
+{}
+
+/// Starting again, wherever the events stopped, reads the world after a prefix of the events that ends with a mark, one that
+/// holds every event before the last checkpoint reported done began, or, where none was, the world that the server began
+/// from: main spells it as a database text within the limits, and a server that is opened over that disk, of whatever
+/// type, begins from it.
+pub fn starting_again_reads_a_prefix<S: Starts, D: Disk, E: Disk, F: Disk>()
+    ensures { (start server end : Serving S) (first opened : D) (disk last : Lent D E) (before after : List (Call S (Lent D E)))
+        (entries later : List (Entry Saved)) (saved : Saved) (moment : ℕ)
+        → D.honest first → Opened S.layer D.view D.honest start first opened saved moment
+        → ((c : List ℕ) → (D.view first).may_leave c → SpellsSavedWithin c saved)
+        → Calls S.layer D.view D.honest E.view E.honest start (One opened) before server disk entries
+        → Calls S.layer D.view D.honest E.view E.honest server disk after end last later
+        → (found : F) → F.honest found
+        → (lent_view D.view E.view last).left_since (lent_view D.view E.view disk).clock (F.view found).main_text
+        → StartsAgain S.layer F.view F.honest (state_of S.layer start) saved entries later found }
+{}
+
+/// The same of a stop at any moment since the start began, inside the start too.
+pub fn starting_again_reads_a_prefix_since_the_start<S: Starts, D: Disk, E: Disk, F: Disk>()
+    ensures { (start end : Serving S) (first opened : D) (last : Lent D E) (calls : List (Call S (Lent D E)))
+        (entries : List (Entry Saved)) (saved : Saved) (moment : ℕ)
+        → D.honest first → Opened S.layer D.view D.honest start first opened saved moment
+        → ((c : List ℕ) → (D.view first).may_leave c → SpellsSavedWithin c saved)
+        → Calls S.layer D.view D.honest E.view E.honest start (One opened) calls end last entries
+        → (found : F) → F.honest found
+        → (lent_view D.view E.view last).left_since (D.view first).clock (F.view found).main_text
+        → StartsAgain S.layer F.view F.honest (state_of S.layer start) saved [] entries found }
+{}
+
+/// Where what waits is taken between two calls, the server goes on with its disk.
+pub fn output_may_be_taken<S: Sessions, D: Disk>()
+    ensures { (one other : Serving S) (disk : D) → Same S.layer one other
+        → Follows S.layer D.view D.honest D.stands one disk → Follows S.layer D.view D.honest D.stands other disk }
+{}
+
+/// Between two calls the disk may be made to fail, and such a disk may be changed for the one within.
+pub fn a_failing_disk_goes_on<S: Sessions, D: Disk>()
+    ensures { (server : Serving S) (disk : FailAt D)
+        → Follows S.layer D.view D.honest D.stands server (inner_of disk)
+        ↔ Follows S.layer ⟦<FailAt<D> as Disk>⟧.view ⟦<FailAt<D> as Disk>⟧.honest ⟦<FailAt<D> as Disk>⟧.stands server disk }
 {}

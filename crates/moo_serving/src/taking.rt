@@ -2,10 +2,10 @@
 ghost use Rattle.std.specs.Prelude.{ℕ, ◌≡◌, ◌≢◌, ◌↔◌, ◌≤◌, ◌||◌, None, false, true, OnOk, IfErr, Err, IsOk, Some, [], if◌then◌else◌};
 ghost use Rattle.moo_disk.specs.Disk.{Gains};
 ghost use Rattle.moo_saved.specs.Saved.{Saved};
-ghost use Rattle.moo_layer.specs.Sessions.{Finishes, Output, is_dropped, seen_happening, then_out};
+ghost use Rattle.moo_layer.specs.Sessions.{Finishes, IsApt, Output, is_dropped, seen_happening, then_out};
 ghost use Rattle.moo_serving.specs.Crash.{IsOneOf, Survives};
 ghost use Rattle.moo_serving.specs.Seen.{Flush, seen};
-ghost use Rattle.moo_serving.specs.Meaning.{State, Acts, Entry, Hears, Marks, is_due, MayWant, is_for_leaving, is_passed_over, refusal, refusal_in};
+ghost use Rattle.moo_serving.specs.Meaning.{State, Acts, Entry, FindsFree, Hears, Marks, is_due, MayWant, is_for_leaving, is_passed_over, refusal, refusal_in};
 
 use crate::event::Course;
 use crate::serving::Open;
@@ -20,6 +20,7 @@ impl<S: Sessions> Serving<S> {
 
     // Something happens to the sessions.
     fn happen(&mut self, happening: Happening) -> Result<(), AllocError>
+        requires { IsApt S.layer.meaning (S.layer.state self.old.sessions) (seen_happening happening) }
         ensures hears { OnOk result ((out : Output)
             × Hears S.layer.meaning (seen_happening happening.entry) (state_of S.layer self.old) out (state_of S.layer self.new)
             × (under_way_of S.layer self.new ≡ then_out (under_way_of S.layer self.old) out)) }
@@ -54,6 +55,7 @@ impl<S: Sessions> Serving<S> {
 
     // The event's own effect.
     fn act(&mut self, event: &Event) -> Result<(), AllocError>
+        requires { FindsFree S.layer.meaning (state_of S.layer self.old) (seen event.now) }
         ensures acts { OnOk result ((out : Output)
             × Acts S.layer.meaning (seen event.now) (state_of S.layer self.old) out (state_of S.layer self.new)
             × (under_way_of S.layer self.new ≡ then_out (under_way_of S.layer self.old) out)) }

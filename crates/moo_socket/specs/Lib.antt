@@ -1,0 +1,2 @@
+-- What waits for a socket.
+pub mod Waiting

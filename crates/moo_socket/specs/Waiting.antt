@@ -1,0 +1,19 @@
+-- What waits for a socket, and what comes from one.
+use Rattle.std.specs.Prelude.{ℕ, ◌≤◌, List, ◌++◌, drop}
+use Rattle.moo_socket.specs.declared.socket.Came.{Came}
+use Rattle.moo_socket.specs.declared.socket.Came.TheVariants as came
+use Rattle.moo_socket.specs.declared.waiting.Waiting.{Waiting}
+
+-- those that go out next
+abbrev pub front_of : Waiting → List ℕ
+front_of w = drop w.gone w.going.items
+
+-- the bytes that wait, in the order in which they go out
+abbrev pub bytes_of : Waiting → List ℕ
+bytes_of w = front_of w ++ w.behind.items
+
+-- no more bytes came than there was room for
+abbrev pub IsCame : Came → ℕ → Type 0
+IsCame (came.Bytes count) room = count ≤ room
+IsCame came.NothingYet room = Unit {0}
+IsCame came.End room = Unit {0}

@@ -1,0 +1,10 @@
+//! The socket of a connection, and the output that waits for it.
+//! A room behind the program `moo`.
+#![tactic(auto)]
+
+mod queue;
+mod socket;
+mod waiting;
+
+pub use socket::{Came, Socket};
+pub use waiting::Waiting;

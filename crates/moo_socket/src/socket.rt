@@ -1,0 +1,98 @@
+//! A connection's socket.
+ghost use Rattle.std.specs.Prelude.{length};
+ghost use Rattle.moo_socket.specs.Waiting.{IsCame};
+
+use crate::waiting::Waiting;
+use mio::net::TcpStream;
+use std::alloc::{AllocError, Global};
+use std::io;
+use std::io::{ErrorKind, Read, Write};
+
+/// What a read gave.
+#[derive(Clone, Copy, Debug, PartialEq, Eq)]
+pub enum Came {
+    /// So many bytes.
+    Bytes(usize),
+    /// No bytes for now.
+    NothingYet,
+    /// The other side has ended, or the socket failed.
+    End,
+}
+
+/// A socket, and the output that waits for it. Each call may be refused for now, and is then made again once the system says so.
+#[derive(Drop)]
+pub struct Socket {
+    stream: TcpStream,
+    waiting: Waiting,
+    may_read: bool,
+    may_write: bool,
+}
+
+impl Socket {
+    /// A socket that was just accepted.
+    pub fn new(alloc: Global, stream: TcpStream) -> Socket {
+        Socket {
+            stream,
+            waiting: Waiting::new(alloc),
+            may_read: true,
+            may_write: true,
+        }
+    }
+
+    /// The system has said that it may be read or written again.
+    pub fn wake(&mut self) {
+        self.may_read = true;
+        self.may_write = true;
+    }
+
+    /// Whether a read may give something.
+    pub fn may_read(&self) -> bool {
+        self.may_read
+    }
+
+    /// How many bytes wait for it.
+    pub fn waiting(&self) -> usize {
+        self.waiting.count()
+    }
+
+    /// Puts output behind what waits for it.
+    pub fn give(&mut self, output: Vec<u8>) -> Result<(), AllocError> {
+        self.waiting.add(output)
+    }
+
+    /// One read into the buffer's front.
+    pub fn read(&mut self, buffer: &mut [u8]) -> Came
+        ensures { IsCame result (length buffer.new) }
+    {
+        match self.stream.read(buffer) {
+            Ok(0) => Came::End,
+            Ok(count) => Came::Bytes(count),
+            Err(error) if error.kind() == ErrorKind::WouldBlock => {
+                self.may_read = false;
+                Came::NothingYet
+            }
+            Err(error) if error.kind() == ErrorKind::Interrupted => Came::NothingYet,
+            Err(_) => Came::End,
+        }
+    }
+
+    /// One write of what waits, where something does: how many bytes went out.
+    pub fn write(&mut self) -> io::Result<usize> {
+        if !self.may_write || self.waiting.is_empty() {
+            return Ok(0);
+        }
+        self.waiting.turn();
+        match self.stream.write(self.waiting.front()) {
+            Ok(count) => {
+                self.waiting.take(count);
+                Ok(count)
+            }
+            Err(error) if error.kind() == ErrorKind::WouldBlock => {
+                self.may_write = false;
+                Ok(0)
+            }
+            Err(error) if error.kind() == ErrorKind::Interrupted => Ok(0),
+            Err(error) => Err(error),
+        }
+    }
+}

@@ -2,7 +2,7 @@
 use std::io;
 
 /// What became of the last call of a disk.
-#[derive(Debug)]
+#[derive(Clone, Copy, Debug)]
 pub enum News<'a> {
     /// It went well, and there is nothing to tell.
     Went,

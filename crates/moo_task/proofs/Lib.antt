@@ -1,2 +1,4 @@
 pub mod Names
+pub mod Ending
+pub mod Steps
 pub mod Unique

@@ -29,14 +29,44 @@ pub fn call_server_verb(
     requires { IsString verb.now }
     ensures { IfOk result (λ v. CallsServerVerb Faults moment verb.now player args argstr live.old (seen_answer v) live.new) }
 {
-    Err(AllocError)
+    let Some(found) = called_verb(&live.world, 0, verb) else {
+        return Ok(None);
+    };
+    let frame = server_frame(alloc, found, name(alloc, verb)?, player, args, argstr)?;
+    run(alloc, live, moment, frame)
+}
+
+fn server_frame(
+    alloc: Global,
+    found: Found<'_>,
+    verb: MooStr,
+    player: i32,
+    args: MooList,
+    argstr: MooStr,
+) -> Result<Frame, AllocError>
+    ensures { IfOk result (λ frame. frame ≡ server_frame (found_of found.entry) verb player args argstr) }
+{
+    let call = Call {
+        this: 0,
+        caller: -1,
+        player,
+        dobj: -1,
+        iobj: -1,
+        verb,
+        argstr,
+        dobjstr: empty(alloc)?,
+        prepstr: empty(alloc)?,
+        iobjstr: empty(alloc)?,
+        args,
+    };
+    verb_frame(alloc, found, call)
 }
 
 /// The empty string.
 pub fn empty(alloc: Global) -> Result<MooStr, AllocError>
     ensures { IfOk result (λ s. s ≡ []) }
 {
-    Err(AllocError)
+    name(alloc, b"")
 }
 
 /// The string of these bytes. `Err` where memory is wanting.
@@ -44,5 +74,9 @@ pub fn name(alloc: Global, bytes: &[u8]) -> Result<MooStr, AllocError>
     requires { IsString bytes.now }
     ensures { IfOk result (λ s. s ≡ bytes.now) }
 {
-    Err(AllocError)
+    match MooStr::try_from_bytes(alloc, bytes) {
+        Ok(string) => Ok(string),
+        Err(ValueFault::Memory) => Err(AllocError),
+        Err(ValueFault::BadByte | ValueFault::TooHeavy) => unreachable!(),
+    }
 }

@@ -26,3 +26,4 @@ sed -n '/^\*\* LambdaMOO/,$p' "$out" > ../starter.db.new
 "$@" check ../starter.db.new
 "$@" copy ../starter.db.new | cmp - ../starter.db.new
 mv ../starter.db.new ../starter.db
+cp ../starter.db ../../crates/moo_starter_test/data/starter.db

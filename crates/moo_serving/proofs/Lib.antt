@@ -3,7 +3,7 @@ mod Coming
 mod Heard
 mod Idle
 pub mod Joining
-mod Marked
+pub mod Marked
 mod Out
 mod Reported
 mod Running

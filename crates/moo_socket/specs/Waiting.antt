@@ -1,7 +1,8 @@
 -- What waits for a socket, and what comes from one.
-use Rattle.std.specs.Prelude.{ℕ, ◌≤◌, List, ◌++◌, drop}
+use Rattle.std.specs.Prelude.{ℕ, ◌<◌, ◌≤◌, List, ◌++◌, drop}
 use Rattle.moo_socket.specs.declared.socket.Came.{Came}
 use Rattle.moo_socket.specs.declared.socket.Came.TheVariants as came
+use Rattle.moo_socket.specs.declared.socket.Socket.{Socket}
 use Rattle.moo_socket.specs.declared.waiting.Waiting.{Waiting}
 
 -- those that go out next
@@ -12,8 +13,12 @@ front_of w = drop w.gone w.going.items
 abbrev pub bytes_of : Waiting → List ℕ
 bytes_of w = front_of w ++ w.behind.items
 
--- no more bytes came than there was room for
+-- the bytes that wait for a socket
+abbrev pub waits_of : Socket → List ℕ
+waits_of socket = bytes_of socket.waiting
+
+-- bytes came, and no more than there was room for
 abbrev pub IsCame : Came → ℕ → Type 0
-IsCame (came.Bytes count) room = count ≤ room
+IsCame (came.Bytes count) room = (0 < count) × (count ≤ room)
 IsCame came.NothingYet room = Unit {0}
 IsCame came.End room = Unit {0}

@@ -1,5 +1,5 @@
 //! Output that waits for a socket.
-ghost use Rattle.std.specs.Prelude.{◌≡◌, ◌≤◌, ◌++◌, [], length, drop, OnOk, OnErr};
+ghost use Rattle.std.specs.Prelude.{◌≡◌, ◌≤◌, ◌↔◌, ◌++◌, [], length, drop, IsTrue, OnOk, OnErr};
 ghost use Rattle.moo_socket.specs.Waiting.{bytes_of, front_of};
 
 use crate::waiting::Waiting;
@@ -19,12 +19,16 @@ impl Waiting {
     }
 
     /// Whether nothing waits.
-    pub fn is_empty(&self) -> bool {
-        self.gone == self.going.len() && self.behind.is_empty()
+    pub fn is_empty(&self) -> bool
+        ensures { IsTrue result ↔ (length (bytes_of self.now) ≡ 0) }
+    {
+        self.count() == 0
     }
 
     /// How many bytes wait.
-    pub fn count(&self) -> usize {
+    pub fn count(&self) -> usize
+        ensures { result ≡ length (bytes_of self.now) }
+    {
         (self.going.len() - self.gone).saturating_add(self.behind.len())
     }
 

@@ -1,6 +1,6 @@
 //! A connection's socket.
-ghost use Rattle.std.specs.Prelude.{length};
-ghost use Rattle.moo_socket.specs.Waiting.{IsCame};
+ghost use Rattle.std.specs.Prelude.{◌≡◌, ◌≤◌, ◌++◌, [], length, drop, IfOk, OnOk, OnErr};
+ghost use Rattle.moo_socket.specs.Waiting.{IsCame, waits_of};
 
 use crate::waiting::Waiting;
 use mio::net::TcpStream;
@@ -30,7 +30,9 @@ pub struct Socket {
 
 impl Socket {
     /// A socket that was just accepted.
-    pub fn new(alloc: Global, stream: TcpStream) -> Socket {
+    pub fn new(alloc: Global, stream: TcpStream) -> Socket
+        ensures { waits_of result ≡ [] }
+    {
         Socket {
             stream,
             waiting: Waiting::new(alloc),
@@ -40,7 +42,9 @@ impl Socket {
     }
 
     /// The system has said that it may be read or written again.
-    pub fn wake(&mut self) {
+    pub fn wake(&mut self)
+        ensures { waits_of self.new ≡ waits_of self.old }
+    {
         self.may_read = true;
         self.may_write = true;
     }
@@ -51,18 +55,24 @@ impl Socket {
     }
 
     /// How many bytes wait for it.
-    pub fn waiting(&self) -> usize {
+    pub fn waiting(&self) -> usize
+        ensures { result ≡ length (waits_of self.now) }
+    {
         self.waiting.count()
     }
 
     /// Puts output behind what waits for it.
-    pub fn give(&mut self, output: Vec<u8>) -> Result<(), AllocError> {
+    pub fn give(&mut self, output: Vec<u8>) -> Result<(), AllocError>
+        ensures ok { OnOk result (waits_of self.new ≡ waits_of self.old ++ output.items) }
+        ensures err { OnErr result (waits_of self.new ≡ waits_of self.old) }
+    {
         self.waiting.add(output)
     }
 
     /// One read into the buffer's front.
     pub fn read(&mut self, buffer: &mut [u8]) -> Came
-        ensures { IsCame result (length buffer.new) }
+        ensures came { IsCame result (length buffer.new) }
+        ensures waits { waits_of self.new ≡ waits_of self.old }
     {
         match self.stream.read(buffer) {
             Ok(0) => Came::End,
@@ -76,8 +86,11 @@ impl Socket {
         }
     }
 
-    /// One write of what waits, where something does: how many bytes went out.
-    pub fn write(&mut self) -> io::Result<usize> {
+    /// One write of what waits, where something does: how many bytes went out, from the front. A fault takes none.
+    pub fn write(&mut self) -> io::Result<usize>
+        ensures out { IfOk result (λ count. (count ≤ length (waits_of self.old)) × (waits_of self.new ≡ drop count (waits_of self.old))) }
+        ensures failed { OnErr result (waits_of self.new ≡ waits_of self.old) }
+    {
         if !self.may_write || self.waiting.is_empty() {
             return Ok(0);
         }

@@ -1,0 +1,5 @@
+//! The disk over files: tests alone.
+#![tactic(auto)]
+
+#[cfg(test)]
+mod files;

@@ -1,0 +1,2 @@
+mod Kept
+pub mod OneRun

@@ -1,0 +1,66 @@
+//! Openings, bytes and hang-ups.
+ghost use Rattle.std.specs.Prelude.{◌≡◌, OnOk, IsOk, None, false};
+ghost use Rattle.moo_code_function.specs.Telling.{Faults};
+ghost use Rattle.moo_connection.specs.Connections.{client_here, is_open};
+ghost use Rattle.moo_session.specs.Events.{Opens, Hears, HangsUp, hung_up, player_at};
+
+use moo_live::{Hook, Live, Session};
+use moo_login::log_in;
+use moo_task::{empty, run_hooks};
+use moo_typing::meet_lines;
+use std::alloc::{AllocError, Global};
+
+/// A connection is opened at this moment, in seconds, under a number that none has. The error is want of memory.
+pub fn open(alloc: Global, live: &mut Live, moment: u32, number: u16) -> Result<(), AllocError>
+    requires { is_open number live.old.session.connections ≡ false }
+    ensures { OnOk result (Opens Faults moment number live.old live.new) }
+{
+    live.session.join(number, moment)?;
+    let line = empty(alloc)?;
+    log_in(alloc, live, moment, number, Vec::new(alloc), line)?;
+    run_hooks(alloc, live, moment)
+}
+
+/// Bytes come on the connection of this number, which may end lines. Where it isn't open or is leaving they are dropped,
+/// which takes no memory. The error is want of memory.
+pub fn hear(
+    alloc: Global,
+    live: &mut Live,
+    moment: u32,
+    number: u16,
+    piece: &[u8],
+) -> Result<(), AllocError>
+    ensures heard { OnOk result (Hears Faults moment number piece.now live.old live.new) }
+    ensures left { client_here number live.old.session.connections ≡ None → IsOk result × (live.new ≡ live.old) }
+{
+    let Some(lines) = live.session.hear(number, moment, piece)? else {
+        return Ok(());
+    };
+    meet_lines(alloc, live, moment, number, &lines)
+}
+
+/// The connection of this number hangs up, and its number is free. The error is want of memory.
+pub fn hang_up(alloc: Global, live: &mut Live, moment: u32, number: u16) -> Result<(), AllocError>
+    ensures { OnOk result (HangsUp Faults moment number live.old live.new) }
+{
+    free(&mut live.session, number)?;
+    run_hooks(alloc, live, moment)
+}
+
+fn free(session: &mut Session, number: u16) -> Result<(), AllocError>
+    ensures { OnOk result (session.new ≡ hung_up number session.old) }
+{
+    let player = player_at(session, number);
+    session.free(number);
+    match player {
+        Some(player) => session.cause(Hook::ClientDisconnected(player)),
+        None => Ok(()),
+    }
+}
+
+// Who is connected on a connection.
+fn player_at(session: &Session, number: u16) -> Option<i32>
+    ensures { result ≡ player_at number session.now.connections }
+{
+    session.connections().client_here(number)?.player()
+}

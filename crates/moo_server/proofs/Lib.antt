@@ -1,0 +1,2 @@
+mod Players
+mod Worlds

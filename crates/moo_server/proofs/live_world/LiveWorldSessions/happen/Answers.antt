@@ -1,0 +1,24 @@
+use Rattle.std.proofs.Common.{◌≡◌, Bool, refl, sym, ◌∙◌, subst}
+use Rattle.std.specs.Prelude.{◌&&◌, IfOk, not}
+use Rattle.moo_live.specs.declared.live.Live.{Live}
+use Rattle.moo_code_function.specs.Telling.{Faults}
+use Rattle.moo_layer.specs.declared.sessions.Asked.{Asked}
+use Rattle.moo_layer.specs.Sessions.{seen_happening}
+use Rattle.moo_server.specs.Live.{Becomes}
+use Rattle.moo_server.proofs.Worlds.{dropped_any, moved}
+use Rattle.moo_server.proofs.live_world.LiveWorldSessions.happen.Goals as goal
+
+pub returns-then-is_dropped-clause-happens : goal.returns-then-is_dropped-clause-happens
+returns-then-is_dropped-clause-happens c =
+    dropped_any (seen_happening c.args.happening) c.args.moment c.args.self.now (record c.args.self.now { live = c.settle.new.live }) (sym c.is_dropped.ensures ∙ c.if-is_dropped.true) c.settle.ensures refl
+
+pub returns-clause-happens : goal.returns-clause-happens
+returns-clause-happens c =
+    let old = c.args.self.now in
+    let end = c.happen.new.live in
+    let new = record old { live = c.move_out.new.live; outbox = c.move_out.new.outbox } in
+    moved c.move_out.result (seen_happening c.args.happening) c.args.moment old new end
+    (subst (λ (s : Live). Becomes Faults (seen_happening c.args.happening) c.args.moment s end) c.settle-2.ensures c.in_ok-happen.ensures)
+    c.move_out.ensures.live c.move_out.ensures.checkpoint
+    (subst (λ (b : Bool). IfOk c.move_out.result (λ (asked : Asked). asked.shutdown ≡ (end.session.closing && not b))) c.is_closing-was_closing.ensures c.move_out.ensures.shutdown)
+    c.move_out.ensures.sent c.move_out.ensures.log

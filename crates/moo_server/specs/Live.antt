@@ -1,0 +1,95 @@
+-- The world with its connections, as the layer of sessions that a server is over.
+use Rattle.std.specs.Prelude.{◌≡◌, ℕ, ℤ, List, [], ◌∷◌, ◌++◌, Option, Some, None, Bool, false, ◌&&◌, not, is_none}
+use Rattle.std.specs.Option.{option_map}
+use Rattle.moo_saved.specs.Saved.{Saved, SpellsSavedWithin}
+use Rattle.moo_dbtext.specs.Canonical.{canonical}
+use Rattle.moo_code_function.specs.Telling.{Telling, Faults}
+use Rattle.moo_outcome.specs.declared.surroundings.Connection.{Connection}
+use Rattle.moo_connection.specs.Connections.{Connections, client_here, is_open, players_of}
+use Rattle.moo_connection.specs.Streams.{stream}
+use Rattle.moo_live.specs.declared.live.Live.{Live}
+use Rattle.moo_live.specs.Session.{Session}
+use Rattle.moo_live.specs.State.{in_session}
+use Rattle.moo_outbox.specs.Outbox.{log_under_way, log_waiting, sent_under_way, sent_waiting}
+use Rattle.moo_session.specs.Events.{CheckpointEnds, CheckpointStarts, HangsUp, Hears}
+use Rattle.moo_session.specs.Events.{Opens as OpensFor, Starts as StartsFrom}
+use Rattle.moo_session.specs.Interval.{interval}
+use Rattle.moo_layer.specs.Sessions.{Happening, Opens, Receives, Starts, Finishes, Layer, Meaning, Told}
+use Rattle.moo_layer.specs.Sessions.{HangsUp as HangsUpOn}
+use Rattle.moo_server.specs.declared.live_world.LiveWorld.{LiveWorld}
+
+-- a connection of this number is open that nobody is on any more: it is leaving
+abbrev pub is_gone : Connections → ℕ → Bool
+is_gone connections n = is_open n connections && is_none (client_here n connections)
+
+-- who is connected on a connection, as tasks see it
+abbrev pub player_in : Connection → Option ℤ
+player_in connection = option_map (λ login. login.player) connection.login
+
+abbrev pub player_list : Option ℤ → List ℤ
+player_list None = []
+player_list (Some player) = player ∷ []
+
+-- who is connected on these, in their order
+abbrev pub players_in : List Connection → List ℤ
+players_in [] = []
+players_in (c ∷ cs) = player_list (player_in c) ++ players_in cs
+
+-- with nothing sent, logged or asked for
+abbrev pub settled_session : Session → Session
+settled_session s = record s { sent = []; log = []; asked = false }
+
+abbrev pub settled : Live → Live
+settled s = in_session settled_session s
+
+-- What a happening came to: what was sent and logged, whether a checkpoint was asked for, and whether the server began to shut down.
+abbrev pub told_of : Bool → Session → Told
+told_of was_closing s = record {
+  out = record { sent = λ c. stream c s.sent; logged = s.log };
+  asks = s.asked;
+  shuts = s.closing && not was_closing;
+}
+
+-- what each happening does, by what may be told of texts that are no programs
+abbrev pub Becomes : Telling → Happening → ℕ → Live → Live → Type 0
+Becomes T (Opens c) moment old new = OpensFor T moment c old new
+Becomes T (Receives c piece) moment old new = Hears T moment c piece old new
+Becomes T (HangsUpOn c) moment old new = HangsUp T moment c old new
+Becomes T Starts moment old new = CheckpointStarts T moment old new
+Becomes T (Finishes done) moment old new = CheckpointEnds T moment done old new
+
+-- A happening begins with nothing sent, logged or asked for, and what it came to is moved out.
+pub record LiveHappens (T : Telling) (happening : Happening) (moment : ℕ) (old : Live) (told : Told) (new : Live) : Type 0 where
+  pub end : Live
+  pub becomes : Becomes T happening moment (settled old) end
+  pub told_is : told ≡ told_of old.session.closing end.session
+  pub new_is : new ≡ settled end
+
+-- a start from a saved world
+pub record LiveStarts (T : Telling) (saved : Saved) (moment : ℕ) (told : Told) (new : Live) : Type 0 where
+  pub end : Live
+  pub starts : StartsFrom T moment saved.connected saved.world end
+  pub told_is : told ≡ told_of false end.session
+  pub new_is : new ≡ settled end
+
+-- The meaning of the world with its connections. What is saved is the world with the connected players, in the order of their connections; its
+-- text is the canonical one.
+abbrev pub live_meaning : Telling → Meaning Live Saved
+live_meaning T = record {
+  happens = LiveHappens T;
+  starts = LiveStarts T;
+  is_open = λ s c. is_open c s.session.connections;
+  is_leaving = λ s c. is_gone s.session.connections c;
+  interval = λ s. interval s.world;
+  saved_of = λ s. record { world = s.world; connected = players_of s.session.connections };
+  text_of = canonical;
+  Spells = SpellsSavedWithin;
+}
+
+abbrev pub live_layer : Layer LiveWorld Live Saved
+live_layer = record {
+  meaning = live_meaning Faults;
+  state = λ w. w.live;
+  waiting = λ w. record { sent = sent_waiting w.outbox; logged = log_waiting w.outbox };
+  under_way = λ w. record { sent = sent_under_way w.outbox; logged = log_under_way w.outbox };
+}

@@ -1,0 +1,10 @@
+-- A server over the world with its connections.
+use Rattle.moo_disk.specs.Disk.{DiskView}
+use Rattle.moo_serving.specs.Server.{Follows as FollowsOver}
+use Rattle.moo_serving.specs.declared.serving.Serving.{Serving}
+use Rattle.moo_server.specs.Live.{live_layer}
+use Rattle.moo_server.specs.declared.live_world.LiveWorld.{LiveWorld}
+
+-- no event is being taken, and the disk is as the last call left it, perhaps with a wrapper put round it since
+abbrev pub Follows : {D : Type 0} → (D → DiskView) → (D → Type 0) → (D → Type 0) → Serving LiveWorld → D → Type 0
+Follows view honest stands server disk = FollowsOver live_layer view honest stands server disk

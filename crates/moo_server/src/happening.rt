@@ -1,0 +1,76 @@
+//! What happens to a world with its connections, and what comes of it.
+ghost use Rattle.std.specs.Prelude.{◌≡◌, ◌++◌, ◌&&◌, not, ℕ, IfOk, OnOk};
+ghost use Rattle.moo_code_function.specs.Telling.{Faults};
+ghost use Rattle.moo_connection.specs.Streams.{stream};
+ghost use Rattle.moo_layer.specs.Sessions.{IsApt, is_dropped, seen_happening};
+ghost use Rattle.moo_outbox.specs.Outbox.{log_under_way, log_waiting, sent_under_way, sent_waiting};
+ghost use Rattle.moo_server.specs.Live.{Becomes, live_meaning, settled};
+
+use crate::connected::is_gone;
+use moo_layer::{Asked, Happening};
+use moo_outbox::Outbox;
+use moo_session::{Live, checkpoint_ends, checkpoint_starts, hang_up, hear, open};
+use std::alloc::{AllocError, Global};
+
+/// Drops what is left of an earlier happening. It takes no memory.
+pub(crate) fn settle(live: &mut Live)
+    ensures { live.new ≡ settled live.old }
+{
+    let _sent = live.session.take_sent();
+    let _log = live.session.take_log();
+    let _asked = live.session.take_asked();
+}
+
+/// Whether it is bytes for a connection that is leaving.
+pub(crate) fn is_dropped(live: &Live, happening: Happening) -> bool
+    ensures { result ≡ is_dropped (live_meaning Faults) live.now (seen_happening happening.entry) }
+{
+    match happening {
+        Happening::Receives(c, _) => is_gone(live.session.connections(), c),
+        _ => false,
+    }
+}
+
+/// What happens to the world and its connections, with the hooks that it causes. The error is want of memory.
+pub(crate) fn happen(
+    alloc: Global,
+    live: &mut Live,
+    moment: u32,
+    happening: Happening,
+) -> Result<(), AllocError>
+    requires { IsApt (live_meaning Faults) live.old (seen_happening happening) }
+    ensures { OnOk result (Becomes Faults (seen_happening happening.entry) moment live.old live.new) }
+{
+    match happening {
+        Happening::Opens(c) => open(alloc, live, moment, c),
+        Happening::Receives(c, piece) => hear(alloc, live, moment, c, piece),
+        Happening::HangsUp(c) => hang_up(alloc, live, moment, c),
+        Happening::Starts => checkpoint_starts(alloc, live, moment),
+        Happening::Finishes(done) => checkpoint_ends(alloc, live, moment, done),
+    }
+}
+
+/// Moves what was sent and logged behind what is under way, and answers what was asked for. The error is want of memory.
+pub(crate) fn move_out(
+    live: &mut Live,
+    was_closing: bool,
+    outbox: &mut Outbox,
+) -> Result<Asked, AllocError>
+    ensures live { live.new ≡ settled live.old }
+    ensures checkpoint { IfOk result (λ asked. asked.checkpoint ≡ live.old.session.asked) }
+    ensures shutdown { IfOk result (λ asked. asked.shutdown ≡ (live.old.session.closing && not was_closing)) }
+    ensures sent { OnOk result ((c : ℕ) → sent_under_way outbox.new c ≡ sent_under_way outbox.old c ++ stream c live.old.session.sent) }
+    ensures log { OnOk result (log_under_way outbox.new ≡ log_under_way outbox.old ++ live.old.session.log) }
+    ensures waiting { (c : ℕ) → sent_waiting outbox.new c ≡ sent_waiting outbox.old c }
+    ensures log_waiting { log_waiting outbox.new ≡ log_waiting outbox.old }
+{
+    let sent = live.session.take_sent();
+    let log = live.session.take_log();
+    let checkpoint = live.session.take_asked();
+    let shutdown = live.session.is_closing() && !was_closing;
+    outbox.add(&sent, &log)?;
+    Ok(Asked {
+        checkpoint,
+        shutdown,
+    })
+}

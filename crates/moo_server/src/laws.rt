@@ -1,0 +1,48 @@
+//! What holds of a server over a disk, whatever comes and wherever it stops.
+ghost use Rattle.std.specs.Prelude.{ℕ, List, []};
+ghost use Rattle.moo_saved.specs.Saved.{Saved, SpellsSavedWithin};
+ghost use Rattle.moo_serving.specs.Meaning.{Entry};
+ghost use Rattle.moo_serving.specs.Server.{state_of};
+ghost use Rattle.moo_serving.specs.Calls.{Call, Calls, Lent, One, Opened, StartsAgain, lent_view};
+ghost use Rattle.moo_serving.specs.declared.serving.Serving.{Serving};
+ghost use Rattle.moo_server.specs.Live.{live_layer};
+ghost use Rattle.moo_server.specs.declared.live_world.LiveWorld.{LiveWorld};
+
+use crate::LiveWorld;
+use moo_disk::Disk;
+
+/// For every list of connections' bytes, hang-ups, moments and flush turns, in whatever calls they come, and a stop before or
+/// within any disk call, starting again reads exactly the object world that the meaning gives after some prefix of the
+/// events, one that holds every event before the last checkpoint reported done began, or, where none was, the world that
+/// was read at the start.
+///
+/// Main then spells that world as a database text within the limits, so that `recover` and `Server::open` answer it, or that
+/// the device failed, or that memory was wanting.
+pub fn starting_again_reads_a_prefix<D: Disk, E: Disk, F: Disk>()
+    ensures { (start server end : Serving LiveWorld) (first opened : D) (disk last : Lent D E)
+        (before after : List (Call LiveWorld (Lent D E))) (entries later : List (Entry Saved)) (saved : Saved) (moment : ℕ)
+        → D.honest first → Opened live_layer D.view D.honest start first opened saved moment
+        → ((c : List ℕ) → (D.view first).may_leave c → SpellsSavedWithin c saved)
+        → Calls live_layer D.view D.honest E.view E.honest start (One opened) before server disk entries
+        → Calls live_layer D.view D.honest E.view E.honest server disk after end last later
+        → (found : F) → F.honest found
+        → (lent_view D.view E.view last).left_since (lent_view D.view E.view disk).clock (F.view found).main_text
+        → StartsAgain live_layer F.view F.honest (state_of live_layer start) saved entries later found }
+{
+    moo_serving::laws::starting_again_reads_a_prefix::<LiveWorld, D, E, F>();
+}
+
+/// The same of a stop at any moment since the start began, inside the start too: what was read at the start, or the world after a
+/// prefix of the events.
+pub fn starting_again_reads_a_prefix_since_the_start<D: Disk, E: Disk, F: Disk>()
+    ensures { (start end : Serving LiveWorld) (first opened : D) (last : Lent D E) (calls : List (Call LiveWorld (Lent D E)))
+        (entries : List (Entry Saved)) (saved : Saved) (moment : ℕ)
+        → D.honest first → Opened live_layer D.view D.honest start first opened saved moment
+        → ((c : List ℕ) → (D.view first).may_leave c → SpellsSavedWithin c saved)
+        → Calls live_layer D.view D.honest E.view E.honest start (One opened) calls end last entries
+        → (found : F) → F.honest found
+        → (lent_view D.view E.view last).left_since (D.view first).clock (F.view found).main_text
+        → StartsAgain live_layer F.view F.honest (state_of live_layer start) saved [] entries found }
+{
+    moo_serving::laws::starting_again_reads_a_prefix_since_the_start::<LiveWorld, D, E, F>();
+}

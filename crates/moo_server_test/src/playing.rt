@@ -1,0 +1,188 @@
+//! What the tests share: lives of a server, one after another over one disk.
+
+use moo_disk::{Disk, FailAt, MemoryDisk, Place, StopAt};
+use moo_layer::Starts;
+use moo_server::{Event, LiveWorld, OpenFault};
+use moo_serving::Serving;
+use std::alloc::Global;
+use std::test::Fail;
+
+/// A wizard, #3, in a room, #2, with a verb that evaluates what is typed behind a semicolon. Who opens a connection is #3.
+pub const WORLD: &[u8] =
+    b"** LambdaMOO Database, Format Version 4 **\n4\n2\n0\n1\n3\n#0\nSystem Object\n\n16\n3\n-1\n-1\n-1\n1\n-1\n2\n1\ndo_login_command\n3\n173\n-1\n0\n0\n#1\nRoot Class\n\n16\n3\n-1\n-1\n-1\n-1\n0\n-1\n0\n0\n0\n#2\nThe First Room\n\n0\n3\n-1\n3\n-1\n1\n-1\n3\n0\n0\n0\n#3\nWizard\n\n7\n3\n2\n-1\n-1\n1\n-1\n-1\n1\neval\n3\n93\n-2\n0\n0\n#0:0\nreturn #3;\n.\n#3:0\nnotify(player, toliteral(eval(argstr)));\n.\n0 clocks\n0 queued tasks\n0 suspended tasks\n0 active connections with listeners\n";
+
+/// A database in memory.
+pub fn disk_of(alloc: Global, world: &[u8]) -> Result<MemoryDisk, Fail> {
+    Ok(MemoryDisk::new(alloc, Vec::from_slice(alloc, world)?))
+}
+
+/// The rows again, from this database on, with what is told behind each life.
+pub fn played(alloc: Global, world: &[u8], rows: &str) -> Result<Vec<u8>, Fail> {
+    let mut disk = disk_of(alloc, world)?;
+    let mut events = Vec::new(alloc);
+    let mut told = Vec::new(alloc);
+    for row in rows.lines() {
+        if let Some(end) = row.strip_prefix(">> ") {
+            add_line(&mut told, row.as_bytes())?;
+            disk = end_life(alloc, disk, end, &events, &mut told)?;
+            events = Vec::new(alloc);
+        } else if let Some(event) = row.strip_prefix("> ") {
+            add_line(&mut told, row.as_bytes())?;
+            add_events(alloc, &mut events, event)?;
+        }
+    }
+    Ok(told)
+}
+
+fn add_line(told: &mut Vec<u8>, line: &[u8]) -> Result<(), Fail> {
+    told.extend_from_slice(line)?;
+    told.push(b'\n')?;
+    Ok(())
+}
+
+// What follows the first blank, if there is one.
+fn part(text: &str) -> (&str, &str) {
+    text.split_once(' ').unwrap_or((text, ""))
+}
+
+/// Adds an event, or as many of `flush` as it says. In `bytes`, `^` stands for CR and `|` for LF.
+pub fn add_events(alloc: Global, events: &mut Vec<Event>, row: &str) -> Result<(), Fail> {
+    let (word, rest) = part(row);
+    let (number, text) = part(rest);
+    let number = number.parse::<u16>().unwrap_or(1);
+    if word == "flush" {
+        for _ in 0..number {
+            events.push(Event::Flush)?;
+        }
+        return Ok(());
+    }
+    events.push(match word {
+        "open" => Event::Open(number),
+        "line" => Event::Bytes(number, typed(alloc, text, "|")?),
+        "bytes" => Event::Bytes(number, typed(alloc, text, "")?),
+        "hangup" => Event::Hangup(number),
+        "moment" => Event::Moment(u32::from(number)),
+        _ => return Err(Fail::from("nothing that comes")),
+    })?;
+    Ok(())
+}
+
+fn typed(alloc: Global, text: &str, end: &str) -> Result<Vec<u8>, Fail> {
+    let mut piece = Vec::from_slice(alloc, text.as_bytes())?;
+    piece.extend_from_slice(end.as_bytes())?;
+    for byte in piece.iter_mut() {
+        match *byte {
+            b'^' => *byte = b'\r',
+            b'|' => *byte = b'\n',
+            _ => {}
+        }
+    }
+    Ok(piece)
+}
+
+// A life over the disk, or over one that fails or stops in its k-th call; or what a crash leaves, or the end of the main text.
+fn end_life(
+    alloc: Global,
+    disk: MemoryDisk,
+    end: &str,
+    events: &[Event],
+    told: &mut Vec<u8>,
+) -> Result<MemoryDisk, Fail> {
+    let (word, rest) = part(end);
+    let (number, effect) = part(rest);
+    let number = number.parse::<u16>().unwrap_or(0);
+    match word {
+        "crash" => crash(alloc, disk, number, told),
+        "main" => add_connected(disk, told),
+        "fail" => {
+            let mut failing = FailAt::new(disk, u64::from(number), effect == "done");
+            live::<LiveWorld, _>(alloc, &mut failing, events, told)?;
+            Ok(failing.into_inner())
+        }
+        "stop" => stop(alloc, disk, number, Place::Before, events, told),
+        "within" => stop(alloc, disk, number, Place::Within, events, told),
+        _ => {
+            let mut disk = disk;
+            live::<LiveWorld, _>(alloc, &mut disk, events, told)?;
+            Ok(disk)
+        }
+    }
+}
+
+/// A life over a disk that stops in its k-th call, before it or within it.
+pub fn stop(
+    alloc: Global,
+    disk: MemoryDisk,
+    k: u16,
+    place: Place,
+    events: &[Event],
+    told: &mut Vec<u8>,
+) -> Result<MemoryDisk, Fail> {
+    let mut stopping = StopAt::new(disk, u64::from(k), place);
+    live::<LiveWorld, _>(alloc, &mut stopping, events, told)?;
+    Ok(stopping.into_inner())
+}
+
+// The disk that a crash leaves with the i-th of the texts, where there is one.
+fn crash(alloc: Global, disk: MemoryDisk, i: u16, told: &mut Vec<u8>) -> Result<MemoryDisk, Fail> {
+    let count = disk.image_count();
+    add_line(told, format!(in alloc; "of {count}")?.as_bytes())?;
+    match disk.crash(usize::from(i)) {
+        Ok(left) => Ok(left),
+        Err(same) => Ok(same),
+    }
+}
+
+// The lines of who was connected.
+fn add_connected(disk: MemoryDisk, told: &mut Vec<u8>) -> Result<MemoryDisk, Fail> {
+    let main = str::from_utf8(disk.main_text()).unwrap_or("");
+    let (_, connected) = main
+        .split_once("0 suspended tasks\n")
+        .unwrap_or(("", "none\n"));
+    told.extend_from_slice(connected.as_bytes())?;
+    Ok(disk)
+}
+
+// One life, from moment 0 on.
+fn live<S: Starts, D: Disk>(
+    alloc: Global,
+    disk: &mut D,
+    events: &[Event],
+    told: &mut Vec<u8>,
+) -> Result<(), Fail> {
+    let mut server = match Serving::<S>::open(alloc, disk, 0) {
+        Ok(server) => server,
+        Err(fault) => return add_line(told, refusal(alloc, fault)?.as_bytes()),
+    };
+    let text = match server.run(disk, events) {
+        Ok(done) => format!(in alloc; "{done} {:?}", server.phase())?,
+        Err(fault) => {
+            format!(in alloc; "{} {:?} {:?}", fault.done, fault.cause, server.phase())?
+        }
+    };
+    add_line(told, text.as_bytes())?;
+    for c in 0..4 {
+        add_sent(alloc, c, &server.take_output(c), told)?;
+    }
+    for line in server.take_log() {
+        told.extend_from_slice(b"log: ")?;
+        add_line(told, line.as_bytes())?;
+    }
+    Ok(())
+}
+
+fn refusal(alloc: Global, fault: OpenFault) -> Result<String, Fail> {
+    match fault {
+        OpenFault::Device => Ok(format!(in alloc; "refused: Device")?),
+        OpenFault::Memory => Ok(format!(in alloc; "refused: Memory")?),
+        OpenFault::Db(fault) => Ok(format!(in alloc; "refused: line {}", fault.line)?),
+    }
+}
+
+// Each line that was sent on a connection, behind its number.
+fn add_sent(alloc: Global, c: u16, sent: &[u8], told: &mut Vec<u8>) -> Result<(), Fail> {
+    for line in str::from_utf8(sent).unwrap_or("no text").lines() {
+        add_line(told, format!(in alloc; "{c}: {line}")?.as_bytes())?;
+    }
+    Ok(())
+}

@@ -1,0 +1,2 @@
+mod Due
+mod Empty

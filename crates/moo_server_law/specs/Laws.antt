@@ -1,0 +1,15 @@
+-- The laws of a server over a world with its connections.
+use Rattle.std.specs.Prelude.{◌≡◌, ℕ, List, true, false}
+use Rattle.moo_saved.specs.Saved.{Saved}
+use Rattle.moo_code_function.specs.Telling.{Faults}
+use Rattle.moo_connection.specs.Connections.{is_open}
+use Rattle.moo_live.specs.declared.live.Live.{Live}
+use Rattle.moo_layer.specs.Sessions.{Output}
+use Rattle.moo_serving.specs.Meaning.{Begins, Entry, Run, State, is_due}
+use Rattle.moo_server.specs.Live.{live_meaning}
+
+-- While a connection is open, no checkpoint is due between two events: each ends with the beginning of what is due.
+abbrev pub NothingIsDue : Type 0
+NothingIsDue = (saved : Saved) (moment : ℕ) (out : Output) (start end : State Live) (entries : List (Entry Saved)) (c : ℕ)
+    → Begins (live_meaning Faults) saved moment out start → Run (live_meaning Faults) start entries end
+    → is_open c end.sessions.session.connections ≡ true → is_due (live_meaning Faults) end ≡ false

@@ -1,0 +1,31 @@
+//! What holds between the events of a server, and of its lives one after another.
+ghost use Rattle.std.specs.Prelude.{ℕ, List, []};
+ghost use Rattle.moo_disk.specs.Disk.{LeavesOnly};
+ghost use Rattle.moo_lives.specs.Lives.{LifeRun, Lives};
+ghost use Rattle.moo_run_law.specs.Marks.{BeginFromKept};
+ghost use Rattle.moo_server.specs.Live.{live_layer};
+ghost use Rattle.moo_server.specs.declared.live_world.LiveWorld.{LiveWorld};
+ghost use Rattle.moo_server_law.specs.Laws.{NothingIsDue};
+
+use moo_disk::CrashDisk;
+use moo_server::LiveWorld;
+
+/// While a connection is open, no checkpoint is due between two events. So bytes for a connection that is leaving take no memory.
+#[tactic(none)]
+pub fn nothing_is_due_while_a_connection_is_open()
+    ensures { NothingIsDue }
+{}
+
+/// Of lives over an honest disk whose first crash leaves its main text alone, each behind the first begins from the world at a mark of
+/// an earlier life, or from that which an earlier life began from, and never from one before the mark of the last report done of any
+/// earlier life. Behind a crash that ended a life which began behind a crash, or was the first, it begins from a mark of that
+/// life, or, where none of its checkpoints was reported done, from the world that it began from.
+#[tactic(none)]
+pub fn lives_begin_from_marks<D: CrashDisk>()
+    ensures { (first last : D) (runs : List (LifeRun LiveWorld D)) (texts left : List (List ℕ))
+        → LeavesOnly (D.view first).main_text (D.view first)
+        → Lives live_layer D.view D.honest D.failures D.images first texts runs left last
+        → BeginFromKept live_layer [] runs }
+{
+    moo_run_law::laws::lives_begin_from_marks::<LiveWorld, D>();
+}

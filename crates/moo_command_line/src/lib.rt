@@ -1,0 +1,121 @@
+//! What the words of the command line ask for.
+//! A room behind `moo`.
+#![tactic(auto)]
+
+use clap::{Arg, ArgMatches, Command, Error, value_parser};
+use std::alloc::{AllocError, Global};
+
+/// Rounds of `moo serve` where none are given.
+const ROUNDS: &str = "1000000000";
+
+/// The address that `moo serve` is reached at where none is given.
+const HOST: &str = "127.0.0.1";
+
+/// What the program is to do.
+#[derive(Clone, Copy, Debug, PartialEq, Eq)]
+pub enum Work<'a> {
+    /// Evaluate the first line of the input.
+    Expr,
+    /// Tell what the database of this path holds.
+    Check(&'a str),
+    /// Write the database of this path in its canonical form.
+    Copy(&'a str),
+    /// Run the events of the input over the database of this path, in memory.
+    Script(&'a str),
+    /// Serve a database to connections.
+    Serve(Service<'a>),
+}
+
+/// What is to be served, where, and for how long.
+#[derive(Clone, Copy, Debug, PartialEq, Eq)]
+pub struct Service<'a> {
+    /// The path of the database.
+    pub database: &'a str,
+    /// The address at which connections are taken.
+    pub host: &'a str,
+    /// The port, or 0 for any that is free.
+    pub port: u16,
+    /// The most rounds of reading and writing.
+    pub rounds: u64,
+}
+
+/// Reads the words, the program's own first. `None` where they name no command. Of a help that was asked
+/// for the error's `use_stderr` is false.
+pub fn read_words<'a>(alloc: Global, words: &'a [String]) -> Result<Option<Work<'a>>, Error> {
+    let matches = command(alloc)?.try_get_matches_from(words)?;
+    match matches.subcommand() {
+        Some((name, found)) => Ok(work_of(name, found)),
+        None => Ok(None),
+    }
+}
+
+fn work_of<'a>(name: &str, found: &ArgMatches<'a>) -> Option<Work<'a>> {
+    match name {
+        "expr" => Some(Work::Expr),
+        "check" => found.get_str("DB").map(Work::Check),
+        "copy" => found.get_str("DB").map(Work::Copy),
+        "script" => found.get_str("DB").map(Work::Script),
+        "serve" => service_of(found).map(Work::Serve),
+        _ => None,
+    }
+}
+
+fn service_of<'a>(found: &ArgMatches<'a>) -> Option<Service<'a>> {
+    Some(Service {
+        database: found.get_str("DB")?,
+        host: found.get_str("host")?,
+        port: found.get_one::<u16>("PORT")?,
+        rounds: found.get_one::<u64>("rounds")?,
+    })
+}
+
+fn command<'a>(alloc: Global) -> Result<Command<'a>, AllocError> {
+    let expr = Command::new(alloc, "expr").about("Evaluate the expression on standard input");
+    Command::new(alloc, "moo")
+        .about("A LambdaMOO server with crash-safe checkpoints")
+        .subcommand_required(true)
+        .arg_required_else_help(true)
+        .disable_help_subcommand(true)
+        .subcommand(expr)?
+        .subcommand(over_database(alloc, "check", "Tell what a database holds")?)?
+        .subcommand(over_database(alloc, "copy", "Print a database in its canonical form")?)?
+        .subcommand(over_database(
+            alloc,
+            "script",
+            "Run the events on standard input over a database in memory",
+        )?)?
+        .subcommand(serve(alloc)?)
+}
+
+fn over_database<'a>(
+    alloc: Global,
+    name: &'a str,
+    about: &'a str,
+) -> Result<Command<'a>, AllocError> {
+    let database = Arg::new(alloc, "DB")
+        .help("The database file")
+        .required(true);
+    Command::new(alloc, name).about(about).arg(database)
+}
+
+fn serve<'a>(alloc: Global) -> Result<Command<'a>, AllocError> {
+    let port = Arg::new(alloc, "PORT")
+        .help("The port, or 0 for any that is free")
+        .required(true)
+        .value_parser(value_parser!(u16));
+    let host = Arg::new(alloc, "host")
+        .long("host")
+        .value_name("ADDRESS")
+        .help("The address at which connections are taken")
+        .default_value(HOST);
+    let rounds = Arg::new(alloc, "rounds")
+        .long("rounds")
+        .value_name("N")
+        .help("The most rounds of reading and writing")
+        .value_parser(value_parser!(u64))
+        .default_value(ROUNDS);
+    over_database(alloc, "serve", "Serve a database to connections")?
+        .arg(port)?
+        .arg(host)?
+        .arg(rounds)
+}

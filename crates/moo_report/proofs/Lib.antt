@@ -1,0 +1,3 @@
+pub mod AtEnd
+pub mod GivenUp
+pub mod Joined

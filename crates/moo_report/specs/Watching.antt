@@ -1,0 +1,20 @@
+-- What was seen of an input, an output and the memory.
+use Rattle.std.specs.Prelude.{◌≡◌, ◌≤◌, ◌⊎◌, ℕ, true}
+use Rattle.moo_report.specs.declared.watch.Watch.{Watch}
+
+-- the most reads of one input
+abbrev pub most_reads : ℕ
+most_reads = 4294967296
+
+-- A call of the input or of the output has answered an error, or the input was asked for the most reads.
+abbrev pub HasFailed : Watch → Type 0
+HasFailed w = (w.failed ≡ true) ⊎ (most_reads ≤ w.reads)
+
+-- A call has answered that memory was wanting.
+abbrev pub HasLacked : Watch → Type 0
+HasLacked w = w.lacked ≡ true
+
+-- what was seen isn't forgotten
+pub record Remembers (old new : Watch) : Type 0 where
+  pub failed : HasFailed old → HasFailed new
+  pub lacked : HasLacked old → HasLacked new

@@ -1,0 +1,134 @@
+//! What was seen of an input, an output and the memory: whether one has failed.
+ghost use Rattle.std.specs.Prelude.{◌≡◌, ◌<◌, ◌≤◌, ◌+◌, [], length, take, true, false, IfErr, IfNone, IfOk, IfSome, OnErr, OnOk};
+ghost use Rattle.std.specs.Io.KnownBytes.{Appends, Consumes, IsAtEnd};
+ghost use Rattle.moo_report.specs.Refused.{without_memory, IsEarned};
+ghost use Rattle.moo_report.specs.Watching.{most_reads, HasFailed, HasLacked, Remembers};
+
+use crate::refusal::Refusal;
+use std::io;
+use std::io::{ErrorKind, Read, Write};
+
+/// The most reads of one input.
+const MOST_READS: u64 = 4_294_967_296;
+
+/// Watches the calls of an input and an output, and those that take memory.
+#[derive(Debug, Drop)]
+pub struct Watch {
+    failed: bool,
+    lacked: bool,
+    reads: u64,
+}
+
+impl Watch {
+    /// Before the first call.
+    pub fn new() -> Watch
+        ensures failed { result.failed ≡ false }
+        ensures lacked { result.lacked ≡ false }
+        ensures reads { result.reads ≡ 0 }
+    {
+        Watch {
+            failed: false,
+            lacked: false,
+            reads: 0,
+        }
+    }
+
+    /// Notes that a call has answered that memory was wanting.
+    pub fn lack(&mut self) -> Refusal
+        ensures refusal { result ≡ without_memory }
+        ensures earned { IsEarned self.new result }
+        ensures remembers { Remembers self.old self.new }
+        ensures counted { self.new.reads ≡ self.old.reads }
+    {
+        self.lacked = true;
+        Refusal::Memory
+    }
+
+    /// Notes what a device has answered.
+    pub(crate) fn fail(&mut self, error: io::Error) -> Refusal
+        ensures failed { HasFailed self.new }
+        ensures earned { IsEarned self.new result }
+        ensures remembers { Remembers self.old self.new }
+        ensures counted { self.new.reads ≡ self.old.reads }
+    {
+        self.failed = true;
+        match Refusal::from(error) {
+            Refusal::Device => Refusal::Device,
+            Refusal::Memory => self.lack(),
+        }
+    }
+
+    /// Counts a read of the input, where not the most were made.
+    pub(crate) fn count(&mut self) -> Result<(), Refusal>
+        ensures count { OnOk result ((self.old.reads < self.new.reads) × (self.new.reads ≤ most_reads)) }
+        ensures counted { self.new.reads ≤ self.old.reads + 1 }
+        ensures failed { OnErr result (HasFailed self.new) }
+        ensures earned { IfErr result (IsEarned self.new) }
+        ensures remembers { Remembers self.old self.new }
+    {
+        if self.reads >= MOST_READS {
+            return Err(Refusal::Device);
+        }
+        self.reads += 1;
+        Ok(())
+    }
+
+    /// How many bytes were read into the buffer, 0 where the read was interrupted. `None` at the input's end.
+    pub fn read<I: Read>(
+        &mut self,
+        input: &mut I,
+        buffer: &mut [u8],
+    ) -> Result<Option<usize>, Refusal>
+        requires { 0 < length buffer.old }
+        ensures room { length buffer.new ≡ length buffer.old }
+        ensures some { IfOk result (λ r. IfSome r (λ n. (n ≤ length buffer.new) × Consumes (I.remaining input.old) (I.remaining input.new) (take n buffer.new))) }
+        ensures end { IfOk result (λ r. IfNone r (Consumes (I.remaining input.old) (I.remaining input.new) [] × IsAtEnd (I.remaining input.new))) }
+        ensures count { OnOk result ((self.old.reads < self.new.reads) × (self.new.reads ≤ most_reads)) }
+        // It counts once at most.
+        ensures counted { self.new.reads ≤ self.old.reads + 1 }
+        ensures failed { OnErr result (HasFailed self.new) }
+        ensures earned { IfErr result (IsEarned self.new) }
+        ensures remembers { Remembers self.old self.new }
+    {
+        self.count()?;
+        match input.read(buffer) {
+            Ok(0) => Ok(None),
+            Ok(count) => Ok(Some(count)),
+            Err(error) => {
+                if error.kind() == ErrorKind::Interrupted {
+                    return Ok(Some(0));
+                }
+                Err(self.fail(error))
+            }
+        }
+    }
+
+    /// Writes a text, which may wait to be handed on.
+    pub fn put<O: Write>(&mut self, output: &mut O, text: &[u8]) -> Result<(), Refusal>
+        ensures text { OnOk result (Appends (O.contents output.old) (O.contents output.new) text.now) }
+        ensures failed { OnErr result (HasFailed self.new) }
+        ensures earned { IfErr result (IsEarned self.new) }
+        ensures remembers { Remembers self.old self.new }
+        ensures counted { self.new.reads ≡ self.old.reads }
+    {
+        match output.write_all(text) {
+            Ok(()) => Ok(()),
+            Err(error) => Err(self.fail(error)),
+        }
+    }
+
+    /// Writes a text, and hands on all that waits.
+    pub fn write<O: Write>(&mut self, output: &mut O, text: &[u8]) -> Result<(), Refusal>
+        ensures text { OnOk result (Appends (O.contents output.old) (O.contents output.new) text.now) }
+        ensures failed { OnErr result (HasFailed self.new) }
+        ensures earned { IfErr result (IsEarned self.new) }
+        ensures remembers { Remembers self.old self.new }
+        ensures counted { self.new.reads ≡ self.old.reads }
+    {
+        self.put(output, text)?;
+        match output.flush() {
+            Ok(()) => Ok(()),
+            Err(error) => Err(self.fail(error)),
+        }
+    }
+}

@@ -1,0 +1,4 @@
+-- The lines of a text.
+pub mod Lines
+-- What is printed.
+pub mod Printed

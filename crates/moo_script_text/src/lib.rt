@@ -1,0 +1,10 @@
+//! The texts of a script of events: the lines of its input, and those that are printed of what is sent.
+//! A room behind `moo_script`.
+#![tactic(auto)]
+
+mod input;
+mod line;
+mod printing;
+
+pub use input::{next_line, whole_text};
+pub use printing::{print_bad_line, print_sent};

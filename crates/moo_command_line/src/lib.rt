@@ -2,14 +2,19 @@
 //! A room behind `moo`.
 #![tactic(auto)]
 
+use clap::error::ErrorKind;
 use clap::{Arg, ArgMatches, Command, Error, value_parser};
 use std::alloc::{AllocError, Global};
+use std::net::IpAddr;
 
 /// Rounds of `moo serve` where none are given.
 const ROUNDS: &str = "1000000000";
 
 /// The address that `moo serve` is reached at where none is given.
 const HOST: &str = "127.0.0.1";
+
+/// Bytes that may wait for a connection of `moo serve` where no other number is given.
+const MOST_WAITING: &str = "16777216";
 
 /// What the program is to do.
 #[derive(Clone, Copy, Debug, PartialEq, Eq)]
@@ -32,11 +37,13 @@ pub struct Service<'a> {
     /// The path of the database.
     pub database: &'a str,
     /// The address at which connections are taken.
-    pub host: &'a str,
+    pub host: IpAddr,
     /// The port, or 0 for any that is free.
     pub port: u16,
     /// The most rounds of reading and writing.
     pub rounds: u64,
+    /// A connection for which more bytes wait is hung up.
+    pub most_waiting: usize,
 }
 
 /// Reads the words, the program's own first. `None` where they name no command. Of a help that was asked
@@ -44,6 +51,10 @@ pub struct Service<'a> {
 pub fn read_words<'a>(alloc: Global, words: &'a [String]) -> Result<Option<Work<'a>>, Error> {
     let matches = command(alloc)?.try_get_matches_from(words)?;
     match matches.subcommand() {
+        Some(("serve", found)) => match found.get_one::<IpAddr>("host") {
+            Some(host) => Ok(service_of(found, host).map(Work::Serve)),
+            None => Err(no_address(alloc)?),
+        },
         Some((name, found)) => Ok(work_of(name, found)),
         None => Ok(None),
     }
@@ -55,18 +66,23 @@ fn work_of<'a>(name: &str, found: &ArgMatches<'a>) -> Option<Work<'a>> {
         "check" => found.get_str("DB").map(Work::Check),
         "copy" => found.get_str("DB").map(Work::Copy),
         "script" => found.get_str("DB").map(Work::Script),
-        "serve" => service_of(found).map(Work::Serve),
         _ => None,
     }
 }
 
-fn service_of<'a>(found: &ArgMatches<'a>) -> Option<Service<'a>> {
+fn service_of<'a>(found: &ArgMatches<'a>, host: IpAddr) -> Option<Service<'a>> {
     Some(Service {
         database: found.get_str("DB")?,
-        host: found.get_str("host")?,
+        host,
         port: found.get_one::<u16>("PORT")?,
         rounds: found.get_one::<u64>("rounds")?,
+        most_waiting: found.get_one::<usize>("most-waiting")?,
     })
+}
+
+fn no_address(alloc: Global) -> Result<Error, AllocError> {
+    let message = "the value of '--host <ADDRESS>' is no IP address";
+    command(alloc)?.error(ErrorKind::ValueValidation, message)
 }
 
 fn command<'a>(alloc: Global) -> Result<Command<'a>, AllocError> {
@@ -114,8 +130,15 @@ fn serve<'a>(alloc: Global) -> Result<Command<'a>, AllocError> {
         .help("The most rounds of reading and writing")
         .value_parser(value_parser!(u64))
         .default_value(ROUNDS);
+    let most_waiting = Arg::new(alloc, "most-waiting")
+        .long("most-waiting")
+        .value_name("BYTES")
+        .help("A connection for which more bytes wait is hung up")
+        .value_parser(value_parser!(usize))
+        .default_value(MOST_WAITING);
     over_database(alloc, "serve", "Serve a database to connections")?
         .arg(port)?
         .arg(host)?
-        .arg(rounds)
+        .arg(rounds)?
+        .arg(most_waiting)
 }

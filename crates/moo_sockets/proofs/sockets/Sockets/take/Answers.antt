@@ -1,0 +1,20 @@
+use Rattle.std.proofs.Common.{List, ◌++◌, ◌∙◌, ap}
+use Rattle.moo_serving.specs.declared.event.Event.{Event}
+use Rattle.moo_sockets.specs.Coming.{only}
+use Rattle.moo_sockets.proofs.Sent.{follow_append}
+use Rattle.moo_sockets.proofs.sockets.Sockets.take.Goals as goal
+
+pub returns : goal.returns
+returns g c =
+    let read = c.in_ok-read_all.ensures in
+    let opened = c.in_ok-opened.opened in
+    let all = read.4 ∙ ap (λ (es : List Event). es ++ read.1) (c.in_ok-put.ensures ∙ ap (λ (es : List Event). es ++ only opened) c.new-events.ensures.items) in
+    record {
+      opened = opened;
+      reads = read.1;
+      below = read.0;
+      all = all;
+      opens = c.in_ok-opened.ensures.0;
+      read = read.2;
+      follow = follow_append (only opened) read.1 c.read_all.new.events.items c.args.self.now.sockets c.accept.new.self.sockets c.read_all.new.self.sockets all c.in_ok-opened.ensures.1 read.3;
+    }

@@ -1,0 +1,118 @@
+//! What comes on sockets: new connections, bytes, ends.
+ghost use Rattle.std.specs.Prelude.{◌≡◌, ℕ, List, ◌++◌, IfOk, OnOk};
+ghost use Rattle.moo_serving.specs.declared.event.Event as given;
+ghost use Rattle.moo_sockets.specs.Coming.{Comes, Each, Follow, IsOpening, IsRead, only};
+
+use crate::sockets::Sockets;
+use log::{Log, warn};
+use mio::net::TcpStream;
+use mio::{Interest, Token};
+use moo_serving::Event;
+use moo_socket::{Came, Socket};
+use std::alloc::AllocError;
+use std::io::ErrorKind;
+
+/// The most bytes that one read takes.
+const READ_MOST: usize = 4096;
+
+impl Sockets {
+    /// What one round takes in: one new connection at most, and then one read of each socket that may have bytes, by rising number.
+    /// A connection beyond the last number is closed at once. A socket that ended or failed is closed.
+    pub fn take<L: Log>(&mut self, rt: &L) -> Result<Vec<Event>, AllocError>
+        ensures { IfOk result (λ events. Comes self.old.sockets self.new.sockets events.items) }
+    {
+        let mut events = Vec::new(self.alloc);
+        let opened = self.accept(rt)?;
+        put(&mut events, opened)?;
+        self.read_all(&mut events)?;
+        Ok(events)
+    }
+
+    // One new connection, where one waits. A fault is tried again later: those that are connected go on.
+    fn accept<L: Log>(&mut self, rt: &L) -> Result<Option<Event>, AllocError>
+        ensures { IfOk result (λ event. IsOpening self.old.sockets event × Follow (only event) self.old.sockets self.new.sockets) }
+    {
+        if !self.may_accept {
+            return Ok(None);
+        }
+        let stream = match self.listener.accept() {
+            Ok((stream, _)) => stream,
+            Err(error) => {
+                self.may_accept = error.kind() != ErrorKind::WouldBlock;
+                return Ok(None);
+            }
+        };
+        self.is_busy = true;
+        let Ok(c) = u16::try_from(self.sockets.vacant_key()) else {
+            warn!(rt; target: "moo", "a connection is refused: all numbers are taken");
+            return Ok(None);
+        };
+        self.keep(c, stream)
+    }
+
+    // Keeps a new connection's socket under its number. Where the system doesn't let it be watched it is closed.
+    fn keep(&mut self, c: u16, mut stream: TcpStream) -> Result<Option<Event>, AllocError>
+        requires { c ≡ self.old.sockets.vacant_key }
+        ensures { IfOk result (λ event. IsOpening self.old.sockets event × Follow (only event) self.old.sockets self.new.sockets) }
+    {
+        let both = Interest::READABLE | Interest::WRITABLE;
+        let token = Token(usize::from(c));
+        let registered = self.poll.registry().register(&mut stream, token, both);
+        if registered.is_err() || stream.set_nodelay(true).is_err() {
+            return Ok(None);
+        }
+        self.sockets.reserve(1)?;
+        self.sockets
+            .insert_reserved(Socket::new(self.alloc, stream));
+        Ok(Some(Event::Open(c)))
+    }
+
+    // One read of each socket that may have bytes.
+    fn read_all(&mut self, events: &mut Vec<Event>) -> Result<(), AllocError>
+        ensures { OnOk result ((n : ℕ) × (reads : List given.Event) × Each IsRead n reads × Follow reads self.old.sockets self.new.sockets
+            × (events.new.items ≡ events.old.items ++ reads)) }
+    {
+        for key in 0..self.sockets.capacity() {
+            let Ok(c) = u16::try_from(key) else { break };
+            let event = self.read(c)?;
+            put(events, event)?;
+        }
+        Ok(())
+    }
+
+    // One read of a socket. Its end or a fault is a hang-up.
+    fn read(&mut self, c: u16) -> Result<Option<Event>, AllocError>
+        ensures { IfOk result (λ event. IsRead c event × Follow (only event) self.old.sockets self.new.sockets) }
+    {
+        let Some(socket) = self.sockets.get_mut(usize::from(c)) else {
+            return Ok(None);
+        };
+        if !socket.may_read() {
+            return Ok(None);
+        }
+        let mut buffer = [0u8; READ_MOST];
+        match socket.read(&mut buffer) {
+            Came::Bytes(count) => {
+                self.is_busy = true;
+                let piece = buffer[..count].to_vec(self.alloc)?;
+                Ok(Some(Event::Bytes(c, piece)))
+            }
+            Came::NothingYet => Ok(None),
+            Came::End => {
+                self.is_busy = true;
+                self.close(c);
+                Ok(Some(Event::Hangup(c)))
+            }
+        }
+    }
+}
+
+/// Puts an event, if there is one, behind others.
+pub fn put(events: &mut Vec<Event>, event: Option<Event>) -> Result<(), AllocError>
+    ensures { OnOk result (events.new.items ≡ events.old.items ++ only event) }
+{
+    if let Some(event) = event {
+        events.push(event)?;
+    }
+    Ok(())
+}

@@ -1,0 +1,20 @@
+//! Why there are no sockets.
+use std::alloc::AllocError;
+use std::io;
+use thiserror::Error;
+
+/// Why there are no sockets, or none that can be waited for.
+#[derive(Debug, Drop, Error)]
+pub enum SocketsFault {
+    /// The address can't be had, or the system doesn't tell what is ready.
+    #[error("refused: Device")]
+    Device(io::Error),
+    #[error("refused: Memory")]
+    Memory,
+}
+
+impl From<AllocError> for SocketsFault {
+    fn from(_fault: AllocError) -> SocketsFault {
+        SocketsFault::Memory
+    }
+}

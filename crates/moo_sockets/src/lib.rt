@@ -1,0 +1,12 @@
+//! The sockets of connections, each under its number, and where new ones come.
+//! A room behind the program `moo`.
+#![tactic(auto)]
+
+mod coming;
+mod fault;
+mod sending;
+mod sockets;
+
+pub use coming::put;
+pub use fault::SocketsFault;
+pub use sockets::Sockets;

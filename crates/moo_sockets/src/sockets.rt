@@ -1,0 +1,140 @@
+//! Where connections come, and the sockets that they have.
+ghost use Rattle.std.specs.Prelude.{◌≡◌, ◌≤◌, ◌↔◌, ℕ, IsSome, IsTrue, None};
+ghost use Rattle.moo_sockets.specs.Coming.{Closes, held};
+
+use crate::fault::SocketsFault;
+use mio::net::TcpListener;
+use mio::{Events, Interest, Poll, Token};
+use moo_socket::Socket;
+use slab::Slab;
+use std::alloc::{AllocError, Global};
+use std::io::ErrorKind;
+use std::net::{IpAddr, Net, SocketAddr};
+use std::time::Duration;
+
+/// How many ready sockets one look reports. More are reported by the next.
+const REPORTED: usize = 256;
+
+const LISTENER: Token = Token(usize::MAX);
+
+/// The sockets of connections, and where it listens for more. The key of a socket is the number of its connection.
+#[derive(Drop)]
+pub struct Sockets {
+    pub(crate) alloc: Global,
+    pub(crate) poll: Poll,
+    ready: Events,
+    pub(crate) listener: TcpListener,
+    /// Whether a connection may wait to be accepted.
+    pub(crate) may_accept: bool,
+    pub(crate) sockets: Slab<Socket>,
+    /// Whether something came or went out since `rest`.
+    pub(crate) is_busy: bool,
+}
+
+impl Sockets {
+    /// Listens on a port of an address. Port 0 takes any free one.
+    pub fn open<N: Net>(
+        rt: &N,
+        alloc: Global,
+        host: IpAddr,
+        port: u16,
+    ) -> Result<Sockets, SocketsFault> {
+        let mut listener = TcpListener::bind(rt, SocketAddr::from((host, port))).map_err(
+            SocketsFault::Device,
+        )?;
+        let poll = Poll::new(rt).map_err(SocketsFault::Device)?;
+        poll.registry()
+            .register(&mut listener, LISTENER, Interest::READABLE)
+            .map_err(SocketsFault::Device)?;
+        Ok(Sockets {
+            alloc,
+            poll,
+            ready: Events::with_capacity(alloc, REPORTED)?,
+            listener,
+            may_accept: true,
+            sockets: Slab::new(alloc),
+            is_busy: false,
+        })
+    }
+
+    /// Where it listens.
+    pub fn address(&self) -> Result<SocketAddr, SocketsFault> {
+        self.listener.local_addr().map_err(SocketsFault::Device)
+    }
+
+    /// From now on nothing has come or gone out.
+    pub fn rest(&mut self) {
+        self.is_busy = false;
+    }
+
+    /// Whether something came or went out since `rest`.
+    pub fn is_busy(&self) -> bool {
+        self.is_busy
+    }
+
+    /// Whether a connection has a socket.
+    pub fn contains(&self, c: u16) -> bool
+        ensures { IsTrue result ↔ IsSome (held self.now.sockets c) }
+    {
+        self.sockets.contains(usize::from(c))
+    }
+
+    /// Numbers of sockets are below this one.
+    #[tactic(auto, using(crate::proofs::Sent::held_past))]
+    pub fn capacity(&self) -> usize
+        ensures { (c : ℕ) → result ≤ c → held self.now.sockets c ≡ None }
+    {
+        self.sockets.capacity()
+    }
+
+    /// Closes a connection's socket. What still waits for it goes nowhere.
+    pub fn close(&mut self, c: u16)
+        ensures { Closes c self.old.sockets self.new.sockets }
+    {
+        self.sockets.try_remove(usize::from(c));
+    }
+
+    /// Waits for sockets that are ready, so many seconds at most, and marks them.
+    pub fn look(&mut self, seconds: u64) -> Result<(), SocketsFault>
+        ensures { (c : ℕ) → held self.new.sockets c ≡ held self.old.sockets c }
+    {
+        match self
+            .poll
+            .poll(&mut self.ready, Some(Duration::from_secs(seconds)))
+        {
+            Ok(()) => {}
+            Err(error) if error.kind() == ErrorKind::Interrupted => return Ok(()),
+            Err(error) => return Err(SocketsFault::Device(error)),
+        }
+        let keys = self.ready_keys()?;
+        if wake(&mut self.sockets, &keys) {
+            self.may_accept = true;
+        }
+        Ok(())
+    }
+
+    // The keys of those that are ready, the listener's among them.
+    fn ready_keys(&self) -> Result<Vec<usize>, AllocError> {
+        let mut keys = Vec::new(self.alloc);
+        for event in self.ready.iter() {
+            keys.push(event.token().0)?;
+        }
+        Ok(keys)
+    }
+}
+
+// Marks the sockets of these keys. It answers whether the listener's is among them.
+fn wake(sockets: &mut Slab<Socket>, keys: &[usize]) -> bool
+    ensures { (c : ℕ) → held sockets.new c ≡ held sockets.old c }
+{
+    let mut has_listener = false;
+    for key in keys {
+        if *key == LISTENER.0 {
+            has_listener = true;
+        }
+        if let Some(socket) = sockets.get_mut(*key) {
+            socket.wake();
+        }
+    }
+    has_listener
+}

@@ -8,7 +8,8 @@ use Rattle.slab.proofs.SlabLemmas.{Updates-with_value}
 use Rattle.moo_socket.specs.Waiting.{waits_of}
 use Rattle.moo_socket.specs.declared.socket.Socket.{Socket}
 use Rattle.moo_serving.specs.declared.event.Event.{Event}
-use Rattle.moo_sockets.specs.Coming.{Follow, held, held_after, held_through}
+use Rattle.moo_sockets.specs.Coming.{Follow, held, held_after}
+use Rattle.moo_sockets.proofs.Counting.{after_append}
 use Rattle.moo_sockets.specs.Sending.{Sends}
 
 abbrev waits : Option Socket → Option (List ℕ)
@@ -34,10 +35,6 @@ sends c key bytes old before mid after out waiting is found gave went count = re
 }
 
 -- events, and others behind them
-after_append : (c : ℕ) (was : Option (List ℕ)) (first second : List Event) → held_after c was (first ++ second) ≡ held_after c (held_after c was first) second
-after_append c was [] second = refl
-after_append c was (event ∷ first) second = after_append c (held_through c was event) first second
-
 pub follow_append : (first second all : List Event) (old mid new : Slab Socket) → all ≡ first ++ second → Follow first old mid → Follow second mid new → Follow all old new
 follow_append first second all old mid new is f s c =
     s c ∙ ap (λ (w : Option (List ℕ)). held_after c w second) (f c) ∙ sym (after_append c (held old c) first second) ∙ ap (λ (es : List Event). held_after c (held old c) es) (sym is)

@@ -1,5 +1,5 @@
 -- What comes on the sockets of connections, as events of a server.
-use Rattle.std.specs.Prelude.{◌≡◌, ℕ, zero, suc, ◌<◌, ◌≤◌, List, [], ◌∷◌, ◌++◌, Option, Some, None, eqb, if◌then◌else◌, vec_len}
+use Rattle.std.specs.Prelude.{◌≡◌, ℕ, zero, suc, ◌<◌, ◌≤◌, List, [], ◌∷◌, ◌++◌, Option, Some, None, IsSome, eqb, if◌then◌else◌, vec_len}
 use Rattle.std.specs.Option.{option_map}
 use Rattle.slab.specs.Slab.{Slab, get}
 use Rattle.moo_socket.specs.Waiting.{waits_of}
@@ -22,12 +22,13 @@ IsOpening sockets None = Unit {0}
 IsOpening sockets (Some (the.Open c)) = held sockets c ≡ None
 IsOpening sockets (Some event) = ⊥
 
--- what one read of connection c's socket gives: nothing for now, at most 4,096 bytes, or its end
-abbrev pub IsRead : ℕ → Option Event → Type 0
-IsRead c None = Unit {0}
-IsRead c (Some (the.Bytes k piece)) = (k ≡ c) × (0 < vec_len piece) × (vec_len piece ≤ 4096)
-IsRead c (Some (the.Hangup k)) = k ≡ c
-IsRead c (Some event) = ⊥
+-- What one read of connection c's socket gives, where `was` waits for it: nothing for now, at most 4,096 bytes, or its end; and nothing
+-- where it has none.
+abbrev pub IsRead : Option (List ℕ) → ℕ → Option Event → Type 0
+IsRead was c None = Unit {0}
+IsRead was c (Some (the.Bytes k piece)) = IsSome was × (k ≡ c) × (0 < vec_len piece) × (vec_len piece ≤ 4096)
+IsRead was c (Some (the.Hangup k)) = IsSome was × (k ≡ c)
+IsRead was c (Some event) = ⊥
 
 -- one such event at most of each number below n, by rising number
 abbrev pub Each : (ℕ → Option Event → Type 0) → ℕ → List Event → Type 0
@@ -60,5 +61,5 @@ pub record Comes (old new : Slab Socket) (events : List Event) : Type 0 where
   pub below : ℕ
   pub all : events ≡ only opened ++ reads
   pub opens : IsOpening old opened
-  pub read : Each IsRead below reads
+  pub read : Each (λ c event. IsRead (held_after c (held old c) (only opened)) c event) below reads
   pub follow : Follow events old new

@@ -1,7 +1,7 @@
 //! What comes on sockets: new connections, bytes, ends.
 ghost use Rattle.std.specs.Prelude.{◌≡◌, ℕ, List, ◌++◌, IfOk, OnOk};
 ghost use Rattle.moo_serving.specs.declared.event.Event as given;
-ghost use Rattle.moo_sockets.specs.Coming.{Comes, Each, Follow, IsOpening, IsRead, only};
+ghost use Rattle.moo_sockets.specs.Coming.{Comes, Each, Follow, IsOpening, IsRead, held, only};
 
 use crate::sockets::Sockets;
 use log::{Log, warn};
@@ -69,7 +69,7 @@ impl Sockets {
 
     // One read of each socket that may have bytes.
     fn read_all(&mut self, events: &mut Vec<Event>) -> Result<(), AllocError>
-        ensures { OnOk result ((n : ℕ) × (reads : List given.Event) × Each IsRead n reads × Follow reads self.old.sockets self.new.sockets
+        ensures { OnOk result ((n : ℕ) × (reads : List given.Event) × Each (λ c event. IsRead (held self.old.sockets c) c event) n reads × Follow reads self.old.sockets self.new.sockets
             × (events.new.items ≡ events.old.items ++ reads)) }
     {
         for key in 0..self.sockets.capacity() {
@@ -82,7 +82,7 @@ impl Sockets {
 
     // One read of a socket. Its end or a fault is a hang-up.
     fn read(&mut self, c: u16) -> Result<Option<Event>, AllocError>
-        ensures { IfOk result (λ event. IsRead c event × Follow (only event) self.old.sockets self.new.sockets) }
+        ensures { IfOk result (λ event. IsRead (held self.old.sockets c) c event × Follow (only event) self.old.sockets self.new.sockets) }
     {
         let Some(socket) = self.sockets.get_mut(usize::from(c)) else {
             return Ok(None);

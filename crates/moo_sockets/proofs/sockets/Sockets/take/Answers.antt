@@ -1,6 +1,7 @@
-use Rattle.std.proofs.Common.{List, ◌++◌, ◌∙◌, ap}
+use Rattle.std.proofs.Common.{ℕ, List, ◌++◌, Option, ◌∙◌, ap, subst}
 use Rattle.moo_serving.specs.declared.event.Event.{Event}
-use Rattle.moo_sockets.specs.Coming.{only}
+use Rattle.moo_sockets.specs.Coming.{IsRead, held, held_after, only}
+use Rattle.moo_sockets.proofs.Counting.{each_map}
 use Rattle.moo_sockets.proofs.Sent.{follow_append}
 use Rattle.moo_sockets.proofs.sockets.Sockets.take.Goals as goal
 
@@ -15,6 +16,7 @@ returns g c =
       below = read.0;
       all = all;
       opens = c.in_ok-opened.ensures.0;
-      read = read.2;
+      read = each_map (λ k e. IsRead (held c.accept.new.self.sockets k) k e) (λ k e. IsRead (held_after k (held c.args.self.now.sockets k) (only opened)) k e) read.0 read.1
+          (λ k less e is. subst (λ (w : Option (List ℕ)). IsRead w k e) (c.in_ok-opened.ensures.1 k) is) read.2;
       follow = follow_append (only opened) read.1 c.read_all.new.events.items c.args.self.now.sockets c.accept.new.self.sockets c.read_all.new.self.sockets all c.in_ok-opened.ensures.1 read.3;
     }

@@ -244,6 +244,9 @@ elseif (!$isa(room, $room) || !($controls(player, room) || room == player.home))
 elseif (room == player.location)
   player:tell("You are there.");
   return;
+elseif (!$controls(player, room) && !(`room:accept(player) ! ANY => 0'))
+  player:tell("You can't go there.");
+  return;
 endif
 from = player.location;
 move(player, room);

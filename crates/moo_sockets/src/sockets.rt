@@ -63,7 +63,9 @@ impl Sockets {
     }
 
     /// From now on nothing has come or gone out.
-    pub fn rest(&mut self) {
+    pub fn rest(&mut self)
+        ensures { (c : ℕ) → held self.new.sockets c ≡ held self.old.sockets c }
+    {
         self.is_busy = false;
     }
 

@@ -1,0 +1,7 @@
+pub mod Crashing
+pub mod Handed
+pub mod Moments
+pub mod Played
+pub mod Serving
+pub mod Steps
+pub mod Taken

@@ -1,0 +1,10 @@
+use Rattle.std.proofs.Common.{inl, inr}
+use Rattle.moo_script.proofs.Serving.{gives_up}
+use Rattle.moo_script.proofs.program.script_watched.Goals as goal
+
+pub returns-in-Ok : goal.returns-in-Ok
+returns-in-Ok g c = inl c.in-Ok.ensures.answered
+
+pub returns-in-Err : goal.returns-in-Err
+returns-in-Err g c =
+    inr (gives_up c.serve.new.loading c.serve.new.watch c.told_watched.new.watch c.in-Err.refusal c.told_watched.result c.in-Err.ensures.earned c.told_watched.ensures.remembers c.told_watched.ensures.status)

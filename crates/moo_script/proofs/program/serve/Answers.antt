@@ -1,0 +1,21 @@
+use Rattle.std.proofs.lemmas.Result.{IfOk-weaker}
+use Rattle.moo_script.proofs.Serving.{held, not_served, nothing_printed, served}
+use Rattle.moo_script.proofs.program.serve.Goals as goal
+
+pub returns-in_ok-hand_out-in-Ok-clause-answered : goal.returns-in_ok-hand_out-in-Ok-clause-answered
+returns-in_ok-hand_out-in-Ok-clause-answered g c =
+    let l = g.S.Sessions.layer in
+    let holds = held c.in_ok-text.text.items c.new-disk.result c.new.result c.new-disk.ensures.inner c.new.ensures.images c.new.ensures.main c.new-disk.ensures.left in
+    let handed = c.in_ok-hand_out-in-Ok.ensures in
+    IfOk-weaker c.play.result _ _ (λ status plays. served l (g.F.Read.remaining c.args.database.now) (g.I.Read.remaining c.args.input.now) (g.O.Write.contents c.args.output.now)
+    (g.O.Write.contents c.hand_out.new.output) (g.O.Write.contents c.play.new.output) c.in_ok-text.text.items c.new-disk.result c.in-Ok.script c.hand_out.new.self status
+    c.in_ok-text.ensures.text holds c.in-Ok.ensures.opens handed.handed
+    (nothing_printed l c.in-Ok.script _ _ c.in-Ok.ensures.opens.top handed.text) plays) c.play.ensures.plays
+
+pub returns-in-Err-clause-answered : goal.returns-in-Err-clause-answered
+returns-in-Err-clause-answered g c =
+    let l = g.S.Sessions.layer in
+    let holds = held c.in_ok-text.text.items c.new-disk.result c.new.result c.new-disk.ensures.inner c.new.ensures.images c.new.ensures.main c.new-disk.ensures.left in
+    IfOk-weaker c.tell_opening.result _ _ (λ status told. not_served l (g.F.Read.remaining c.args.database.now) (g.I.Read.remaining c.args.input.now) (g.O.Write.contents c.args.output.now)
+    (g.O.Write.contents c.tell_opening.new.output) c.in_ok-text.text.items c.new-disk.result c.in-Err.fault status c.in_ok-text.ensures.text holds c.in-Err.ensures.refused told.0 told.1)
+    c.tell_opening.ensures.told

@@ -1,0 +1,30 @@
+-- What a connection has typed over many events.
+use Rattle.std.specs.Prelude.{◌≡◌, ◌≢◌, ℕ, Bool, List, [], ◌++◌, None}
+use Rattle.moo_code_function.specs.Telling.{Telling, Faults}
+use Rattle.moo_line.specs.Lines.{lines}
+use Rattle.moo_connection.specs.Connections.{Connections, client_here}
+use Rattle.moo_connection.specs.Changes.{HasHeard}
+use Rattle.moo_live.specs.declared.live.Live.{Live}
+use Rattle.moo_typing.specs.Typing.{MeetsLines}
+use Rattle.moo_session.specs.Events.{Opens, Hears, HangsUp, CheckpointStarts, CheckpointEnds, with_connections}
+
+-- Something happens that is no opening, bytes or hang-up of connection n.
+pub data HappensBeside (T : Telling) (n : ℕ) (s s' : Live) : Type 0 where
+  opens : {moment m : ℕ} → m ≢ n → Opens T moment m s s' → HappensBeside T n s s'
+  hears : {moment m : ℕ} {piece : List ℕ} → m ≢ n → Hears T moment m piece s s' → HappensBeside T n s s'
+  hangs_up : {moment m : ℕ} → m ≢ n → HangsUp T moment m s s' → HappensBeside T n s s'
+  checkpoint_starts : {moment : ℕ} → CheckpointStarts T moment s s' → HappensBeside T n s s'
+  checkpoint_ends : {moment : ℕ} (done : Bool) → CheckpointEnds T moment done s s' → HappensBeside T n s s'
+
+-- Since its opening, connection n has sent these bytes, in pieces, which ended these lines, whatever happened in between.
+pub data HasTyped (T : Telling) (n : ℕ) : (stream : List ℕ) → (typed : List (List ℕ)) → Live → Type 0 where
+  opened : {moment : ℕ} {s s' : Live} → client_here n s.session.connections ≡ None → Opens T moment n s s' → HasTyped T n [] [] s'
+  passed : {stream : List ℕ} {typed : List (List ℕ)} {s s' : Live} → HasTyped T n stream typed s → HappensBeside T n s s' → HasTyped T n stream typed s'
+  -- what was sent is moved out, or something else leaves the connections as they are
+  moved_out : {stream : List ℕ} {typed : List (List ℕ)} {s s' : Live} → HasTyped T n stream typed s → s'.session.connections ≡ s.session.connections → HasTyped T n stream typed s'
+  heard : {moment : ℕ} {stream piece : List ℕ} {typed more : List (List ℕ)} {after : Connections} {s s' : Live} → HasTyped T n stream typed s →
+      HasHeard n moment piece s.session.connections more after → MeetsLines T moment n more (with_connections after s) s' → HasTyped T n (stream ++ piece) (typed ++ more) s'
+
+-- However its bytes were cut, the lines of a connection are those of all its bytes.
+abbrev pub LinesOfTheWholeStream : Type 0
+LinesOfTheWholeStream = (n : ℕ) (stream : List ℕ) (typed : List (List ℕ)) (s : Live) → HasTyped Faults n stream typed s → typed ≡ lines stream

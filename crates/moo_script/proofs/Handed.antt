@@ -1,5 +1,5 @@
 -- Output that is handed out between two calls.
-use Rattle.std.proofs.Common.{◌≡◌, ◌≢◌, ℕ, suc, ◌+◌, ◌<◌, ◌≤◌, ⊎_elim, List, [], ◌∷◌, ◌++◌, Option, refl, sym, ◌∙◌, ap, subst, arith}
+use Rattle.std.proofs.Common.{◌≡◌, ◌≢◌, ℕ, suc, ◌+◌, ◌<◌, ◌≤◌, ⊎_elim, List, [], Option, refl, sym, ◌∙◌, ap, subst, arith}
 use Rattle.moo_saved.specs.Saved.{Saved}
 use Rattle.moo_layer.specs.Sessions.{Layer}
 use Rattle.moo_disk.specs.Disk.{DiskView}

@@ -1,4 +1,5 @@
 pub mod Crashing
+pub mod Growing
 pub mod Handed
 pub mod Moments
 pub mod Played

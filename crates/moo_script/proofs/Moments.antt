@@ -1,19 +1,17 @@
 -- The moment at which a server stands behind an event.
-use Rattle.std.proofs.Common.{◌≡◌, ℕ, List, [], ◌∷◌, map, Option, Some, None, Bool, true, false, refl, sym, ◌∙◌, ap, subst}
-use Rattle.std.specs.Prelude.{◌&&◌, not, MatchBool, Ok, Result}
+use Rattle.std.proofs.Common.{◌≡◌, ℕ, List, [], ◌∷◌, map, Option, Some, None, true, false, refl, ◌∙◌, ap, subst}
+use Rattle.std.specs.Prelude.{◌&&◌, not, MatchBool, Ok}
 use Rattle.moo_disk.specs.Disk.{DiskView}
 use Rattle.moo_saved.specs.Saved.{Saved}
 use Rattle.moo_layer.specs.Sessions.{Finishes, Happening, HangsUp, Layer, Meaning, Opens, Output, Receives, Starts}
 use Rattle.moo_serving.specs.Courses.{is_closing}
 use Rattle.moo_serving.specs.Traces.{Report}
 use Rattle.moo_serving.specs.Seen.{Event, Open, Bytes, Hangup, Moment, Flush, is_flush, seen}
-use Rattle.moo_serving.specs.Meaning.{Acts, Entry, Hears, Marks, Passes, Reports, Run, State, Steps, Takes, is_done, is_passed_over, refusal, refusal_in}
+use Rattle.moo_serving.specs.Meaning.{Acts, Entry, Hears, Marks, Passes, Reports, Run, State, Steps, Takes, is_done, refusal_in}
 use Rattle.moo_serving.specs.Server.{IsAlive, Runs, state_of}
-use Rattle.moo_serving.specs.declared.event.Cause.{Cause}
 use Rattle.moo_serving.specs.declared.event.Course.{Course}
 use Rattle.moo_serving.specs.declared.event.Course.TheVariants.{Running, Closing, Closed}
 use Rattle.moo_serving.specs.declared.event.Event as given
-use Rattle.moo_serving.specs.declared.event.RunFault.{RunFault}
 use Rattle.moo_serving.specs.declared.serving.Serving.{Serving}
 use Rattle.moo_script.specs.Works.{moment_at, told_at}
 

@@ -1,6 +1,6 @@
 -- Lines of a script, one after another.
-use Rattle.std.proofs.Common.{◌≡◌, ℕ, ◌+◌, List, [], ◌∷◌, ◌++◌, length, Some, None, refl, sym, ◌∙◌, ap, subst, arith, append_assoc, append-nil, length-append}
-use Rattle.std.specs.Prelude.{Option, IfSome, MatchOption}
+use Rattle.std.proofs.Common.{◌≡◌, ℕ, ◌+◌, List, [], ◌∷◌, ◌++◌, length, Some, None, refl, sym, ◌∙◌, ap, subst, append_assoc, append-nil, length-append}
+use Rattle.std.specs.Prelude.{Option, MatchOption}
 use Rattle.std.specs.Io.KnownBytes.{Appends, IsAtEnd}
 use Rattle.std.proofs.KnownBytes.{Appends-trans}
 use Rattle.moo_saved.specs.Saved.{Saved}
@@ -12,7 +12,7 @@ use Rattle.moo_script.specs.declared.playing.Next.{Next}
 use Rattle.moo_script.specs.declared.playing.Next.TheVariants.{Goes, Stops}
 use Rattle.moo_script.specs.declared.script.Script.{Script}
 use Rattle.moo_script.specs.declared.work.Work.{Work}
-use Rattle.moo_script.specs.Script.{Fits, disk_view, printed_below, shown_of}
+use Rattle.moo_script.specs.Script.{Fits, printed_below, shown_of}
 use Rattle.moo_script.specs.Told.{stop_line, stop_status}
 use Rattle.moo_script.specs.declared.telling.Stop.{Stop}
 use Rattle.moo_script.specs.Playing.{Ends, EndsAt, IsStop, IsTaken, Plays, PlaysInput, Takes}
@@ -166,3 +166,9 @@ module _ {S Sessions : Type 0} (l : Layer S Sessions Saved) where
       subst (λ (x : Next S). IsNext l now line mid new x) is (subst (λ (t : List ℕ). IsNext l now t mid new n) same answered) in
       last_played start now count line (stop_line (count + 1) stop) first rest after old mid end status played takes (stop, stops.0, refl, told.0)
       (subst (λ (o : Option (List ℕ)). Appends o end (stop_line (count + 1) stop)) stops.1 told.1)
+
+  pub still_at : (now : Script S) (given : List ℕ) (stop : Stop) (n : Next S) (old mid new : Option (List ℕ)) (own : List ℕ) → Appends old mid own → n ≡ Stops stop
+      → IsNext l now given mid new n → Appends old new own
+  still_at now given stop n old mid new own grows is answered =
+      let stops : IsNext l now given mid new (Stops stop) = subst (λ (x : Next S). IsNext l now given mid new x) is answered in
+      subst (λ (o : Option (List ℕ)). Appends old o own) (sym stops.1) grows

@@ -1,5 +1,5 @@
 -- A script over a database, and why the program gives up.
-use Rattle.std.proofs.Common.{◌≡◌, ◌⊎◌, inl, inr, ⊎_elim, ℕ, List, [], ◌∷◌, ◌++◌, Some, None, false, refl, sym, ◌∙◌, ap, subst}
+use Rattle.std.proofs.Common.{◌≡◌, ◌⊎◌, inl, inr, ⊎_elim, ℕ, List, [], ◌∷◌, Some, None, false, refl, ◌∙◌, ap, subst}
 use Rattle.std.specs.Prelude.{Option, IfSome}
 use Rattle.std.specs.Io.KnownBytes.{Appends}
 use Rattle.std.proofs.KnownBytes.{Appends-trans}
@@ -10,26 +10,25 @@ use Rattle.moo_saved.specs.Saved.{Saved}
 use Rattle.moo_layer.specs.Sessions.{Layer}
 use Rattle.moo_recovery.specs.declared.open_fault.OpenFault.{OpenFault}
 use Rattle.moo_serving.specs.Server.{waiting_of}
-use Rattle.moo_report.specs.GivingUp.{IsGivenUp}
-use Rattle.moo_report.specs.Refused.{IsEarned, refusal_status}
-use Rattle.moo_report.specs.Watching.{HasFailed, HasLacked, Remembers}
+use Rattle.moo_report.specs.Refused.{IsEarned, refusal_line, refusal_status}
+use Rattle.moo_report.specs.Watching.{HasFailed, Remembers}
 use Rattle.moo_report.specs.declared.refusal.Refusal.{Refusal}
-use Rattle.moo_report.specs.declared.refusal.Refusal.TheVariants as giving
 use Rattle.moo_report.specs.declared.watch.Watch.{Watch}
-use Rattle.moo_script_text.specs.Lines.{lines_of}
 use Rattle.moo_script.specs.declared.script.Script.{Script}
 use Rattle.moo_script.specs.Script.{HandsOut, NotOpened, Opens, ScriptDisk, printed_below}
 use Rattle.moo_script.specs.Told.{opening_line, opening_status}
-use Rattle.moo_script.specs.Playing.{GivesUp, Holds, IsAnswered, Plays, PlaysInput, ShowsScript}
-use Rattle.moo_script.specs.Works.{IsEarnedIn, printed_of}
+use Rattle.moo_script.specs.Playing.{GivesUp, Holds, IsAnswered, PlaysInput, ShowsScript}
+use Rattle.moo_script.specs.Works.{HasGrown, IsEarnedIn, printed_of}
+use Rattle.moo_script.proofs.Growing.{grown_last}
 
-pub gives_up : (database before after : Watch) (refusal : Refusal) (status : ℕ) → IsEarnedIn database before refusal → Remembers before after → status ≡ refusal_status refusal
-    → GivesUp database after status
-gives_up database before after refusal status earned remembers is = record {
+pub gives_up : (old mid new : Option (List ℕ)) (database before after : Watch) (refusal : Refusal) (status : ℕ) → IsEarnedIn database before refusal → HasGrown before old mid
+    → Remembers before after → status ≡ refusal_status refusal → HasFailed after ⊎ Appends mid new (refusal_line refusal) → GivesUp old new database after status
+gives_up old mid new database before after refusal status earned grown remembers is last = record {
   refusal = refusal;
   is = is;
   device = λ e. ⊎_elim (λ d. inl (subst (IsEarned database) e d)) (λ s. inr (remembers.failed (subst (IsEarned before) e s))) earned;
   memory = λ e. ⊎_elim (λ d. inl (subst (IsEarned database) e d)) (λ s. inr (remembers.lacked (subst (IsEarned before) e s))) earned;
+  told = grown_last before after old mid new (refusal_line refusal) grown last remembers;
 }
 
 pub held : (text : List ℕ) (disk : ScriptDisk) (within : MemoryDisk) → inner_of disk ≡ within → images within ≡ text ∷ [] → (view_of within).main_text ≡ text → left_of disk ≡ 0
@@ -46,7 +45,7 @@ module _ {S Sessions : Type 0} (l : Layer S Sessions Saved) where
   nothing_printed script old new none grows =
       subst (λ (t : List ℕ). Appends old new t) (ap (λ (n : ℕ). printed_below n (waiting_of l script.server).sent) none) grows
 
-  pub shows : (database input old new : Option (List ℕ)) (loading watch : Watch) (status : ℕ) → IsAnswered l database input old new status ⊎ GivesUp loading watch status
+  pub shows : (database input old new : Option (List ℕ)) (loading watch : Watch) (status : ℕ) → IsAnswered l database input old new status ⊎ GivesUp old new loading watch status
       → ShowsScript l database input old new status
   shows database input old new loading watch status (inl answered) = inl answered
   shows database input old new loading watch status (inr gives) = inr (gives.refusal, gives.is)

@@ -1,13 +1,11 @@
 -- The work of a line does what its step asks for.
-use Rattle.std.proofs.Common.{◌≡◌, ℕ, List, [], ◌∷◌, ◌++◌, Option, Some, None, Bool, true, false, ⊎_elim, inl, inr, refl, sym, ◌∙◌, ap, subst}
+use Rattle.std.proofs.Common.{◌≡◌, ℕ, [], Option, Some, Bool, refl, sym, ap, subst}
 use Rattle.std.specs.Prelude.{MatchOption, if◌then◌else◌}
 use Rattle.moo_saved.specs.Saved.{Saved}
 use Rattle.moo_layer.specs.Sessions.{Layer}
-use Rattle.moo_disk.specs.declared.memory.MemoryDisk.{MemoryDisk}
 use Rattle.moo_serving.specs.Seen.{Event, seen}
 use Rattle.moo_serving.specs.declared.event.Event as given
-use Rattle.moo_serving.specs.declared.event.Cause.{Cause}
-use Rattle.moo_script_line.specs.Script.{Asks, Step, opening, typing, sending, hanging_up, moment, flushing, failing, reopening, crashing, showing}
+use Rattle.moo_script_line.specs.Script.{Step, opening, typing, sending, hanging_up, moment, flushing, failing, reopening, crashing, showing}
 use Rattle.moo_script.specs.declared.script.Refused.{Refused}
 use Rattle.moo_script.specs.declared.script.Refused.TheVariants as refusing
 use Rattle.moo_script.specs.declared.script.Script.{Script}

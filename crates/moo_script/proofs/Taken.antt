@@ -1,15 +1,11 @@
 -- An event that was taken, or refused.
-use Rattle.std.proofs.Common.{◌≡◌, ◌≢◌, ℕ, ◌≤◌, List, [], ◌∷◌, length, Option, Result, Ok, Err, refl, sym, ◌∙◌, ap, subst}
+use Rattle.std.proofs.Common.{◌≡◌, ◌≢◌, ℕ, ◌≤◌, List, [], ◌∷◌, length, Result, Ok, Err, refl, sym, ◌∙◌, ap, subst}
 use Rattle.std.specs.Prelude.{All}
 use Rattle.std.proofs.lemmas.List.Elements.{All-cons, All-nil}
-use Rattle.moo_disk.specs.FailAt.{inner_of}
-use Rattle.moo_disk.specs.Memory.{view_of}
-use Rattle.moo_disk.specs.declared.memory.MemoryDisk.{MemoryDisk}
 use Rattle.moo_saved.specs.Saved.{Saved}
 use Rattle.moo_layer.specs.Sessions.{Layer}
 use Rattle.moo_serving.specs.Seen.{Flush, seen}
 use Rattle.moo_serving.specs.Server.{Follows, IsAlive, Runs}
-use Rattle.moo_serving.specs.declared.event.Cause.{Cause}
 use Rattle.moo_serving.specs.declared.event.Event as given
 use Rattle.moo_serving.specs.declared.event.RunFault.{RunFault}
 use Rattle.moo_script.specs.declared.script.Script.{Script}

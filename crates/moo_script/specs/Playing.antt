@@ -6,7 +6,7 @@ use Rattle.moo_disk.specs.Memory.{images}
 use Rattle.moo_recovery.specs.declared.open_fault.OpenFault.{OpenFault}
 use Rattle.moo_saved.specs.Saved.{Saved}
 use Rattle.moo_layer.specs.Sessions.{Layer}
-use Rattle.moo_report.specs.Refused.{refusal_status}
+use Rattle.moo_report.specs.Refused.{refusal_line, refusal_status}
 use Rattle.moo_report.specs.Watching.{HasFailed, HasLacked}
 use Rattle.moo_report.specs.GivingUp.{IsGivenUp}
 use Rattle.moo_report.specs.declared.refusal.Refusal.{Refusal}
@@ -21,13 +21,15 @@ use Rattle.moo_script.specs.declared.telling.Stop.TheVariants as stopping
 use Rattle.moo_script.specs.Script.{Does, HandsOut, IsRefused, NotOpened, Opens, ScriptDisk, disk_view, printed_below, shown_of}
 use Rattle.moo_script.specs.Told.{opening_line, opening_status, stop_line, stop_status}
 
--- the program gave up with this status: where a device is told, a call of one has answered an error, or the most reads of an input were
--- made; where memory is told, a call has answered that it was wanting
-pub record GivesUp (database script : Watch) (status : ℕ) : Type 0 where
+-- The program gave up with this status: where a device is told, a call of one has answered an error, or the most reads of an input were
+-- made; where memory is told, a call has answered that it was wanting. The refusal's line is the last that was printed, unless the
+-- script's input or the output has failed.
+pub record GivesUp (old new : Option (List ℕ)) (database script : Watch) (status : ℕ) : Type 0 where
   pub refusal : Refusal
   pub is : status ≡ refusal_status refusal
   pub device : refusal ≡ giving.Device → HasFailed database ⊎ HasFailed script
   pub memory : refusal ≡ giving.Memory → HasLacked database ⊎ HasLacked script
+  pub told : HasFailed script ⊎ ((text : List ℕ) × Appends old new (text ++ refusal_line refusal))
 
 -- a disk whose main text is this, for good; no call is to fail
 pub record Holds (text : List ℕ) (disk : ScriptDisk) : Type 0 where

@@ -7,9 +7,8 @@ use Rattle.moo_disk.specs.declared.fail_at.FailAt.{FailAt}
 use Rattle.moo_disk.specs.declared.memory.MemoryDisk.{MemoryDisk}
 use Rattle.moo_dbrecord.specs.declared.fault.DbFault.{DbFault}
 use Rattle.moo_dbrecord.specs.declared.fault.DbFaultKind.TheVariants as kind
-use Rattle.moo_saved.specs.Saved.{Saved, SpellsSaved}
+use Rattle.moo_saved.specs.Saved.{Saved, SpellsSaved, SpellsSavedWithin}
 use Rattle.moo_load.specs.Refusals.{Refuses as RefusesText}
-use Rattle.moo_recovery.specs.Recovering.{CountsFault}
 use Rattle.moo_recovery.specs.declared.open_fault.OpenFault.{OpenFault}
 use Rattle.moo_recovery.specs.declared.open_fault.OpenFault.TheVariants as opening_fault
 use Rattle.moo_layer.specs.Sessions.{Layer}
@@ -48,17 +47,18 @@ pub record FailsAt (k : ℕ) (effect : Bool) (old new : ScriptDisk) : Type 0 whe
   pub call : left_of new ≡ k
   pub effect_is : has_effect new ≡ effect
 
--- a crash has left its i-th text, and that alone; no call is to fail
+-- a crash has left its i-th text, and that alone, without a spare; no call is to fail
 pub record IsCrashed (i : ℕ) (old new : ScriptDisk) : Type 0 where
   pub image : slice_get (images (inner_of old)) i ≡ Some (disk_view new).main_text
   pub alone : images (inner_of new) ≡ (disk_view new).main_text ∷ []
+  pub spare : (disk_view new).spare ≡ None
   pub call : left_of new ≡ 0
 
--- Why there is no server over a disk: where the text is refused, this is what is told of it; the device is told where it failed.
+-- Why there is no server over a disk: where the text is refused, this is what is told of it, and it spells no saved world within the
+-- limits.
 pub record NotOpened (disk : ScriptDisk) (fault : OpenFault) : Type 0 where
   pub text : (f : DbFault) → fault ≡ opening_fault.Db f → RefusesText (disk_view disk).main_text f × (f.kind ≢ kind.Memory)
-  pub left : ScriptDisk
-  pub device : CountsFault (Unit {0}) (disk_failures disk) (disk_failures left) fault
+  pub none : (f : DbFault) → fault ≡ opening_fault.Db f → (saved : Saved) → ¬ SpellsSavedWithin (disk_view disk).main_text saved
 
 -- ---- events
 

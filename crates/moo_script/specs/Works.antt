@@ -1,6 +1,6 @@
 -- Words of private clauses: the work of a line, and what comes behind a line.
 use Rattle.std.specs.Prelude.{◌≡◌, ◌⊎◌, ℕ, Bool, true, false, List, [], ◌++◌, Option, Some, if◌then◌else◌}
-use Rattle.std.specs.Io.KnownBytes.{Appends}
+use Rattle.std.specs.Io.KnownBytes.{Appends, Keeps}
 use Rattle.moo_saved.specs.Saved.{Saved}
 use Rattle.moo_layer.specs.Sessions.{Layer}
 use Rattle.moo_serving.specs.Seen.{Event, Moment, seen}
@@ -8,16 +8,17 @@ use Rattle.moo_serving.specs.Server.{waiting_of}
 use Rattle.moo_serving.specs.declared.event.Course.{Course}
 use Rattle.moo_serving.specs.declared.event.Course.TheVariants.{Running}
 use Rattle.moo_report.specs.Refused.{IsEarned}
+use Rattle.moo_report.specs.Watching.{HasFailed}
 use Rattle.moo_report.specs.declared.refusal.Refusal.{Refusal}
 use Rattle.moo_report.specs.declared.watch.Watch.{Watch}
-use Rattle.moo_script_line.specs.Script.{Asks, Step, failing, reopening, crashing, showing}
+use Rattle.moo_script_line.specs.Script.{Step, failing, reopening, crashing, showing}
 use Rattle.moo_script.specs.declared.playing.Next.{Next}
 use Rattle.moo_script.specs.declared.playing.Next.TheVariants.{Goes, Stops}
 use Rattle.moo_script.specs.declared.script.Refused.{Refused}
 use Rattle.moo_script.specs.declared.script.Script.{Script}
 use Rattle.moo_script.specs.declared.work.Work.{Work}
 use Rattle.moo_script.specs.declared.work.Work.TheVariants as work
-use Rattle.moo_script.specs.Script.{Does, Fits, HandsOut, IsRefused, disk_view, event_of, printed_below, shown_of}
+use Rattle.moo_script.specs.Script.{Does, Fits, HandsOut, IsRefused, disk_view, event_of, printed_below}
 use Rattle.moo_script.specs.declared.telling.Stop.TheVariants as stopping
 use Rattle.moo_script.specs.Playing.{IsStop, IsTaken}
 
@@ -46,6 +47,13 @@ moment_at course event now = now
 -- one of the two has seen why the program gives up
 abbrev pub IsEarnedIn : Watch → Watch → Refusal → Type 0
 IsEarnedIn database script refusal = IsEarned database refusal ⊎ IsEarned script refusal
+
+-- nothing was printed, or some text was, unless an input or output has failed
+abbrev pub IsSilent : Watch → Option (List ℕ) → Option (List ℕ) → Type 0
+IsSilent watch old new = HasFailed watch ⊎ Keeps old new
+
+abbrev pub HasGrown : Watch → Option (List ℕ) → Option (List ℕ) → Type 0
+HasGrown watch old new = HasFailed watch ⊎ ((text : List ℕ) × Appends old new text)
 
 -- what is shown and what was sent
 abbrev pub printed_of : {S Sessions : Type 0} → Layer S Sessions Saved → Bool → Script S → List ℕ

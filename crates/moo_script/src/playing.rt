@@ -3,7 +3,7 @@ ghost use Rattle.std.specs.Prelude.{◌≡◌, IfErr, IfOk};
 ghost use Rattle.moo_report.specs.Refused.{IsEarned};
 ghost use Rattle.moo_script.specs.Script.{Fits};
 ghost use Rattle.moo_script.specs.Playing.{PlaysInput};
-ghost use Rattle.moo_script.specs.Works.{IsDone, IsNext};
+ghost use Rattle.moo_script.specs.Works.{HasGrown, IsDone, IsNext, IsSilent};
 
 use crate::script::Script;
 use crate::telling::{Stop, tell_stop};
@@ -36,6 +36,7 @@ pub(crate) fn play<S: Starts, R: Log, I: BufRead, O: Write>(
     requires { Fits S.layer script }
     ensures plays { IfOk result (PlaysInput S.layer script (I.remaining input.old) (O.contents output.old) (O.contents output.new)) }
     ensures earned { IfErr result (IsEarned watch.new) }
+    ensures grown { IfErr result (λ r. HasGrown watch.new (O.contents output.old) (O.contents output.new)) }
 {
     let mut script = script;
     let mut number = 0u64;
@@ -50,6 +51,7 @@ pub(crate) fn play<S: Starts, R: Log, I: BufRead, O: Write>(
 }
 
 // Does what a line asks for, and prints what comes of it. Nothing is printed where the script ends at it.
+#[tactic(auto, using(crate::proofs::Growing::still_silent))]
 fn play_line<S: Starts, R: Log, O: Write>(
     alloc: Global,
     rt: &R,
@@ -61,6 +63,7 @@ fn play_line<S: Starts, R: Log, O: Write>(
     requires { Fits S.layer script }
     ensures next { IfOk result (IsNext S.layer script line.now (O.contents output.old) (O.contents output.new)) }
     ensures earned { IfErr result (IsEarned watch.new) }
+    ensures silent { IfErr result (λ r. IsSilent watch.new (O.contents output.old) (O.contents output.new)) }
     ensures counted { watch.new.reads ≡ watch.old.reads }
 {
     let Ok(read) = read_script_line(alloc, line) else {
@@ -87,6 +90,7 @@ fn play_work<S: Starts, R: Log, O: Write>(
     requires { Fits S.layer script }
     ensures next { IfOk result (IsDone S.layer script work (O.contents output.old) (O.contents output.new)) }
     ensures earned { IfErr result (IsEarned watch.new) }
+    ensures silent { IfErr result (λ r. IsSilent watch.new (O.contents output.old) (O.contents output.new)) }
     ensures counted { watch.new.reads ≡ watch.old.reads }
 {
     let show = work.is_show();

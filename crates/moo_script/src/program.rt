@@ -2,7 +2,7 @@
 ghost use Rattle.std.specs.Prelude.{◌⊎◌, IfErr, IfOk};
 ghost use Rattle.moo_report.specs.Refused.{IsEarned};
 ghost use Rattle.moo_script.specs.Playing.{GivesUp, IsAnswered, ShowsScript};
-ghost use Rattle.moo_script.specs.Works.{IsEarnedIn};
+ghost use Rattle.moo_script.specs.Works.{HasGrown, IsEarnedIn};
 
 use crate::playing::play;
 use crate::script::Script;
@@ -49,7 +49,7 @@ pub fn script_watched<S: Starts, R: Log, F: Read, I: BufRead, O: Write>(
     watch: &mut Watch,
 ) -> u8
     ensures { IsAnswered S.layer (F.remaining database.old) (I.remaining input.old) (O.contents output.old) (O.contents output.new) result
-        ⊎ GivesUp loading.new watch.new result }
+        ⊎ GivesUp (O.contents output.old) (O.contents output.new) loading.new watch.new result }
 {
     match serve::<S, R, F, I, O>(alloc, rt, database, input, output, loading, watch) {
         Ok(status) => status,
@@ -69,6 +69,7 @@ fn serve<S: Starts, R: Log, F: Read, I: BufRead, O: Write>(
 ) -> Result<u8, Refusal>
     ensures answered { IfOk result (IsAnswered S.layer (F.remaining database.old) (I.remaining input.old) (O.contents output.old) (O.contents output.new)) }
     ensures earned { IfErr result (IsEarnedIn loading.new watch.new) }
+    ensures grown { IfErr result (λ r. HasGrown watch.new (O.contents output.old) (O.contents output.new)) }
 {
     let text = whole_text(alloc, database, loading)?;
     let disk = FailAt::new(MemoryDisk::new(alloc, text), 0, false);

@@ -2,6 +2,7 @@
 ghost use Rattle.std.specs.Prelude.{◌≡◌, IfErr, IfOk};
 ghost use Rattle.std.specs.Io.KnownBytes.{Appends};
 ghost use Rattle.moo_report.specs.Refused.{IsEarned};
+ghost use Rattle.moo_script.specs.Works.{IsSilent};
 ghost use Rattle.moo_script.specs.Told.{cause_line, cause_status, opening_line, opening_status, refused_line, refused_status, stop_line, stop_status};
 
 use crate::script::Refused;
@@ -31,6 +32,7 @@ pub(crate) fn tell_stop<O: Write>(
 ) -> Result<u8, Refusal>
     ensures told { IfOk result (λ status. (status ≡ stop_status stop) × Appends (O.contents output.old) (O.contents output.new) (stop_line number stop)) }
     ensures earned { IfErr result (IsEarned watch.new) }
+    ensures silent { IfErr result (λ r. IsSilent watch.new (O.contents output.old) (O.contents output.new)) }
 {
     match stop {
         Stop::BadLine => {
@@ -50,6 +52,7 @@ fn tell_refused<O: Write>(
 ) -> Result<u8, Refusal>
     ensures told { IfOk result (λ status. (status ≡ refused_status refused) × Appends (O.contents output.old) (O.contents output.new) (refused_line refused)) }
     ensures earned { IfErr result (IsEarned watch.new) }
+    ensures silent { IfErr result (λ r. IsSilent watch.new (O.contents output.old) (O.contents output.new)) }
 {
     match refused {
         Refused::Event(cause) => {
@@ -73,6 +76,7 @@ pub(crate) fn tell_opening<O: Write>(
 ) -> Result<u8, Refusal>
     ensures told { IfOk result (λ status. (status ≡ opening_status fault) × Appends (O.contents output.old) (O.contents output.new) (opening_line fault)) }
     ensures earned { IfErr result (IsEarned watch.new) }
+    ensures silent { IfErr result (λ r. IsSilent watch.new (O.contents output.old) (O.contents output.new)) }
 {
     match fault {
         OpenFault::Db(fault) => tell(alloc, fault, output, watch),

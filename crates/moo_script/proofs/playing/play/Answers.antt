@@ -1,8 +1,9 @@
-use Rattle.std.proofs.Common.{arith, refl}
+use Rattle.std.proofs.Common.{arith, inr, refl}
 use Rattle.std.proofs.lemmas.Result.{IfOk-weaker}
 use Rattle.std.specs.Io.KnownBytes.{IsAtEnd}
 use Rattle.moo_script_text.specs.Lines.{TakesLine}
-use Rattle.moo_script.proofs.Played.{all_played, at_none, at_some, ended_at, none_played, went_on}
+use Rattle.moo_script.proofs.Growing.{any_err, err_weaker, grown_silent}
+use Rattle.moo_script.proofs.Played.{all_played, at_none, at_some, ended_at, none_played, still_at, went_on}
 use Rattle.moo_script.proofs.playing.play.Goals as goal
 
 pub loop-script-init : goal.loop-script-init
@@ -41,3 +42,21 @@ returns-clause-plays g c =
     let end = at_none c.in_ok-line.field-0 (IsAtEnd (g.I.Read.remaining c.loop-script.input)) _ c.in_default.not-Some c.in_ok-line.ensures.line in
     all_played g.S.Sessions.layer c.args.script c.loop-script.script c.loop-script.number (g.I.Read.remaining c.args.input.now) (g.I.Read.remaining c.loop-script.input)
     (g.O.Write.contents c.args.output.now) (g.O.Write.contents c.loop-script.output) 0 c.loop-script.invariant.played end refl
+
+pub returns-in_err-line-clause-grown : goal.returns-in_err-line-clause-grown
+returns-in_err-line-clause-grown g c =
+    any_err c.from_residual.result _ (inr (c.loop-script.invariant.played.own, c.loop-script.invariant.played.grown))
+
+pub returns-in_err-next-clause-grown : goal.returns-in_err-next-clause-grown
+returns-in_err-next-clause-grown g c =
+    any_err c.from_residual-in_err-next.result _ (grown_silent c.play_line.new.watch (g.O.Write.contents c.args.output.now) (g.O.Write.contents c.loop-script.output)
+    (g.O.Write.contents c.play_line.new.output) _ c.loop-script.invariant.played.grown c.in_err-next.ensures.silent)
+
+pub returns-in-Stops-clause-grown : goal.returns-in-Stops-clause-grown
+returns-in-Stops-clause-grown g c =
+    let old = g.O.Write.contents c.args.output.now in
+    let mid = g.O.Write.contents c.loop-script.output in
+    let still = still_at g.S.Sessions.layer c.loop-script.script c.as_slice.result.now c.in-Stops.stop c.in_ok-next.field-0 old mid (g.O.Write.contents c.play_line.new.output) _
+    c.loop-script.invariant.played.grown c.in-Stops.is c.in_ok-next.ensures.next in
+    err_weaker c.tell_stop.result _ _ (grown_silent c.tell_stop.new.watch old (g.O.Write.contents c.play_line.new.output) (g.O.Write.contents c.tell_stop.new.output) _ still)
+    c.tell_stop.ensures.silent

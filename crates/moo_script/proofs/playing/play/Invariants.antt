@@ -1,4 +1,4 @@
-use Rattle.std.proofs.Common.{◌≡◌, ℕ, ◌-◌, ◌+◌, ◌≤◌}
+use Rattle.std.proofs.Common.{◌-◌, ◌+◌, ◌≤◌}
 use Rattle.moo_report.specs.Watching.{most_reads}
 use Rattle.moo_script.specs.Script.{Fits}
 use Rattle.moo_script.proofs.Played.{HasPlayed}

@@ -1,16 +1,11 @@
 //! The program `moo`.
 #![tactic(auto)]
 
-mod command_line;
-mod expr;
-mod line;
-#[cfg(test)]
-mod tests;
-
 use clap::error::ErrorKind;
-use command_line::{Work, read_words};
-use expr::run_expr;
-use moo_database::{Refusal, run_check, run_copy};
+use moo_answer::run_expr;
+use moo_command_line::{Work, read_words};
+use moo_database::{run_check, run_copy};
+use moo_report::Refusal;
 use std::fs::File;
 use std::io::BufReader;
 use std::process::ExitCode;
@@ -56,9 +51,13 @@ fn run_work(rt: &HostRuntime, work: Work) -> io::Result<u8> {
             let mut file = File::open(rt, path)?;
             Ok(run_copy(rt.alloc(), &mut file, &mut io::writer(rt)))
         }
-        Work::Missing(name) => {
-            eprintln!(rt; "moo: the command {name} is not there yet")?;
-            Ok(USAGE)
-        }
+        Work::Script(_) => miss(rt, "script"),
+        Work::Serve(_) => miss(rt, "serve"),
     }
+}
+
+// Says that a command isn't there yet.
+fn miss(rt: &HostRuntime, name: &str) -> io::Result<u8> {
+    eprintln!(rt; "moo: the command {name} is not there yet")?;
+    Ok(USAGE)
 }

@@ -8,12 +8,8 @@ use Rattle.moo_dbrecord.specs.declared.fault.DbFault.{DbFault}
 use Rattle.moo_dbrecord.specs.declared.fault.DbFaultKind.TheVariants.{Memory}
 use Rattle.moo_load.specs.Loading.{LoadAnswers}
 use Rattle.moo_load.specs.Refusals.{Refuses}
-use Rattle.moo_database.specs.Told.{fault_line}
-use Rattle.moo_database.specs.Watching.{HasFailed, HasLacked}
-use Rattle.moo_database.specs.Refused.{refusal_status, refusal_line}
-use Rattle.moo_database.specs.declared.refusal.Refusal.{Refusal}
-use Rattle.moo_database.specs.declared.refusal.Refusal.TheVariants as giving
-use Rattle.moo_database.specs.declared.watch.Watch.{Watch}
+use Rattle.moo_report.specs.Told.{fault_line}
+use Rattle.moo_report.specs.GivingUp.{IsGivenUp}
 
 -- how many objects, programs and connections there are; a recycled object counts
 abbrev pub counts_line : Saved → List ℕ
@@ -44,14 +40,4 @@ pub record IsAnswered (show : Saved → List ℕ) (input old new : Option (List 
 
 -- Or the program gave up, with the status for that.
 abbrev pub ShowsDatabase : (Saved → List ℕ) → Option (List ℕ) → Option (List ℕ) → Option (List ℕ) → ℕ → Type 0
-ShowsDatabase show input old new status = IsAnswered show input old new status ⊎ ((r : Refusal) × (status ≡ refusal_status r))
-
--- The program gave up: the status says so, and the output grew by its line alone, unless an input or output has failed. Where
--- a device is told, a call of one has answered an error, or the most reads were made; where memory is told, a call has answered
--- that it was wanting.
-pub record HasGivenUp (old new : Option (List ℕ)) (watch : Watch) (status : ℕ) : Type 0 where
-  pub refusal : Refusal
-  pub is : status ≡ refusal_status refusal
-  pub device : refusal ≡ giving.Device → HasFailed watch
-  pub memory : refusal ≡ giving.Memory → HasLacked watch
-  pub told : HasFailed watch ⊎ Appends old new (refusal_line refusal)
+ShowsDatabase show input old new status = IsAnswered show input old new status ⊎ IsGivenUp status

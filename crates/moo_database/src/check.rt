@@ -1,15 +1,14 @@
 //! `moo check`: what a database holds.
 ghost use Rattle.std.specs.Prelude.{◌⊎◌, IfErr, IfOk};
 ghost use Rattle.std.specs.Io.KnownBytes.{Keeps};
-ghost use Rattle.moo_database.specs.Database.{counts_line, HasGivenUp, IsAnswered, ShowsDatabase};
-ghost use Rattle.moo_database.specs.Refused.{IsEarned};
-ghost use Rattle.moo_database.specs.Watching.{HasFailed};
+ghost use Rattle.moo_database.specs.Database.{counts_line, IsAnswered, ShowsDatabase};
+ghost use Rattle.moo_report.specs.GivingUp.{HasGivenUp};
+ghost use Rattle.moo_report.specs.Refused.{IsEarned};
+ghost use Rattle.moo_report.specs.Watching.{HasFailed};
 
 use crate::counts::counts_line;
-use crate::database::{show, tell};
 use crate::loading::load;
-use crate::refusal::Refusal;
-use crate::watch::Watch;
+use moo_report::{Refusal, Watch, show, tell};
 use std::alloc::Global;
 use std::io::{Read, Write};
 

@@ -1,16 +1,17 @@
 //! `moo copy`: a database in its canonical form.
-ghost use Rattle.std.specs.Prelude.{◌⊎◌, IfErr, IfOk};
+ghost use Rattle.std.specs.Prelude.{◌≡◌, ◌⊎◌, IfErr, IfOk};
 ghost use Rattle.std.specs.Io.KnownBytes.{Keeps};
 ghost use Rattle.moo_dbtext.specs.Canonical.{canonical};
-ghost use Rattle.moo_database.specs.Database.{HasGivenUp, IsAnswered, ShowsDatabase};
-ghost use Rattle.moo_database.specs.Refused.{IsEarned};
-ghost use Rattle.moo_database.specs.Watching.{HasFailed};
+ghost use Rattle.moo_saved.specs.Saved.{saved_of};
+ghost use Rattle.moo_database.specs.Database.{IsAnswered, ShowsDatabase};
+ghost use Rattle.moo_report.specs.GivingUp.{HasGivenUp};
+ghost use Rattle.moo_report.specs.Refused.{IsEarned};
+ghost use Rattle.moo_report.specs.Watching.{HasFailed};
 
-use crate::database::{show, tell};
 use crate::loading::load;
-use crate::refusal::Refusal;
-use crate::watch::Watch;
 use moo_dbtext::write_db;
+use moo_report::{Refusal, Watch, show, tell};
+use moo_saved::Saved;
 use std::alloc::Global;
 use std::io::{Read, Write};
 
@@ -51,11 +52,19 @@ fn copied<I: Read, O: Write>(
     let loaded = load(alloc, input, watch)?;
     match loaded {
         Ok(saved) => {
-            let Ok(text) = write_db(alloc, &saved) else {
-                return Err(watch.lack());
-            };
+            let text = canonical_text(alloc, &saved, watch)?;
             show(&text, output, watch)
         }
         Err(fault) => tell(alloc, fault, output, watch),
     }
+}
+
+fn canonical_text(alloc: Global, saved: &Saved, watch: &mut Watch) -> Result<Vec<u8>, Refusal>
+    ensures text { IfOk result (λ text. text.items ≡ canonical (saved_of saved.now)) }
+    ensures earned { IfErr result (IsEarned watch.new) }
+{
+    let Ok(text) = write_db(alloc, saved) else {
+        return Err(watch.lack());
+    };
+    Ok(text)
 }

@@ -2,11 +2,10 @@
 ghost use Rattle.std.specs.Prelude.{◌<◌, [], Err, length, IfErr, IfOk, IfSome, MatchResult};
 ghost use Rattle.moo_load.specs.Feeding.{HasFed};
 ghost use Rattle.moo_load.specs.Loading.{LoadAnswers};
-ghost use Rattle.moo_database.specs.Refused.{IsEarned};
+ghost use Rattle.moo_report.specs.Refused.{IsEarned};
 
-use crate::refusal::Refusal;
-use crate::watch::Watch;
 use moo_load::{DbFault, DbReader, Saved};
+use moo_report::{Refusal, Watch};
 use std::alloc::Global;
 use std::io::Read;
 
@@ -14,7 +13,7 @@ use std::io::Read;
 const PIECE: usize = 65_536;
 
 /// The saved world of all that the input still gives, or why it is none.
-pub(crate) fn load<I: Read>(
+pub fn load<I: Read>(
     alloc: Global,
     input: &mut I,
     watch: &mut Watch,

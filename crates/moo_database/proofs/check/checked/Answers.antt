@@ -1,4 +1,4 @@
-use Rattle.std.proofs.Common.{◌≡◌, ◌≢◌, ◌∙◌, ℕ, List, IfSome, Err, Ok, subst}
+use Rattle.std.proofs.Common.{◌≡◌, ◌≢◌, ◌∙◌, ℕ, List, IfSome, Ok, subst}
 use Rattle.std.specs.Prelude.{Result}
 use Rattle.std.specs.Io.KnownBytes.{Appends}
 use Rattle.moo_dbrecord.specs.declared.fault.DbFault.{DbFault}
@@ -7,9 +7,10 @@ use Rattle.moo_saved.specs.Saved.{saved_of, SpellsSaved}
 use Rattle.moo_saved.specs.declared.saved.Saved as stored
 use Rattle.moo_load.specs.Loading.{LoadAnswers}
 use Rattle.moo_load.proofs.Whole.{is_found}
-use Rattle.moo_database.specs.Told.{fault_line}
+use Rattle.moo_report.specs.Told.{fault_line}
 use Rattle.moo_database.specs.Database.{counts_line, IsAnswered}
-use Rattle.moo_database.proofs.Shown.{if_ok, if_some, read_shown, refused_told}
+use Rattle.moo_report.proofs.GivenUp.{if_ok, if_some}
+use Rattle.moo_database.proofs.Shown.{read_shown, refused_told}
 use Rattle.moo_database.proofs.check.checked.Goals as goal
 
 pub returns-in-Ok-counts_line-clause-answered : goal.returns-in-Ok-counts_line-clause-answered

@@ -1,4 +1,4 @@
-use Rattle.std.proofs.Common.{◌≡◌, ◌≢◌, ◌∙◌, ℕ, List, IfSome, Err, Ok, subst}
+use Rattle.std.proofs.Common.{◌≡◌, ◌≢◌, ◌∙◌, ℕ, List, IfSome, Ok, subst}
 use Rattle.std.specs.Prelude.{Result}
 use Rattle.std.specs.Io.KnownBytes.{Appends}
 use Rattle.moo_dbrecord.specs.declared.fault.DbFault.{DbFault}
@@ -7,21 +7,22 @@ use Rattle.moo_saved.specs.Saved.{saved_of, SpellsSaved}
 use Rattle.moo_saved.specs.declared.saved.Saved as stored
 use Rattle.moo_load.specs.Loading.{LoadAnswers}
 use Rattle.moo_load.proofs.Whole.{is_found}
-use Rattle.moo_database.specs.Told.{fault_line}
+use Rattle.moo_report.specs.Told.{fault_line}
 use Rattle.moo_dbtext.specs.Canonical.{canonical}
 use Rattle.moo_database.specs.Database.{IsAnswered}
-use Rattle.moo_database.proofs.Shown.{if_ok, if_some, read_shown, refused_told}
+use Rattle.moo_report.proofs.GivenUp.{if_ok, if_some}
+use Rattle.moo_database.proofs.Shown.{read_shown, refused_told}
 use Rattle.moo_database.proofs.copy.copied.Goals as goal
 
-pub returns-in-Ok-write_db-clause-answered : goal.returns-in-Ok-write_db-clause-answered
-returns-in-Ok-write_db-clause-answered g c =
+pub returns-in_ok-text-in-Ok-clause-answered : goal.returns-in_ok-text-in-Ok-clause-answered
+returns-in_ok-text-in-Ok-clause-answered g c =
     let known = g.I.Read.remaining c.args.input.now in
     let old = g.O.Write.contents c.args.output.now in
     let new = g.O.Write.contents c.show.new.output in
     let answer = subst (λ (l : Result stored.Saved DbFault). IfSome known (LoadAnswers l)) c.in-Ok.is c.in_ok-loaded.ensures.answer in
     let spelled = if_some (λ (b : List ℕ). LoadAnswers (Ok c.in-Ok.saved) b) (λ (b : List ℕ). SpellsSaved b (saved_of c.in-Ok.saved)) known (λ b h. is_found b (Ok c.in-Ok.saved) h) answer in
     if_ok (λ (status : ℕ). (status ≡ 0) × Appends old new c.deref.result.now) (λ (status : ℕ). IsAnswered canonical known old new status) c.show.result
-    (λ status h. read_shown canonical known old new c.deref.result.now status (saved_of c.in-Ok.saved) spelled (c.deref.ensures.value ∙ c.in-Ok-write_db.ensures.canonical) h.0 h.1) c.show.ensures.shown
+    (λ status h. read_shown canonical known old new c.deref.result.now status (saved_of c.in-Ok.saved) spelled (c.deref.ensures.value ∙ c.in_ok-text-in-Ok.ensures.text) h.0 h.1) c.show.ensures.shown
 
 pub returns-in-Err-clause-answered : goal.returns-in-Err-clause-answered
 returns-in-Err-clause-answered g c =

@@ -1,5 +1,5 @@
-use Rattle.std.proofs.Common.{inl, inr}
-use Rattle.moo_database.proofs.Shown.{given_up}
+use Rattle.std.proofs.Common.{inr}
+use Rattle.moo_report.proofs.GivenUp.{given_up}
 use Rattle.moo_database.proofs.copy.copy_watched.Goals as goal
 
 pub returns-in-Err : goal.returns-in-Err

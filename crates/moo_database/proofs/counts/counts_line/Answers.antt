@@ -1,7 +1,7 @@
 use Rattle.std.proofs.Common.{◌≡◌, ℕ, List, ◌++◌, codes, length, ap, ◌∙◌, arith}
 use Rattle.std.specs.Fmt.{decimal}
 use Rattle.moo_table.specs.World.{programs_in}
-use Rattle.moo_database.proofs.Joined.{joined}
+use Rattle.moo_report.proofs.Joined.{joined}
 use Rattle.moo_database.proofs.counts.counts_line.Goals as goal
 
 pub returns : goal.returns

@@ -1,4 +1,4 @@
-use Rattle.std.proofs.Common.{rules, List, ℕ, ◌++◌, Err, take, ◌∙◌}
+use Rattle.std.proofs.Common.{rules, ◌++◌, Err, take, ◌∙◌}
 use Rattle.std.proofs.KnownBytes.{Consumes-trans}
 use Rattle.moo_load.specs.Loading.{LoadAnswers}
 use Rattle.moo_database.proofs.Shown.{consumed_front}

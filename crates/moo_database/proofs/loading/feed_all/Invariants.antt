@@ -1,7 +1,7 @@
 use Rattle.std.proofs.Common.{◌≡◌, ℕ, ◌-◌, List, length}
 use Rattle.std.specs.Io.KnownBytes.{Consumes}
 use Rattle.moo_load.specs.Feeding.{HasFed}
-use Rattle.moo_database.specs.Watching.{most_reads}
+use Rattle.moo_report.specs.Watching.{most_reads}
 use Rattle.moo_database.proofs.loading.feed_all.Given as goal
 
 abbrev pub invariant-loop-count : goal.invariant-loop-count

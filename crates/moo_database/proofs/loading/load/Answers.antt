@@ -1,7 +1,7 @@
 use Rattle.std.proofs.Common.{ℕ, List, IfSome, Err, MatchResult, subst}
 use Rattle.moo_load.specs.Feeding.{HasFed}
 use Rattle.moo_load.specs.Loading.{LoadAnswers}
-use Rattle.moo_database.proofs.Shown.{if_some}
+use Rattle.moo_report.proofs.GivenUp.{if_some}
 use Rattle.moo_database.proofs.loading.load.Goals as goal
 
 pub returns-in-Ok-2-clause-answer : goal.returns-in-Ok-2-clause-answer

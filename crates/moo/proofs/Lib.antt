@@ -1,4 +1,0 @@
-pub mod FirstLine
-pub mod HeldSoFar
-pub mod Printed
-pub mod Answered

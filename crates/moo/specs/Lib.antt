@@ -1,4 +1,0 @@
--- What `moo expr` shows.
-pub mod Expr
--- What private clauses alone cite.
-pub mod Held

@@ -1,0 +1,4 @@
+pub mod Answered
+pub mod FirstLine
+pub mod HeldSoFar
+pub mod Printed

@@ -1,0 +1,76 @@
+//! `moo expr`: the first line of the input, evaluated.
+ghost use Rattle.std.specs.Prelude.{◌⊎◌, ◌++◌, codes, IfErr, IfOk, OnOk};
+ghost use Rattle.std.specs.Io.KnownBytes.{Appends, Keeps};
+ghost use Rattle.moo_eval.specs.Ends.{texts};
+ghost use Rattle.moo_report.specs.GivingUp.{HasGivenUp};
+ghost use Rattle.moo_report.specs.Refused.{IsEarned};
+ghost use Rattle.moo_report.specs.Watching.{HasFailed};
+ghost use Rattle.moo_answer.specs.Expr.{IsAnswered, ShowsAnswer, printed};
+
+use crate::first_line::read_first_line;
+use moo_eval::eval_line;
+use moo_report::{Refusal, Watch};
+use std::alloc::Global;
+use std::io::{BufRead, Write};
+
+/// Evaluates the first line of the input, up to LF or the end, writes the lines that it gives, each with
+/// LF, and answers the exit status: 0, or 5 where the line is no program; 3 where the input or the output
+/// failed and 4 where memory was wanting, each told in a line of its own where the output still takes it.
+pub fn run_expr<I: BufRead, O: Write>(alloc: Global, input: &mut I, output: &mut O) -> u8
+    ensures { ShowsAnswer (I.remaining input.old) (O.contents output.old) (O.contents output.new) result }
+{
+    expr_watched(alloc, input, output, &mut Watch::new())
+}
+
+/// The same, with what was seen of the input and the output.
+pub fn expr_watched<I: BufRead, O: Write>(
+    alloc: Global,
+    input: &mut I,
+    output: &mut O,
+    watch: &mut Watch,
+) -> u8
+    ensures { IsAnswered (I.remaining input.old) (O.contents output.old) (O.contents output.new) result ⊎ HasGivenUp (O.contents output.old) (O.contents output.new) watch.new result }
+{
+    match evaluated(alloc, input, output, watch) {
+        Ok(status) => status,
+        Err(refusal) => refusal.told_watched(output, watch),
+    }
+}
+
+fn evaluated<I: BufRead, O: Write>(
+    alloc: Global,
+    input: &mut I,
+    output: &mut O,
+    watch: &mut Watch,
+) -> Result<u8, Refusal>
+    ensures answered { IfOk result (λ status. IsAnswered (I.remaining input.old) (O.contents output.old) (O.contents output.new) status) }
+    ensures earned { IfErr result (IsEarned watch.new) }
+    ensures silent { IfErr result (λ r. HasFailed watch.new ⊎ Keeps (O.contents output.old) (O.contents output.new)) }
+{
+    let line = read_first_line(alloc, input, watch)?;
+    let Ok(answer) = eval_line(alloc, line.as_slice()) else {
+        return Err(watch.lack());
+    };
+    print(answer.lines.as_slice(), output, watch)?;
+    Ok(answer.status)
+}
+
+fn print<O: Write>(lines: &[Vec<u8>], output: &mut O, watch: &mut Watch) -> Result<(), Refusal>
+    ensures text { OnOk result (Appends (O.contents output.old) (O.contents output.new) (printed (texts lines.now))) }
+    ensures earned { IfErr result (IsEarned watch.new) }
+    ensures failed { IfErr result (λ r. HasFailed watch.new) }
+{
+    for line in lines {
+        print_line(line.as_slice(), output, watch)?;
+    }
+    Ok(())
+}
+
+fn print_line<O: Write>(line: &[u8], output: &mut O, watch: &mut Watch) -> Result<(), Refusal>
+    ensures text { OnOk result (Appends (O.contents output.old) (O.contents output.new) (line.now ++ codes "\n")) }
+    ensures earned { IfErr result (IsEarned watch.new) }
+    ensures failed { IfErr result (λ r. HasFailed watch.new) }
+{
+    watch.put(output, line)?;
+    watch.write(output, b"\n")
+}

@@ -1,0 +1,3 @@
+pub mod Coursing
+pub mod Rounding
+pub mod Writing

@@ -1,0 +1,10 @@
+use Rattle.std.proofs.Common.{List}
+use Rattle.moo_serving.specs.Server.{Follows}
+use Rattle.moo_serving.specs.declared.event.Event.{Event}
+use Rattle.moo_serve.specs.Course.{Course}
+use Rattle.moo_serve.proofs.serving.Serving.serve.Given as goal
+
+abbrev pub invariant-loop : goal.invariant-loop
+invariant-loop g l =
+    Follows g.S.Sessions.layer g.D.Disk.view g.D.Disk.honest g.D.Disk.stands l.self.server l.self.disk
+    × ((events : List Event) × Course g.S.Sessions.layer g.D.Disk.view g.D.Disk.honest l.initial.self.server l.initial.self.disk events l.self.server l.self.disk)

@@ -1,0 +1,94 @@
+use Rattle.std.proofs.Common.{List, [], ◌∙◌, subst, rules}
+use Rattle.moo_serving.specs.declared.event.Event.{Event}
+use Rattle.moo_serve.specs.Course.{Given}
+use Rattle.moo_serve.specs.Rounds.{GivenIfOpen}
+use Rattle.moo_serve.proofs.Coursing.{course_none}
+use Rattle.moo_serve.proofs.Rounding.{begins_on, course_end, course_round, follows_end}
+use Rattle.moo_serve.proofs.serving.Serving.turn.Goals as goal
+
+pub returns-in_err-look-clause-follows : goal.returns-in_err-look-clause-follows
+returns-in_err-look-clause-follows g c = record { still = c.requires.still; continues = c.requires.continues }
+
+pub returns-in_err-look-clause-course : goal.returns-in_err-look-clause-course
+returns-in_err-look-clause-course g c = ([], course_none g.S.Sessions.layer g.D.Disk.view g.D.Disk.honest c.args.self.now.server c.args.self.now.disk)
+
+pub returns-in_err-look-clause-round : goal.returns-in_err-look-clause-round
+returns-in_err-look-clause-round g c = search rules
+
+pub returns-in_err-came-clause-follows : goal.returns-in_err-came-clause-follows
+returns-in_err-came-clause-follows g c = record { still = c.requires.still; continues = c.requires.continues }
+
+pub returns-in_err-came-clause-course : goal.returns-in_err-came-clause-course
+returns-in_err-came-clause-course g c = ([], course_none g.S.Sessions.layer g.D.Disk.view g.D.Disk.honest c.args.self.now.server c.args.self.now.disk)
+
+pub returns-in_err-came-clause-round : goal.returns-in_err-came-clause-round
+returns-in_err-came-clause-round g c = search rules
+
+pub give-requires : goal.give-requires
+give-requires g c = record { still = c.requires.still; continues = c.requires.continues }
+
+pub returns-in_err-give-clause-follows : goal.returns-in_err-give-clause-follows
+returns-in_err-give-clause-follows g c = c.in_err-give.ensures.follows
+
+pub returns-in_err-give-clause-course : goal.returns-in_err-give-clause-course
+returns-in_err-give-clause-course g c = c.in_err-give.ensures.course
+
+pub returns-in_err-give-clause-round : goal.returns-in_err-give-clause-round
+returns-in_err-give-clause-round g c = search rules
+
+pub returns-in_err-parted-clause-follows : goal.returns-in_err-parted-clause-follows
+returns-in_err-parted-clause-follows g c =
+    follows_end g.S.Sessions.layer g.D.Disk.view g.D.Disk.honest g.D.Disk.stands
+    c.give.new.server c.write_all.new.server c.give.new.disk c.in_ok-give.ensures.follows c.in_err-parted.ensures.handed
+
+pub returns-in_err-parted-clause-course : goal.returns-in_err-parted-clause-course
+returns-in_err-parted-clause-course g c =
+    course_end g.S.Sessions.layer g.D.Disk.view g.D.Disk.honest g.D.Disk.stands
+    c.args.self.now.server c.give.new.server c.write_all.new.server c.args.self.now.disk c.give.new.disk c.in_ok-give.ensures.course c.in_err-parted.ensures.handed
+
+pub returns-in_err-parted-clause-round : goal.returns-in_err-parted-clause-round
+returns-in_err-parted-clause-round g c = search rules
+
+pub give_if_open-requires : goal.give_if_open-requires
+give_if_open-requires g c =
+    follows_end g.S.Sessions.layer g.D.Disk.view g.D.Disk.honest g.D.Disk.stands
+    c.give.new.server c.write_all.new.server c.give.new.disk c.in_ok-give.ensures.follows c.in_ok-parted.ensures.handed
+
+pub returns-in_err-give_if_open-clause-follows : goal.returns-in_err-give_if_open-clause-follows
+returns-in_err-give_if_open-clause-follows g c = c.in_err-give_if_open.ensures.follows
+
+pub returns-in_err-give_if_open-clause-course : goal.returns-in_err-give_if_open-clause-course
+returns-in_err-give_if_open-clause-course g c =
+    course_round g.S.Sessions.layer g.D.Disk.view g.D.Disk.honest g.D.Disk.stands
+    c.args.self.now.server c.give.new.server c.write_all.new.server c.give_if_open.new.server c.args.self.now.disk c.give.new.disk c.give_if_open.new.disk
+    c.in_ok-give.ensures.course c.in_ok-parted.ensures.handed c.in_err-give_if_open.ensures.course
+
+pub returns-in_err-give_if_open-clause-round : goal.returns-in_err-give_if_open-clause-round
+returns-in_err-give_if_open-clause-round g c = search rules
+
+pub returns-clause-follows : goal.returns-clause-follows
+returns-clause-follows g c = c.in_ok-give_if_open.ensures.follows
+
+pub returns-clause-course : goal.returns-clause-course
+returns-clause-course g c =
+    course_round g.S.Sessions.layer g.D.Disk.view g.D.Disk.honest g.D.Disk.stands
+    c.args.self.now.server c.give.new.server c.write_all.new.server c.give_if_open.new.server c.args.self.now.disk c.give.new.disk c.give_if_open.new.disk
+    c.in_ok-give.ensures.course c.in_ok-parted.ensures.handed c.in_ok-give_if_open.ensures.course
+
+pub returns-clause-round : goal.returns-clause-round
+returns-clause-round g c = record {
+  first = c.in_ok-came.came.items;
+  read = c.come.new.sockets.sockets;
+  begins = begins_on c.args.self.now.sockets.sockets c.look.new.self.sockets c.come.new.sockets.sockets c.args.self.now.moment c.come.new.moment c.in_ok-came.came.items
+      (λ k. c.look.ensures k ∙ c.rest.ensures k) c.in_ok-came.ensures;
+  given = c.give.new.server;
+  between = c.give.new.disk;
+  gives = subst (λ (es : List Event). Given g.S.Sessions.layer g.D.Disk.view g.D.Disk.honest c.args.self.now.server c.args.self.now.disk es c.give.new.server c.give.new.disk)
+      c.deref.ensures.value c.in_ok-give.ensures.all;
+  parted = c.in_ok-parted.parted.items;
+  written = c.write_all.new.server;
+  writes = c.in_ok-parted.ensures.written;
+  handed = c.in_ok-parted.ensures.handed;
+  ends = subst (λ (es : List Event). GivenIfOpen g.S.Sessions.layer g.D.Disk.view g.D.Disk.honest c.write_all.new.server c.give.new.disk es c.give_if_open.new.server c.give_if_open.new.disk)
+      c.deref-2.ensures.value c.in_ok-give_if_open.ensures.all;
+}

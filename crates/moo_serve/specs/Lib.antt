@@ -1,0 +1,4 @@
+-- What a program does that serves connections: a server over a disk in calls of one event each, round by round.
+pub mod Course
+pub mod Rounds
+pub mod Writing

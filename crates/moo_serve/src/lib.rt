@@ -1,0 +1,14 @@
+//! Rounds between the sockets of connections and a server over a disk.
+//! A room behind the program `moo`.
+#![tactic(auto)]
+
+mod coming;
+mod fault;
+mod giving;
+mod leaving;
+mod program;
+mod serving;
+
+pub use fault::ServeFault;
+pub use program::{Served, run_serve};
+pub use serving::{Round, Serving};

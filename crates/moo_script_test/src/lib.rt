@@ -1,0 +1,16 @@
+//! Scripts of events over small databases, and what they print, byte by byte: tests alone, as rows of text, in a crate of their own. A row
+//! that begins with `> ` is a line of a script. A row that begins with `>> ` is its exit status; before it stands what was printed.
+#![tactic(auto)]
+
+#[cfg(test)]
+mod checkpoints;
+#[cfg(test)]
+mod connections;
+#[cfg(test)]
+mod device;
+#[cfg(test)]
+mod lines;
+#[cfg(test)]
+mod playing;
+#[cfg(test)]
+mod tasks;

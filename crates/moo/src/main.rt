@@ -3,9 +3,12 @@
 
 use clap::error::ErrorKind;
 use moo_answer::run_expr;
-use moo_command_line::{Work, read_words};
+use moo_command_line::{Service, Work, read_words};
 use moo_database::{run_check, run_copy};
 use moo_report::Refusal;
+use moo_script::run_script;
+use moo_serve::{Served, run_serve};
+use moo_server::LiveWorld;
 use std::fs::File;
 use std::io::BufReader;
 use std::process::ExitCode;
@@ -51,13 +54,37 @@ fn run_work(rt: &HostRuntime, work: Work) -> io::Result<u8> {
             let mut file = File::open(rt, path)?;
             Ok(run_copy(rt.alloc(), &mut file, &mut io::writer(rt)))
         }
-        Work::Script(_) => miss(rt, "script"),
-        Work::Serve(_) => miss(rt, "serve"),
+        Work::Script(path) => {
+            let mut file = File::open(rt, path)?;
+            let mut input = BufReader::new(rt.alloc(), rt.reader())?;
+            let mut output = io::writer(rt);
+            Ok(run_script::<LiveWorld, _, _, _, _>(
+                rt.alloc(),
+                rt,
+                &mut file,
+                &mut input,
+                &mut output,
+            ))
+        }
+        Work::Serve(service) => serve(rt, service),
     }
 }
 
-// Says that a command isn't there yet.
-fn miss(rt: &HostRuntime, name: &str) -> io::Result<u8> {
-    eprintln!(rt; "moo: the command {name} is not there yet")?;
-    Ok(USAGE)
+fn serve(rt: &HostRuntime, service: Service) -> io::Result<u8> {
+    let served = Served {
+        db: service.database,
+        host: service.host,
+        port: service.port,
+        rounds: service.rounds,
+        most_waiting: service.most_waiting,
+    };
+    let files = rt.clone()?;
+    let mut output = io::writer(rt);
+    Ok(run_serve::<LiveWorld, HostRuntime, HostRuntime, _>(
+        rt,
+        files,
+        rt.alloc(),
+        &mut output,
+        served,
+    ))
 }

@@ -13,4 +13,6 @@ mod lines;
 #[cfg(test)]
 mod playing;
 #[cfg(test)]
+mod streams;
+#[cfg(test)]
 mod tasks;

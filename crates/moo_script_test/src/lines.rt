@@ -61,8 +61,7 @@ refused: NoSuchImage
 fn a_line_of_no_form_ends_a_script(rt: HostRuntime) -> Result<(), Fail> {
     for line in BAD {
         let script = format!(in rt.alloc(); "flush\n{line}\nshow\n")?;
-        let mut printed = Vec::new(rt.alloc());
-        let status = run(rt.alloc(), SMALL, script.as_bytes(), &mut printed);
+        let (printed, status) = run(rt.alloc(), SMALL, script.as_bytes());
         assert_eq!(rt; str::from_utf8(&printed).unwrap_or(""), "bad line 2\n");
         assert_eq!(rt; status, 5);
     }
@@ -87,8 +86,7 @@ const ENDS: [(&str, &str, u8); 5] = [
 #[test]
 fn a_script_may_end_without_a_line_feed(rt: HostRuntime) -> Result<(), Fail> {
     for (script, shown, ended) in ENDS {
-        let mut printed = Vec::new(rt.alloc());
-        let status = run(rt.alloc(), SMALL, script.as_bytes(), &mut printed);
+        let (printed, status) = run(rt.alloc(), SMALL, script.as_bytes());
         assert_eq!(rt; str::from_utf8(&printed).unwrap_or(""), shown);
         assert_eq!(rt; status, ended);
     }

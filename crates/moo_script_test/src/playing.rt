@@ -1,6 +1,8 @@
-//! What the tests share: scripts, played over a database.
+//! What the tests share: scripts, played over a database. All are played by one call, with one kind of reader and of writer: the server is made
+//! and proved anew for each kind of them.
 
-use log::sink::Discard;
+use crate::streams::{Paper, Source};
+use log::sink::Memory;
 use moo_script::run_script;
 use moo_server::LiveWorld;
 use std::alloc::Global;
@@ -20,7 +22,8 @@ pub fn played(alloc: Global, database: &[u8], rows: &str) -> Result<Vec<u8>, Fai
     let mut told = Vec::new(alloc);
     for row in rows.lines() {
         if row.starts_with(">> ") {
-            let status = run(alloc, database, &script, &mut told);
+            let (printed, status) = run(alloc, database, &script);
+            told.extend_from_slice(&printed)?;
             add_line(&mut told, format!(in alloc; ">> {status}")?.as_bytes())?;
             script = Vec::new(alloc);
         } else if let Some(line) = row.strip_prefix("> ") {
@@ -37,13 +40,30 @@ fn add_line(told: &mut Vec<u8>, line: &[u8]) -> Result<(), Fail> {
     Ok(())
 }
 
-/// Plays a script, and answers its status.
-pub fn run(alloc: Global, database: &[u8], script: &[u8], printed: &mut Vec<u8>) -> u8 {
-    let mut database = database;
-    let mut script = script;
-    run_script::<LiveWorld, Discard, &[u8], &[u8], Vec<u8>>(
+/// Plays a script, and answers what it prints and its status.
+pub fn run(alloc: Global, database: &[u8], script: &[u8]) -> (Vec<u8>, u8) {
+    let mut printed = Paper::new(alloc, usize::MAX);
+    let status = play(
         alloc,
-        &Discard,
+        &Memory::new(alloc),
+        Source::whole(database),
+        Source::whole(script),
+        &mut printed,
+    );
+    (printed.written, status)
+}
+
+/// Plays a script, and answers its status.
+pub fn play(
+    alloc: Global,
+    log: &Memory,
+    mut database: Source,
+    mut script: Source,
+    printed: &mut Paper,
+) -> u8 {
+    run_script::<LiveWorld, Memory, Source, Source, Paper>(
+        alloc,
+        log,
         &mut database,
         &mut script,
         printed,

@@ -11,6 +11,9 @@ use std::test::Fail;
 pub const WORLD: &[u8] =
     b"** LambdaMOO Database, Format Version 4 **\n4\n2\n0\n1\n3\n#0\nSystem Object\n\n16\n3\n-1\n-1\n-1\n1\n-1\n2\n1\ndo_login_command\n3\n173\n-1\n0\n0\n#1\nRoot Class\n\n16\n3\n-1\n-1\n-1\n-1\n0\n-1\n0\n0\n0\n#2\nThe First Room\n\n0\n3\n-1\n3\n-1\n1\n-1\n3\n0\n0\n0\n#3\nWizard\n\n7\n3\n2\n-1\n-1\n1\n-1\n-1\n1\neval\n3\n93\n-2\n0\n0\n#0:0\nreturn #3;\n.\n#3:0\nnotify(player, toliteral(eval(argstr)));\n.\n0 clocks\n0 queued tasks\n0 suspended tasks\n0 active connections with listeners\n";
 
+// A number of a call that no life comes to.
+const NEVER: u64 = u64::MAX;
+
 /// A database in memory.
 pub fn disk_of(alloc: Global, world: &[u8]) -> Result<MemoryDisk, Fail> {
     Ok(MemoryDisk::new(alloc, Vec::from_slice(alloc, world)?))
@@ -95,16 +98,14 @@ fn end_life(
         "crash" => crash(alloc, disk, number, told),
         "main" => add_connected(disk, told),
         "fail" => {
-            let mut failing = FailAt::new(disk, u64::from(number), effect == "done");
-            live::<LiveWorld, _>(alloc, &mut failing, events, told)?;
-            Ok(failing.into_inner())
+            let fails = (u64::from(number), effect == "done");
+            play(alloc, disk, fails, (NEVER, Place::Before), events, told)
         }
         "stop" => stop(alloc, disk, number, Place::Before, events, told),
         "within" => stop(alloc, disk, number, Place::Within, events, told),
         _ => {
-            let mut disk = disk;
-            live::<LiveWorld, _>(alloc, &mut disk, events, told)?;
-            Ok(disk)
+            let never = (NEVER, Place::Before);
+            play(alloc, disk, (NEVER, false), never, events, told)
         }
     }
 }
@@ -118,9 +119,24 @@ pub fn stop(
     events: &[Event],
     told: &mut Vec<u8>,
 ) -> Result<MemoryDisk, Fail> {
-    let mut stopping = StopAt::new(disk, u64::from(k), place);
-    live::<LiveWorld, _>(alloc, &mut stopping, events, told)?;
-    Ok(stopping.into_inner())
+    let stops = (u64::from(k), place);
+    play(alloc, disk, (NEVER, false), stops, events, told)
+}
+
+// A life over a disk that fails in one call and stops in another. All lives are over disks of this kind: the server is made and proved anew
+// for each kind.
+fn play(
+    alloc: Global,
+    disk: MemoryDisk,
+    (failing, effect): (u64, bool),
+    (stopping, place): (u64, Place),
+    events: &[Event],
+    told: &mut Vec<u8>,
+) -> Result<MemoryDisk, Fail> {
+    let stops = StopAt::new(disk, stopping, place);
+    let mut disk = FailAt::new(stops, failing, effect);
+    live::<LiveWorld, _>(alloc, &mut disk, events, told)?;
+    Ok(disk.into_inner().into_inner())
 }
 
 // The disk that a crash leaves with the i-th of the texts, where there is one.

@@ -26,4 +26,3 @@ sed -n '/^\*\* LambdaMOO/,$p' "$out" > ../starter.db.new
 "$@" check ../starter.db.new
 "$@" copy ../starter.db.new | cmp - ../starter.db.new
 mv ../starter.db.new ../starter.db
-cp ../starter.db ../../crates/moo_starter_test/data/starter.db

@@ -1,0 +1,96 @@
+#!/usr/bin/env python3
+"""What a server does with clients that behave badly: clients.py MOO [MEGABYTES]. Each line that it prints was seen; it stops where one wasn't.
+
+A number that is used again starts clean. 13 MB wait while nobody reads, and a connection that leaves is closed behind the last of them. One
+that never reads is hung up where more wait than may. A client sends so many megabytes (1,000) without a line's end."""
+import os, re, shutil, socket, struct, subprocess, sys, tempfile, time
+
+moo = os.path.abspath(sys.argv[1])
+megabytes = int(sys.argv[2]) if len(sys.argv) > 2 else 1000
+here = os.path.dirname(os.path.abspath(__file__))
+folder = tempfile.mkdtemp(prefix="clients-")
+os.chdir(folder)
+with open("world.db", "wb") as file:
+    subprocess.run([sys.executable, os.path.join(here, "world.py"), "10"], stdout=file, check=True)
+GREETING = b"*** Connected ***\r\n"
+LONG = b';s = "x"; for i in [1..16] s = s + s; endfor for i in [1..200] notify(player, s); endfor '
+
+
+def start(*options):
+    global server, port
+    server = subprocess.Popen([moo, "serve", "world.db", "0", *options], stdout=subprocess.PIPE, stderr=open("log", "w"))
+    port = int(re.fullmatch(rb"listening on 127\.0\.0\.1:(\d+)\n", server.stdout.readline())[1])
+
+
+def stop():
+    server.kill()
+    server.wait()
+
+
+def connect(number):
+    client = socket.create_connection(("127.0.0.1", port))
+    client.sendall(b"%d\r\n" % number)
+    assert client.recv(4096) == GREETING
+    return client
+
+
+def memory(name="VmRSS"):
+    return int(re.search(name + r":\s+(\d+)", open(f"/proc/{server.pid}/status").read())[1]) / 1024
+
+
+def rest(client):
+    """How many bytes come until the end, and the last of them."""
+    count, last = 0, b""
+    while data := client.recv(65536):
+        count, last = count + len(data), (last + data)[-100:]
+    return count, last
+
+
+start()
+for turn in range(100):
+    # The first one leaves behind half a line, and output that it hasn't read; its socket is reset.
+    first = connect(3)
+    first.sendall(LONG + b"\r\nhalf a li")
+    time.sleep(0.02)
+    first.setsockopt(socket.SOL_SOCKET, socket.SO_LINGER, struct.pack("ii", 1, 0))
+    first.close()
+    second = connect(4)
+    second.sendall(b"look\r\n")
+    assert second.recv(4096) == b"I couldn't understand that.\r\n"
+    second.close()
+print("100 times one leaves half a line and output unread: the next one sees its greeting and its answers alone")
+
+client = connect(3)
+other = connect(4)
+client.sendall(LONG + b"boot_player(player);\r\n")
+time.sleep(2)
+other.sendall(b"look\r\n")
+assert other.recv(4096) == b"I couldn't understand that.\r\n"
+print(f"13 MB wait for one that leaves and doesn't read: another is answered meanwhile; {memory():.1f} MiB resident")
+count, last = rest(client)
+assert count == 200 * 65_538 + len("*** Disconnected ***\r\n") and last.endswith(b"x\r\n*** Disconnected ***\r\n"), (count, last)
+print(f"then it reads: {count} bytes, the last of them the line that tells that it is disconnected, and then the end")
+
+before = memory()
+hog = connect(5)
+block = b"y" * 1_000_000
+begun = time.perf_counter()
+for _ in range(megabytes):
+    hog.sendall(block)
+other.sendall(b"look\r\n")
+assert other.recv(4096) == b"I couldn't understand that.\r\n"
+took = time.perf_counter() - begun
+hog.sendall(b"\r\n")
+assert hog.recv(4096) == b"I couldn't understand that.\r\n"
+print(f"{megabytes} MB without a line's end in {took:.0f} s: {before:.1f} MiB resident before, {memory():.1f} after, and then the line is answered once")
+stop()
+
+start("--most-waiting", "1000000")
+deaf = connect(3)
+deaf.sendall(LONG + b"\r\n")
+time.sleep(1)
+count, last = rest(deaf)
+told = re.search("connection 0 is hung up: .*", open("log").read())[0]
+print(f"--most-waiting 1000000, 13 MB for one that doesn't read: {count} bytes and the end; log: {told}")
+stop()
+shutil.rmtree(folder)

@@ -301,9 +301,9 @@ if (!i)
 endif
 p = $match:part($string:trim(argstr[1..i - 1]), ".", player);
 if (!p)
-  player:tell("A property is OBJECT.NAME.");
+  player:tell("For example: @set lamp.lit to 1   or: @set north.leave_msg to climbs the stairs.");
   return;
-elseif (p[2] == "name" && $controls(player, p[1]))
+elseif (p[2] in {"name", "aliases"} && $controls(player, p[1]))
   // @rename looks at names: everybody has to be able to read and to type them
   player:tell("Names are given with @rename.");
   return;

@@ -1,0 +1,62 @@
+"""Hostile programs that run to their end: what each ends with, and that the server goes on."""
+import os
+import program, programs, world
+
+HEADS = ["Program", "By", "Seconds", "Megabytes", "Ended"]
+OUT, PERM, MAXREC = "Task ran out of ticks", "Permission denied", "Too many verb calls"
+STRING = programs.STRING
+REPEAT = "player:v();"
+
+
+def coded(name, line):
+    """Gives the player a verb of this program."""
+    return f'add_verb(player,{{player,"rxd","{name}"}},{{"this","none","this"}});set_verb_code(player,"{name}",{{"{line}"}});'
+
+
+# A name, the number of who types it, the lines typed, and what has to stand in what is printed.
+PROGRAMS = [
+    ("`while (1) endwhile`", 4, ["while(1)endwhile"], OUT),
+    ("calls of itself, until no frame is left", 4, [coded("v", "return this:v();") + REPEAT], MAXREC),
+    ("calls of itself, caught, again and again", 4, [coded("v", "while(1)`this:v() ! ANY';endwhile") + REPEAT], OUT),
+    ("a list joined with itself past the weight", 4, ["l={1};while(1)`l={@l,@l} ! ANY';endwhile"], OUT),
+    ("a list in a list past the depth", 4, ["l={};c=0;while(1)`l={l} ! ANY => c=c+1';endwhile"], OUT),
+    ("a list of 200 levels printed", 4, ["l={};i=0;while(i<197)l={l};i=i+1;endwhile notify(player,toliteral(l));"], "{{{{"),
+    ("160,000 lines of notices, in 20 commands", 4, ['while(1)notify(player,"");endwhile'] * 20, OUT),
+    ("recycles itself, and goes on", 4, ["x=recycle(player);player:v();notify(player,player.name);"], ""),
+    ("moves its room into itself", 4, ["move(#2,player);"], "Recursive move"),
+    ("moves itself to and fro", 4, ["while(1)move(player,#-1);move(player,#2);endwhile"], OUT),
+    ("`exitfunc` that moves, called by `move`", 4, ["c=create(#-1);add_verb(c,{player,\"rxd\",\"exitfunc enterfunc accept\"},{\"this\",\"none\",\"this\"});"
+     "set_verb_code(c,\"exitfunc\",{\"if(verb==\\\"accept\\\")return 1;endif move(args[1],#-1);move(args[1],this);return 1;\"});move(player,c);move(player,#-1);"], MAXREC),
+    ("`recycle` that recycles itself", 4, ["c=create(#-1);add_verb(c,{player,\"rxd\",\"recycle\"},{\"this\",\"none\",\"this\"});set_verb_code(c,\"recycle\",{\"recycle(this);\"});recycle(c);"], MAXREC),
+    ("boots itself in a loop", 4, ["while(1)boot_player(player);endwhile"], "*** Disconnected ***"),
+    ("boots, sends and shuts down for others", 4, ["boot_player(#3);", "notify(#3,\"x\");", "shutdown();", "dump_database();", "server_log(\"x\");"], PERM),
+    ("20,000 objects asked for", 4, ["while(1)create(#-1);endwhile"], OUT),
+    ("a piece of 4,096 bytes: 2,048 commands of a loop each", 4, [coded("x", "while(1)endwhile"), None], OUT),
+    ("a `do_command` that shuts down", 3, ["add_verb(#0,{player,\"rxd\",\"do_command\"},{\"this\",\"none\",\"this\"});set_verb_code(#0,\"do_command\",{\"shutdown();\"});", "x"], "*** Shutting down ***"),
+    ("a `checkpoint_started` that recycles all", 3, ["add_verb(#0,{player,\"rxd\",\"checkpoint_started\"},{\"this\",\"none\",\"this\"});"
+     "set_verb_code(#0,\"checkpoint_started\",{\"for o in [#0..max_object()]recycle(o);endfor\"});dump_database();"], ""),
+]
+
+
+def typed(who, lines):
+    events = f"open 1\nline 1 #{who}\n"
+    for line in lines:
+        events += f"line 1 eval {line}\n" if line else f"bytes 1 {(b'x' + bytes([10])).hex() * 2048}\n"
+    return events
+
+
+def main(folder):
+    path = os.path.join(folder, "whole.db")
+    things = programs.things_of("small")
+    things[4].verbs.append(world.verb("x", "while(1)endwhile", 4, "rd", True))
+    with open(path, "w") as file:
+        file.write(world.text(things))
+    empty = program.script(path, typed(4, []))
+    rows, is_well = [], True
+    for name, who, lines, wanted in PROGRAMS:
+        run = program.script(path, typed(who, lines) + "flush\n" * 8)
+        fits = run.status == 0 and wanted in run.output
+        by = "programmer" if who == 4 else "wizard"
+        rows.append((name, by, f"{max(run.seconds - empty.seconds, 0):.3g}", f"{run.megabytes:.0f}", f"as told, status 0" if fits else f"WRONG: status {run.status}, {run.output[-150:]!r}"))
+        is_well &= fits
+    return rows, is_well

@@ -22,8 +22,8 @@ PROGRAMS = [
     ("a list in a list past the depth", 4, ["l={};c=0;while(1)`l={l} ! ANY => c=c+1';endwhile"], OUT),
     ("a list of 200 levels printed", 4, ["l={};i=0;while(i<197)l={l};i=i+1;endwhile notify(player,toliteral(l));"], "{{{{"),
     ("160,000 lines of notices, in 20 commands", 4, ['while(1)notify(player,"");endwhile'] * 20, OUT),
-    ("recycles itself, and goes on", 4, ["x=recycle(player);player:v();notify(player,player.name);"], ""),
-    ("moves its room into itself", 4, ["move(#2,player);"], "Recursive move"),
+    ("recycles itself, and goes on", 4, ["x=recycle(player);player:v();notify(player,player.name);"], "*** Recycled ***"),
+    ("moves its room into itself", 4, [coded("accept", "return 1;") + "move(#2,player);"], "Recursive move"),
     ("moves itself to and fro", 4, ["while(1)move(player,#-1);move(player,#2);endwhile"], OUT),
     ("`exitfunc` that moves, called by `move`", 4, ["c=create(#-1);add_verb(c,{player,\"rxd\",\"exitfunc enterfunc accept\"},{\"this\",\"none\",\"this\"});"
      "set_verb_code(c,\"exitfunc\",{\"if(verb==\\\"accept\\\")return 1;endif move(args[1],#-1);move(args[1],this);return 1;\"});move(player,c);move(player,#-1);"], MAXREC),

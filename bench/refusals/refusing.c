@@ -1,4 +1,5 @@
-/* An allocator that refuses one allocation, the one whose number REFUSE tells; it says so where there are fewer. */
+/* An allocator that refuses one allocation, the one whose number REFUSE tells, or that whose number REFUSE_FROM tells and all
+   behind it; it says so where there are fewer. */
 #include <stdio.h>
 #include <stdlib.h>
 
@@ -8,14 +9,17 @@ extern void *__libc_memalign(size_t align, size_t size);
 
 static long count = 0;
 static long refused = 0;
+static int others = 0;
 
 static int is_refused(void) {
     if (refused == 0) {
         const char *number = getenv("REFUSE");
-        refused = number ? atol(number) : -1;
+        const char *first = getenv("REFUSE_FROM");
+        others = number == NULL && first != NULL;
+        refused = number ? atol(number) : first ? atol(first) : -1;
     }
     count += 1;
-    return count == refused;
+    return others ? count >= refused : count == refused;
 }
 
 void *malloc(size_t size) { return is_refused() ? NULL : __libc_malloc(size); }

@@ -1,9 +1,10 @@
 #!/usr/bin/env python3
 """What a server does with clients that behave badly: clients.py MOO [MEGABYTES]. Each line that it prints was seen; it stops where one wasn't.
 
-A number that is used again starts clean. 13 MB wait while nobody reads, and a connection that leaves is closed behind the last of them. One
-that never reads is hung up where more wait than may. A client sends so many megabytes (1,000) without a line's end."""
-import os, re, shutil, socket, struct, subprocess, sys, tempfile, time
+A number that is used again starts clean. 13 MB wait while nobody reads, and a connection that leaves is closed behind the last of them. A
+client sends so many megabytes (1,000) without a line's end. One that never reads is hung up where more wait than may. More clients come than
+there may be open files."""
+import os, re, resource, shutil, socket, struct, subprocess, sys, tempfile, time
 
 moo = os.path.abspath(sys.argv[1])
 megabytes = int(sys.argv[2]) if len(sys.argv) > 2 else 1000
@@ -11,14 +12,15 @@ here = os.path.dirname(os.path.abspath(__file__))
 folder = tempfile.mkdtemp(prefix="clients-")
 os.chdir(folder)
 with open("world.db", "wb") as file:
-    subprocess.run([sys.executable, os.path.join(here, "world.py"), "10"], stdout=file, check=True)
+    subprocess.run([sys.executable, os.path.join(here, "world.py"), "30"], stdout=file, check=True)
 GREETING = b"*** Connected ***\r\n"
 LONG = b';s = "x"; for i in [1..16] s = s + s; endfor for i in [1..200] notify(player, s); endfor '
 
 
-def start(*options):
+def start(*options, files=1000):
     global server, port
-    server = subprocess.Popen([moo, "serve", "world.db", "0", *options], stdout=subprocess.PIPE, stderr=open("log", "w"))
+    limit = lambda: resource.setrlimit(resource.RLIMIT_NOFILE, (files, files))
+    server = subprocess.Popen([moo, "serve", "world.db", "0", *options], stdout=subprocess.PIPE, stderr=open("log", "w"), preexec_fn=limit)
     port = int(re.fullmatch(rb"listening on 127\.0\.0\.1:(\d+)\n", server.stdout.readline())[1])
 
 
@@ -92,5 +94,43 @@ time.sleep(1)
 count, last = rest(deaf)
 told = re.search("connection 0 is hung up: .*", open("log").read())[0]
 print(f"--most-waiting 1000000, 13 MB for one that doesn't read: {count} bytes and the end; log: {told}")
+stop()
+
+
+def used():
+    words = open(f"/proc/{server.pid}/stat").read().rsplit(")", 1)[1].split()
+    return (int(words[11]) + int(words[12])) / os.sysconf("SC_CLK_TCK")
+
+
+def are_served(clients):
+    """Those who are greeted within a second."""
+    time.sleep(1)
+    served = []
+    for client in clients:
+        client.setblocking(False)
+        try:
+            served += [client] if client.recv(4096) == GREETING else []
+        except BlockingIOError:
+            pass
+        client.setblocking(True)
+    return served
+
+
+start(files=20)
+all_clients = [socket.create_connection(("127.0.0.1", port)) for _ in range(30)]
+for number, client in enumerate(all_clients):
+    client.sendall(b"%d\r\n" % (4 + number))
+served = are_served(all_clients)
+others = [client for client in all_clients if client not in served]
+before = used()
+time.sleep(5)
+took = used() - before
+served[-1].sendall(b"look\r\n")
+assert served[-1].recv(4096) == b"I couldn't understand that.\r\n"
+for client in served:
+    client.close()
+time.sleep(2)
+print(f"20 open files, 30 clients: {len(served)} are served, and go on; {took:.2f} s of a processor in 5 s; when they leave, "
+      f"{len(are_served(others))} of the {len(others)} others are")
 stop()
 shutil.rmtree(folder)

@@ -32,9 +32,19 @@ PROGRAMS = [
     ("boots, sends and shuts down for others", 4, ["boot_player(#3);", "notify(#3,\"x\");", "shutdown();", "dump_database();", "server_log(\"x\");"], PERM),
     ("20,000 objects asked for", 4, ["while(1)create(#-1);endwhile"], OUT),
     ("a piece of 4,096 bytes: 2,048 commands of a loop each", 4, [coded("x", "while(1)endwhile"), None], OUT),
-    ("a `do_command` that shuts down", 3, ["add_verb(#0,{player,\"rxd\",\"do_command\"},{\"this\",\"none\",\"this\"});set_verb_code(#0,\"do_command\",{\"shutdown();\"});", "x"], "*** Shutting down ***"),
+    ("a `do_command` that shuts down", 3, ["add_verb(#0,{player,\"rxd\",\"do_command\"},{\"this\",\"none\",\"this\"});set_verb_code(#0,\"do_command\",{\"shutdown();\"});", "x"], "*** Shutting down ***\nrefused: Closed"),
     ("a `checkpoint_started` that recycles all", 3, ["add_verb(#0,{player,\"rxd\",\"checkpoint_started\"},{\"this\",\"none\",\"this\"});"
-     "set_verb_code(#0,\"checkpoint_started\",{\"for o in [#0..max_object()]recycle(o);endfor\"});dump_database();"], ""),
+     "set_verb_code(#0,\"checkpoint_started\",{\"for o in [#0..max_object()]recycle(o);endfor\"});dump_database();"], "*** Recycled ***"),
+]
+
+# Over the starter world, in one piece of 4,096 bytes: who types it, and the line that it repeats.
+STARTER = [
+    ("a stranger's lines, as many as 4,096 bytes hold", "anybody", [], "x"),
+    ("the same of `connect x y`", "anybody", [], "connect x y"),
+    ("a guest's `look`", "player", ["connect guest"], "look"),
+    ("a guest's `@who`", "player", ["connect guest"], "@who"),
+    ("a guest's `say x`", "player", ["connect guest"], "say x"),
+    ("a guest's `examine basket`", "player", ["connect guest"], "examine basket"),
 ]
 
 
@@ -55,8 +65,18 @@ def main(folder):
     rows, is_well = [], True
     for name, who, lines, wanted in PROGRAMS:
         run = program.script(path, typed(who, lines) + "flush\n" * 8)
-        fits = run.status == 0 and wanted in run.output
+        status = 5 if "refused" in wanted else 0
+        fits = run.status == status and wanted in run.output
         by = "programmer" if who == 4 else "wizard"
-        rows.append((name, by, f"{max(run.seconds - empty.seconds, 0):.3g}", f"{run.megabytes:.0f}", f"as told, status 0" if fits else f"WRONG: status {run.status}, {run.output[-150:]!r}"))
+        rows.append((name, by, f"{max(run.seconds - empty.seconds, 0):.3g}", f"{run.megabytes:.0f}", f"as told, status {status}" if fits else f"WRONG: status {run.status}, {run.output[-150:]!r}"))
+        is_well &= fits
+    starter = os.path.join(program.TOP, "worlds", "starter.db")
+    for name, by, before, line in STARTER:
+        begin = "open 1\n" + "".join(f"line 1 {each}\n" for each in before)
+        piece = (line.encode() + bytes([10])) * (4096 // (len(line) + 1))
+        empty = program.script(starter, begin)
+        run = program.script(starter, begin + f"bytes 1 {piece.hex()}\nopen 2\n")
+        fits = run.status == 0 and "\n2: " in run.output
+        rows.append((f"{name} ({4096 // (len(line) + 1)})", by, f"{max(run.seconds - empty.seconds, 0):.3g}", f"{run.megabytes:.0f}", "status 0" if fits else f"WRONG: status {run.status}"))
         is_well &= fits
     return rows, is_well

@@ -2,7 +2,7 @@
 import os, re, select, signal, socket, subprocess, time
 import program, programs, world
 
-HEADS = ["What one client does", "Another waits, seconds at most", "Megabytes of the server", "Ended"]
+HEADS = ["What one client does", "Another waits, seconds of the server's processor", "Megabytes of the server", "Ended"]
 MOST_WAITING = 1 << 20
 
 
@@ -17,6 +17,10 @@ class Server:
     def megabytes(self):
         with open(f"/proc/{self.child.pid}/status") as file:
             return int(re.search(r"VmHWM:\s+(\d+)", file.read()).group(1)) / 1024
+
+    def seconds(self):
+        with open(f"/proc/{self.child.pid}/stat") as file:
+            return sum(map(int, file.read().rsplit(")", 1)[1].split()[11:13])) / os.sysconf("SC_CLK_TCK")
 
     def end(self):
         self.child.send_signal(signal.SIGKILL)
@@ -44,15 +48,15 @@ def heard(link, wanted, patience=600):
 
 
 def waits(server, line):
-    """How long the wizard waits for the answer to a sum that is typed right behind this line of the programmer's."""
+    """The processor's seconds that go by until the wizard has the answer to a sum, typed right behind this line of the
+    programmer's; the machine may be busy with other work."""
     hostile, other = client(server, "#4"), client(server, "#3")
     heard(hostile, b"*** Connected ***"), heard(other, b"*** Connected ***")
+    begin = server.seconds()
     hostile.sendall(line.encode() + b"\n")
     time.sleep(0.2)
-    begin = time.monotonic()
     other.sendall(b"eval return 20+2;\n")
-    found = heard(other, b"{1, 22}")
-    return None if found is None else time.monotonic() - begin + 0.2
+    return None if heard(other, b"{1, 22}") is None else server.seconds() - begin
 
 
 LINES = [
@@ -101,10 +105,10 @@ def deaf(path, count=40):
             except OSError:
                 pass  # it is hung up, or its own bytes wait
         peak = max(peak, server.megabytes())
-        time.sleep(0.05)
-    other = client(server, "#3", "eval return 20+2;")
-    seconds = heard(other, b"{1, 22}")
-    fits = seconds is not None
+        time.sleep(0.02)
+    begin, other = server.seconds(), client(server, "#3", "eval return 20+2;")
+    fits = heard(other, b"{1, 22}") is not None
+    seconds = server.seconds() - begin
     cells = (f"{count} strangers who never read, with `--most-waiting` {MOST_WAITING:,}", f"{seconds:.2f}" if fits else "-", f"{server.megabytes():.0f}", "well" if fits else "WRONG")
     server.end()
     return cells, fits

@@ -4,6 +4,8 @@ import program, programs, world
 
 HEADS = ["What one client does", "Another waits, seconds of the server's processor", "Megabytes of the server", "Ended"]
 MOST_WAITING = 1 << 20
+# What a stranger is told for each line: 20,400 bytes.
+SCREEN = 'i=0;while(i<200)i=i+1;notify(player,"' + "w" * 100 + '");endwhile\n'
 
 
 class Server:
@@ -73,7 +75,7 @@ def main(folder):
     path = os.path.join(folder, "served.db")
     things = programs.things_of("small")
     things[4].verbs.append(world.verb("x", "while(1)endwhile", 4, "rd", True))
-    things[0].verbs[0] = world.verb("do_login_command", world.LOGIN + '\ni=0;while(i<200)i=i+1;notify(player,"' + "w" * 60 + '");endwhile', 3)
+    things[0].verbs[0] = world.verb("do_login_command", SCREEN + world.LOGIN, 3)
     rows, is_well = [], True
     with open(path, "w") as file:
         file.write(world.text(things))

@@ -19,12 +19,12 @@ class Run:
         return self.output.splitlines()[-1] if self.output.splitlines() else ""
 
 
-def limit():
+def limit(room=ROOM):
     resource.setrlimit(resource.RLIMIT_STACK, (STACK, resource.getrlimit(resource.RLIMIT_STACK)[1]))
-    resource.setrlimit(resource.RLIMIT_AS, (ROOM, ROOM))
+    resource.setrlimit(resource.RLIMIT_AS, (room, room))
 
 
-def script(database, events, patience=900, most=1 << 24):
+def script(database, events, patience=900, most=1 << 24, room=ROOM):
     """Runs `moo script` on a database file; the events are a text or bytes, or the path of a file behind an @."""
     with tempfile.TemporaryDirectory() as folder:
         path = os.path.join(folder, "events")
@@ -32,13 +32,13 @@ def script(database, events, patience=900, most=1 << 24):
             path = events[1:]
         else:
             open(path, "wb").write(events if isinstance(events, bytes) else events.encode("latin-1"))
-        return run([MOO, "script", database], path, folder, patience, most)
+        return run([MOO, "script", database], path, folder, patience, most, room)
 
 
-def run(words, given, folder, patience, most):
+def run(words, given, folder, patience, most, room):
     output, errors = os.path.join(folder, "output"), os.path.join(folder, "errors")
     with open(given, "rb") as stdin, open(output, "wb") as stdout, open(errors, "wb") as stderr:
-        child = subprocess.Popen(words, stdin=stdin, stdout=stdout, stderr=stderr, preexec_fn=limit)
+        child = subprocess.Popen(words, stdin=stdin, stdout=stdout, stderr=stderr, preexec_fn=lambda: limit(room))
         status, usage = wait(child, patience)
     return Run(text(output, most), text(errors, most), status, usage)
 

@@ -37,6 +37,12 @@ PROGRAMS = [
      "set_verb_code(#0,\"checkpoint_started\",{\"for o in [#0..max_object()]recycle(o);endfor\"});dump_database();"], "*** Recycled ***"),
 ]
 
+# With 1 GB of address space: what asks for more ends the server, with status 4.
+WANTING = [
+    ("`notify` of 1 MB without end", [STRING + "while(1)notify(player,s);endwhile"]),
+    ("3,000 properties that share 1 MB, and a checkpoint", [STRING + 'i=0;while(i<3000)i=i+1;add_property(player,tostr("p",i),s,{player,"r"});endwhile', "return 1+1;", "__checkpoint__"]),
+]
+
 # Over the starter world, in one piece of 4,096 bytes: who types it, and the line that it repeats.
 STARTER = [
     ("a stranger's lines, as many as 4,096 bytes hold", "anybody", [], "x"),
@@ -69,6 +75,12 @@ def main(folder):
         fits = run.status == status and wanted in run.output
         by = "programmer" if who == 4 else "wizard"
         rows.append((name, by, f"{max(run.seconds - empty.seconds, 0):.3g}", f"{run.megabytes:.0f}", f"as told, status {status}" if fits else f"WRONG: status {run.status}, {run.output[-150:]!r}"))
+        is_well &= fits
+    for name, lines in WANTING:
+        events = typed(4, lines).replace("line 1 eval __checkpoint__", "moment 3600\nflush")
+        run = program.script(path, events, room=1 << 30)
+        fits = (run.status, run.last()) == (4, "refused: Memory")
+        rows.append((name, "programmer", "-", "1 GB at most", "`refused: Memory`, status 4" if fits else f"WRONG: status {run.status}"))
         is_well &= fits
     starter = os.path.join(program.TOP, "worlds", "starter.db")
     for name, by, before, line in STARTER:

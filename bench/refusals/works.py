@@ -5,6 +5,7 @@ from pathlib import Path
 TOP = Path(__file__).resolve().parent.parent.parent
 SMALL = str(TOP / "bench/stops/small.db")
 SEED = str(TOP / "worlds/starter/seed.db")
+STARTER = str(TOP / "worlds/starter.db")
 DAMAGED = str(TOP / "bench/refusals/damaged.db")
 
 EXPRESSIONS = [
@@ -81,6 +82,8 @@ WORKS = [(f"moo expr, {line.decode()}", ["expr"], line + b"\n", []) for line in 
     ("moo check, the starter's seed", ["check", SEED], b"", []),
     ("moo copy, a world", ["copy", SMALL], b"", []),
     ("moo copy, the starter's seed", ["copy", SEED], b"", []),
+    ("moo check, the starter world", ["check", STARTER], b"", []),
+    ("moo copy, the starter world", ["copy", STARTER], b"", []),
     ("moo script, a checkpoint", ["script", SMALL], SAVED, faults(5)),
     ("moo script, three lives", ["script", SMALL], LIVES, faults(14)),
     ("moo script, typed", ["script", SMALL], TYPED, faults(6)),

@@ -1,1 +1,4 @@
 pub mod Laws
+pub mod Runs
+pub mod Sessions
+pub mod Stream

@@ -7,6 +7,9 @@ ghost use Rattle.moo_server.specs.Live.{live_layer};
 ghost use Rattle.moo_server.specs.declared.live_world.LiveWorld.{LiveWorld};
 ghost use Rattle.moo_server_law.specs.Laws.{NothingIsDue};
 
+pub mod runs;
+pub mod sessions;
+
 use moo_disk::CrashDisk;
 use moo_server::LiveWorld;
 

@@ -1,7 +1,7 @@
 //! A server over a disk in memory: tests alone, as rows of text, in a crate of their own. A row that begins with `> ` is what comes to the
 //! server in a life. A row that begins with `>> ` ends the life, and says over what disk it was; behind it stands what the server
 //! told: how many events it took, why it took no more, where it stands, the lines that it sent on each connection, and those of
-//! its log.
+//! its log. `sessions` and `scripts` say what their rows mean.
 #![tactic(auto)]
 
 #[cfg(test)]
@@ -14,5 +14,9 @@ mod moments;
 mod playing;
 #[cfg(test)]
 mod saving;
+#[cfg(test)]
+mod scripts;
+#[cfg(test)]
+mod sessions;
 #[cfg(test)]
 mod stops;

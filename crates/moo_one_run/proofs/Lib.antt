@@ -1,2 +1,0 @@
-mod Layer
-mod Within

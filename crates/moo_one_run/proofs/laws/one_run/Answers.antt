@@ -1,6 +1,0 @@
-use Rattle.moo_code_function.specs.Telling.{chosen_by}
-use Rattle.moo_one_run.proofs.Layer.{one_run_of_sessions}
-use Rattle.moo_one_run.proofs.laws.one_run.Goals as goal
-
-pub returns : goal.returns
-returns c = λ choice passes. one_run_of_sessions (chosen_by choice) (chosen_by choice) (c.at_most_one_result.ensures choice passes)

@@ -1,7 +1,0 @@
-use Rattle.moo_code_function.specs.Telling.{Faults}
-use Rattle.moo_eval.specs.Laws.{faults_of}
-use Rattle.moo_one_run.proofs.Layer.{one_run_of_sessions}
-use Rattle.moo_one_run.proofs.laws.one_run_of_single_faults.Goals as goal
-
-pub returns : goal.returns
-returns c = λ texts have. one_run_of_sessions (faults_of texts) Faults (c.one_result_of_single_faults.ensures texts have)

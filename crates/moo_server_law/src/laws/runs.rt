@@ -1,0 +1,29 @@
+//! One run of a server.
+ghost use Rattle.moo_server_law.specs.Runs.{ChosenRunMayBe, OneRunByChoice, OneRunOfSingleFaults};
+
+/// Whatever is chosen to be told of texts that are no programs, the saved world, the moment, the events and their reports make a
+/// run: what goes out, which worlds are marked, and the state behind it.
+#[tactic(none)]
+pub fn one_run()
+    ensures { OneRunByChoice }
+{
+    crate::laws::sessions::at_most_one_result();
+}
+
+/// A run in which some texts alone are told a fault, none of which has two, is the one run that a server may come to from that
+/// start by those events and reports, with nothing chosen.
+#[tactic(none)]
+pub fn one_run_of_single_faults()
+    ensures { OneRunOfSingleFaults }
+{
+    crate::laws::sessions::one_result_of_single_faults();
+}
+
+/// Where each text that is no program is told one of its faults, chosen once for all, a run is among those that a server may
+/// come to.
+#[tactic(none)]
+pub fn a_chosen_run_may_be()
+    ensures { ChosenRunMayBe }
+{
+    crate::laws::sessions::chosen_faults_may_be_told();
+}

@@ -1,0 +1,45 @@
+//! The laws of sessions.
+ghost use Rattle.moo_server_law.specs.Sessions.{OneResultByChoice, OneResultOfSingleFaults, ChosenMayBeTold, NoHookIsLeft};
+
+/// For one input an event has at most one result, whatever is chosen to be told of texts that are no programs.
+#[tactic(none)]
+pub fn at_most_one_result()
+    ensures { OneResultByChoice }
+{
+    moo_command::laws::one_command();
+    moo_eval::laws::at_most_one_result();
+}
+
+/// What comes of an event where some texts alone are told a fault, none of which has two, is the one result that the
+/// program may come to, with nothing chosen.
+#[tactic(none)]
+pub fn one_result_of_single_faults()
+    ensures { OneResultOfSingleFaults }
+{
+    moo_command::laws::one_command();
+    moo_eval::laws::one_result_of_single_faults();
+}
+
+/// Where each text that is no program is told one of its faults, chosen once for all, what comes of an event is among what
+/// the program may come to.
+#[tactic(none)]
+pub fn chosen_faults_may_be_told()
+    ensures { ChosenMayBeTold }
+{
+    moo_eval::laws::chosen_faults_may_be_told();
+}
+
+/// No hook waits after an event before which none waited, nor after a start.
+#[tactic(none)]
+pub fn no_hook_is_left()
+    ensures { NoHookIsLeft }
+{}
+
+ghost use Rattle.moo_server_law.specs.Stream.{LinesOfTheWholeStream};
+
+/// However the bytes of a connection were cut into pieces, and whatever happened in between, the lines that they ended are
+/// those of all its bytes.
+#[tactic(none)]
+pub fn lines_of_the_whole_stream()
+    ensures { LinesOfTheWholeStream }
+{}

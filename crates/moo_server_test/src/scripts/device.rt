@@ -1,0 +1,106 @@
+//! Readers and writers that fail, databases that are refused, what is shown and logged.
+
+use crate::scripts::playing::{LARGER, SMALL, play, run};
+use crate::scripts::streams::{Paper, Source};
+use log::sink::Memory;
+use std::io::ErrorKind;
+use std::test::Fail;
+
+const FAULTS: [(ErrorKind, &str, u8); 2] = [
+    (ErrorKind::Other, "refused: Device\n", 3),
+    (ErrorKind::OutOfMemory, "refused: Memory\n", 4),
+];
+
+#[test]
+fn a_reader_may_fail(rt: HostRuntime) -> Result<(), Fail> {
+    for (kind, told, ended) in FAULTS {
+        for (database, script, before) in [
+            (
+                Source::failing(&SMALL[..100], kind),
+                Source::whole(b"open 1\n"),
+                "",
+            ),
+            (
+                Source::whole(SMALL),
+                Source::failing(b"open 1\nflush", kind),
+                "1: *** Connected ***\n",
+            ),
+        ] {
+            let log = Memory::new(rt.alloc());
+            let mut printed = Paper::new(rt.alloc(), usize::MAX);
+            let status = play(rt.alloc(), &log, database, script, &mut printed);
+            let shown = format!(in rt.alloc(); "{before}{told}")?;
+            assert_eq!(rt;
+                str::from_utf8(&printed.written).unwrap_or(""),
+                shown.as_str()
+            );
+            assert_eq!(rt; status, ended);
+        }
+    }
+    Ok(())
+}
+
+#[test]
+fn a_writer_may_fail(rt: HostRuntime) -> Result<(), Fail> {
+    for room in [0, 20, 30] {
+        let log = Memory::new(rt.alloc());
+        let mut printed = Paper::new(rt.alloc(), room);
+        let status = play(
+            rt.alloc(),
+            &log,
+            Source::whole(SMALL),
+            Source::whole(b"open 1\nopen 2\n"),
+            &mut printed,
+        );
+        assert_eq!(rt; status, 3);
+    }
+    Ok(())
+}
+
+#[test]
+fn a_database_is_shown_or_refused(rt: HostRuntime) -> Result<(), Fail> {
+    let (printed, status) = run(rt.alloc(), &SMALL[..311], b"open 1\n");
+    assert_eq!(rt;
+        str::from_utf8(&printed).unwrap_or(""),
+        "line 73: Truncated\n"
+    );
+    assert_eq!(rt; status, 1);
+    let (printed, status) = run(rt.alloc(), SMALL, b"show\n");
+    assert_eq!(rt; printed.as_slice(), SMALL);
+    assert_eq!(rt; status, 0);
+    let script = "open 1\nline 1 ;dump_database();\nflush\nflush\nflush\nflush\nflush\nshow\n";
+    let (printed, status) = run(rt.alloc(), LARGER, script.as_bytes());
+    let text = str::from_utf8(LARGER).unwrap_or("");
+    let (front, _) = text.split_once("0 active").unwrap_or(("", ""));
+    let shown = format!(in rt.alloc();
+        "1: *** Connected ***\n1: {{1, 0}}\n{front}1 active connections with listeners\n3 0\n"
+    )?;
+    assert_eq!(rt; str::from_utf8(&printed).unwrap_or(""), shown.as_str());
+    assert_eq!(rt; status, 0);
+    Ok(())
+}
+
+#[test]
+fn lines_of_the_log_are_logged(rt: HostRuntime) -> Result<(), Fail> {
+    let log = Memory::new(rt.alloc());
+    let script = b"open 1\nline 1 ;server_log(\"one\"); server_log(\"two\");\n";
+    let mut printed = Paper::new(rt.alloc(), usize::MAX);
+    let status = play(
+        rt.alloc(),
+        &log,
+        Source::whole(LARGER),
+        Source::whole(script),
+        &mut printed,
+    );
+    assert_eq!(rt; status, 0);
+    let lines = log.into_lines();
+    assert_eq!(rt; lines.len(), 2);
+    for (line, wanted) in lines
+        .as_slice()
+        .iter()
+        .zip(["[INFO  moo] one", "[INFO  moo] two"])
+    {
+        assert_eq!(rt; line.as_str(), wanted);
+    }
+    Ok(())
+}

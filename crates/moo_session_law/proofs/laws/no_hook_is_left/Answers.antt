@@ -1,6 +1,0 @@
-use Rattle.moo_code_function.specs.Telling.{Faults}
-use Rattle.moo_session_law.proofs.Hookless.{leave_none}
-use Rattle.moo_session_law.proofs.laws.no_hook_is_left.Goals as goal
-
-pub returns : goal.returns
-returns c = leave_none Faults

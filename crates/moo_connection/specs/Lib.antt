@@ -1,5 +1,6 @@
 pub mod Gathering
 pub mod Clients
+pub mod Searching
 pub mod Connections
 pub mod Changes
 pub mod Streams

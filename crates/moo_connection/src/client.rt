@@ -1,6 +1,6 @@
 //! One open connection.
 ghost use Rattle.std.specs.Prelude.{◌≡◌, [], IfOk};
-ghost use Rattle.moo_connection.specs.Clients.{newcomer, is_known_as, is_played_by, has_number, player_on, known_as};
+ghost use Rattle.moo_connection.specs.Clients.{newcomer, is_known_as, is_played_by, player_on, known_as};
 
 use crate::gathering::Gathering;
 use moo_line::LineReader;
@@ -49,12 +49,6 @@ impl Client {
             suffix: empty(alloc)?,
             gathering: None,
         })
-    }
-
-    pub(crate) fn has_number(&self, number: u16) -> bool
-        ensures { result ≡ has_number number self.now }
-    {
-        self.connection.number == number
     }
 
     /// Whether the connection goes by this number.

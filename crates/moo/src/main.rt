@@ -9,6 +9,7 @@ use moo_report::Refusal;
 use moo_script::run_script;
 use moo_serve::{Served, run_serve};
 use moo_server::LiveWorld;
+use moo_survey::run_check_all;
 use std::fs::File;
 use std::io::BufReader;
 use std::process::ExitCode;
@@ -49,6 +50,10 @@ fn run_work(rt: &HostRuntime, work: Work) -> io::Result<u8> {
         Work::Check(path) => {
             let mut file = File::open(rt, path)?;
             Ok(run_check(rt.alloc(), &mut file, &mut io::writer(rt)))
+        }
+        Work::CheckAll(path) => {
+            let mut file = File::open(rt, path)?;
+            Ok(run_check_all(rt.alloc(), &mut file, &mut io::writer(rt)))
         }
         Work::Copy(path) => {
             let mut file = File::open(rt, path)?;

@@ -3,7 +3,7 @@
 #![tactic(auto)]
 
 use clap::error::ErrorKind;
-use clap::{Arg, ArgMatches, Command, Error, value_parser};
+use clap::{Arg, ArgAction, ArgMatches, Command, Error, value_parser};
 use std::alloc::{AllocError, Global};
 use std::net::IpAddr;
 
@@ -23,6 +23,8 @@ pub enum Work<'a> {
     Expr,
     /// Tell what the database of this path holds.
     Check(&'a str),
+    /// Tell what the database of this path holds, or every program of it that is refused.
+    CheckAll(&'a str),
     /// Write the database of this path in its canonical form.
     Copy(&'a str),
     /// Run the events of the input over the database of this path, in memory.
@@ -63,6 +65,7 @@ pub fn read_words<'a>(alloc: Global, words: &'a [String]) -> Result<Option<Work<
 fn work_of<'a>(name: &str, found: &ArgMatches<'a>) -> Option<Work<'a>> {
     match name {
         "expr" => Some(Work::Expr),
+        "check" if found.get_flag("all") => found.get_str("DB").map(Work::CheckAll),
         "check" => found.get_str("DB").map(Work::Check),
         "copy" => found.get_str("DB").map(Work::Copy),
         "script" => found.get_str("DB").map(Work::Script),
@@ -93,7 +96,7 @@ fn command<'a>(alloc: Global) -> Result<Command<'a>, AllocError> {
         .arg_required_else_help(true)
         .disable_help_subcommand(true)
         .subcommand(expr)?
-        .subcommand(over_database(alloc, "check", "Tell what a database holds")?)?
+        .subcommand(check(alloc)?)?
         .subcommand(over_database(alloc, "copy", "Print a database in its canonical form")?)?
         .subcommand(over_database(
             alloc,
@@ -112,6 +115,14 @@ fn over_database<'a>(
         .help("The database file")
         .required(true);
     Command::new(alloc, name).about(about).arg(database)
+}
+
+fn check<'a>(alloc: Global) -> Result<Command<'a>, AllocError> {
+    let all = Arg::new(alloc, "all")
+        .long("all")
+        .action(ArgAction::SetTrue)
+        .help("Tell every program that is refused, not the first alone");
+    over_database(alloc, "check", "Tell what a database holds")?.arg(all)
 }
 
 fn serve<'a>(alloc: Global) -> Result<Command<'a>, AllocError> {

@@ -40,8 +40,14 @@ pub fn run_serve<S: Starts, R: Net + Clock + Log, F: Files + Drop, O: Write>(
     match serve::<S, R, F, O>(rt, files, alloc, output, served) {
         Ok(()) => 0,
         Err(fault) => {
-            if let ServeFault::Sockets(SocketsFault::Device(error)) = &fault {
-                warn!(rt; target: "moo", "{}:{}: {error}", served.host, served.port);
+            match &fault {
+                ServeFault::Sockets(SocketsFault::Device(error)) => {
+                    warn!(rt; target: "moo", "{}:{}: {error}", served.host, served.port);
+                }
+                ServeFault::Output(error) => {
+                    warn!(rt; target: "moo", "standard output: {error}");
+                }
+                _ => {}
             }
             let _ = tell(alloc, output, &fault);
             fault.status()

@@ -204,6 +204,7 @@ fn reads_the_command_line(rt: HostRuntime) -> Result<(), Fail> {
     for (line, work) in [
         ("moo expr", Some(Work::Expr)),
         ("moo check w.db", Some(Work::Check("w.db"))),
+        ("moo check --all w.db", Some(Work::CheckAll("w.db"))),
         ("moo copy w.db", Some(Work::Copy("w.db"))),
         ("moo script w.db", Some(Work::Script("w.db"))),
         ("moo serve w.db 7777", Some(Work::Serve(served()))),

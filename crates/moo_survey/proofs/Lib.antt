@@ -1,0 +1,4 @@
+pub mod Noted
+pub mod Behind
+pub mod Ended
+pub mod Answered

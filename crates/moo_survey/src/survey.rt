@@ -1,0 +1,155 @@
+//! The refused programs of a text that comes in pieces.
+ghost use Rattle.std.specs.Prelude.{◌≡◌, ◌<◌, ◌≤◌, ◌++◌, ℕ, List, [], Ok, Some, take, length, OnOk, IfErr, IfNone, IfOk, IfSome, MatchOption};
+ghost use Rattle.moo_program.specs.Tree.{Block};
+ghost use Rattle.moo_grammar.specs.declared.names.Names.TheVariants.{Any};
+ghost use Rattle.moo_grammar.specs.Texts.{IsParsed};
+ghost use Rattle.moo_dbvalue.specs.Lines.{Line, limited};
+ghost use Rattle.moo_dbrecord.specs.Programs.{entry_at};
+ghost use Rattle.moo_dbrecord.specs.Sparing.{AreAlikeTaken};
+ghost use Rattle.moo_dbrecord.specs.Answer.{IsGoing, Stops, HasNoEnd, taken_of, taken_on};
+ghost use Rattle.moo_dbprogram.specs.Reading.{IsWholeLine, IsSourceRefused, ended_between, verb_at, sources_at};
+ghost use Rattle.moo_survey.specs.Reading.{IsBehind, IsNoted, IsEnded, IsWholly};
+
+use crate::fault::kind_of_source;
+use memchr::memchr;
+use moo_dbrecord::{DbFault, DbFaultKind, DbReader, RecordFault};
+use moo_syntax::{Names, parse};
+use std::alloc::Global;
+
+/// How many bytes the first line has, with its end.
+fn first_line(bytes: &[u8]) -> Option<usize>
+    ensures { MatchOption result (HasNoEnd bytes.now) (λ n. (n ≤ length bytes.now) × IsWholeLine (take n bytes.now)) }
+{
+    let at = memchr(b'\n', bytes)?;
+    Some(at + 1)
+}
+
+/// Takes a line with its end, and tells the verb whose program it ends.
+fn take_line(
+    alloc: Global,
+    records: &mut DbReader,
+    line: &[u8],
+) -> Result<Option<(u32, u32)>, RecordFault>
+    ensures steps { IsGoing records.old → OnOk result (taken_on limited (taken_of records.old) line.now ≡ Ok (taken_of records.new)) }
+    ensures stops { IsGoing records.old → IfErr result (λ e. Stops e (taken_on limited (taken_of records.old) line.now)) }
+    ensures ok { OnOk result (IsGoing records.new) }
+    ensures ended { IfOk result (λ verb. verb ≡ ended_between (verb_at records.old) (verb_at records.new)) }
+{
+    let verb = records.verb();
+    records.feed(alloc, line)?;
+    match records.verb() {
+        Some(_) => Ok(None),
+        None => Ok(verb),
+    }
+}
+
+/// Why the source of a verb, whose dot has come, is no program.
+fn source_fault(alloc: Global, records: &DbReader, object: u32, verb: u32) -> Option<DbFault>
+    ensures none { IfNone result ((source : List Line) → entry_at (sources_at records.now) object verb ≡ Some source → (b : Block) × IsParsed Any source b) }
+    ensures some { IfSome result (λ e. (source : List Line) → entry_at (sources_at records.now) object verb ≡ Some source → IsSourceRefused (taken_of records.now).lines object verb source e) }
+{
+    let source = records.source(object, verb)?;
+    let Err(fault) = parse(alloc, source, Names::Any) else {
+        return None;
+    };
+    let lines = records.lines();
+    Some(DbFault {
+        line: lines.saturating_sub(source.len() as u64).saturating_sub(1),
+        kind: kind_of_source(object, verb, &fault),
+    })
+}
+
+/// Reads a text in pieces, looks at each program at the dot that ends it, and notes those that are refused.
+#[derive(Drop)]
+pub(crate) struct Survey {
+    records: DbReader,
+    faults: Vec<DbFault>,
+}
+
+impl Survey {
+    /// A reader before the first byte.
+    pub(crate) fn new(alloc: Global) -> Survey
+        ensures { IsBehind result [] }
+    {
+        Survey {
+            records: DbReader::new(alloc),
+            faults: Vec::new(alloc),
+        }
+    }
+
+    /// Looks at the program of a verb, whose dot has come, and drops its lines.
+    fn note(&mut self, alloc: Global, object: u32, verb: u32) -> Result<(), DbFault>
+        ensures noted { OnOk result ((source : List Line) → entry_at (sources_at self.old.records) object verb ≡ Some source → IsNoted self.old.faults.items self.new.faults.items (taken_of self.old.records).lines object verb source) }
+        ensures memory { IfErr result (λ e. e.kind ≡ DbFaultKind.Memory) }
+        ensures alike { AreAlikeTaken (taken_of self.old.records) (taken_of self.new.records) }
+        ensures going { IsGoing self.old.records → IsGoing self.new.records }
+    {
+        let noted = source_fault(alloc, &self.records, object, verb);
+        self.records.drop_source(alloc, object, verb);
+        let Some(fault) = noted else {
+            return Ok(());
+        };
+        if let DbFaultKind::Memory = fault.kind {
+            return Err(fault);
+        }
+        match self.faults.push(fault) {
+            Ok(()) => Ok(()),
+            Err(_) => Err(DbFault {
+                line: fault.line,
+                kind: DbFaultKind::Memory,
+            }),
+        }
+    }
+
+    /// Takes a line with its end.
+    fn line(&mut self, alloc: Global, line: &[u8]) -> Result<(), DbFault>
+        requires { IsWholeLine line.now }
+        ensures goes { (bytes : List ℕ) → IsBehind self.old bytes → OnOk result (IsBehind self.new (bytes ++ line.now)) }
+        ensures stops { (bytes : List ℕ) → IsBehind self.old bytes → IfErr result (IsEnded (bytes ++ line.now) self.new.faults.items) }
+    {
+        match take_line(alloc, &mut self.records, line)? {
+            Some((object, verb)) => self.note(alloc, object, verb),
+            None => Ok(()),
+        }
+    }
+
+    /// Takes a part of a line, without its end.
+    fn part(&mut self, alloc: Global, part: &[u8]) -> Result<(), DbFault>
+        requires { HasNoEnd part.now }
+        ensures goes { (bytes : List ℕ) → IsBehind self.old bytes → OnOk result (IsBehind self.new (bytes ++ part.now)) }
+        ensures stops { (bytes : List ℕ) → IsBehind self.old bytes → IfErr result (IsEnded (bytes ++ part.now) self.new.faults.items) }
+    {
+        self.records.feed(alloc, part)?;
+        Ok(())
+    }
+
+    /// Takes the next piece of the text.
+    pub(crate) fn feed(&mut self, alloc: Global, piece: &[u8]) -> Result<(), DbFault>
+        ensures goes { (bytes : List ℕ) → IsBehind self.old bytes → OnOk result (IsBehind self.new (bytes ++ piece.now)) }
+        ensures stops { (bytes : List ℕ) → IsBehind self.old bytes → IfErr result (IsEnded (bytes ++ piece.now) self.new.faults.items) }
+    {
+        let mut more = piece;
+        while let Some(size) = first_line(more) {
+            self.line(alloc, &more[..size])?;
+            more = &more[size..];
+        }
+        self.part(alloc, more)
+    }
+
+    /// The refused programs so far.
+    pub(crate) fn into_faults(self) -> Vec<DbFault>
+        ensures { result ≡ self.faults }
+    {
+        self.faults
+    }
+
+    /// The refused programs of the whole text, once all of it has been fed, and the line at fault that ends it.
+    pub(crate) fn finish(self) -> (Vec<DbFault>, Option<DbFault>)
+        ensures { (bytes : List ℕ) → IsBehind self bytes → IsWholly bytes result.0.items result.1 }
+    {
+        if let Err(fault) = self.records.finish() {
+            return (self.faults, Some(DbFault::from(fault)));
+        }
+        (self.faults, None)
+    }
+}

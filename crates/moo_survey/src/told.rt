@@ -1,0 +1,45 @@
+//! What is told of all that is refused.
+ghost use Rattle.std.specs.Prelude.{◌≡◌, ◌++◌, codes, length, IfOk, OnOk};
+ghost use Rattle.std.specs.Fmt.{decimal};
+ghost use Rattle.std.specs.List.{flat_map};
+ghost use Rattle.moo_report.specs.Told.{fault_line};
+ghost use Rattle.moo_survey.specs.Shown.{survey_text};
+
+use itoa::Buffer;
+use moo_load::DbFault;
+use moo_report::fault_line;
+use std::alloc::{AllocError, Global};
+
+/// A line for each refused program, and then how many they are, or the line of the fault that ends them.
+pub(crate) fn survey_text(
+    alloc: Global,
+    faults: &[DbFault],
+    end: Option<DbFault>,
+) -> Result<Vec<u8>, AllocError>
+    ensures { IfOk result (λ text. text.items ≡ survey_text faults.now end) }
+{
+    let mut text = fault_lines(alloc, faults)?;
+    match end {
+        Some(fault) => text.extend_from_slice(&fault_line(alloc, fault)?)?,
+        None => put_number(&mut text, faults.len())?,
+    }
+    Ok(text)
+}
+
+fn fault_lines(alloc: Global, faults: &[DbFault]) -> Result<Vec<u8>, AllocError>
+    ensures { IfOk result (λ text. text.items ≡ flat_map fault_line faults.now) }
+{
+    let mut text = Vec::new(alloc);
+    for fault in faults {
+        text.extend_from_slice(&fault_line(alloc, *fault)?)?;
+    }
+    Ok(text)
+}
+
+fn put_number(text: &mut Vec<u8>, count: usize) -> Result<(), AllocError>
+    ensures { OnOk result (text.new.items ≡ text.old.items ++ (decimal count ++ codes " programs refused\n")) }
+{
+    let mut buffer = Buffer::new();
+    text.extend_from_slice(buffer.format(count).as_bytes())?;
+    text.extend_from_slice(b" programs refused\n")
+}

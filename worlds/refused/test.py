@@ -1,5 +1,5 @@
 #!/usr/bin/env python3
-"""Databases with refused programs, and what refused.py prints of them: python3 test.py [MOO-COMMAND]. It says nothing where all is as wanted."""
+"""Databases with refused programs, and what refused.py and `moo check --all` print of them: python3 test.py [MOO-COMMAND]. It says nothing where all is as wanted."""
 
 import pathlib
 import subprocess
@@ -68,6 +68,8 @@ def wrong(room, row):
     got = run([sys.executable, str(HERE / "refused.py"), "--moo", MOO, str(old), str(new)])
     want = (status, told.format(*at, **others).replace("|", "\n"))
     yield from [] if got == want else [(got, want)]
+    got = run([MOO, "check", "--all", str(old)])
+    yield from [] if got == want else [("check --all", got, want)]
     said = run([MOO, "check", str(new)])[1]
     want = mended.format(**others).replace("|", "\n")
     yield from [] if said == want else [(said, want)]

@@ -102,11 +102,7 @@ fn last_place(
 pub fn folded(alloc: Global, bytes: &[u8]) -> Result<Vec<u8>, AllocError>
     ensures { IfOk result (λ v. v.items ≡ folded bytes.now) }
 {
-    let mut text = Vec::with_capacity(alloc, bytes.len())?;
-    for byte in bytes {
-        text.push(byte.to_ascii_lowercase())?;
-    }
-    Ok(text)
+    bytes.to_ascii_lowercase(alloc)
 }
 
 fn place_value(found: Option<usize>) -> Value

@@ -11,7 +11,7 @@ use Rattle.moo_table.specs.World.{World}
 use Rattle.moo_world.specs.Calls.{Changes, Tests, TakesNoMemory, RaisesFirst}
 use Rattle.moo_world.specs.declared.fault.WorldFault.{WorldFault}
 use Rattle.moo_world.specs.declared.fault.WorldFault.TheVariants as world
-use Rattle.moo_world_function.specs.Answers.{Does, Reads, IsNeverLacking, LacksOnly, permitted, changed}
+use Rattle.moo_world_function.specs.Answers.{Does, Reads, IsNeverLacking, LacksOnly, permitted, refused as refused_by, changed}
 use Rattle.moo_world_function.specs.Order.{changes, given}
 
 refused_as : {T : Type 0} (tested : Result T WorldFault) (raises : Option ErrorCode) (allowed : Bool) (e : OperationFault) (w after : World)
@@ -49,6 +49,20 @@ pub done : {S T : Type 0} (tested : Result T WorldFault) (u : T) (raises : Optio
     → Does (changed made) old new (changes raises allowed after)
 done tested u raises is_allowed allowed made old new after tests right is changes =
     done_as tested u raises allowed made old new after tests (ap (permitted tested) (sym right) ∙ sym is) changes
+
+-- who has no right to a change is told what its test raises, and else of the right
+pub untried : {T : Type 0} (tested : Result T WorldFault) (raises : Option ErrorCode) (allowed : Bool) (a : Result Value OperationFault) (w after : World)
+    → Tests tested raises → allowed ≡ false → a ≡ refused_by tested → Does a w w (changes raises allowed after)
+untried (Ok v) raises allowed a w after tests right is = rw (is, right, tests.0) (refl, refl)
+untried (Err (world.Raise e)) raises allowed a w after tests right is = rw (is, tests) (refl, refl)
+untried (Err world.Memory) raises allowed a w after tests right is = rw is refl
+
+-- who has the right makes the change, which tells what it raises itself
+pub tried : {T : Type 0} (made : Result T WorldFault) (raises : Option ErrorCode) (allowed : Bool) (a : Result Value OperationFault) (old new after : World)
+    → Changes made old new raises after → allowed ≡ true → a ≡ changed made → Does a old new (changes raises allowed after)
+tried (Ok v) raises allowed a old new after made right is = rw (is, right, made.0, made.1) refl
+tried (Err (world.Raise e)) raises allowed a old new after made right is = rw (is, made.0) (refl, made.1)
+tried (Err world.Memory) raises allowed a old new after made right is = rw is made
 
 -- its answer is that of the change
 pub answered : (a b : Result Value OperationFault) (old new : World) (r : Result (Tree × World) ErrorCode) → a ≡ b → Does b old new r → Does a old new r

@@ -65,6 +65,12 @@ permitted (Ok v) allowed = if allowed then Ok v else Err (Raise Permission)
 permitted (Err (world.Raise e)) allowed = Err (Raise e)
 permitted (Err world.Memory) allowed = Err Memory
 
+-- For private clauses: a test of the world, for who has no right to the change.
+abbrev pub refused : {T : Type 0} → Result T WorldFault → Result Value OperationFault
+refused (Ok v) = Err (Raise Permission)
+refused (Err (world.Raise e)) = Err (Raise e)
+refused (Err world.Memory) = Err Memory
+
 -- For private clauses: an answer of the world's change, as that of a function.
 abbrev pub changed : {T : Type 0} → Result T WorldFault → Result Value OperationFault
 changed (Ok v) = Ok (Int (pos 0))

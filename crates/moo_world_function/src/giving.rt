@@ -14,7 +14,7 @@ ghost use Rattle.moo_world_function.specs.Properties.{with_property_info, set_pr
 
 use crate::allowed::{may_add, may_change_info};
 use crate::forms::{GivenProperty, given_property};
-use crate::made::{TYPE_MISMATCH, changed, permitted};
+use crate::made::{TYPE_MISMATCH, changed, refused};
 use moo_operation::OperationFault;
 use moo_value::{MooStr, Value};
 use moo_world::{World, WorldFault};
@@ -52,9 +52,9 @@ fn set_info(
     ensures { Does result world.old world.new (with_property_info world.old programmer o name.now given) }
 {
     let name = name.as_bytes();
-    let is_allowed = may_change_info(o, name, given.owner, world, programmer);
-    let tested = test_info(alloc, o, name, &given, world);
-    permitted(tested, is_allowed)?;
+    if !may_change_info(o, name, given.owner, world, programmer) {
+        return refused(test_info(alloc, o, name, &given, world));
+    }
     changed(world.set_property_info(alloc, o, name, given.owner, given.perms, given.name))
 }
 
@@ -106,10 +106,8 @@ fn define(
 ) -> Result<Value, OperationFault>
     ensures { Does result world.old world.new (with_property world.old programmer o name (tree value) given) }
 {
-    let is_allowed = may_add(o, given.owner, world, programmer);
-    permitted(
-        world.try_add_property(alloc, o, name.as_bytes()),
-        is_allowed,
-    )?;
+    if !may_add(o, given.owner, world, programmer) {
+        return refused(world.try_add_property(alloc, o, name.as_bytes()));
+    }
     changed(world.add_property(alloc, o, name, value, given.owner, given.perms))
 }

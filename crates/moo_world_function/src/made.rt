@@ -5,7 +5,7 @@ ghost use Rattle.moo_value.specs.View.{tree, trees};
 ghost use Rattle.moo_operation.specs.Answer.{limited};
 ghost use Rattle.moo_text_function.specs.Answers.{Gives};
 ghost use Rattle.moo_world.specs.NamedProperties.{truth};
-ghost use Rattle.moo_world_function.specs.Answers.{told, permitted, changed};
+ghost use Rattle.moo_world_function.specs.Answers.{told, permitted, refused, changed};
 
 use moo_operation::{OperationFault, list};
 use moo_value::{ErrorCode, Value};
@@ -51,6 +51,17 @@ pub fn permitted(tested: Result<(), WorldFault>, is_allowed: bool) -> Result<(),
 {
     told(tested)?;
     if is_allowed { Ok(()) } else { Err(PERMISSION) }
+}
+
+/// What a test of a change came to, for who has no right to it.
+pub fn refused(tested: Result<(), WorldFault>) -> Result<Value, OperationFault>
+    ensures { result ≡ refused tested }
+{
+    match tested {
+        Ok(()) => Err(PERMISSION),
+        Err(WorldFault::Raise(error)) => Err(OperationFault::Raise(error)),
+        Err(WorldFault::Memory) => Err(OperationFault::Memory),
+    }
 }
 
 /// 0 once the world was changed.

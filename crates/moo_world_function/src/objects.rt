@@ -10,7 +10,7 @@ ghost use Rattle.moo_world_function.specs.Objects.{valid, parent, children, max_
 ghost use Rattle.moo_world_function.specs.Answers.{Does};
 
 use crate::allowed::may_reparent;
-use crate::made::{INVALID_ARGUMENT, TYPE_MISMATCH, changed, listed, permitted, truth};
+use crate::made::{INVALID_ARGUMENT, TYPE_MISMATCH, changed, listed, refused, truth};
 use moo_forest::Below;
 use moo_operation::OperationFault;
 use moo_value::Value;
@@ -152,7 +152,8 @@ fn reparent(
 ) -> Result<Value, OperationFault>
     ensures { Does result world.old world.new (reparented world.old programmer o to) }
 {
-    let is_allowed = may_reparent(o, to, world, programmer);
-    permitted(world.try_chparent(alloc, o, to), is_allowed)?;
+    if !may_reparent(o, to, world, programmer) {
+        return refused(world.try_chparent(alloc, o, to));
+    }
     changed(world.chparent(alloc, o, to))
 }

@@ -1,28 +1,24 @@
-use Rattle.std.proofs.Common.{w32, FitsSigned, rules}
+use Rattle.std.proofs.Common.{w32, sym, ◌∙◌, FitsSigned, rules}
 use Rattle.std.proofs.lemmas.Int.{to_z-of_z}
-use Rattle.std.proofs.lemmas.Result.{err_from_is_err_and}
 use Rattle.moo_world_function.specs.Properties.{with_property}
-use Rattle.moo_world_function.proofs.Changed.{refused, done, answered}
+use Rattle.moo_world_function.proofs.Changed.{untried, tried}
 use Rattle.moo_world_function.proofs.giving.define.Goals as goal
 
-pub returns-in_err-permitted : goal.returns-in_err-permitted
+pub returns-then-not-may_add : goal.returns-then-not-may_add
 unfolding with_property
-returns-in_err-permitted c =
+returns-then-not-may_add c =
     let o = to_z-of_z w32 c.args.o c.ranges.o in
     let n = c.as_bytes.ensures.value in
     let p = to_z-of_z w32 c.args.programmer c.ranges.programmer in
     let fits : FitsSigned w32 c.args.given.owner = search rules in
     let g = to_z-of_z w32 c.args.given.owner fits in
-    let e = err_from_is_err_and c.from_residual.result c.from_residual.ensures.1 in
-    rw (e.1, e.2) (refused _ _ _ _ _ _ _ (simp (o, n) at c.try_add_property.ensures.raises) (simp (o, p, g) at c.may_add-is_allowed.ensures) c.in_err-permitted.ensures)
+    untried _ _ _ _ _ _ (simp (o, n) at c.try_add_property.ensures.raises) (sym (simp (o, p, g) at c.may_add.ensures) ∙ c.if-not-may_add.true) c.refused.ensures
 
 pub returns : goal.returns
 unfolding with_property
 returns c =
     let o = to_z-of_z w32 c.args.o c.ranges.o in
-    let n = c.as_bytes.ensures.value in
     let p = to_z-of_z w32 c.args.programmer c.ranges.programmer in
     let fits : FitsSigned w32 c.args.given.owner = search rules in
     let g = to_z-of_z w32 c.args.given.owner fits in
-    answered _ _ _ _ _ c.changed.ensures
-    (done _ _ _ _ _ _ _ _ _ (simp (o, n) at c.try_add_property.ensures.raises) (simp (o, p, g) at c.may_add-is_allowed.ensures) c.in_ok-permitted.ensures (simp (o, g) at c.add_property.ensures.world))
+    tried _ _ _ _ _ _ _ (simp (o, g) at c.add_property.ensures.world) (sym (simp (o, p, g) at c.may_add.ensures) ∙ c.if-not-may_add.false) c.changed.ensures

@@ -1,20 +1,18 @@
-use Rattle.std.proofs.Common.{w32, FitsSigned, rules}
+use Rattle.std.proofs.Common.{w32, sym, ◌∙◌, FitsSigned, rules}
 use Rattle.std.proofs.lemmas.Int.{to_z-of_z}
-use Rattle.std.proofs.lemmas.Result.{err_from_is_err_and}
 use Rattle.moo_world_function.specs.Properties.{with_property_info}
-use Rattle.moo_world_function.proofs.Changed.{refused, done, answered}
+use Rattle.moo_world_function.proofs.Changed.{untried, tried}
 use Rattle.moo_world_function.proofs.giving.set_info.Goals as goal
 
-pub returns-in_err-permitted : goal.returns-in_err-permitted
+pub returns-then-not-may_change_info : goal.returns-then-not-may_change_info
 unfolding with_property_info
-returns-in_err-permitted c =
+returns-then-not-may_change_info c =
     let o = to_z-of_z w32 c.args.o c.ranges.o in
     let n = c.as_bytes-name.ensures.value in
     let p = to_z-of_z w32 c.args.programmer c.ranges.programmer in
     let fits : FitsSigned w32 c.args.given.owner = search rules in
     let g = to_z-of_z w32 c.args.given.owner fits in
-    let e = err_from_is_err_and c.from_residual.result c.from_residual.ensures.1 in
-    rw (e.1, e.2) (refused _ _ _ _ _ _ _ (simp (o, n) at c.test_info-tested.ensures) (simp (o, p, n, g) at c.may_change_info-is_allowed.ensures) c.in_err-permitted.ensures)
+    untried _ _ _ _ _ _ (simp (o, n) at c.test_info.ensures) (sym (simp (o, p, n, g) at c.may_change_info.ensures) ∙ c.if-not-may_change_info.true) c.refused.ensures
 
 pub returns : goal.returns
 unfolding with_property_info
@@ -24,5 +22,4 @@ returns c =
     let p = to_z-of_z w32 c.args.programmer c.ranges.programmer in
     let fits : FitsSigned w32 c.args.given.owner = search rules in
     let g = to_z-of_z w32 c.args.given.owner fits in
-    answered _ _ _ _ _ c.changed.ensures
-    (done _ _ _ _ _ _ _ _ _ (simp (o, n) at c.test_info-tested.ensures) (simp (o, p, n, g) at c.may_change_info-is_allowed.ensures) c.in_ok-permitted.ensures (simp (o, n, g) at c.set_property_info.ensures.world))
+    tried _ _ _ _ _ _ _ (simp (o, n, g) at c.set_property_info.ensures.world) (sym (simp (o, p, n, g) at c.may_change_info.ensures) ∙ c.if-not-may_change_info.false) c.changed.ensures

@@ -1,8 +1,10 @@
 -- The order of values, swapped, and where it says that neither comes first.
-use Rattle.std.proofs.Common.{◌≡◌, Some, option_map, refl, sym, ap, ◌∙◌, Equal}
+use Rattle.std.proofs.Common.{◌≡◌, ℕ, List, [], ◌∷◌, Some, nat_cmp, option_map, refl, sym, ap, ◌∙◌, Less, Equal}
 use Rattle.std.specs.Ordering.{ordering_reverse}
 use Rattle.std.specs.declared.cmp.Ordering.{Ordering}
 use Rattle.std.proofs.lemmas.Cmp.{int_cmp_total, nat_cmp_total, nat_list_cmp_total}
+use Rattle.std.specs.Cmp.Lexicographic.{slice_cmp}
+use Rattle.std.proofs.lemmas.Str.Ascii.{lowercase-lowercase}
 use Rattle.std.proofs.lemmas.Map.Lookups.{exact_signed, exact_unsigned, exact_bytes}
 use Rattle.moo_value.specs.declared.error_code.ErrorCode.{ErrorCode}
 use Rattle.moo_value.specs.Errors.{error_number}
@@ -38,3 +40,39 @@ equal_where_ordered (object o) _ h = cc
 equal_where_ordered (error e) _ h = cc
 equal_where_ordered (string s) _ h = cc
 equal_where_ordered (list es) _ h = cc
+
+folded-again : (s : List ℕ) → folded (folded s) ≡ folded s
+folded-again [] = refl
+folded-again (b ∷ s) = rw (lowercase-lowercase b, folded-again s)
+
+is_less : (o : Ordering) → Some o ≡ Some Less → o ≡ Less
+is_less o h = cc
+
+pub order-less : (t u v : Tree) → order t u ≡ Some Less → order u v ≡ Some Less → order t v ≡ Some Less
+order-less (integer i) (integer j) (integer k) h l = ap Some (int_cmp_total.trans i j k (is_less _ h) (is_less _ l))
+order-less (object o) (object p) (object q) h l = ap Some (int_cmp_total.trans o p q (is_less _ h) (is_less _ l))
+order-less (error e) (error f) (error g) h l =
+    ap Some (nat_cmp_total.trans (error_number e) (error_number f) (error_number g) (is_less _ h) (is_less _ l))
+order-less (string r) (string s) (string w) h l =
+    ap Some (nat_list_cmp_total.trans (folded r) (folded s) (folded w) (is_less _ h) (is_less _ l))
+order-less (integer i) (integer j) _ h l = cc
+order-less (object o) (object p) _ h l = cc
+order-less (error e) (error f) _ h l = cc
+order-less (string r) (string s) _ h l = cc
+order-less (integer i) _ v h l = cc
+order-less (object o) _ v h l = cc
+order-less (error e) _ v h l = cc
+order-less (string r) _ v h l = cc
+order-less (list es) _ v h l = cc
+
+-- the order sees no more of a value than its folded letters leave
+order-folded : (t u : Tree) → order (fold_letters t) u ≡ order t u
+order-folded (string r) (string s) = ap (λ w. Some (slice_cmp nat_cmp w (folded s))) (folded-again r)
+order-folded (integer i) _ = refl
+order-folded (object o) _ = refl
+order-folded (error e) _ = refl
+order-folded (string r) _ = refl
+order-folded (list es) _ = refl
+
+pub order-alike : (t u v : Tree) → fold_letters t ≡ fold_letters u → order t v ≡ order u v
+order-alike t u v same = sym (order-folded t v) ∙ ap (λ w. order w v) same ∙ order-folded u v

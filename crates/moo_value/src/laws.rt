@@ -1,12 +1,25 @@
 // Laws of the comparisons and texts of values.
-ghost use Rattle.std.specs.Prelude.{◌≡◌, Some, option_map};
+ghost use Rattle.std.specs.Prelude.{◌≡◌, ◌≤◌, ◌<◌, ◌+◌, ◌⊎◌, ℕ, ℤ, List, Some, map, option_map};
+ghost use Rattle.std.specs.Char.{to_ascii_lowercase};
 ghost use Rattle.std.specs.Ordering.{ordering_reverse};
 ghost use Rattle.std.specs.declared.cmp.Ordering.{Ordering};
+ghost use Rattle.moo_value.specs.declared.error_code.ErrorCode.{ErrorCode};
 ghost use Rattle.moo_value.specs.declared.value.Value.{Value};
-ghost use Rattle.moo_value.specs.Tree.{Tree};
+ghost use Rattle.moo_value.specs.Tree.{Tree, integer, object, error, string, list_of};
 ghost use Rattle.moo_value.specs.View.{tree};
 ghost use Rattle.moo_value.specs.Compare.{fold_letters, folded, order};
 ghost use Rattle.moo_value.specs.Text.{literal};
+
+/// Folding takes A to Z in strings as a to z, inside lists too, and leaves all else as it is.
+pub fn letters_are_folded()
+    ensures capitals { (b : ℕ) → 65 ≤ b → b ≤ 90 → to_ascii_lowercase b ≡ b + 32 }
+    ensures others { (b : ℕ) → (b < 65) ⊎ (90 < b) → to_ascii_lowercase b ≡ b }
+    ensures strings { (s : List ℕ) → fold_letters (string s) ≡ string (map to_ascii_lowercase s) }
+    ensures lists { (ts : List Tree) → fold_letters (list_of ts) ≡ list_of (map fold_letters ts) }
+    ensures integers { (i : ℤ) → fold_letters (integer i) ≡ integer i }
+    ensures objects { (o : ℤ) → fold_letters (object o) ≡ object o }
+    ensures errors { (e : ErrorCode) → fold_letters (error e) ≡ error e }
+{}
 
 /// `==` of the language is reflexive, symmetric and transitive.
 pub fn equal_is_an_equivalence()
@@ -28,6 +41,13 @@ pub fn same_values_are_equal()
 /// The order of two values is that of the two swapped, reversed.
 pub fn order_is_reversed()
     ensures { (t u : Tree) → order u t ≡ option_map ordering_reverse (order t u) }
+{}
+
+/// What comes before a value comes before all that the value comes before, and what is equal to it, as `==`
+/// has it, is ordered to any other as it is.
+pub fn order_is_transitive()
+    ensures less { (t u v : Tree) → order t u ≡ Some Ordering.Less → order u v ≡ Some Ordering.Less → order t v ≡ Some Ordering.Less }
+    ensures equal { (t u v : Tree) → fold_letters t ≡ fold_letters u → order t v ≡ order u v }
 {}
 
 /// Two values of which neither comes first are equal as `==` has it.

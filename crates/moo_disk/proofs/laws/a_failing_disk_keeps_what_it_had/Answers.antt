@@ -1,4 +1,4 @@
-use Rattle.std.proofs.Common.{◌↔◌, refl, sym, subst}
+use Rattle.std.proofs.Common.{refl, sym, subst}
 use Rattle.moo_disk.specs.Disk.{NoText, KeepsMain, KeepsSpare}
 use Rattle.moo_disk.specs.FailAt.{inner_of}
 use Rattle.moo_disk.proofs.GainsLemmas.{gains_none}

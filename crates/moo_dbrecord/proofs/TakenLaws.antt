@@ -1,13 +1,12 @@
 -- Bytes that are taken one after another, and lines among them.
-use Rattle.std.proofs.Common.{◌≡◌, ℕ, suc, ◌+◌, ◌-◌, ◌<◌, ◌≤◌, Bool, true, false, cond, eqb, List, [], ◌∷◌, ◌++◌, length, take, drop, get_or, Option, Some, None, Result, Ok, Err, refl, sym, ap, subst, ◌∙◌, append_assoc, arith, eq-eqb, MatchOption}
-use Rattle.std.proofs.lemmas.Bool.{eqb-true, ne_eqb}
-use Rattle.std.proofs.lemmas.List.{append-nil, take_rest, take-append-drop, get_or-take, length-take, at_drop_more}
+use Rattle.std.proofs.Common.{◌≡◌, ℕ, suc, ◌+◌, ◌-◌, ◌<◌, Bool, true, false, cond, eqb, List, [], ◌∷◌, ◌++◌, length, take, drop, Option, Some, None, Result, Ok, Err, refl, sym, ap, subst, ◌∙◌, append_assoc, arith, MatchOption}
+use Rattle.std.proofs.lemmas.Bool.{ne_eqb}
+use Rattle.std.proofs.lemmas.List.{append-nil, length-append, take_all, take_rest, take-append-drop, take-append-le}
 use Rattle.moo_dbvalue.specs.Lines.{Line, Sizes}
-use Rattle.moo_dbrecord.specs.Answer.{Told, Taken, and_then, line_ended, taken_on, finished, begin, answer_to, StopsAt, Stops, HasNoEnd, BeginsWithLine}
+use Rattle.moo_dbrecord.specs.Answer.{Told, Taken, and_then, line_ended, taken_on, finished, begin, answer_to, StopsAt, Stops, HasNoEnd, IsWholeLine}
 use Rattle.moo_dbvalue.specs.declared.fault.Refusal.{Refusal}
 use Rattle.moo_dbvalue.specs.declared.fault.Refusal.TheVariants as refusal
 use Rattle.moo_dbrecord.specs.declared.db_reader.RecordFault.{RecordFault}
-use Rattle.memchr.specs.Find.{is_byte}
 
 pub taken_on-append : (z : Sizes) → (s : Taken) (a b : List ℕ) → taken_on z s (a ++ b) ≡ and_then (taken_on z s a) (λ t. taken_on z t b)
 unfolding taken_on
@@ -47,27 +46,35 @@ pub stops_then : {A B : Type 0} (k : Refusal) (n : ℕ) (r : Result A Told) (f :
 stops_then refusal.Memory n r f h = tt
 stops_then (refusal.Fault g) n r f h = ap (λ r. and_then r f) h
 
-pub is_line : (bytes : List ℕ) (at : ℕ) → at < length bytes → is_byte 10 (get_or bytes at 0) ≡ true → ((k : ℕ) → 0 ≤ k → k < at → ¬ (is_byte 10 (get_or bytes k 0) ≡ true))
-    → BeginsWithLine bytes (take at bytes) (take (length bytes - (at + 1)) (drop (at + 1) bytes))
-is_line bytes at lt here before = record {
-  whole = sym (take-append-drop at bytes) ∙ ap (λ (r : List ℕ). take at bytes ++ r)
-      (at_drop_more (λ (r : List ℕ). r) bytes at 0 lt ∙ ap (λ (x : ℕ). x ∷ drop (at + 1) bytes) (eqb-true _ _ here) ∙ ap (λ (r : List ℕ). 10 ∷ r) (sym (take_rest bytes (at + 1))));
-  line = λ k below e.
-      let len = length-take at bytes in
-      let k_lt : k < at = omega arith in
-      before k (omega arith) k_lt (eq-eqb _ _ (sym (get_or-take at bytes k 0 k_lt) ∙ e));
-}
+-- ---- a line with its end
 
-pub has_no_line : (bytes : List ℕ) → ((k : ℕ) → 0 ≤ k → k < length bytes → ¬ (is_byte 10 (get_or bytes k 0) ≡ true)) → HasNoEnd bytes
-has_no_line bytes h = λ k lt e. h k (omega arith) lt (eq-eqb _ _ e)
+nothing_more : (r : Result Taken Told) (z : Sizes) → and_then r (λ t. taken_on z t []) ≡ r
+unfolding taken_on
+nothing_more (Ok t) z = refl
+nothing_more (Err e) z = refl
 
-pub line_stops : (z : Sizes) → (e : RecordFault) (s : Taken) (bytes line after : List ℕ) (total : Result Taken Told) → BeginsWithLine bytes line after → taken_on z s bytes ≡ total → Stops e (line_ended z s (s.rest ++ line)) → Stops e total
-line_stops z e s bytes line after total begins so_far stops =
-    subst (Stops e) (sym (ap (taken_on z s) begins.whole ∙ line_taken z s line after begins.line) ∙ so_far) (stops_then e.kind e.line (line_ended z s (s.rest ++ line)) (λ t. taken_on z t after) stops)
+-- the line without its end
+without_end : (bytes : List ℕ) (h : IsWholeLine bytes) → take (length bytes - 1) bytes ≡ h.line
+without_end bytes h =
+    let len : length bytes - 1 ≡ length h.line = (let e = ap length h.is ∙ length-append h.line (10 ∷ []) in omega (arith, e)) in
+    ap (λ (n : ℕ). take n bytes) len ∙ ap (take (length h.line)) h.is ∙ take-append-le (length h.line) h.line (10 ∷ []) (omega arith) ∙ take_all (length h.line) h.line (omega arith)
 
-pub line_goes_on : (z : Sizes) → (s t : Taken) (bytes line after : List ℕ) (total : Result Taken Told) → BeginsWithLine bytes line after → taken_on z s bytes ≡ total → line_ended z s (s.rest ++ line) ≡ Ok t → taken_on z t after ≡ total
-line_goes_on z s t bytes line after total begins so_far ended =
-    sym (ap (taken_on z s) begins.whole ∙ line_taken z s line after begins.line ∙ ap (λ (r : Result Taken Told). and_then r (λ u. taken_on z u after)) ended) ∙ so_far
+pub whole_taken : (z : Sizes) (s : Taken) (bytes : List ℕ) → IsWholeLine bytes → taken_on z s bytes ≡ line_ended z s (s.rest ++ take (length bytes - 1) bytes)
+whole_taken z s bytes h =
+    ap (taken_on z s) h.is ∙ line_taken z s h.line [] h.clean ∙ nothing_more (line_ended z s (s.rest ++ h.line)) z ∙ ap (λ (l : Line). line_ended z s (s.rest ++ l)) (sym (without_end bytes h))
+
+-- ---- the first bytes, and those behind them
+
+parts_taken : (z : Sizes) (s : Taken) (bytes : List ℕ) (n : ℕ) → taken_on z s bytes ≡ and_then (taken_on z s (take n bytes)) (λ t. taken_on z t (drop n bytes))
+parts_taken z s bytes n = ap (taken_on z s) (sym (take-append-drop n bytes)) ∙ taken_on-append z s (take n bytes) (drop n bytes)
+
+pub front_stops : (z : Sizes) (e : RecordFault) (s : Taken) (bytes : List ℕ) (n : ℕ) (total : Result Taken Told) → taken_on z s bytes ≡ total → Stops e (taken_on z s (take n bytes)) → Stops e total
+front_stops z e s bytes n total so_far stops =
+    subst (Stops e) (sym (parts_taken z s bytes n) ∙ so_far) (stops_then e.kind e.line (taken_on z s (take n bytes)) (λ t. taken_on z t (drop n bytes)) stops)
+
+pub front_goes_on : (z : Sizes) (s t : Taken) (bytes : List ℕ) (n : ℕ) (total : Result Taken Told) → taken_on z s bytes ≡ total → taken_on z s (take n bytes) ≡ Ok t → taken_on z t (take (length bytes - n) (drop n bytes)) ≡ total
+front_goes_on z s t bytes n total so_far goes =
+    ap (taken_on z t) (take_rest bytes n) ∙ sym (parts_taken z s bytes n ∙ ap (λ (r : Result Taken Told). and_then r (λ u. taken_on z u (drop n bytes))) goes) ∙ so_far
 
 -- ---- the calls of a reader
 

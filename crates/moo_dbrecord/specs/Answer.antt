@@ -110,9 +110,11 @@ front_lines (suc n) (b ∷ bs) = b ∷ (if b == 10 then front_lines n bs else fr
 abbrev pub HasNoEnd : List ℕ → Type 0
 HasNoEnd bytes = (k : ℕ) → k < length bytes → slice_index bytes k ≢ 10
 
-pub record BeginsWithLine (bytes first after : List ℕ) : Type 0 where
-  pub whole : bytes ≡ first ++ 10 ∷ after
-  pub line : HasNoEnd first
+-- a line with its end
+pub record IsWholeLine (bytes : List ℕ) : Type 0 where
+  pub line : Line
+  pub is : bytes ≡ line ++ 10 ∷ []
+  pub clean : HasNoEnd line
 
 -- a fault of a line that stands there, whatever the limits on sizes are
 abbrev pub IsOfLine : Refusal → Type 0

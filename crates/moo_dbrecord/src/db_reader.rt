@@ -1,12 +1,12 @@
 //! A text that comes in pieces.
-ghost use Rattle.std.specs.Prelude.{◌≡◌, ℕ, ◌++◌, List, [], Ok, Some, None, OnOk, IfErr, IfOk, IsErrOf, MatchOption};
+ghost use Rattle.std.specs.Prelude.{◌≡◌, ◌<◌, ◌≤◌, ℕ, ◌++◌, List, [], Ok, Some, None, take, length, OnOk, IfErr, IfOk, IsErrOf, MatchOption};
 ghost use Rattle.moo_dbvalue.specs.Lines.{Gives, limited};
 ghost use Rattle.moo_dbrecord.specs.Texts.{Text, Spells, SpellsWithin, text_of};
 ghost use Rattle.moo_dbrecord.specs.declared.db_reader.RecordFault.{RecordFault};
 ghost use Rattle.moo_dbrecord.specs.DumpReading.{progress_of, verb_read, dump_step};
 ghost use Rattle.moo_dbrecord.specs.Programs.{entry_at};
 ghost use Rattle.moo_dbrecord.specs.Sparing.{AreAlikeTaken, IsAt, AnswersBut, has_objects};
-ghost use Rattle.moo_dbrecord.specs.Answer.{Answers, HasTaken, IsGoing, HasFailed, Stand, StandWithoutLimits, taken_of, taken_on, line_ended, finished, answer_to, HasNoEnd, BeginsWithLine, IsOfLine, IsOfSize, IsReadOrTooLarge, front_lines};
+ghost use Rattle.moo_dbrecord.specs.Answer.{Answers, HasTaken, IsGoing, HasFailed, Stand, StandWithoutLimits, taken_of, taken_on, line_ended, finished, answer_to, HasNoEnd, IsWholeLine, IsOfLine, IsOfSize, IsReadOrTooLarge, front_lines};
 
 use crate::dump::Dump;
 use crate::dump_reader::DumpReader;
@@ -24,12 +24,12 @@ pub struct RecordFault {
     pub kind: Refusal,
 }
 
-/// The first line without its end, and the bytes after it.
-fn split_line(bytes: &[u8]) -> Option<(&[u8], &[u8])>
-    ensures { MatchOption result (HasNoEnd bytes.now) (λ p. BeginsWithLine bytes.now p.0.now p.1.now) }
+/// How many bytes the first line has, with its end.
+pub fn first_line(bytes: &[u8]) -> Option<usize>
+    ensures { MatchOption result (HasNoEnd bytes.now) (λ n. (0 < n) × (n ≤ length bytes.now) × IsWholeLine (take n bytes.now)) }
 {
     let at = memchr(b'\n', bytes)?;
-    Some((&bytes[..at], &bytes[at + 1..]))
+    Some(at + 1)
 }
 
 /// Reads a text in pieces. After a fault each call answers that fault.
@@ -134,14 +134,23 @@ impl DbReader {
         }
     }
 
+    /// Takes a line with its end.
+    fn whole(&mut self, alloc: Global, line: &[u8]) -> Result<(), RecordFault>
+        requires { IsWholeLine line.now }
+        ensures steps { Answers (λ _. taken_of self.new) result (taken_on limited (taken_of self.old) line.now) }
+        ensures same { self.new.failed ≡ self.old.failed }
+    {
+        self.end_line(alloc, &line[..line.len() - 1])
+    }
+
     fn take(&mut self, alloc: Global, piece: &[u8]) -> Result<(), RecordFault>
         ensures steps { Answers (λ _. taken_of self.new) result (taken_on limited (taken_of self.old) piece.now) }
         ensures same { self.new.failed ≡ self.old.failed }
     {
         let mut more = piece;
-        while let Some((line, after)) = split_line(more) {
-            self.end_line(alloc, line)?;
-            more = after;
+        while let Some(size) = first_line(more) {
+            self.whole(alloc, &more[..size])?;
+            more = &more[size..];
         }
         match self.rest.extend_from_slice(more) {
             Ok(()) => Ok(()),
@@ -165,6 +174,25 @@ impl DbReader {
             return Err(fault);
         }
         let taken = self.take(alloc, piece);
+        if let Err(fault) = taken {
+            self.failed = Some(fault);
+        }
+        taken
+    }
+
+    /// Takes the next line with its end, as `feed` does, without a search for it.
+    pub fn feed_line(&mut self, alloc: Global, line: &[u8]) -> Result<(), RecordFault>
+        requires { IsWholeLine line.now }
+        ensures taken { (text : List ℕ) → HasTaken self.old text → HasTaken self.new (text ++ line.now) }
+        ensures steps { IsGoing self.old → Answers (λ _. taken_of self.new) result (taken_on limited (taken_of self.old) line.now) }
+        ensures ok { OnOk result (IsGoing self.new) }
+        ensures failed { IfErr result (HasFailed self.new) }
+        ensures again { (e : RecordFault) → HasFailed self.old e → IsErrOf result e }
+    {
+        if let Some(fault) = self.failed {
+            return Err(fault);
+        }
+        let taken = self.whole(alloc, line);
         if let Err(fault) = taken {
             self.failed = Some(fault);
         }

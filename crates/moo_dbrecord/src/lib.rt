@@ -11,7 +11,7 @@ pub mod laws;
 mod program_table;
 mod writing;
 
-pub use db_reader::{DbReader, RecordFault, read_records};
+pub use db_reader::{DbReader, RecordFault, first_line, read_records};
 pub use dump::{Connection, Dump, Form};
 pub use fault::{DbFault, DbFaultKind, ProgramFault, ProgramFaultKind};
 pub use program_table::Source;

@@ -3,11 +3,11 @@ use Rattle.moo_dbvalue.specs.Lines.{limited}
 use Rattle.moo_dbrecord.specs.Answer.{taken_of, taken_on}
 use Rattle.moo_dbrecord.proofs.db_reader.DbReader.take.Given as goal
 
-abbrev pub invariant-loop-line : goal.invariant-loop-line
-invariant-loop-line l = record {
+abbrev pub invariant-loop-size : goal.invariant-loop-size
+invariant-loop-size l = record {
   same : taken_on limited (taken_of l.self) l.more ≡ taken_on limited (taken_of l.initial.self) l.initial.piece;
   failed : l.self.failed ≡ l.initial.self.failed;
 }
 
-abbrev pub decreases-loop-line : goal.decreases-loop-line
-decreases-loop-line l = length l.more
+abbrev pub decreases-loop-size : goal.decreases-loop-size
+decreases-loop-size l = length l.more

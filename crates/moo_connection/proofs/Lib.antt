@@ -1,3 +1,5 @@
 pub mod Places
+pub mod Known
+pub mod Players
 pub mod Rows
 pub mod Search

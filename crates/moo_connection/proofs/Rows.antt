@@ -3,17 +3,19 @@ use Rattle.std.proofs.Common.{◌≡◌, ℕ, ℤ, suc, zero, ◌+◌, ◌<◌, 
 use Rattle.std.specs.Prelude.{slice_set, position, find, ◌==◌, Result, Ok, Err, OnOk}
 use Rattle.std.specs.declared.alloc.AllocError.{AllocError}
 use Rattle.std.specs.List.{position_or_len, remove, insert}
+use Rattle.std.specs.BTreeMap.{BTreeMap}
+use Rattle.std.specs.Map.{lookup}
 use Rattle.std.specs.Option.{option_map, option_map_or, unwrap_or}
 use Rattle.std.specs.Ordering.{int_eq}
-use Rattle.std.proofs.lemmas.Bool.{true≢false, false_from_ne_true}
-use Rattle.std.proofs.lemmas.Bool.Decides.{Decides-int_eq}
 use Rattle.std.proofs.lemmas.List.Quantifiers.{position-Some}
 use Rattle.moo_connection.specs.declared.client.Client.{Client}
 use Rattle.std.proofs.lemmas.List.{map-set, set-get_or, get_or-set_same}
 use Rattle.moo_outcome.specs.declared.surroundings.Connection.{Connection}
 use Rattle.moo_connection.specs.Clients.{number_of, player_on, has_number, is_above, is_played_by, with_client, row_of, newcomer}
-use Rattle.moo_connection.proofs.Places.{past}
 use Rattle.moo_connection.specs.Connections.{Connections, AreAbove, AreInOrder, NonePlayedBy, HaveOwnPlayers}
+use Rattle.moo_connection.specs.Players.{LeadsToPlayers}
+use Rattle.moo_connection.proofs.Places.{past}
+use Rattle.moo_connection.proofs.Players.{played_by, differs, IsWith, IsWithout, leads-insert, leads-remove, leads-set, leads-play}
 
 -- one goes
 above-remove : (n : ℕ) (cs : List Client) (i : ℕ) → AreAbove n cs → AreAbove n (remove cs i)
@@ -72,9 +74,6 @@ pub own-set : (cs : List Client) (i : ℕ) (c d : Client) → player_on c ≡ pl
 own-set [] i c d e h = tt
 own-set (x ∷ xs) zero c d e h = (λ p f. h.0 p (sym e ∙ f), h.1)
 own-set (x ∷ xs) (suc i) c d e h = (λ p f. none-set_same p xs i c d e (h.0 p f), own-set xs i c d e h.1)
-
-differs : (p q : ℤ) → int_eq p q ≡ false → int_eq q p ≡ false
-differs p q e = false_from_ne_true (int_eq q p) (λ t. true≢false (sym ((Decides-int_eq p q).1 (sym ((Decides-int_eq q p).0 t))) ∙ e))
 
 -- its player is new among them
 pub own-play : (cs : List Client) (i : ℕ) (c : Client) (p : ℤ) → player_on c ≡ Some p → NonePlayedBy p cs → HaveOwnPlayers cs → HaveOwnPlayers (slice_set cs i c)
@@ -137,10 +136,6 @@ map-insert f (y ∷ ys) zero x = refl
 map-insert f (y ∷ ys) (suc i) x = ap (λ zs. f y ∷ zs) (map-insert f ys i x)
 
 -- A player is connected on none of the connections that are left when the player's has gone.
-played_by : (p : ℤ) (c : Client) (o : Option ℤ) → player_on c ≡ o → option_map_or (int_eq p) o false ≡ true → player_on c ≡ Some p
-played_by p c None e t = cc
-played_by p c (Some q) e t = e ∙ ap (λ (x : ℤ). Some x) (sym ((Decides-int_eq p q).0 t))
-
 pub none_left : (p : ℤ) (cs : List Client) (i : ℕ) (c : Client) → i < length cs → is_played_by p (get_or cs i c) ≡ true → ((k : ℕ) → k < i → is_played_by p (get_or cs k c) ≡ false) →
     HaveOwnPlayers cs → NonePlayedBy p (remove cs i)
 none_left p [] i c l t n h = absurd (omega (arith, l))
@@ -169,18 +164,30 @@ remove-insert [] (suc i) x h = absurd (omega (arith, h))
 remove-insert (y ∷ ys) zero x h = refl
 remove-insert (y ∷ ys) (suc i) x h = ap (λ zs. y ∷ zs) (remove-insert ys i x (omega (arith, h)))
 
--- connections, and what tasks see of them
-abbrev pub AreWhole : List Connection → List Client → Type 0
-AreWhole row cs = AreInOrder cs × HaveOwnPlayers cs × (row ≡ row_of cs)
+-- connections, what tasks see of them, and where their players are
+abbrev pub AreWhole : List Connection → BTreeMap ℤ ℕ → List Client → Type 0
+AreWhole row players cs = AreInOrder cs × HaveOwnPlayers cs × (row ≡ row_of cs) × LeadsToPlayers players cs
 
 abbrev seen : Client → Connection
 seen c = c.connection
 
-pub whole-remove : (row : List Connection) (cs : List Client) (i : ℕ) → AreWhole row cs → AreWhole (remove row i) (remove cs i)
-whole-remove row cs i h = (order-remove cs i h.0, own-remove cs i h.1, ap (λ (r : List Connection). remove r i) h.2 ∙ map-remove seen cs i)
+pub whole-remove : (row : List Connection) (players players' : BTreeMap ℤ ℕ) (cs : List Client) (i : ℕ) (d : Client) → i < length cs → d ≡ get_or cs i d → IsWithout d players players' →
+    AreWhole row players cs → AreWhole (remove row i) players' (remove cs i)
+whole-remove row players players' cs i d l e w h = (
+  order-remove cs i h.0,
+  own-remove cs i h.1,
+  ap (λ (r : List Connection). remove r i) h.2 ∙ map-remove seen cs i,
+  leads-remove players players' cs i d h.1 l e w h.3,
+)
 
-pub whole-insert : (row : List Connection) (cs : List Client) (i : ℕ) (c : Client) → AreInOrder (insert cs i c) → HaveOwnPlayers (insert cs i c) → row ≡ row_of cs → AreWhole (insert row i c.connection) (insert cs i c)
-whole-insert row cs i c o p e = (o, p, ap (λ (r : List Connection). insert r i c.connection) e ∙ map-insert seen cs i c)
+pub whole-insert : (row : List Connection) (players : BTreeMap ℤ ℕ) (cs : List Client) (i : ℕ) (c : Client) → AreInOrder (insert cs i c) → player_on c ≡ None → AreWhole row players cs →
+    AreWhole (insert row i c.connection) players (insert cs i c)
+whole-insert row players cs i c o nobody h = (
+  o,
+  own-insert cs i c nobody h.1,
+  ap (λ (r : List Connection). insert r i c.connection) h.2 ∙ map-insert seen cs i c,
+  leads-insert players cs i c nobody h.3,
+)
 
 row-set_same : (cs : List Client) (i : ℕ) (d k : Client) → d ≡ get_or cs i d → k.connection ≡ d.connection → row_of (slice_set cs i k) ≡ row_of cs
 row-set_same cs i d k e f =
@@ -190,27 +197,43 @@ row-set_same cs i d k e f =
     ∙ ap (λ (xs : List Client). map seen xs) (set-get_or cs i d)
 
 -- one is changed, but not what tasks see of it
-pub whole-keep : (row : List Connection) (cs : List Client) (i : ℕ) (d k : Client) → d ≡ get_or cs i d → k.connection ≡ d.connection → AreWhole row cs → AreWhole row (slice_set cs i k)
-whole-keep row cs i d k e f h = (
-  order-set cs i k d (ap (λ (x : Connection). x.number) f ∙ ap number_of e) h.0,
-  own-set cs i k d (ap (λ (x : Connection). option_map (λ login. login.player) x.login) f ∙ ap player_on e) h.1,
-  h.2 ∙ sym (row-set_same cs i d k e f),
-)
+pub whole-keep : (row : List Connection) (players : BTreeMap ℤ ℕ) (cs : List Client) (i : ℕ) (d k : Client) → d ≡ get_or cs i d → k.connection ≡ d.connection → AreWhole row players cs →
+    AreWhole row players (slice_set cs i k)
+whole-keep row players cs i d k e f h =
+    let number : number_of k ≡ number_of (get_or cs i d) = ap (λ (x : Connection). x.number) f ∙ ap number_of e in
+    let player : player_on k ≡ player_on (get_or cs i d) = ap (λ (x : Connection). option_map (λ login. login.player) x.login) f ∙ ap player_on e in
+    (order-set cs i k d number h.0, own-set cs i k d player h.1, h.2 ∙ sym (row-set_same cs i d k e f), leads-set players cs i k d player number h.3)
 
 -- one is changed, and so is what tasks see of it
 row-set : (row : List Connection) (cs : List Client) (i : ℕ) (k : Client) → row ≡ row_of cs → slice_set row i k.connection ≡ row_of (slice_set cs i k)
 row-set row cs i k e = ap (λ (r : List Connection). slice_set r i k.connection) e ∙ sym (map-set seen cs i k)
 
-pub whole-hear : (row : List Connection) (cs : List Client) (i : ℕ) (d k : Client) → d ≡ get_or cs i d → number_of k ≡ number_of d → player_on k ≡ player_on d → AreWhole row cs →
-    AreWhole (slice_set row i k.connection) (slice_set cs i k)
-whole-hear row cs i d k e f g h = (order-set cs i k d (f ∙ ap number_of e) h.0, own-set cs i k d (g ∙ ap player_on e) h.1, row-set row cs i k h.2)
+pub whole-hear : (row : List Connection) (players : BTreeMap ℤ ℕ) (cs : List Client) (i : ℕ) (d k : Client) → d ≡ get_or cs i d → number_of k ≡ number_of d → player_on k ≡ player_on d →
+    AreWhole row players cs → AreWhole (slice_set row i k.connection) players (slice_set cs i k)
+whole-hear row players cs i d k e f g h = (
+  order-set cs i k d (f ∙ ap number_of e) h.0,
+  own-set cs i k d (g ∙ ap player_on e) h.1,
+  row-set row cs i k h.2,
+  leads-set players cs i k d (g ∙ ap player_on e) (f ∙ ap number_of e) h.3,
+)
 
-pub whole-play : (row : List Connection) (cs : List Client) (i : ℕ) (d k : Client) (p : ℤ) → d ≡ get_or cs i d → number_of k ≡ number_of d → player_on k ≡ Some p → NonePlayedBy p cs → AreWhole row cs →
-    AreWhole (slice_set row i k.connection) (slice_set cs i k)
-whole-play row cs i d k p e f g n h = (order-set cs i k d (f ∙ ap number_of e) h.0, own-play cs i k p g n h.1, row-set row cs i k h.2)
+pub whole-play : (row : List Connection) (players with' players' : BTreeMap ℤ ℕ) (cs : List Client) (i : ℕ) (d k : Client) (p : ℤ) → i < length cs → d ≡ get_or cs i d → number_of k ≡ number_of d →
+    player_on k ≡ Some p → NonePlayedBy p cs → IsWith p (number_of k) players with' → IsWithout d with' players' → AreWhole row players cs →
+    AreWhole (slice_set row i k.connection) players' (slice_set cs i k)
+whole-play row players with' players' cs i d k p l e f g n added taken h = (
+  order-set cs i k d (f ∙ ap number_of e) h.0,
+  own-play cs i k p g n h.1,
+  row-set row cs i k h.2,
+  leads-play p cs i d k g n h.1 l e players with' players' added taken h.3,
+)
 
-pub same_whole : (row row' : List Connection) (cs cs' : List Client) → row' ≡ row → cs' ≡ cs → AreWhole row cs → AreWhole row' cs'
-same_whole row row' cs cs' e f h = subst (λ (r : List Connection). AreWhole r cs') (sym e) (subst (λ (xs : List Client). AreWhole row xs) (sym f) h)
+pub same_whole : (row row' : List Connection) (players : BTreeMap ℤ ℕ) (cs cs' : List Client) → row' ≡ row → cs' ≡ cs → AreWhole row players cs → AreWhole row' players cs'
+same_whole row row' players cs cs' e f h =
+    subst (λ (r : List Connection). AreWhole r players cs') (sym e) (subst (λ (xs : List Client). AreWhole row players xs) (sym f) h)
+
+-- a map with the same entries leads to the same connections
+pub whole-unchanged : (row : List Connection) (players players' : BTreeMap ℤ ℕ) (cs : List Client) → players'.entries ≡ players.entries → AreWhole row players cs → AreWhole row players' cs
+whole-unchanged row players players' cs e h = (h.0, h.1, h.2, λ p. ap (λ es. lookup (int_eq p) es) e ∙ h.3 p)
 
 pub gone_answer : (r : Result (Unit {0}) AllocError) (p : ℤ) (s s' : Connections) (i : ℕ) → position (is_played_by p) s.clients ≡ Some i → HaveOwnPlayers s.clients →
     OnOk r ((d : Client) → s' ≡ record { clients = remove s.clients i; leaving = s.leaving ++ number_of (get_or s.clients i d) ∷ [] }) → OnOk r (NonePlayedBy p s'.clients)
@@ -226,6 +249,3 @@ pub joined_order : (cs : List Client) (n moment i : ℕ) (c : Client) → i ≡ 
 joined_order cs n moment i c e f free h =
     subst (λ (k : ℕ). AreInOrder (insert cs k c)) (sym e)
     (subst (λ (d : Client). AreInOrder (insert cs (position_or_len (is_above n) cs) d)) (sym f) (order-insert (newcomer n moment) cs free h))
-
-pub joined_players : (cs : List Client) (n moment i : ℕ) (c : Client) → c ≡ newcomer n moment → HaveOwnPlayers cs → HaveOwnPlayers (insert cs i c)
-joined_players cs n moment i c f h = own-insert cs i c (ap player_on f) h

@@ -1,5 +1,5 @@
 -- Rows of connections in which a number is searched for.
-use Rattle.std.specs.Prelude.{◌≡◌, ℕ, ◌<◌, List, length, None, slice_index_or}
+use Rattle.std.specs.Prelude.{◌≡◌, ℕ, ◌<◌, ◌≤◌, List, length, None, slice_index_or}
 use Rattle.moo_outcome.specs.declared.surroundings.Connection.{Connection}
 
 -- what stands behind the end of a row
@@ -18,6 +18,8 @@ pub record IsAt (row : List Connection) (n i : ℕ) : Type 0 where
   pub in_range : i < length row
   pub has_number : number_at row i ≡ n
 
--- no connection has the number
-abbrev pub IsNowhere : List Connection → ℕ → Type 0
-IsNowhere row n = (j : ℕ) → j < length row → number_at row j ≡ n → ⊥
+-- No connection has the number: those before place i have lower ones, and those from it on higher ones.
+pub record IsGap (row : List Connection) (n i : ℕ) : Type 0 where
+  pub in_range : i ≤ length row
+  pub below : (j : ℕ) → j < i → number_at row j < n
+  pub above : (j : ℕ) → i ≤ j → j < length row → n < number_at row j

@@ -1,10 +1,10 @@
 //! One open connection.
 ghost use Rattle.std.specs.Prelude.{◌≡◌, [], IfOk};
-ghost use Rattle.moo_connection.specs.Clients.{newcomer, is_known_as, is_played_by, player_on, known_as};
+ghost use Rattle.moo_connection.specs.Clients.{newcomer, player_on};
 
 use crate::gathering::Gathering;
 use moo_line::LineReader;
-use moo_outcome::{Connection, own_number};
+use moo_outcome::Connection;
 use moo_value::{MooStr, ValueFault};
 use std::alloc::{AllocError, Global};
 
@@ -21,15 +21,6 @@ pub struct Client {
     pub suffix: MooStr,
     /// What the player's lines are gathered for, while `.program` gathers them.
     pub gathering: Option<Gathering>,
-}
-
-fn known_as(connection: &Connection) -> i32
-    ensures { result ≡ known_as connection.now }
-{
-    match connection.login {
-        Some(login) => login.player,
-        None => own_number(connection.number),
-    }
 }
 
 impl Client {
@@ -49,23 +40,6 @@ impl Client {
             suffix: empty(alloc)?,
             gathering: None,
         })
-    }
-
-    /// Whether the connection goes by this number.
-    pub(crate) fn is_known_as(&self, who: i32) -> bool
-        ensures { result ≡ is_known_as who self.now }
-    {
-        who == known_as(&self.connection)
-    }
-
-    /// Whether this player is connected on it.
-    pub(crate) fn is_played_by(&self, player: i32) -> bool
-        ensures { result ≡ is_played_by player self.now }
-    {
-        match self.player() {
-            Some(own) => player == own,
-            None => false,
-        }
     }
 
     /// Who is connected on it, if anybody is.

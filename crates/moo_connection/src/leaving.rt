@@ -8,6 +8,7 @@ ghost use Rattle.moo_connection.specs.declared.client.Client.{Client as client_c
 
 use crate::client::Client;
 use crate::connections::Connections;
+use crate::playing::remove_player;
 use std::alloc::AllocError;
 
 impl Connections {
@@ -37,8 +38,9 @@ impl Connections {
         ensures { OnOk result ((d : client_contents) → self.new ≡ record { clients = remove self.old.clients place; leaving = self.old.leaving ++ number_of (slice_index_or self.old.clients place d) ∷ [] }) }
     {
         self.leaving.push(self.clients[place].connection.number)?;
-        let _client = self.clients.remove(place);
+        let client = self.clients.remove(place);
         let _connection = self.row.remove(place);
+        remove_player(&mut self.players, &client);
         Ok(())
     }
 
@@ -49,6 +51,7 @@ impl Connections {
         push_numbers(&mut self.leaving, &self.clients)?;
         self.clients.clear();
         self.row.clear();
+        self.players.clear();
         Ok(())
     }
 }

@@ -1,8 +1,9 @@
 //! Connections by the numbers that they go by.
-ghost use Rattle.std.specs.Prelude.{◌≡◌, position, IfOk, IfErr};
+ghost use Rattle.std.specs.Prelude.{◌≡◌, ℕ, position, IfOk, IfErr, IfSome, IfNone};
 ghost use Rattle.std.specs.Option.{option_copied};
-ghost use Rattle.moo_connection.specs.Clients.{has_number, is_known_as, is_played_by};
-ghost use Rattle.moo_connection.specs.Searching.{IsRising, IsAt, IsNowhere};
+ghost use Rattle.moo_connection.specs.Clients.{own_number, has_number, is_known_as, is_played_by};
+ghost use Rattle.moo_connection.specs.Searching.{IsRising, IsAt, IsGap};
+ghost use Rattle.moo_connection.specs.Players.{is_unplayed_as, earlier};
 ghost use Rattle.moo_connection.specs.Connections.{client_here, client_known_as, client_playing, is_open, is_leaving, HaveOwnPlayers};
 
 use crate::client::Client;
@@ -22,16 +23,16 @@ impl Connections {
     pub fn client_known_as(&self, who: i32) -> Option<&Client>
         ensures { option_copied result ≡ client_known_as who self.now }
     {
-        self.clients.iter().find(|client| client.is_known_as(who))
+        let place = self.place_known_as(who)?;
+        Some(&self.clients[place])
     }
 
     /// The connection that this player is connected on.
     pub fn client_playing(&self, player: i32) -> Option<&Client>
         ensures { option_copied result ≡ client_playing player self.now }
     {
-        self.clients
-            .iter()
-            .find(|client| client.is_played_by(player))
+        let place = self.place_playing(player)?;
+        Some(&self.clients[place])
     }
 
     /// Whether the connection of this number is leaving.
@@ -48,8 +49,14 @@ impl Connections {
         self.client_here(number).is_some() || self.is_leaving(number)
     }
 
-    // The place of the connection of this number, by a binary search: the row is in the order of the numbers.
     pub(crate) fn place_here(&self, number: u16) -> Option<usize>
+        ensures { result ≡ position (has_number number) self.now.clients }
+    {
+        self.place_numbered(u32::from(number))
+    }
+
+    // The place of the connection of this number, by a binary search: the row is in the order of the numbers.
+    fn place_numbered(&self, number: u32) -> Option<usize>
         ensures { result ≡ position (has_number number) self.now.clients }
     {
         match search(&self.row, number) {
@@ -58,29 +65,61 @@ impl Connections {
         }
     }
 
+    // Nobody is kept from having a number below -1 as a player, so that two connections may go by it.
     pub(crate) fn place_known_as(&self, who: i32) -> Option<usize>
         ensures { result ≡ position (is_known_as who) self.now.clients }
     {
-        self.clients
-            .iter()
-            .position(|client| client.is_known_as(who))
+        earlier(self.place_playing(who), self.place_unplayed(who))
     }
 
     pub(crate) fn place_playing(&self, player: i32) -> Option<usize>
         ensures place { result ≡ position (is_played_by player) self.now.clients }
         ensures own { HaveOwnPlayers self.now.clients }
     {
-        self.clients
-            .iter()
-            .position(|client| client.is_played_by(player))
+        let number = self.players.get(&player)?;
+        self.place_here(*number)
+    }
+
+    // The place of the connection of this own number, while nobody is connected on it.
+    fn place_unplayed(&self, who: i32) -> Option<usize>
+        ensures { result ≡ position (is_unplayed_as who) self.now.clients }
+    {
+        let number = number_owning(who)?;
+        let place = self.place_numbered(number)?;
+        match self.clients[place].connection.login {
+            Some(_) => None,
+            None => Some(place),
+        }
     }
 }
 
 // Where the connection of this number stands in a row, or would.
-fn search(row: &[Connection], number: u16) -> Result<usize, usize>
+pub(crate) fn search(row: &[Connection], number: u32) -> Result<usize, usize>
     requires { IsRising row.now }
     ensures found { IfOk result (IsAt row.now number) }
-    ensures absent { IfErr result (λ _. IsNowhere row.now number) }
+    ensures absent { IfErr result (IsGap row.now number) }
 {
-    row.binary_search_by_key(&number, |connection| connection.number)
+    row.binary_search_by_key(&number, |connection| u32::from(connection.number))
+}
+
+// The number of the connection whose own number this is.
+fn number_owning(who: i32) -> Option<u32>
+    ensures some { IfSome result (λ number. who ≡ own_number number) }
+    ensures none { IfNone result ((number : ℕ) → who ≡ own_number number → ⊥) }
+{
+    if who < -1 {
+        Some(who.unsigned_abs() - 2)
+    } else {
+        None
+    }
+}
+
+fn earlier(a: Option<usize>, b: Option<usize>) -> Option<usize>
+    ensures { result ≡ earlier a b }
+{
+    match (a, b) {
+        (Some(a), Some(b)) => Some(a.min(b)),
+        (Some(a), None) => Some(a),
+        (None, b) => b,
+    }
 }

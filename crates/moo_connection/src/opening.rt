@@ -1,12 +1,14 @@
 //! Connections that are opened and freed.
 ghost use Rattle.std.specs.Prelude.{◌≡◌, ◌≤◌, None, length, position, OnOk};
 ghost use Rattle.std.specs.List.{position_or_len, insert};
-ghost use Rattle.moo_connection.specs.Clients.{is_number, is_above, without_first};
-ghost use Rattle.moo_connection.specs.Connections.{client_here, AreInOrder, HaveOwnPlayers};
+ghost use Rattle.moo_connection.specs.Clients.{player_on, is_number, is_above, without_first};
+ghost use Rattle.moo_connection.specs.Connections.{client_here, AreInOrder};
 ghost use Rattle.moo_connection.specs.Changes.{joined, freed};
 
 use crate::client::Client;
 use crate::connections::Connections;
+use crate::lookup::search;
+use crate::playing::remove_player;
 use std::alloc::AllocError;
 
 impl Connections {
@@ -16,14 +18,14 @@ impl Connections {
         ensures { OnOk result (self.new ≡ joined number moment self.old) }
     {
         let client = Client::new(self.alloc, number, moment)?;
-        let place = place_for(&self.clients, number);
+        let place = self.place_for(number);
         self.put(place, client)
     }
 
     fn put(&mut self, place: usize, client: Client) -> Result<(), AllocError>
         requires inside { place ≤ length self.old.clients }
         requires order { AreInOrder (insert self.old.clients place client) }
-        requires players { HaveOwnPlayers (insert self.old.clients place client) }
+        requires nobody { player_on client ≡ None }
         ensures { OnOk result (self.new ≡ record self.old { clients = insert self.old.clients place client }) }
     {
         let connection = client.connection;
@@ -35,6 +37,18 @@ impl Connections {
         Ok(())
     }
 
+    // The place before the first connection of a higher number.
+    fn place_for(&self, number: u16) -> usize
+        requires { client_here number self.now ≡ None }
+        ensures place { result ≡ position_or_len (is_above number) self.now.clients }
+        ensures inside { result ≤ length self.now.clients }
+    {
+        match search(&self.row, u32::from(number)) {
+            Ok(place) => place,
+            Err(place) => place,
+        }
+    }
+
     /// The number of a connection is free again.
     pub fn free(&mut self, number: u16)
         ensures { self.new ≡ freed number self.old }
@@ -43,8 +57,9 @@ impl Connections {
         let Some(place) = self.place_here(number) else {
             return;
         };
-        let _client = self.clients.remove(place);
+        let client = self.clients.remove(place);
         let _connection = self.row.remove(place);
+        remove_player(&mut self.players, &client);
     }
 }
 
@@ -60,23 +75,4 @@ fn place_of(numbers: &[u16], number: u16) -> Option<usize>
     ensures { result ≡ position (is_number number) numbers.now }
 {
     numbers.iter().position(|other| *other == number)
-}
-
-// The place before the first connection of a higher number.
-fn place_for(clients: &[Client], number: u16) -> usize
-    ensures place { result ≡ position_or_len (is_above number) clients.now }
-    ensures inside { result ≤ length clients.now }
-{
-    match place_above(clients, number) {
-        Some(place) => place,
-        None => clients.len(),
-    }
-}
-
-fn place_above(clients: &[Client], number: u16) -> Option<usize>
-    ensures { result ≡ position (is_above number) clients.now }
-{
-    clients
-        .iter()
-        .position(|client| number < client.connection.number)
 }

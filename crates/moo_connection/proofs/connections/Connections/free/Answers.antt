@@ -1,4 +1,6 @@
-use Rattle.std.proofs.Common.{ℕ, List, sym, ◌∙◌, ap}
+use Rattle.std.proofs.Common.{◌≡◌, ℕ, List, Some, sym, ◌∙◌, ap}
+use Rattle.std.specs.Prelude.{position}
+use Rattle.std.proofs.lemmas.List.Quantifiers.{position-Some}
 use Rattle.moo_connection.specs.declared.client.Client.{Client}
 use Rattle.moo_connection.specs.Clients.{has_number, without_first}
 use Rattle.moo_connection.specs.Connections.{Connections}
@@ -18,7 +20,12 @@ returns-in_default c =
     ∙ ap (freed c.args.number) c.self.view_is
 
 pub invariant_of-self-2 : goal.invariant_of-self-2
-invariant_of-self-2 c = same_whole _ _ _ _ c.remove-connection.ensures.items c.remove-client.ensures.items (whole-remove c.self.inside.row.items c.self.inside.clients.items c.in-Some.place c.self.invariant)
+invariant_of-self-2 c =
+    let items : List Client = c.self.inside.clients.items in
+    let at : position (has_number c.args.number) items ≡ Some c.in-Some.place = sym c.place_here.ensures ∙ c.in-Some.is in
+    same_whole _ _ c.remove_player.new.players _ _ c.remove-connection.ensures.items c.remove-client.ensures.items
+    (whole-remove c.self.inside.row.items c.self.inside.players c.remove_player.new.players items c.in-Some.place c.remove-client.result
+    (position-Some (has_number c.args.number) items c.in-Some.place c.remove-client.result at).0 c.remove-client.ensures.value c.remove_player.ensures c.self.invariant)
 
 pub returns : goal.returns
 returns c =

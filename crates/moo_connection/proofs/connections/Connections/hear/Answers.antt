@@ -27,8 +27,8 @@ invariant_of-self-2 c =
     let at : position (has_number c.args.number) items ≡ Some c.in-Some.place = ap (λ (s : Connections). position (has_number c.args.number) s.clients) c.self.view_is ∙ e in
     let back : c.index.result.now ≡ k = read_back items c.in-Some.place k c.index.result.now (position-Some (has_number c.args.number) items c.in-Some.place d at).0 c.index.ensures in
     let is : k ≡ with_heard c.args.moment k.reader d = c.in_ok-lines.ensures.changed in
-    same_whole _ _ _ _ (ap (λ (x : Client). slice_set c.self.inside.row.items c.in-Some.place x.connection) back) refl
-    (whole-hear c.self.inside.row.items items c.in-Some.place d k c.index_mut.ensures.value (ap number_of is) (ap player_on is) c.self.invariant)
+    same_whole _ _ c.self.inside.players _ _ (ap (λ (x : Client). slice_set c.self.inside.row.items c.in-Some.place x.connection) back) refl
+    (whole-hear c.self.inside.row.items c.self.inside.players items c.in-Some.place d k c.index_mut.ensures.value (ap number_of is) (ap player_on is) c.self.invariant)
 
 pub returns-clause-heard : goal.returns-clause-heard
 returns-clause-heard c =

@@ -14,7 +14,7 @@ returns-in_default c =
     ap (λ (cs : List Client). record c.args.self.now { clients = cs }) (sym (changed_nowhere (has_number c.args.number) (with_suffix c.args.text) c.args.self.now.clients e))
 
 pub invariant_of-self : goal.invariant_of-self
-invariant_of-self c = whole-keep c.self.inside.row.items c.self.inside.clients.items c.in-Some.place c.index_mut.result.now _ c.index_mut.ensures.value refl c.self.invariant
+invariant_of-self c = whole-keep c.self.inside.row.items c.self.inside.players c.self.inside.clients.items c.in-Some.place c.index_mut.result.now _ c.index_mut.ensures.value refl c.self.invariant
 
 pub returns : goal.returns
 returns c =

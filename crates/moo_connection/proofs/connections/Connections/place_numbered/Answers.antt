@@ -4,9 +4,9 @@ use Rattle.moo_outcome.specs.declared.surroundings.Connection.{Connection}
 use Rattle.moo_connection.specs.declared.client.Client.{Client}
 use Rattle.moo_connection.specs.Clients.{has_number, row_of}
 use Rattle.moo_connection.specs.Connections.{Connections}
-use Rattle.moo_connection.specs.Searching.{IsRising, IsAt, IsNowhere}
+use Rattle.moo_connection.specs.Searching.{IsRising, IsAt, IsGap}
 use Rattle.moo_connection.proofs.Search.{rising, found_place, found_no_place}
-use Rattle.moo_connection.proofs.connections.Connections.place_here.Goals as goal
+use Rattle.moo_connection.proofs.connections.Connections.place_numbered.Goals as goal
 
 pub search-requires : goal.search-requires
 search-requires c =
@@ -25,5 +25,5 @@ pub returns-in-Err : goal.returns-in-Err
 returns-in-Err c =
     let items : List Client = c.self.inside.clients.items in
     let row : c.deref.result.now ≡ row_of items = c.deref.ensures.value ∙ c.self.invariant.2 in
-    let nowhere : IsNowhere (row_of items) c.args.number = subst (λ (r : List Connection). IsNowhere r c.args.number) row c.in-Err.ensures.absent in
-    sym (found_no_place items c.args.number nowhere) ∙ ap (λ (s : Connections). position (has_number c.args.number) s.clients) c.self.view_is
+    let gap : IsGap (row_of items) c.args.number c.in-Err.field-0 = subst (λ (r : List Connection). IsGap r c.args.number c.in-Err.field-0) row c.in-Err.ensures.absent in
+    sym (found_no_place items c.args.number c.in-Err.field-0 gap) ∙ ap (λ (s : Connections). position (has_number c.args.number) s.clients) c.self.view_is

@@ -4,12 +4,13 @@ use Rattle.std.specs.Prelude.{if◌then◌else◌}
 use Rattle.std.specs.Option.{option_map}
 use Rattle.std.specs.List.{list_all, prefix_len}
 use Rattle.moo_value.specs.declared.error_code.ErrorCode.{ErrorCode}
+use Rattle.moo_value.specs.Errors.{error_named}
 use Rattle.moo_token.specs.declared.keyword.Keyword.{Keyword}
 use Rattle.moo_token.specs.declared.token.Token.{Token}
 use Rattle.moo_token.specs.declared.token.Token.TheVariants.{Bad}
 use Rattle.moo_token.specs.declared.token.Token.TheVariants as token
 use Rattle.moo_token.specs.Signs.{sign_at}
-use Rattle.moo_token.specs.Words.{keyword_of, error_of}
+use Rattle.moo_token.specs.Words.{keyword_of}
 use Rattle.moo_token.specs.Tokens.{begins_name, continues_name, named, word, integer_at, object_at, unquoted, token_at}
 use Rattle.moo_token.specs.Spelling.{is_word, is_name, HoldsName}
 use Rattle.moo_token.proofs.SpelledWords.{begins_continues}
@@ -52,18 +53,18 @@ front_is_word b bs h =
     let s : 1 + prefix_len continues_name bs ≡ suc (prefix_len continues_name bs) = omega arith in
     rw (begins_continues b h, s, h, front_passes continues_name bs) refl
 
-name_holds : (w : List ℕ) → is_word w ≡ true → keyword_of w ≡ None → error_of w ≡ None → is_name w ≡ true
+name_holds : (w : List ℕ) → is_word w ≡ true → keyword_of w ≡ None → error_named w ≡ None → is_name w ≡ true
 unfolding is_name
 name_holds w h k e = rw (h, k, e) refl
 
-named_read : (w : List ℕ) (k : Option Keyword) (e : Option ErrorCode) → is_word w ≡ true → keyword_of w ≡ k → error_of w ≡ e → IsRead (named w k e)
+named_read : (w : List ℕ) (k : Option Keyword) (e : Option ErrorCode) → is_word w ≡ true → keyword_of w ≡ k → error_named w ≡ e → IsRead (named w k e)
 unfolding IsRead
 named_read w (Some k) e h i j = (λ f. cc, tt)
 named_read w None (Some e) h i j = (λ f. cc, tt)
 named_read w None None h i j = (λ f. cc, name_holds w h i j)
 
 word_read : (b : ℕ) (bs : List ℕ) (w : List ℕ) (k : ℕ) → w ≡ take (prefix_len continues_name (b ∷ bs)) (b ∷ bs) → begins_name b ≡ true → GivesRead (Some (word w, k))
-word_read b bs w k e h = gives (word w) k (named_read w (keyword_of w) (error_of w) (rw e (front_is_word b bs h)) refl refl)
+word_read b bs w k e h = gives (word w) k (named_read w (keyword_of w) (error_named w) (rw e (front_is_word b bs h)) refl refl)
 
 integer_read : (bs : List ℕ) → GivesRead (integer_at bs)
 unfolding integer_at IsRead

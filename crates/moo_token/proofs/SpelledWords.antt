@@ -3,13 +3,13 @@ use Rattle.std.proofs.Common.{ℕ, List, [], ◌∷◌, ◌++◌, ◌≡◌, ref
 use Rattle.std.specs.List.{list_all, prefix_len}
 use Rattle.std.proofs.lemmas.List.{take_at}
 use Rattle.std.proofs.lemmas.Bool.Decides.{nat_tests}
-use Rattle.moo_value.specs.Errors.{error_name}
+use Rattle.moo_value.specs.Errors.{error_name, error_named}
 use Rattle.moo_value.specs.declared.error_code.ErrorCode.{ErrorCode}
 use Rattle.moo_value.specs.declared.error_code.ErrorCode.TheVariants as error
 use Rattle.moo_token.specs.declared.keyword.Keyword.{Keyword}
 use Rattle.moo_token.specs.declared.keyword.Keyword.TheVariants.{If, Else, ElseIf, EndIf, For, In, EndFor, While, EndWhile, Fork, EndFork, Return, Try, EndTry, Except, Finally, Any, Break, Continue}
 use Rattle.moo_token.specs.declared.token.Token.TheVariants as token
-use Rattle.moo_token.specs.Words.{keyword_of, error_of}
+use Rattle.moo_token.specs.Words.{keyword_of}
 use Rattle.moo_token.specs.Tokens.{begins_name, continues_name, named, word, token_at}
 use Rattle.moo_token.specs.Lexing.{begins_comment}
 use Rattle.moo_token.specs.Spelling.{is_word, is_name, spelled_keyword, begins_with}
@@ -117,7 +117,7 @@ error_is_word error.Quota = refl
 error_is_word error.Float = refl
 
 pub error_is : (e : ErrorCode) → word (error_name e) ≡ token.Error e
-unfolding keyword_of error_of
+unfolding keyword_of error_named
 error_is error.NoError = refl
 error_is error.TypeMismatch = refl
 error_is error.Division = refl
@@ -147,6 +147,6 @@ name_is_word w h = (both _ _ (both (is_word w && is_none (keyword_of w)) _ h).0)
 pub name_is : (w : List ℕ) → is_name w ≡ true → word w ≡ token.Name w
 unfolding is_name
 name_is w h =
-    let outer = both (is_word w && is_none (keyword_of w)) (is_none (error_of w)) h in
+    let outer = both (is_word w && is_none (keyword_of w)) (is_none (error_named w)) h in
     let inner = both (is_word w) (is_none (keyword_of w)) outer.0 in
-    named_name w (keyword_of w) (error_of w) inner.1 outer.1
+    named_name w (keyword_of w) (error_named w) inner.1 outer.1

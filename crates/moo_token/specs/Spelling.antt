@@ -3,7 +3,7 @@ use Rattle.std.specs.Prelude.{ℕ, pos, ◌≤ℤ◌, FitsSigned, List, [], ◌�
 use Rattle.std.specs.List.{list_all}
 use Rattle.std.specs.Int.{w32}
 use Rattle.std.specs.Fmt.{signed_decimal}
-use Rattle.moo_value.specs.Errors.{error_name}
+use Rattle.moo_value.specs.Errors.{error_name, error_named}
 use Rattle.moo_value.specs.Text.{quoted}
 use Rattle.moo_token.specs.declared.keyword.Keyword.{Keyword}
 use Rattle.moo_token.specs.declared.keyword.Keyword.TheVariants.{Any}
@@ -11,7 +11,7 @@ use Rattle.moo_token.specs.declared.sign.Sign.{Sign}
 use Rattle.moo_token.specs.declared.sign.Sign.TheVariants.{LeftParen, RightParen, LeftBrace, RightBrace, LeftBracket, RightBracket, Comma, Dot, DotDot, Colon, Semicolon, Question, Pipe, OrOr, AndAnd, Assign, Equal, Arrow, Backquote, Quote, Bang, NotEqual, Less, LessEqual, Greater, GreaterEqual, Dollar, At, Plus, Minus, Star, Slash, Percent, Caret}
 use Rattle.moo_token.specs.declared.token.Token.{Token}
 use Rattle.moo_token.specs.declared.token.Token.TheVariants as token
-use Rattle.moo_token.specs.Words.{keyword_text, keyword_of, error_of}
+use Rattle.moo_token.specs.Words.{keyword_text, keyword_of}
 use Rattle.moo_token.specs.Tokens.{begins_name, is_digit, continues_name, begins_fraction}
 
 -- a letter or `_`, and then letters, digits and `_`
@@ -21,7 +21,7 @@ is_word (b ∷ bs) = begins_name b && list_all continues_name bs
 
 -- a word that is neither a keyword nor an error's name, in any case
 unfoldable pub is_name : List ℕ → Bool
-is_name word = is_word word && is_none (keyword_of word) && is_none (error_of word)
+is_name word = is_word word && is_none (keyword_of word) && is_none (error_named word)
 
 -- if the token is a name, then what it holds is one
 abbrev pub HoldsName : Token → Type 0

@@ -4,10 +4,11 @@ use Rattle.std.specs.Option.{option_map}
 use Rattle.std.specs.List.{prefix_len}
 use Rattle.std.specs.Int.{w32, cast_signed, int_wrapping_neg}
 use Rattle.moo_value.specs.declared.error_code.ErrorCode.{ErrorCode}
+use Rattle.moo_value.specs.Errors.{error_named}
 use Rattle.moo_token.specs.declared.keyword.Keyword.{Keyword}
 use Rattle.moo_token.specs.declared.token.Token.{Token}
 use Rattle.moo_token.specs.declared.token.Token.TheVariants as token
-use Rattle.moo_token.specs.Words.{keyword_of, error_of}
+use Rattle.moo_token.specs.Words.{keyword_of}
 use Rattle.moo_token.specs.Signs.{sign_at}
 
 -- a letter or `_`
@@ -28,7 +29,7 @@ named word None (Some e) = token.Error e
 named word None None = token.Name word
 
 abbrev pub word : List ℕ → Token
-word bytes = named bytes (keyword_of bytes) (error_of bytes)
+word bytes = named bytes (keyword_of bytes) (error_named bytes)
 
 -- the number that digits write
 abbrev pub number : List ℕ → ℕ

@@ -1,9 +1,6 @@
--- Keywords and error names: words that are no names, in any case.
-use Rattle.std.specs.Prelude.{ℕ, List, [], ◌∷◌, Option, find, codes}
+-- Keywords: words that are no names, in any case.
+use Rattle.std.specs.Prelude.{ℕ, Bool, ◌==◌, List, [], ◌∷◌, Option, length, filter, find, codes}
 use Rattle.std.specs.Str.{str_eq_ignore_ascii_case}
-use Rattle.moo_value.specs.declared.error_code.ErrorCode.{ErrorCode}
-use Rattle.moo_value.specs.declared.error_code.ErrorCode.TheVariants as error
-use Rattle.moo_value.specs.Errors.{error_name}
 use Rattle.moo_token.specs.declared.keyword.Keyword.{Keyword}
 use Rattle.moo_token.specs.declared.keyword.Keyword.TheVariants.{If, Else, ElseIf, EndIf, For, In, EndFor, While, EndWhile, Fork, EndFork, Return, Try, EndTry, Except, Finally, Any, Break, Continue}
 
@@ -31,13 +28,14 @@ keyword_text Continue = codes "continue"
 abbrev pub all_keywords : List Keyword
 all_keywords = If ∷ Else ∷ ElseIf ∷ EndIf ∷ For ∷ In ∷ EndFor ∷ While ∷ EndWhile ∷ Fork ∷ EndFork ∷ Return ∷ Try ∷ EndTry ∷ Except ∷ Finally ∷ Any ∷ Break ∷ Continue ∷ []
 
-abbrev pub all_errors : List ErrorCode
-all_errors = error.NoError ∷ error.TypeMismatch ∷ error.Division ∷ error.Permission ∷ error.PropertyNotFound ∷ error.VerbNotFound ∷ error.VariableNotFound ∷ error.InvalidIndirection ∷ error.RecursiveMove ∷ error.MaximumRecursion ∷ error.Range ∷ error.Arguments ∷ error.NotAccepted ∷ error.InvalidArgument ∷ error.Quota ∷ error.Float ∷ []
+-- the word, in any case, is the keyword
+abbrev pub is_spelled : List ℕ → Keyword → Bool
+is_spelled word k = str_eq_ignore_ascii_case (keyword_text k) word
 
 -- the keyword that the word is, in any case
 unfoldable pub keyword_of : List ℕ → Option Keyword
-keyword_of word = find (λ k. str_eq_ignore_ascii_case (keyword_text k) word) all_keywords
+keyword_of word = find (is_spelled word) all_keywords
 
--- the error whose name the word is, in any case
-unfoldable pub error_of : List ℕ → Option ErrorCode
-error_of word = find (λ e. str_eq_ignore_ascii_case (error_name e) word) all_errors
+-- for private clauses: the keywords of so many letters
+abbrev pub of_length : ℕ → List Keyword
+of_length count = filter (λ k. length (keyword_text k) == count) all_keywords

@@ -1,8 +1,6 @@
 //! Words that are no names.
-ghost use Rattle.std.specs.Prelude.{◌≡◌};
-ghost use Rattle.moo_token.specs.Words.{keyword_text, keyword_of, error_of};
-
-use moo_value::ErrorCode;
+ghost use Rattle.std.specs.Prelude.{◌≡◌, find};
+ghost use Rattle.moo_token.specs.Words.{keyword_text, keyword_of, is_spelled, of_length};
 
 #[derive(Clone, Copy, PartialEq, Eq, Debug)]
 pub enum Keyword {
@@ -26,47 +24,6 @@ pub enum Keyword {
     Break,
     Continue,
 }
-
-static KEYWORDS: [Keyword; 19] = [
-    Keyword::If,
-    Keyword::Else,
-    Keyword::ElseIf,
-    Keyword::EndIf,
-    Keyword::For,
-    Keyword::In,
-    Keyword::EndFor,
-    Keyword::While,
-    Keyword::EndWhile,
-    Keyword::Fork,
-    Keyword::EndFork,
-    Keyword::Return,
-    Keyword::Try,
-    Keyword::EndTry,
-    Keyword::Except,
-    Keyword::Finally,
-    Keyword::Any,
-    Keyword::Break,
-    Keyword::Continue,
-];
-
-static ERRORS: [ErrorCode; 16] = [
-    ErrorCode::NoError,
-    ErrorCode::TypeMismatch,
-    ErrorCode::Division,
-    ErrorCode::Permission,
-    ErrorCode::PropertyNotFound,
-    ErrorCode::VerbNotFound,
-    ErrorCode::VariableNotFound,
-    ErrorCode::InvalidIndirection,
-    ErrorCode::RecursiveMove,
-    ErrorCode::MaximumRecursion,
-    ErrorCode::Range,
-    ErrorCode::Arguments,
-    ErrorCode::NotAccepted,
-    ErrorCode::InvalidArgument,
-    ErrorCode::Quota,
-    ErrorCode::Float,
-];
 
 impl Keyword {
     /// How the keyword is written.
@@ -97,24 +54,48 @@ impl Keyword {
     }
 
     /// The keyword that the word is, in any case.
-    #[tactic(auto, unfolding(crate::specs::Words::keyword_of))]
+    #[tactic(auto, using(crate::proofs::Naming::found_by_length))]
     pub fn of(word: &[u8]) -> Option<Keyword>
         ensures { result ≡ keyword_of word.now }
     {
-        KEYWORDS.iter().copied().find(|keyword| keyword
-            .text()
-            .as_bytes()
-            .eq_ignore_ascii_case(word))
+        first_spelled(of_length(word.len()), word)
     }
 }
 
-/// The error whose name the word is, in any case.
-#[tactic(auto, unfolding(crate::specs::Words::error_of))]
-pub fn error_of(word: &[u8]) -> Option<ErrorCode>
-    ensures { result ≡ error_of word.now }
+// The first of the keywords that is spelled so.
+fn first_spelled(keywords: &[Keyword], word: &[u8]) -> Option<Keyword>
+    ensures { result ≡ find (is_spelled word.now) keywords.now }
 {
-    ERRORS
+    keywords
         .iter()
         .copied()
-        .find(|error| error.name().as_bytes().eq_ignore_ascii_case(word))
+        .find(|keyword| is_spelled(*keyword, word))
+}
+
+fn is_spelled(keyword: Keyword, word: &[u8]) -> bool
+    ensures { result ≡ is_spelled word.now keyword }
+{
+    keyword.text().as_bytes().eq_ignore_ascii_case(word)
+}
+
+// The keywords of this length.
+fn of_length(length: usize) -> &'static [Keyword]
+    ensures { result.now ≡ of_length length }
+{
+    match length {
+        2 => &[Keyword::If, Keyword::In],
+        3 => &[Keyword::For, Keyword::Try, Keyword::Any],
+        4 => &[Keyword::Else, Keyword::Fork],
+        5 => &[Keyword::EndIf, Keyword::While, Keyword::Break],
+        6 => &[
+            Keyword::ElseIf,
+            Keyword::EndFor,
+            Keyword::Return,
+            Keyword::EndTry,
+            Keyword::Except,
+        ],
+        7 => &[Keyword::EndFork, Keyword::Finally],
+        8 => &[Keyword::EndWhile, Keyword::Continue],
+        _ => &[],
+    }
 }

@@ -5,10 +5,10 @@ ghost use Rattle.moo_value.specs.Size.{IsString};
 ghost use Rattle.moo_token.specs.Spelling.{is_word, is_name};
 ghost use Rattle.moo_token.specs.Tokens.{begins_name, is_digit, continues_name, word, wrapped, begins_fraction, integer_at, number_at, object_at, unquoted, token_at};
 
-use crate::keyword::{Keyword, error_of};
+use crate::keyword::Keyword;
 use crate::sign::sign_at;
 use crate::token::Token;
-use moo_value::{MooStr, ValueFault};
+use moo_value::{ErrorCode, MooStr, ValueFault};
 use std::alloc::{AllocError, Global};
 
 fn begins_name(b: u8) -> bool
@@ -43,7 +43,7 @@ fn is_word(bytes: &[u8]) -> bool
 pub fn is_name(bytes: &[u8]) -> bool
     ensures { result ≡ is_name bytes.now }
 {
-    is_word(bytes) && Keyword::of(bytes).is_none() && error_of(bytes).is_none()
+    is_word(bytes) && Keyword::of(bytes).is_none() && ErrorCode::from_name(bytes).is_none()
 }
 
 /// How many bytes at the front can go on with a name.
@@ -159,7 +159,7 @@ fn word(alloc: Global, bytes: &[u8]) -> Result<Token, AllocError>
     if let Some(keyword) = Keyword::of(bytes) {
         return Ok(Token::Keyword(keyword));
     }
-    if let Some(error) = error_of(bytes) {
+    if let Some(error) = ErrorCode::from_name(bytes) {
         return Ok(Token::Error(error));
     }
     Ok(Token::Name(copied(alloc, bytes)?))

@@ -6,12 +6,13 @@ use Rattle.std.specs.Int.{w32}
 use Rattle.std.specs.Option.{option_map}
 use Rattle.std.proofs.lemmas.List.Elements.{recursion_from_All}
 use Rattle.moo_value.specs.declared.error_code.ErrorCode.{ErrorCode}
+use Rattle.moo_value.specs.Errors.{error_named}
 use Rattle.moo_token.specs.declared.sign.Sign.{Sign}
 use Rattle.moo_token.specs.declared.keyword.Keyword.{Keyword}
 use Rattle.moo_token.specs.declared.token.Token.{Token}
 use Rattle.moo_token.specs.declared.token.Token.TheVariants as token
 use Rattle.moo_token.specs.declared.token.Spot.{Spot}
-use Rattle.moo_token.specs.Words.{keyword_of, error_of}
+use Rattle.moo_token.specs.Words.{keyword_of}
 use Rattle.moo_token.specs.Signs.{sign_at}
 use Rattle.moo_token.specs.Tokens.{begins_name, is_digit, continues_name, begins_fraction, word, named, wrapped, integer_at, number_at, object_at, unquoted, token_at}
 use Rattle.moo_token.specs.Lexing
@@ -96,7 +97,7 @@ token_fits (b ∷ bs) =
     let quoted : IfFits (if nat_eq b 34 then string else mark) = either (nat_eq b 34) string mark (quote_fits (unquoted false bs)) (sign_fits (sign_at (b ∷ bs))) in
     let hashed : IfFits (if nat_eq b 35 then object else if nat_eq b 34 then string else mark) = either (nat_eq b 35) object (if nat_eq b 34 then string else mark) (hash_fits (object_at bs) (object_fits bs)) quoted in
     let counted : IfFits (if is_digit b then integer_at (b ∷ bs) else if nat_eq b 35 then object else if nat_eq b 34 then string else mark) = either (is_digit b) (integer_at (b ∷ bs)) (if nat_eq b 35 then object else if nat_eq b 34 then string else mark) (integer_fits (b ∷ bs)) hashed in
-    either (begins_name b) name (if is_digit b then integer_at (b ∷ bs) else if nat_eq b 35 then object else if nat_eq b 34 then string else mark) (named_fits w (keyword_of w) (error_of w)) counted
+    either (begins_name b) name (if is_digit b then integer_at (b ∷ bs) else if nat_eq b 35 then object else if nat_eq b 34 then string else mark) (named_fits w (keyword_of w) (error_named w)) counted
 
 abbrev AllFit : List Spot → Type 0
 AllFit ss = AllByRecursion (λ (s : Spot). Fits s.token) ss

@@ -1,0 +1,36 @@
+-- A word is a keyword whose text is as long.
+use Rattle.std.proofs.Common.{arith, ◌≡◌, ℕ, Bool, true, false, cond, List, [], ◌∷◌, Option, Some, refl, ap, sym, ◌∙◌}
+use Rattle.std.specs.Prelude.{find, filter, length, ◌==◌}
+use Rattle.std.specs.Char.{to_ascii_lowercase}
+use Rattle.std.proofs.lemmas.Bool.Decides.{nat_tests}
+use Rattle.std.proofs.lemmas.List.{length-map}
+use Rattle.std.proofs.lemmas.Slice.Eq.{bytes_eq-Decides}
+use Rattle.moo_value.specs.Compare.{folded}
+use Rattle.moo_token.specs.declared.keyword.Keyword.{Keyword}
+use Rattle.moo_token.specs.Words.{keyword_text, all_keywords, is_spelled, keyword_of, of_length}
+
+skipped : {A : Type 0} (x : A) (t : Bool) (found later : Option A) → (t ≡ true → false ≡ true) → found ≡ later → found ≡ cond t (Some x) later
+skipped x true found later h same = let apart = h refl in cc
+skipped x false found later h same = same
+
+one_kept : {A : Type 0} (test : A → Bool) (x : A) (kept rest : List A) (b : Bool) → (test x ≡ true → b ≡ true) → find test kept ≡ find test rest → find test (cond b (x ∷ kept) kept) ≡ cond (test x) (Some x) (find test rest)
+one_kept test x kept rest true h same = ap (cond (test x) (Some x)) same
+one_kept test x kept rest false h same = skipped x (test x) (find test kept) (find test rest) h same
+
+-- what passes a test is found among those that pass one that it needs
+find-filter : {A : Type 0} (test needed : A → Bool) → ((x : A) → test x ≡ true → needed x ≡ true) → (xs : List A) → find test (filter needed xs) ≡ find test xs
+find-filter test needed h [] = refl
+find-filter test needed h (x ∷ xs) = one_kept test x (filter needed xs) xs (needed x) (h x) (find-filter test needed h xs)
+
+spelled_length : (word : List ℕ) (k : Keyword) → is_spelled word k ≡ true → (length (keyword_text k) == length word) ≡ true
+spelled_length word k is =
+    let same =
+    sym (length-map (keyword_text k) to_ascii_lowercase)
+    ∙ ap length ((bytes_eq-Decides (folded (keyword_text k)) (folded word)).0 is)
+    ∙ length-map word to_ascii_lowercase
+    in
+    grind (arith, nat_tests)
+
+pub found_by_length : (word : List ℕ) → find (is_spelled word) (of_length (length word)) ≡ keyword_of word
+unfolding keyword_of
+found_by_length word = find-filter (is_spelled word) (λ k. length (keyword_text k) == length word) (spelled_length word) all_keywords

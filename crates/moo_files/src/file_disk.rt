@@ -75,6 +75,16 @@ impl<R: Files + Drop> FileDisk<R> {
 }
 
 impl<R: Files> FileDisk<R> {
+    /// Whether a spare can be made: the error says why not. One that is made for it is removed again, and one that is there already is left
+    /// as it is.
+    pub fn try_spare(&self) -> io::Result<()> {
+        match File::create_new(&self.files, self.spare.as_str()) {
+            Ok(_) => fs::remove_file(&self.files, self.spare.as_str()),
+            Err(error) if error.kind() == ErrorKind::AlreadyExists => Ok(()),
+            Err(error) => Err(error),
+        }
+    }
+
     // Counts a call, and a failure where it met one.
     fn counted<T: Drop>(&mut self, place: Place, answer: io::Result<T>) -> Result<T, DiskFault>
         ensures fault { Counts self.old.failures self.new.failures result }

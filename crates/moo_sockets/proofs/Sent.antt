@@ -1,5 +1,5 @@
 -- What waits for the sockets of a slab.
-use Rattle.std.proofs.Common.{◌≡◌, ℕ, ◌≤◌, List, [], ◌∷◌, ◌++◌, length, take, drop, Option, Some, None, refl, sym, ◌∙◌, ap, subst}
+use Rattle.std.proofs.Common.{◌≡◌, ℕ, ◌≤◌, List, [], ◌∷◌, ◌++◌, length, take, drop, Option, Some, None, refl, sym, ◌∙◌, ap, subst, arith}
 use Rattle.std.specs.Prelude.{IsSome}
 use Rattle.std.specs.Option.{option_map}
 use Rattle.std.proofs.lemmas.List.{get_or_past, take-append-drop}
@@ -18,6 +18,10 @@ waits slot = option_map (λ (socket : Socket). waits_of socket) slot
 -- there is none beyond the slots
 pub held_past : (sockets : Slab Socket) (c : ℕ) → length sockets.slots ≤ c → held sockets c ≡ None
 held_past sockets c past = ap waits (get_or_past sockets.slots c None past)
+
+-- a slab with no slots has none
+pub held_none : (sockets : Slab Socket) (c : ℕ) → sockets.slots ≡ [] → held sockets c ≡ None
+held_none sockets c none = held_past sockets c (omega (arith, ap (λ (slots : List (Option Socket)). length slots) none))
 
 -- a socket that is written to
 pub sends : (c key : ℕ) (bytes : List ℕ) (old : Slab Socket) (before mid after : Socket) (out waiting : ℕ) → key ≡ c → Some before ≡ get old key

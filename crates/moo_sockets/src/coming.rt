@@ -10,6 +10,7 @@ use mio::{Interest, Token};
 use moo_serving::Event;
 use moo_socket::{Came, Socket};
 use std::alloc::AllocError;
+use std::io;
 use std::io::ErrorKind;
 
 /// The most bytes that one read takes.
@@ -39,15 +40,27 @@ impl Sockets {
             Ok((stream, _)) => stream,
             Err(error) => {
                 self.may_accept = error.kind() != ErrorKind::WouldBlock;
+                self.tell_refused(rt, &error);
                 return Ok(None);
             }
         };
         self.is_busy = true;
+        self.is_told = false;
         let Ok(c) = u16::try_from(self.sockets.vacant_key()) else {
             warn!(rt; target: "moo", "a connection is refused: all numbers are taken");
             return Ok(None);
         };
         self.keep(c, stream)
+    }
+
+    // Tells that no connection can be accepted, once until one is.
+    fn tell_refused<L: Log>(&mut self, rt: &L, error: &io::Error)
+        ensures { self.new.sockets ≡ self.old.sockets }
+    {
+        if self.may_accept && !self.is_told {
+            self.is_told = true;
+            warn!(rt; target: "moo", "no connection can be accepted: {error}");
+        }
     }
 
     // Keeps a new connection's socket under its number. Where the system doesn't let it be watched it is closed.

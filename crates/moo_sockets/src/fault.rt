@@ -13,6 +13,15 @@ pub enum SocketsFault {
     Memory,
 }
 
+impl From<io::Error> for SocketsFault {
+    fn from(error: io::Error) -> SocketsFault {
+        match error.kind() {
+            io::ErrorKind::OutOfMemory => SocketsFault::Memory,
+            _ => SocketsFault::Device(error),
+        }
+    }
+}
+
 impl From<AllocError> for SocketsFault {
     fn from(_fault: AllocError) -> SocketsFault {
         SocketsFault::Memory

@@ -1,5 +1,5 @@
 //! Where connections come, and the sockets that they have.
-ghost use Rattle.std.specs.Prelude.{◌≡◌, ◌≤◌, ◌↔◌, ℕ, IsSome, IsTrue, None};
+ghost use Rattle.std.specs.Prelude.{◌≡◌, ◌≤◌, ◌↔◌, ℕ, IfOk, IsSome, IsTrue, None};
 ghost use Rattle.moo_sockets.specs.Coming.{Closes, held};
 
 use crate::fault::SocketsFault;
@@ -26,6 +26,8 @@ pub struct Sockets {
     pub(crate) listener: TcpListener,
     /// Whether a connection may wait to be accepted.
     pub(crate) may_accept: bool,
+    /// Whether the log tells already that none can be accepted.
+    pub(crate) is_told: bool,
     pub(crate) sockets: Slab<Socket>,
     /// Whether something came or went out since `rest`.
     pub(crate) is_busy: bool,
@@ -33,25 +35,26 @@ pub struct Sockets {
 
 impl Sockets {
     /// Listens on a port of an address. Port 0 takes any free one.
+    #[tactic(auto, using(crate::proofs::Sent::held_none))]
     pub fn open<N: Net>(
         rt: &N,
         alloc: Global,
         host: IpAddr,
         port: u16,
-    ) -> Result<Sockets, SocketsFault> {
-        let mut listener = TcpListener::bind(rt, SocketAddr::from((host, port))).map_err(
-            SocketsFault::Device,
-        )?;
-        let poll = Poll::new(rt).map_err(SocketsFault::Device)?;
+    ) -> Result<Sockets, SocketsFault>
+        ensures { IfOk result (λ sockets. (c : ℕ) → held sockets.sockets c ≡ None) }
+    {
+        let mut listener = TcpListener::bind(rt, SocketAddr::from((host, port)))?;
+        let poll = Poll::new(rt)?;
         poll.registry()
-            .register(&mut listener, LISTENER, Interest::READABLE)
-            .map_err(SocketsFault::Device)?;
+            .register(&mut listener, LISTENER, Interest::READABLE)?;
         Ok(Sockets {
             alloc,
             poll,
             ready: Events::with_capacity(alloc, REPORTED)?,
             listener,
             may_accept: true,
+            is_told: false,
             sockets: Slab::new(alloc),
             is_busy: false,
         })
@@ -59,7 +62,8 @@ impl Sockets {
 
     /// Where it listens.
     pub fn address(&self) -> Result<SocketAddr, SocketsFault> {
-        self.listener.local_addr().map_err(SocketsFault::Device)
+        let address = self.listener.local_addr()?;
+        Ok(address)
     }
 
     /// From now on nothing has come or gone out.
@@ -106,7 +110,7 @@ impl Sockets {
         {
             Ok(()) => {}
             Err(error) if error.kind() == ErrorKind::Interrupted => return Ok(()),
-            Err(error) => return Err(SocketsFault::Device(error)),
+            Err(error) => return Err(SocketsFault::from(error)),
         }
         let keys = self.ready_keys()?;
         if wake(&mut self.sockets, &keys) {

@@ -6,9 +6,9 @@ ghost use Rattle.moo_value.specs.View.{tree};
 ghost use Rattle.moo_object.specs.Cells.{is_key, is_named, key_of, cleared, own_cell, emptied, with_info, renamed};
 
 use crate::bits::{bit, take_bit};
-use crate::name::same_name;
+use crate::name::{folded_name, same_name};
 use moo_value::{MooStr, Value};
-use std::alloc::AllocError;
+use std::alloc::{AllocError, Global};
 use std::marker::Model;
 
 /// Who may do what with a property, beside its owner and wizards: read it, write it, and own the cells of new
@@ -141,6 +141,13 @@ impl PropCell {
         ensures { result ≡ is_key (key_of other.now) self.now }
     {
         self.is_for(other.definer, other.name.as_bytes())
+    }
+
+    /// The name of the definition, letters folded.
+    pub fn folded_name(&self, alloc: Global) -> Result<MooStr, AllocError>
+        ensures { IfOk result (λ name. name ≡ self.now.name) }
+    {
+        folded_name(alloc, &self.name)
     }
 
     /// The number of the owner, which may be any number.

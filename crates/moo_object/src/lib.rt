@@ -17,7 +17,7 @@ mod verb_args;
 pub use built_in_property::{BuiltInProperty, built_in};
 pub use cell::{PropCell, PropPerms};
 pub use flags::Flags;
-pub use name::same_name;
+pub use name::{folded_name, same_name};
 pub use object::Object;
 pub use pattern::{fits, fits_names, has_word};
 pub use row::{Row, cell_at, cell_named};

@@ -1,10 +1,11 @@
 // Names, which are the same whatever the case of their letters.
-ghost use Rattle.std.specs.Prelude.{◌≡◌, ◌↔◌, ◌<◌, IsTrue, filter, length, not, position, slice_set};
+ghost use Rattle.std.specs.Prelude.{◌≡◌, ◌↔◌, ◌<◌, IfOk, IsTrue, filter, length, not, position, slice_set};
 ghost use Rattle.std.specs.List.{list_any};
 ghost use Rattle.moo_value.specs.Compare.{folded};
 ghost use Rattle.moo_object.specs.Names.{same_name};
 
 use moo_value::MooStr;
+use std::alloc::{AllocError, Global};
 
 /// Whether two names are the same, A to Z taken as a to z.
 #[tactic(auto, using(crate::proofs::Names::tested))]
@@ -13,6 +14,18 @@ pub fn same_name(one: &[u8], other: &[u8]) -> bool
     ensures value { result ≡ same_name (folded one.now) (folded other.now) }
 {
     one.eq_ignore_ascii_case(other)
+}
+
+/// A name with its letters folded: A to Z as a to z.
+pub fn folded_name(alloc: Global, name: &MooStr) -> Result<MooStr, AllocError>
+    ensures { IfOk result (λ s. s ≡ folded name.now) }
+{
+    let mut bytes = Vec::with_capacity(alloc, name.as_bytes().len())?;
+    for byte in name.as_bytes() {
+        bytes.push(byte.to_ascii_lowercase())?;
+    }
+    // A string stays one with its letters folded, so that only memory can be wanting.
+    MooStr::try_from_vec(alloc, bytes).map_err(|_| AllocError)
 }
 
 pub(crate) fn position_of_name(defined: &[MooStr], name: &[u8]) -> Option<usize>

@@ -92,7 +92,7 @@ impl Object {
     pub fn child(alloc: Global, owner: i32, above: &[PropCell]) -> Result<Object, AllocError>
         ensures { IfOk result (λ o. o ≡ record { name = []; owner = owner; flags = no_flags; verbs = []; defined = []; cells = map (cleared owner) above.now }) }
     {
-        let mut cells = Vec::new(alloc);
+        let mut cells = Vec::with_capacity(alloc, above.len())?;
         for cell in above {
             cells.push(cell.cleared(owner)?)?;
         }
@@ -244,16 +244,22 @@ impl Object {
         requires { AreDistinct self.now.cells }
         ensures { IfOk result (λ row. row ≡ fitted_row number self.now above.now) }
     {
-        let mut row = self.own_cells(alloc, number)?;
+        let room = self.defined.len().saturating_add(above.len());
+        let mut row = self.own_cells(alloc, number, room)?;
         self.push_fitted(&mut row, above)?;
         Ok(Row::from_cells(row))
     }
 
-    // The cells of the object's own definitions, for the object of this number.
-    fn own_cells(&self, alloc: Global, number: usize) -> Result<Vec<PropCell>, AllocError>
+    // The cells of the object's own definitions, for the object of this number, in a row with room for so many.
+    fn own_cells(
+        &self,
+        alloc: Global,
+        number: usize,
+        room: usize,
+    ) -> Result<Vec<PropCell>, AllocError>
         ensures { IfOk result (λ row. row.items ≡ filter (λ c. c.definer == number) self.now.cells) }
     {
-        let mut row = Vec::new(alloc);
+        let mut row = Vec::with_capacity(alloc, room)?;
         for cell in self.cells.as_slice() {
             if cell.definer() == number {
                 row.push(cell.try_clone()?)?;
@@ -368,7 +374,7 @@ impl Object {
     ) -> Result<Row, AllocError>
         ensures { IfOk result (λ row. row ≡ map (at_key (definer, folded name.now) (renamed (folded new_name.now))) self.now.cells) }
     {
-        let mut row = Vec::new(alloc);
+        let mut row = Vec::with_capacity(alloc, self.cells.as_slice().len())?;
         for cell in self.cells.as_slice() {
             row.push(renamed_cell(cell, definer, name, new_name)?)?;
         }

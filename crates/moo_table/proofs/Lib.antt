@@ -24,3 +24,4 @@ pub mod Edited
 pub mod Truths
 pub mod Renamed
 pub mod Respelling
+pub mod NamesMet

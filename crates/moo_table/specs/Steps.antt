@@ -1,13 +1,19 @@
 -- The steps of changes, for the functions that changes are made of: the meaning of a change needs none of these words.
-use Rattle.std.specs.Prelude.{◌≡◌, ◌⊎◌, ℕ, ◌<◌, ◌+◌, ◌-◌, List, [], ◌∷◌, Option, Some, None, Bool, true, false, length, slice_index_or, slice_set, nat_lt, take, is_some, FitsSigned}
+use Rattle.std.specs.Prelude.{◌≡◌, ◌⊎◌, ℕ, ◌<◌, ◌+◌, ◌-◌, List, [], ◌∷◌, ◌++◌, Option, Some, None, Bool, true, false, length, slice_index_or, slice_set, map, nat_lt, take, is_some, FitsSigned}
 use Rattle.std.specs.Int.{w32}
 use Rattle.std.specs.List.{list_any}
+use Rattle.std.specs.BTreeMap as tree
+use Rattle.std.specs.BTreeMap.{BTreeMap}
+use Rattle.std.specs.Ordering.{nat_cmp}
+use Rattle.std.specs.Cmp.Lexicographic.{slice_cmp}
+use denote.Ref.{Bor}
 use Rattle.moo_value.specs.Compare.{folded}
 use Rattle.moo_value.specs.Size.{IsString}
 use Rattle.moo_forest.specs.Forest.{Links}
 use Rattle.moo_forest.specs.Walk.{step_at, met}
 use Rattle.moo_forest.specs.declared.walk.Step.{Step}
 use Rattle.moo_object.specs.Cells.{Cell, is_named, key_of}
+use Rattle.moo_object.specs.Names.{same_name}
 use Rattle.moo_object.specs.Objects.{Object}
 use Rattle.moo_table.specs.World.{World, fitted_over, with_cells, object_of, thing_of, refitted, most, HasStored}
 use Rattle.moo_table.specs.Properties.{is_taken, is_full}
@@ -28,6 +34,15 @@ with_rows objects (y ∷ ys) (row ∷ rows) = slice_set (with_rows objects ys ro
 -- whether an object defines a name that one of these cells has
 abbrev pub own_clash : List (Option Object) → List Cell → ℕ → Bool
 own_clash objects cells y = list_any (λ n. list_any (is_named (folded n)) cells) (thing_of objects y).defined
+
+-- the names that these objects define, letters folded
+abbrev pub own_names : List (Option Object) → List ℕ → List (List ℕ)
+own_names objects [] = []
+own_names objects (y ∷ ys) = map folded (thing_of objects y).defined ++ own_names objects ys
+
+-- a map with just these names
+abbrev pub HasJust : {X : Type 0} → BTreeMap (Bor (List ℕ)) X → List (List ℕ) → Type 0
+HasJust known names = (n : List ℕ) → is_some (tree.get_by (λ k. slice_cmp nat_cmp n k.now) known) ≡ list_any (λ m. same_name m n) names
 
 -- whether an object would have too many cells, with so many more and so many fewer
 abbrev pub is_crowded_by : List (Option Object) → ℕ → ℕ → ℕ → Bool

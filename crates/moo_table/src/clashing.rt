@@ -1,48 +1,107 @@
 //! Names of properties that would clash under another parent.
 
-ghost use Rattle.std.specs.Prelude.{◌≡◌, ◌<◌, length, ℕ};
+ghost use Rattle.std.specs.Prelude.{◌≡◌, ◌<◌, ◌++◌, IfOk, OnOk, length, map, ℕ};
 ghost use Rattle.std.specs.Option.{unwrap_or};
 ghost use Rattle.std.specs.List.{list_any};
 ghost use Rattle.moo_value.specs.Compare.{folded};
 ghost use Rattle.moo_forest.specs.Walk.{met, step_at};
-ghost use Rattle.moo_object.specs.Cells.{is_named};
+ghost use Rattle.moo_object.specs.Cells.{Cell};
+ghost use Rattle.moo_object.specs.Names.{same_name};
 ghost use Rattle.moo_table.specs.World.{nothing};
-ghost use Rattle.moo_table.specs.Steps.{own_clash};
+ghost use Rattle.moo_table.specs.Steps.{own_clash, own_names, HasJust};
 
 use moo_forest::Step;
-use moo_object::{Object, PropCell};
+use moo_object::{Object, PropCell, folded_name};
 use moo_value::MooStr;
+use std::alloc::{AllocError, Global};
+use std::collections::BTreeMap;
 
-/// Whether some object on a walk defines a name that one of these cells has.
-pub fn names_clash(objects: &[Option<Object>], walk: &[Step], cells: &[PropCell]) -> bool
+/// Whether some object on a walk defines a name that one of these cells has. The cells' names are put
+/// in order once, and each name that is defined is looked for in them.
+pub fn names_clash(
+    objects: &[Option<Object>],
+    alloc: Global,
+    walk: &[Step],
+    cells: &[PropCell],
+) -> Result<bool, AllocError>
     requires { (k : ℕ) → k < length walk.now → (step_at walk.now k).node < length objects.now }
-    ensures { result ≡ list_any (own_clash objects.now cells.now) (met walk.now) }
+    ensures { IfOk result (λ clash. clash ≡ list_any (own_clash objects.now cells.now) (met walk.now)) }
 {
-    for step in walk {
-        if defines_any_of(&objects[step.node], cells) {
-            return true;
-        }
+    let own = names_below(objects, alloc, walk)?;
+    if own.is_empty() {
+        return Ok(false);
     }
-    false
+    let gained = cell_names(alloc, cells)?;
+    some_stands_in(alloc, &gained, &own)
 }
 
-fn defines_any_of(slot: &Option<Object>, cells: &[PropCell]) -> bool
-    ensures { result ≡ list_any (λ n. list_any (is_named (folded n)) cells.now) (unwrap_or slot.now nothing).defined }
+// The names that the objects on a walk define, letters folded.
+fn names_below(
+    objects: &[Option<Object>],
+    alloc: Global,
+    walk: &[Step],
+) -> Result<Vec<MooStr>, AllocError>
+    requires { (k : ℕ) → k < length walk.now → (step_at walk.now k).node < length objects.now }
+    ensures { IfOk result (λ names. names.items ≡ own_names objects.now (met walk.now)) }
+{
+    let mut names = Vec::new(alloc);
+    for step in walk {
+        add_folded(alloc, &mut names, defined_in(&objects[step.node]))?;
+    }
+    Ok(names)
+}
+
+fn defined_in(slot: &Option<Object>) -> &[MooStr]
+    ensures { result.now ≡ (unwrap_or slot.now nothing).defined }
 {
     match slot {
-        Some(object) => some_listed(object.defined(), cells),
-        None => false,
+        Some(object) => object.defined(),
+        None => &[],
     }
 }
 
-fn some_listed(names: &[MooStr], cells: &[PropCell]) -> bool
-    ensures { result ≡ list_any (λ n. list_any (is_named (folded n)) cells.now) names.now }
+fn add_folded(alloc: Global, names: &mut Vec<MooStr>, more: &[MooStr]) -> Result<(), AllocError>
+    ensures { OnOk result (names.new.items ≡ names.old.items ++ map folded more.now) }
 {
-    names.iter().any(|name| some_has_name(cells, name))
+    for name in more {
+        names.push(folded_name(alloc, name)?)?;
+    }
+    Ok(())
 }
 
-fn some_has_name(cells: &[PropCell], name: &MooStr) -> bool
-    ensures { result ≡ list_any (is_named (folded name.now)) cells.now }
+fn cell_names(alloc: Global, cells: &[PropCell]) -> Result<Vec<MooStr>, AllocError>
+    ensures { IfOk result (λ names. names.items ≡ map (λ (c : Cell). c.name) cells.now) }
 {
-    cells.iter().any(|cell| cell.is_named(name.as_bytes()))
+    let mut names = Vec::with_capacity(alloc, cells.len())?;
+    for cell in cells {
+        names.push(cell.folded_name(alloc)?)?;
+    }
+    Ok(names)
+}
+
+// Whether one of the second names is among the first ones.
+fn some_stands_in<'a>(
+    alloc: Global,
+    names: &'a [MooStr],
+    others: &'a [MooStr],
+) -> Result<bool, AllocError>
+    ensures { IfOk result (λ found. found ≡ list_any (λ n. list_any (λ m. same_name m n) names.now) others.now) }
+{
+    let known = ordered(alloc, names)?;
+    for name in others {
+        if known.contains_key(&name.as_bytes()) {
+            return Ok(true);
+        }
+    }
+    Ok(false)
+}
+
+fn ordered<'a>(alloc: Global, names: &'a [MooStr]) -> Result<BTreeMap<&'a [u8], ()>, AllocError>
+    ensures { IfOk result (λ known. HasJust known names.now) }
+{
+    let mut known = BTreeMap::new(alloc);
+    for name in names {
+        known.insert(name.as_bytes(), ())?;
+    }
+    Ok(known)
 }

@@ -78,7 +78,8 @@ impl World {
         }
         let walk = self.inheritance.walk_down(alloc, x)?;
         let gained = cells_of(&self.objects, p);
-        if names_clash(&self.objects, &walk, gained) {
+        let clash = names_clash(&self.objects, alloc, &walk, gained)?;
+        if clash {
             return Err(WorldFault::Raise(ErrorCode::InvalidArgument));
         }
         let lost = cells_of(&self.objects, self.inheritance.above(x));

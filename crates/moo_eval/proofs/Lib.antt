@@ -19,3 +19,4 @@ mod Agreed
 mod Begun
 mod Entering
 mod Functions
+mod Direct

@@ -1,11 +1,11 @@
 //! Assignments.
-ghost use Rattle.std.specs.Prelude.{◌≡◌, ◌≤◌, map};
-ghost use Rattle.moo_program.specs.Tree.{assign};
+ghost use Rattle.std.specs.Prelude.{◌≡◌, ◌≤◌, None, IfSome, map};
+ghost use Rattle.moo_program.specs.Tree.{variable, assign, performs};
 ghost use Rattle.moo_program.specs.View.{tree, items_of};
 ghost use Rattle.moo_value.specs.View.{tree as value_tree};
 ghost use Rattle.moo_access.specs.Target.{Path, scattered};
-ghost use Rattle.moo_eval.specs.Meaning.{Computes, Locates, Finds, Steps, Stores, Puts, SetsDefaults};
-ghost use Rattle.moo_outcome.specs.Seen.{context_of, seen_answer, seen_by, seen_done, IsKnownFailure};
+ghost use Rattle.moo_eval.specs.Meaning.{Computes, Does, Locates, Finds, Steps, Stores, Puts, SetsDefaults};
+ghost use Rattle.moo_outcome.specs.Seen.{context_of, seen_answer, seen_by, seen_done, seen_flow, IsKnown, IsKnownFailure};
 ghost use Rattle.moo_code_function.specs.Telling.{Faults};
 ghost use Rattle.moo_eval.specs.Seen.{state_of};
 ghost use Rattle.moo_access.specs.SeenTarget.{root_seen, step_of, steps_of, path_of, spot_of};
@@ -16,9 +16,11 @@ use moo_access::{
     Path, Places, Root, Spot, Step, as_property, push_step, rebuilt, root_alone, set_variable,
     taken_apart, write_property,
 };
-use moo_outcome::{Activation, CallStack, Failure, LeftOut, dealt, missing, set_shares};
+use moo_outcome::{
+    Activation, CallStack, Failure, Flow, LeftOut, Stop, dealt, missing, set_shares,
+};
 use moo_program::{Expr, Item};
-use moo_value::Value;
+use moo_value::{MooStr, Value};
 use moo_world::World;
 
 impl Task {
@@ -36,10 +38,52 @@ impl Task {
         ensures meaning { IsKnownFailure result → Computes Faults (context_of stack.now indexed.entry) (assign (tree target.now) (tree value.now)) (state_of self.old world.old active.old) (seen_answer result) (state_of self.new world.new active.new) }
         ensures ticks { self.new.ticks_left ≤ self.old.ticks_left }
     {
+        if let Some(name) = as_variable(target) {
+            return self.assign_variable(world, active, stack, indexed, name, value);
+        }
         let path = self.locate(world, active, stack, indexed, target)?;
         let value = self.evaluate(world, active, stack, indexed, value)?;
         self.store(world, active, stack, indexed, path, &value)?;
         Ok(value)
+    }
+
+    // A variable without an index is no way to go.
+    #[cycle(evaluation)]
+    fn assign_variable(
+        &mut self,
+        world: &mut World,
+        active: &mut Activation,
+        stack: &CallStack<'_>,
+        indexed: Option<&Value>,
+        name: &MooStr,
+        value: &Expr,
+    ) -> Result<Value, Failure>
+        ensures meaning { IsKnownFailure result → Computes Faults (context_of stack.now indexed.entry) (assign (variable name.now) (tree value.now)) (state_of self.old world.old active.old) (seen_answer result) (state_of self.new world.new active.new) }
+        ensures ticks { self.new.ticks_left ≤ self.old.ticks_left }
+    {
+        let value = self.evaluate(world, active, stack, indexed, value)?;
+        let copy = value.try_clone()?;
+        active.variables.set(name, copy)?;
+        Ok(value)
+    }
+
+    /// An assignment to a variable, whose own value is not used.
+    #[cycle(evaluation)]
+    pub(crate) fn assign_alone(
+        &mut self,
+        world: &mut World,
+        active: &mut Activation,
+        stack: &CallStack<'_>,
+        name: &MooStr,
+        value: &Expr,
+    ) -> Result<Flow, Stop>
+        ensures meaning { IsKnown result → Does Faults (context_of stack.now None) (performs (assign (variable name.now) (tree value.now))) (state_of self.old world.old active.old) (seen_flow result) (state_of self.new world.new active.new) }
+        ensures ticks { self.new.ticks_left ≤ self.old.ticks_left }
+    {
+        self.take_tick(active, stack)?;
+        let value = self.evaluate(world, active, stack, None, value)?;
+        active.variables.set(name, value)?;
+        Ok(Flow::Next)
     }
 
     // The way to what a target sets, whose containers are read from the root on.
@@ -189,5 +233,26 @@ impl Task {
             active.variables.set(default.name, value)?;
         }
         Ok(())
+    }
+}
+
+/// The name and the value of an assignment to a variable alone.
+pub(crate) fn as_assignment(expr: &Expr) -> Option<(&MooStr, &Expr)>
+    ensures { IfSome result (λ p. tree expr.now ≡ assign (variable p.0.now) (tree p.1.now)) }
+{
+    let Expr::Assign(target, value) = expr else {
+        return None;
+    };
+    let name = as_variable(target)?;
+    Some((name, value))
+}
+
+// The name of a variable.
+fn as_variable(expr: &Expr) -> Option<&MooStr>
+    ensures { IfSome result (λ name. tree expr.now ≡ variable name.now) }
+{
+    match expr {
+        Expr::Variable(name) => Some(name),
+        _ => None,
     }
 }

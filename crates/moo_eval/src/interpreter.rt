@@ -87,6 +87,26 @@ impl Task {
         ensures meaning { IsKnown result → Evaluates Faults (context_of stack.now indexed.entry) (tree expr.now) (state_of self.old world.old active.old) (seen_value result) (state_of self.new world.new active.new) }
         ensures ticks { self.new.ticks_left ≤ self.old.ticks_left }
     {
+        if let Expr::Variable(name) = expr {
+            return self.variable(active, stack, indexed, name);
+        }
+        self.evaluate_node(world, active, stack, indexed, expr)
+    }
+
+    // An expression of any kind.
+    #[cycle(evaluation)]
+    #[inline(never)]
+    fn evaluate_node(
+        &mut self,
+        world: &mut World,
+        active: &mut Activation,
+        stack: &CallStack<'_>,
+        indexed: Option<&Value>,
+        expr: &Expr,
+    ) -> Result<Value, Stop>
+        ensures meaning { IsKnown result → Evaluates Faults (context_of stack.now indexed.entry) (tree expr.now) (state_of self.old world.old active.old) (seen_value result) (state_of self.new world.new active.new) }
+        ensures ticks { self.new.ticks_left ≤ self.old.ticks_left }
+    {
         self.take_tick(active, stack)?;
         let outcome = self.compute(world, active, stack, indexed, expr);
         settle(self.alloc, stack, active, outcome)

@@ -6,6 +6,7 @@ mod calls;
 mod hooks;
 mod interpreter;
 pub mod laws;
+mod leaves;
 mod line;
 mod loops;
 mod statement;

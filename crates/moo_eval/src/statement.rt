@@ -8,6 +8,7 @@ ghost use Rattle.moo_outcome.specs.Seen.{context_of, seen_flow, IsKnown};
 ghost use Rattle.moo_code_function.specs.Telling.{Faults};
 ghost use Rattle.moo_eval.specs.Seen.{state_of};
 
+use crate::assignment::as_assignment;
 use crate::interpreter::Task;
 use moo_operation::is_true;
 use moo_outcome::{Activation, CallStack, Flow, Stop, copied_name};
@@ -96,6 +97,9 @@ impl Task {
         ensures meaning { IsKnown result → Does Faults (context_of stack.now None) (performs (tree expr.now)) (state_of self.old world.old active.old) (seen_flow result) (state_of self.new world.new active.new) }
         ensures ticks { self.new.ticks_left ≤ self.old.ticks_left }
     {
+        if let Some((name, value)) = as_assignment(expr) {
+            return self.assign_alone(world, active, stack, name, value);
+        }
         let _value = self.evaluate(world, active, stack, None, expr)?;
         Ok(Flow::Next)
     }

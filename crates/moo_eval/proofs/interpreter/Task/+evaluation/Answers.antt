@@ -16,6 +16,7 @@ use Rattle.moo_eval.specs.Meaning.{EvaluatesAll, Stores, spent, begins, operands
 use Rattle.moo_value.specs.declared.error_code.ErrorCode.TheVariants.{TypeMismatch}
 use Rattle.moo_access.specs.SeenTarget.{path_of, steps_of}
 use Rattle.moo_eval.proofs.Caught.{guards_end, passes_on, none_left, known_caught}
+use Rattle.moo_eval.proofs.Direct.{assigned, unassigned, performed, unperformed}
 use Rattle.moo_eval.proofs.Exits.{refused, gathered, unlisted, same_state, optional_ends, goes_on-not, state_at, no_flow, guarded_on, property_put, runs_at}
 use Rattle.moo_outcome.proofs.Rest.{drop_next, next_tree}
 use Rattle.moo_program.proofs.Rows.{row_items, row_block, row_arms, row_handlers}
@@ -31,13 +32,17 @@ use Rattle.moo_eval.specs.Operands.{before}
 use Rattle.moo_eval.proofs.interpreter.Task.+evaluation.Goals as goal
 use Rattle.moo_eval.proofs.interpreter.Task.+evaluation.Goals.{evaluate_all-in-Element+in_ok-value-in-Element+in_ok-push-in-Element, evaluate_all-in-Splice+in_ok-value-in-Splice+in_ok-splice-in-Splice}
 
-pub evaluate-returns-clause-meaning : goal.evaluate-returns-clause-meaning
-evaluate-returns-clause-meaning t c =
+pub evaluate_node-returns-clause-meaning : goal.evaluate_node-returns-clause-meaning
+evaluate_node-returns-clause-meaning t c =
     λ k. begins c.in_ok-take_tick.ensures.taken (rw c.in_ok-take_tick.ensures.left at (c.compute-outcome.ensures.meaning (c.settle.ensures.known k))) (c.settle.ensures.outcome k)
 
-pub evaluate-returns-in_err-take_tick-clause-meaning : goal.evaluate-returns-in_err-take_tick-clause-meaning
-evaluate-returns-in_err-take_tick-clause-meaning t c =
+pub evaluate_node-returns-in_err-take_tick-clause-meaning : goal.evaluate_node-returns-in_err-take_tick-clause-meaning
+evaluate_node-returns-in_err-take_tick-clause-meaning t c =
     let p = err_from_is_err_and c.from_residual.result c.from_residual.ensures.1 in rw (p.1, p.2) (λ k. let h = c.in_err-take_tick.ensures.spent k in rw (c.in_err-take_tick.ensures.kept, h.1) (spent h.0))
+
+pub evaluate-returns-in-Variable-clause-meaning : goal.evaluate-returns-in-Variable-clause-meaning
+evaluate-returns-in-Variable-clause-meaning t c =
+    λ k. rw c.in-Variable.is (c.variable.ensures.meaning c.args.world.now k)
 
 pub compute-returns-in-Variable-clause-meaning : goal.compute-returns-in-Variable-clause-meaning
 compute-returns-in-Variable-clause-meaning t c =
@@ -712,6 +717,32 @@ pub give-returns-in_err-evaluate-in-Some-clause-meaning : goal.give-returns-in_e
 give-returns-in_err-evaluate-in-Some-clause-meaning t c =
     let p = err_from_is_err_and c.from_residual.result c.from_residual.ensures.1 in
     rw (p.1, p.2, c.in-Some.is, ← c.deref.ensures) (λ k. gives (c.in_err-evaluate-in-Some.ensures.meaning k) refl)
+
+pub assign-returns-in-Some-clause-meaning : goal.assign-returns-in-Some-clause-meaning
+assign-returns-in-Some-clause-meaning t c = λ k. rw c.in-Some.ensures (c.assign_variable.ensures.meaning k)
+
+pub assign_variable-returns-clause-meaning : goal.assign_variable-returns-clause-meaning
+assign_variable-returns-clause-meaning t c =
+    λ k. assigned (c.in_ok-value.ensures.meaning tt) (same_state (sym (rw c.in_ok-copy.ensures.value at c.in_ok-set.ensures)) refl)
+
+pub assign_variable-returns-in_err-value-clause-meaning : goal.assign_variable-returns-in_err-value-clause-meaning
+assign_variable-returns-in_err-value-clause-meaning t c =
+    let p = err_from_is_err_and c.from_residual.result c.from_residual.ensures.1 in rw (p.1, p.2) (λ k. unassigned (c.in_err-value.ensures.meaning k))
+
+pub assign_alone-returns-clause-meaning : goal.assign_alone-returns-clause-meaning
+assign_alone-returns-clause-meaning t c =
+    λ k. performed c.in_ok-take_tick.ensures.taken (assigned (rw c.in_ok-take_tick.ensures.left at (c.in_ok-value.ensures.meaning tt)) (same_state (sym c.in_ok-set.ensures) refl))
+
+pub assign_alone-returns-in_err-take_tick-clause-meaning : goal.assign_alone-returns-in_err-take_tick-clause-meaning
+assign_alone-returns-in_err-take_tick-clause-meaning t c =
+    let p = err_from_is_err_and c.from_residual.result c.from_residual.ensures.1 in rw (p.1, p.2) (λ k. let h = c.in_err-take_tick.ensures.spent k in rw (c.in_err-take_tick.ensures.kept, h.1) (evaluates (spent h.0) refl))
+
+pub assign_alone-returns-in_err-value-clause-meaning : goal.assign_alone-returns-in_err-value-clause-meaning
+assign_alone-returns-in_err-value-clause-meaning t c =
+    let p = err_from_is_err_and c.from_residual-in_err-value.result c.from_residual-in_err-value.ensures.1 in rw (p.1, p.2) (λ k. unperformed c.in_ok-take_tick.ensures.taken (unassigned (rw c.in_ok-take_tick.ensures.left at (c.in_err-value.ensures.meaning k))))
+
+pub evaluate_alone-returns-in-Some-clause-meaning : goal.evaluate_alone-returns-in-Some-clause-meaning
+evaluate_alone-returns-in-Some-clause-meaning t c = λ k. rw c.in-Some.ensures (c.assign_alone.ensures.meaning k)
 
 pub evaluate_alone-returns-clause-meaning : goal.evaluate_alone-returns-clause-meaning
 evaluate_alone-returns-clause-meaning t c = λ k. evaluates (c.in_ok-_value.ensures.meaning tt) refl

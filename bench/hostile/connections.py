@@ -2,6 +2,8 @@
 import program, world
 
 NUMBERS = 65_536
+# The number of the first player of a database with one for each connection.
+FIRST = 6
 HEADS = ["Event", "Answer", "Seen"]
 CROWD_HEADS = ["Connections", "Seconds", "Megabytes", "Ended"]
 # Events that are refused, by name: the events, the last line printed and the status.
@@ -27,12 +29,22 @@ TAKEN = [
 ]
 
 
-def crowd(count, lines):
-    """So many numbers opened, each with these lines, and hung up again."""
+def players():
+    """The smallest world, and a player for each number of a connection."""
+    return world.small() + [world.Thing(f"P{number}", world.PLAYER, 3, 1, 2) for number in range(NUMBERS)]
+
+
+def together(count, lines):
+    """So many numbers opened, each with these lines, and then hung up."""
     events = [f"open {number}\n" for number in range(count)]
-    events += [line.format(number) + "\n" for line in lines for number in range(count)]
+    events += [line.format(number, FIRST + number) + "\n" for line in lines for number in range(count)]
     events += [f"hangup {number}\n" for number in range(count)]
     return "".join(events)
+
+
+def in_turn(count):
+    """So many numbers, each opened and hung up before the next."""
+    return "".join(f"open {number}\nhangup {number}\n" for number in range(count))
 
 
 def main(database):
@@ -50,17 +62,21 @@ def main(database):
     return rows, is_well
 
 
-def crowds(database):
-    """What many connections take at once: rows of a table."""
+def crowds(database, players):
+    """What many connections take: rows of a table. The second database has a player for each number, from FIRST on."""
     rows, is_well, half = [], True, "61" * 8192
-    for count, what, lines in (
-        (1_000, "opened and hung up", []),
-        (1_000, "each with 8,192 bytes that end no line", ["bytes {} " + half]),
-        (10_000, "opened and hung up", []),
-        (NUMBERS, "opened and hung up", []),
+    for path, count, what, events in (
+        (database, 1_000, "open at once, each with 8,192 bytes that end no line", together(1_000, ["bytes {0} " + half])),
+        (database, 4_000, "open at once", together(4_000, [])),
+        (database, 16_000, "open at once", together(16_000, [])),
+        (database, NUMBERS, "one after another", in_turn(NUMBERS)),
+        (database, NUMBERS, "open at once", together(NUMBERS, [])),
+        (players, 16_000, "open at once, each a player's", together(16_000, ["line {0} #{1}"])),
+        (players, NUMBERS, "open at once, each a player's", together(NUMBERS, ["line {0} #{1}"])),
     ):
-        run = program.script(database, crowd(count, lines) + "open 1\nline 1 #5\n", patience=1800)
-        fits = (run.output, run.status) == ("1: *** Connected ***\n", 0)
+        run = program.script(path, events + "open 1\nline 1 #5\n", patience=1800, most=1 << 30)
+        logins = count if "player" in what else 0
+        fits = (run.output.count("*** Connected ***\n"), run.output.count("\n"), run.status) == (logins + 1, logins + 1, 0)
         rows.append((f"{count:,} {what}", f"{run.seconds:.1f}", f"{run.megabytes:.0f}", "well" if fits else f"NOT: {run.last()}"))
         is_well &= fits
     return rows, is_well

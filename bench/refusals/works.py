@@ -80,6 +80,8 @@ WORKS = [(f"moo expr, {line.decode()}", ["expr"], line + b"\n", []) for line in 
     ("moo check, a world", ["check", SMALL], b"", []),
     ("moo check, a damaged one", ["check", DAMAGED], b"", []),
     ("moo check, the starter's seed", ["check", SEED], b"", []),
+    ("moo check --all, a damaged one", ["check", "--all", DAMAGED], b"", []),
+    ("moo check --all, the starter's seed", ["check", "--all", SEED], b"", []),
     ("moo copy, a world", ["copy", SMALL], b"", []),
     ("moo copy, the starter's seed", ["copy", SEED], b"", []),
     ("moo check, the starter world", ["check", STARTER], b"", []),

@@ -1,8 +1,10 @@
 /* Stand-ins for clients, where the system doesn't let a process have so many open files: once there is a file `crowd` in the working
-   folder, and none else waits to be accepted, so many as CROWD tells are accepted that never say anything and take all that is sent. */
+   folder, and none else waits to be accepted, so many as CROWD tells are accepted that never say anything and take all that is sent.
+   Behind the last of them there is a file `full`. */
 #define _GNU_SOURCE
 #include <dlfcn.h>
 #include <errno.h>
+#include <fcntl.h>
 #include <netinet/in.h>
 #include <stdarg.h>
 #include <stdlib.h>
@@ -28,7 +30,9 @@ int accept4(int fd, struct sockaddr *address, socklen_t *length, int flags) {
     if (made >= crowd()) { errno = EAGAIN; return -1; }
     struct sockaddr_in from = {.sin_family = AF_INET, .sin_port = htons(1), .sin_addr = {htonl(INADDR_LOOPBACK)}};
     if (address && length) { memcpy(address, &from, sizeof from); *length = sizeof from; }
-    return FIRST + made++;
+    made += 1;
+    if (made == crowd()) close(creat("full", 0644));
+    return FIRST + made - 1;
 }
 
 int epoll_ctl(int poll, int op, int fd, struct epoll_event *event) {

@@ -82,10 +82,8 @@ come(len(clients), most)
 assert len(numbers) == most
 tell(most)
 if most < NUMBERS:
-    before = -1
-    while used() > before + 0.1:
-        before = used()
-        time.sleep(2)
+    while not os.path.exists("full"):
+        time.sleep(0.5)
     print(f"with {NUMBERS - most} stand-ins:")
     tell(NUMBERS)
 last = connect(most)

@@ -11,10 +11,13 @@ use crate::loading::load;
 use moo_report::{Refusal, Watch, show, tell};
 use std::alloc::Global;
 use std::io::{Read, Write};
+use std::mem::forget;
 
 /// Writes how many objects, programs and connections the database has that the input is, and answers the exit
 /// status: 0, or 1 where the database is refused, which is told in a line; 3 where the input or the output
 /// failed and 4 where memory was wanting, each told in a line of its own where the output still takes it.
+///
+/// The memory of what was read is left to the end of the process, which gives it back at once.
 pub fn run_check<I: Read, O: Write>(alloc: Global, input: &mut I, output: &mut O) -> u8
     ensures { ShowsDatabase counts_line (I.remaining input.old) (O.contents output.old) (O.contents output.new) result }
 {
@@ -52,6 +55,7 @@ fn checked<I: Read, O: Write>(
             let Ok(line) = counts_line(alloc, &saved) else {
                 return Err(watch.lack());
             };
+            forget(saved);
             show(&line, output, watch)
         }
         Err(fault) => tell(alloc, fault, output, watch),

@@ -14,10 +14,13 @@ use moo_report::{Refusal, Watch, show, tell};
 use moo_saved::Saved;
 use std::alloc::Global;
 use std::io::{Read, Write};
+use std::mem::forget;
 
 /// Writes the canonical text of the database that the input is, and answers the exit status: 0, or 1 where
 /// the database is refused, which is told in a line; 3 where the input or the output failed and 4 where
 /// memory was wanting, each told in a line of its own where the output still takes it.
+///
+/// The memory of what was read is left to the end of the process, which gives it back at once.
 pub fn run_copy<I: Read, O: Write>(alloc: Global, input: &mut I, output: &mut O) -> u8
     ensures { ShowsDatabase canonical (I.remaining input.old) (O.contents output.old) (O.contents output.new) result }
 {
@@ -53,6 +56,7 @@ fn copied<I: Read, O: Write>(
     match loaded {
         Ok(saved) => {
             let text = canonical_text(alloc, &saved, watch)?;
+            forget(saved);
             show(&text, output, watch)
         }
         Err(fault) => tell(alloc, fault, output, watch),

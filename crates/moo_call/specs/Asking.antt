@@ -1,10 +1,9 @@
 -- What the functions that leave a notice ask for, and who may ask.
-use Rattle.std.specs.Prelude.{ℕ, ℤ, pos, List, [], ◌∷◌, ◌++◌, Bool, Option, None, Some, Ok, Err, if◌then◌else◌}
+use Rattle.std.specs.Prelude.{ℤ, pos, List, [], ◌∷◌, ◌++◌, Bool, Option, None, Some, Ok, Err, if◌then◌else◌}
 use Rattle.moo_value.specs.declared.error_code.ErrorCode.{ErrorCode}
 use Rattle.moo_value.specs.declared.error_code.ErrorCode.TheVariants.{TypeMismatch, Permission}
 use Rattle.moo_value.specs.Tree.{Tree, integer, object, string}
 use Rattle.moo_operation.specs.Truth.{is_true}
-use Rattle.moo_table.specs.World.{World}
 use Rattle.moo_world.specs.Calls.{number_of}
 use Rattle.moo_world.specs.PlayerCalls.{set_player_raises, world_set_player}
 use Rattle.moo_world.specs.Rights.{controls, is_wizard}

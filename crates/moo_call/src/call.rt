@@ -1,4 +1,4 @@
-//! A call of a built-in function by its name.
+//! A call of a built-in function.
 ghost use Rattle.std.specs.Prelude.{◌≡◌, ℕ, List, None, Some};
 ghost use Rattle.moo_outcome.specs.declared.notice.Notice.{Notice};
 ghost use Rattle.moo_value.specs.View.{trees};
@@ -11,24 +11,26 @@ ghost use Rattle.moo_call.specs.Calls.{unless_refused, task_reply, task_function
 ghost use Rattle.moo_call.specs.Seen.{state_at};
 ghost use Rattle.moo_code_function.specs.Telling.{Faults};
 ghost use Rattle.moo_builtin.specs.Calls.{CallsPlain};
+ghost use Rattle.moo_builtin.specs.Outcomes.{IsReply};
 
+use crate::arguments::are_too_many;
 use crate::raising::raised_here;
 use crate::task::{is_of_task, task_reply};
 use crate::ticks::Ticks;
 use moo_builtin::{Caller, call_found};
 use moo_function::Function;
-use moo_outcome::{Activation, CallStack, Failure, Notice, Stop};
-use moo_value::{MooStr, Value};
-use moo_value_function::Outcome;
+use moo_outcome::{Activation, CallStack, Failure, Gathered, Notice, Stop};
+use moo_value::{ErrorCode, Value};
+use moo_value_function::{Outcome, raised};
 use moo_world::World;
 use moo_world_function::refusal;
-use std::alloc::Global;
+use std::alloc::{AllocError, Global};
 
-/// Calls a built-in function by its name, letters folded, for the running frame and its programmer: one that looks at the
-/// task, of which so many ticks are left, or its connections, or that leaves a notice, or a plain one. A wrong number of
-/// arguments raises E_ARGS, then one of a wrong type E_TYPE, then an object that isn't valid E_INVARG, then comes what the
-/// function itself looks at, and the programmer's right last. Names of no function, and functions that call verbs, raise
-/// E_INVARG.
+/// Calls a built-in function for the running frame and its programmer: one that looks at the task, of which so many ticks
+/// are left, or its connections, or that leaves a notice, or a plain one. A wrong number of arguments raises E_ARGS, then
+/// one of a wrong type E_TYPE, then an object that isn't valid E_INVARG, then comes what the function itself looks at, and
+/// the programmer's right last. No function, and one that calls verbs, raises E_INVARG. The lists that were spliced in are
+/// not copied where there are more arguments than the function takes.
 pub fn call_function(
     alloc: Global,
     world: &mut World,
@@ -36,17 +38,18 @@ pub fn call_function(
     stack: &CallStack<'_>,
     ticks: &Ticks,
     notices: &mut Vec<Notice>,
-    name: &MooStr,
-    args: Vec<Value>,
+    function: Option<Function>,
+    values: Gathered,
 ) -> Result<Value, Failure>
-    ensures { IsKnownFailure result → CallsFunction Faults (context_of stack.now None) name.now (trees args.items) (state_at ticks.now notices.old.items world.old active.old) (seen_answer result) (state_at ticks.now notices.new.items world.new active.new) }
+    ensures { (name : List ℕ) → function_of name ≡ function → IsKnownFailure result → CallsFunction Faults (context_of stack.now None) name values (state_at ticks.now notices.old.items world.old active.old) (seen_answer result) (state_at ticks.now notices.new.items world.new active.new) }
 {
-    let function = Function::from_name(name.as_bytes());
     match task_function(function) {
         Some(function) => {
-            unless_refused(alloc, world, active, stack, ticks, notices, function, &args)
+            unless_too_many(
+                alloc, world, active, stack, ticks, notices, function, values,
+            )
         }
-        None => plain(alloc, world, active, stack, function, args),
+        None => plain(alloc, world, active, stack, function, values),
     }
 }
 
@@ -59,6 +62,25 @@ fn task_function(function: Option<Function>) -> Option<Function>
     } else {
         None
     }
+}
+
+fn unless_too_many(
+    alloc: Global,
+    world: &mut World,
+    active: &mut Activation,
+    stack: &CallStack<'_>,
+    ticks: &Ticks,
+    notices: &mut Vec<Notice>,
+    function: Function,
+    values: Gathered,
+) -> Result<Value, Failure>
+    ensures { IsKnownFailure result → unless_refused (state_at ticks.now notices.old.items world.old active.old) (refusal (is_valid world.old) (row function) values) (task_reply function (context_of stack.now None) values (state_at ticks.now notices.old.items world.old active.old)) ≡ (seen_answer result, state_at ticks.now notices.new.items world.new active.new) }
+{
+    if are_too_many(function, &values) {
+        return Err(Failure::Fails(ErrorCode::Arguments));
+    }
+    let args = values.into_values(alloc)?;
+    unless_refused(alloc, world, active, stack, ticks, notices, function, &args)
 }
 
 fn unless_refused(
@@ -86,20 +108,41 @@ fn plain(
     active: &Activation,
     stack: &CallStack<'_>,
     function: Option<Function>,
-    args: Vec<Value>,
+    values: Gathered,
 ) -> Result<Value, Failure>
-    ensures { (name : List ℕ) (ticks : ℕ) (notices : List Notice) → function_of name ≡ function → IsKnownFailure result → ComesTo (CallsPlain Faults name (trees args.items) world.old (caller (context_of stack.now None) (state_at ticks notices world.old active.now))) (context_of stack.now None) (state_at ticks notices world.old active.now) (seen_answer result) (state_at ticks notices world.new active.now) }
+    ensures { (name : List ℕ) (ticks : ℕ) (notices : List Notice) → function_of name ≡ function → IsKnownFailure result → ComesTo (CallsPlain Faults name values world.old (caller (context_of stack.now None) (state_at ticks notices world.old active.now))) (context_of stack.now None) (state_at ticks notices world.old active.now) (seen_answer result) (state_at ticks notices world.new active.now) }
 {
-    let mut args = args;
     let caller = Caller {
         programmer: active.programmer,
         moment: stack.surroundings.moment,
     };
-    match call_found(alloc, function, &mut args, world, caller) {
+    match outcome(alloc, function, values, world, caller) {
         Outcome::Value(value) => Ok(value),
         Outcome::Raise(code, message, value) => {
             raised_here(alloc, stack, active, code, message, value)
         }
         Outcome::Memory => Err(Failure::Stops(Stop::Memory)),
+    }
+}
+
+// What a plain call comes to.
+fn outcome(
+    alloc: Global,
+    function: Option<Function>,
+    values: Gathered,
+    world: &mut World,
+    caller: Caller,
+) -> Outcome
+    ensures { (name : List ℕ) → function_of name ≡ function → IsReply result world.old world.new (CallsPlain Faults name values world.old caller) }
+{
+    let Some(found) = function else {
+        return raised(alloc, ErrorCode::InvalidArgument);
+    };
+    if are_too_many(found, &values) {
+        return raised(alloc, ErrorCode::Arguments);
+    }
+    match values.into_values(alloc) {
+        Ok(mut args) => call_found(alloc, Some(found), &mut args, world, caller),
+        Err(AllocError) => Outcome::Memory,
     }
 }

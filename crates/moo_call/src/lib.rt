@@ -2,6 +2,7 @@
 //! A room behind `moo_eval`.
 #![tactic(auto)]
 
+mod arguments;
 mod asking;
 mod call;
 mod connections;
@@ -10,5 +11,6 @@ mod raising;
 mod task;
 mod ticks;
 
+pub use arguments::are_too_many;
 pub use call::call_function;
 pub use ticks::{MOST_TICKS, Ticks};

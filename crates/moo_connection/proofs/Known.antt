@@ -4,7 +4,7 @@ use Rattle.std.specs.Prelude.{position, nat_lt, min}
 use Rattle.std.specs.List.{position_or_len}
 use Rattle.std.specs.Option.{option_map, option_map_or}
 use Rattle.std.specs.Ordering.{int_eq}
-use Rattle.std.proofs.Math.Nat.{zero-min, min-zero, min-eq_left, min-eq_right}
+use Rattle.std.proofs.Math.Nat.{zero-min, min-zero}
 use Rattle.std.proofs.lemmas.Bool.{cond-true, cond-false, lt-ltb, le-ltb, ltb-true, ltb-false, eqb-true, eq-eqb, cases_eq, true≢false, false_from_ne_true}
 use Rattle.std.proofs.lemmas.Bool.Decides.{Decides-int_eq}
 use Rattle.std.proofs.lemmas.List.Quantifiers.{position-Some}

@@ -3,7 +3,7 @@ use Rattle.std.proofs.Common.{◌≡◌, ℕ, ℤ, suc, zero, ◌<◌, Bool, tru
 use Rattle.std.specs.Prelude.{slice_set, find}
 use Rattle.std.specs.List.{remove, insert}
 use Rattle.std.specs.BTreeMap.{BTreeMap, get}
-use Rattle.std.specs.Option.{option_map, option_map_or, unwrap_or}
+use Rattle.std.specs.Option.{option_map, option_map_or}
 use Rattle.std.specs.Ordering.{int_cmp, int_eq}
 use Rattle.std.proofs.lemmas.Bool.{cond-true, cond-false, cases_Bool, true≢false, false_from_ne_true}
 use Rattle.std.proofs.lemmas.Bool.Decides.{Decides-int_eq}

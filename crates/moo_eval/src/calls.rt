@@ -17,6 +17,7 @@ ghost use Rattle.moo_eval.specs.Seen.{state_of};
 use crate::hooks::Pending;
 use crate::interpreter::Task;
 use moo_access::{Called, enter_verb, read_property};
+use moo_function::Function;
 use moo_hook::{Progress, start_call, verb_caller};
 use moo_outcome::{Activation, CallStack, Failure, Flow, Stop, caught};
 use moo_program::{Codes, Expr, Item};
@@ -95,11 +96,11 @@ impl Task {
         ensures ticks { self.new.ticks_left ≤ self.old.ticks_left }
     {
         let values = self.evaluate_all(world, active, stack, indexed, items)?;
-        let args = values.into_values(self.alloc())?;
-        let Some(function) = verb_caller(name) else {
-            return self.call_function(world, active, stack, name, args);
+        let function = Function::from_name(name.as_bytes());
+        let Some(caller) = verb_caller(function) else {
+            return self.call_function(world, active, stack, function, values);
         };
-        let first = start_call(self.alloc(), world, stack, active, function, args)?;
+        let first = start_call(self.alloc(), world, stack, active, caller, values)?;
         self.proceed(world, active, stack, first)
     }
 

@@ -1,11 +1,12 @@
 //! Expressions.
-ghost use Rattle.std.specs.Prelude.{◌≡◌, ◌-◌, ◌<◌, ◌≤◌, [], ◌++◌, None, IfOk, IfErr, OnOk, OnErr};
+ghost use Rattle.std.specs.Prelude.{◌≡◌, ◌-◌, ◌<◌, ◌≤◌, ℕ, List, [], ◌++◌, None, IfOk, IfErr, OnOk, OnErr};
 ghost use Rattle.moo_program.specs.Tree.{unary, binary, logic, conditional, index, range, list};
 ghost use Rattle.moo_program.specs.View.{tree, items_of};
 ghost use Rattle.moo_value.specs.View.{tree as tree_of, trees};
 ghost use Rattle.moo_outcome.specs.Outcome.{out_of_ticks};
 ghost use Rattle.moo_eval.specs.Meaning.{Evaluates, Computes, EvaluatesAll};
 ghost use Rattle.moo_outcome.specs.Seen.{context_of, trace_of, stop_of, seen_value, seen_answer, seen_by, HadMemory, IsKnown, IsKnownFailure};
+ghost use Rattle.moo_function.specs.Names.{function_of};
 ghost use Rattle.moo_call.specs.Tasks.{most_ticks};
 ghost use Rattle.moo_call.specs.Calls.{CallsFunction};
 ghost use Rattle.moo_code_function.specs.Telling.{Faults};
@@ -15,6 +16,7 @@ ghost use Rattle.moo_hook.specs.Turns.{stage_turns, progress_turns};
 ghost use Rattle.moo_eval.specs.Seen.{state_of};
 
 use moo_call::{Ticks, call_function};
+use moo_function::Function;
 use moo_hook::{Progress, Stage, resume_call};
 use moo_operation as operation;
 use moo_outcome::{
@@ -23,7 +25,7 @@ use moo_outcome::{
 };
 use moo_program::operator::{BinaryOperator, LogicOperator, UnaryOperator};
 use moo_program::{Expr, Item};
-use moo_value::{ErrorCode, MooStr, Value};
+use moo_value::{ErrorCode, Value};
 use moo_world::World;
 use std::alloc::{AllocError, Global};
 
@@ -124,10 +126,10 @@ impl Task {
         world: &mut World,
         active: &mut Activation,
         stack: &CallStack<'_>,
-        name: &MooStr,
-        args: Vec<Value>,
+        function: Option<Function>,
+        values: Gathered,
     ) -> Result<Value, Failure>
-        ensures call { IsKnownFailure result → CallsFunction Faults (context_of stack.now None) name.now (trees args.items) (state_of self.old world.old active.old) (seen_answer result) (state_of self.new world.new active.new) }
+        ensures call { (name : List ℕ) → function_of name ≡ function → IsKnownFailure result → CallsFunction Faults (context_of stack.now None) name values (state_of self.old world.old active.old) (seen_answer result) (state_of self.new world.new active.new) }
         ensures ticks { self.new.ticks_left ≡ self.old.ticks_left }
     {
         call_function(
@@ -137,8 +139,8 @@ impl Task {
             stack,
             &self.ticks_left,
             &mut self.notices,
-            name,
-            args,
+            function,
+            values,
         )
     }
 

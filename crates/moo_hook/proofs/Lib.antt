@@ -2,6 +2,7 @@ pub mod Evaluated
 pub mod Fewer
 pub mod Hooked
 pub mod Moves
+pub mod Passed
 pub mod Quotas
 pub mod Raised
 pub mod Turning

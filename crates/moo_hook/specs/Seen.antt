@@ -1,5 +1,6 @@
 -- What the program's steps stand for.
-use Rattle.std.specs.Prelude.{None, Result, Ok, Err}
+use Rattle.std.specs.Prelude.{ℤ, List, [], ◌∷◌, Option, None, Some, Result, Ok, Err}
+use Rattle.moo_value.specs.Tree.{Tree, object}
 use Rattle.moo_value.specs.View.{tree}
 use Rattle.moo_outcome.specs.declared.frame.CallStack.{CallStack}
 use Rattle.moo_outcome.specs.declared.frame.Activation.{Activation}
@@ -25,6 +26,11 @@ progress_of (progress_case.StageNext stage) = stage_next stage
 abbrev pub seen_progress : Result code_progress.Progress code_failure.Failure → Progress
 seen_progress (Ok step) = progress_of step
 seen_progress (Err failure) = done (Err (failure_of failure))
+
+-- For private clauses: the arguments of a verb that is told of an object, or of nothing.
+abbrev pub arguments_of : Option ℤ → List Tree
+arguments_of None = []
+arguments_of (Some o) = object o ∷ []
 
 -- For private clauses: an answer of the world, as one of a function.
 abbrev pub told : {T : Type 0} → Result T WorldFault → Result T code_failure.Failure

@@ -1,11 +1,14 @@
 //! The begin of a call.
-ghost use Rattle.std.specs.Prelude.{◌≡◌, ℕ, List};
+ghost use Rattle.std.specs.Prelude.{◌≡◌, ℕ, List, Err, IfOk, IfErr};
+ghost use Rattle.moo_operation.specs.Places.{made_list};
+ghost use Rattle.moo_outcome.specs.Outcome.{answers};
+ghost use Rattle.moo_function.specs.declared.function.Function.TheVariants.{Pass};
 ghost use Rattle.moo_value.specs.View.{trees};
-ghost use Rattle.moo_outcome.specs.Seen.{context_of, IsKnownFailure};
+ghost use Rattle.moo_outcome.specs.Seen.{context_of, failure_of, HadMemoryIn, IsKnownFailure};
 ghost use Rattle.moo_outcome.specs.declared.notice.Notice.{Notice};
 ghost use Rattle.moo_code_function.specs.Telling.{Faults};
 ghost use Rattle.moo_call.specs.Seen.{state_at};
-ghost use Rattle.moo_hook.specs.Calls.{calls_verbs, caller_of, move_begins, create_begins, recycle_begins, first_progress, Begins, Starts};
+ghost use Rattle.moo_hook.specs.Calls.{calls_verbs, verb_caller, move_begins, create_begins, recycle_begins, first_progress, Begins, Starts};
 ghost use Rattle.moo_hook.specs.Seen.{calling_of, seen_progress};
 
 use crate::creating::create;
@@ -14,19 +17,19 @@ use crate::moving::begin_move;
 use crate::passing::pass;
 use crate::progress::Progress;
 use crate::recycling::begin_recycling;
+use moo_call::are_too_many;
 use moo_function::Function;
-use moo_outcome::{Activation, CallStack, Failure};
-use moo_value::{ErrorCode, MooStr, Value};
+use moo_outcome::{Activation, CallStack, Failure, Gathered};
+use moo_value::{ErrorCode, Value};
 use moo_world::World;
 use moo_world_function::refusal;
 use std::alloc::Global;
 
-/// The function that a name calls, in any case, where it is one that calls verbs or runs a program: `pass`, `move`,
-/// `create`, `recycle` or `eval`.
-pub fn verb_caller(name: &MooStr) -> Option<Function>
-    ensures { result ≡ caller_of name.now }
+/// The function, where it is one that calls verbs or runs a program: `pass`, `move`, `create`, `recycle` or `eval`.
+pub fn verb_caller(function: Option<Function>) -> Option<Function>
+    ensures { result ≡ verb_caller function }
 {
-    match Function::from_name(name.as_bytes()) {
+    match function {
         Some(function) if calls_verbs(function) => Some(function),
         _ => None,
     }
@@ -43,7 +46,9 @@ fn calls_verbs(function: Function) -> bool
 
 /// Begins a call of a function that calls verbs, and tells what comes first: its answer, a verb, or a stage. A wrong
 /// number of arguments raises E_ARGS, then one of a wrong type E_TYPE, then an object that isn't valid E_INVARG; then
-/// comes what the function itself looks at. Another function, with which no call comes here, raises E_TYPE.
+/// comes what the function itself looks at. Another function, with which no call comes here, raises E_TYPE. The lists
+/// that were spliced in are not copied where there are more arguments than the function takes, and for `pass` where they
+/// are too heavy together for a list.
 #[inline(never)]
 pub fn start_call<'a>(
     alloc: Global,
@@ -51,13 +56,28 @@ pub fn start_call<'a>(
     stack: &CallStack<'a>,
     active: &Activation,
     function: Function,
-    args: Vec<Value>,
+    values: Gathered,
 ) -> Result<Progress<'a>, Failure>
-    ensures { (ticks : ℕ) (notices : List Notice) → IsKnownFailure result → Starts Faults (context_of stack.now None) function (trees args.items) (state_at ticks notices world.old active.now) (seen_progress result) (state_at ticks notices world.new active.now) }
+    ensures { (ticks : ℕ) (notices : List Notice) → IsKnownFailure result → Starts Faults (context_of stack.now None) function values (state_at ticks notices world.old active.now) (seen_progress result) (state_at ticks notices world.new active.now) }
 {
+    if are_too_many(function, &values) {
+        return Err(Failure::Fails(ErrorCode::Arguments));
+    }
+    let args = arguments(alloc, function, values)?;
     match refusal(function, &args, world) {
         Some(code) => Err(Failure::Fails(code)),
         None => begin(alloc, world, stack, active, function, args),
+    }
+}
+
+// The values of the arguments. Those of `pass` have to make a list.
+fn arguments(alloc: Global, function: Function, values: Gathered) -> Result<Vec<Value>, Failure>
+    ensures ok { IfOk result (λ args. trees args.items ≡ values) }
+    ensures err { IfErr result (λ failure. HadMemoryIn failure → (function ≡ Pass) × (answers (made_list values) ≡ Err (failure_of failure))) }
+{
+    match function {
+        Function::Pass => values.into_arguments(alloc),
+        _ => Ok(values.into_values(alloc)?),
     }
 }
 

@@ -48,7 +48,7 @@ pub(crate) fn create<'a>(
         "create",
         o,
         "initialize",
-        Vec::new(alloc),
+        None,
         Stage::Created(o),
     )
 }

@@ -1,21 +1,22 @@
 //! Verbs that a function calls.
-ghost use Rattle.std.specs.Prelude.{◌≡◌, ◌∷◌, [], IfOk};
+ghost use Rattle.std.specs.Prelude.{◌≡◌, ◌∷◌, [], IfOk, is_some};
 ghost use Rattle.moo_value.specs.Tree.{object};
 ghost use Rattle.moo_value.specs.View.{tree, trees};
 ghost use Rattle.moo_outcome.specs.Seen.{IsKnownFailure};
+ghost use Rattle.moo_access.specs.Entering.{called_verb};
 ghost use Rattle.moo_access.specs.SeenCalled.{entered_of};
 ghost use Rattle.moo_hook.specs.Progressing.{hook, through, is_missing, or_passed_over};
-ghost use Rattle.moo_hook.specs.Seen.{calling_of, seen_progress};
+ghost use Rattle.moo_hook.specs.Seen.{calling_of, seen_progress, arguments_of};
 
 use crate::progress::{Progress, Stage};
-use moo_access::{Called, enter_verb};
+use moo_access::{Called, called_verb, enter_verb};
 use moo_outcome::{Activation, CallStack, Failure, TraceEntry};
 use moo_value::{ErrorCode, MooStr, Value};
 use moo_world::World;
 use std::alloc::{AllocError, Global};
 
-/// Calls a verb of an object for a function: E_MAXREC where no frame is left. Where there is no such verb that can be
-/// executed, the stage comes at once.
+/// Calls a verb of an object for a function, and tells it of an object, or of nothing: E_MAXREC where no frame is left.
+/// Where there is no such verb that can be executed, the stage comes at once, and nothing is made for the call.
 pub(crate) fn hook<'a>(
     alloc: Global,
     world: &World,
@@ -24,13 +25,39 @@ pub(crate) fn hook<'a>(
     function: &str,
     o: i32,
     name: &str,
-    args: Vec<Value>,
+    what: Option<i32>,
     stage: Stage,
 ) -> Result<Progress<'a>, Failure>
-    ensures { IsKnownFailure result → hook (calling_of stack.now active.now) world.now function.now o name.now (trees args.items) stage ≡ seen_progress result }
+    ensures { IsKnownFailure result → hook (calling_of stack.now active.now) world.now function.now o name.now (arguments_of what) stage ≡ seen_progress result }
+{
+    if !is_callable(world, o, name) {
+        return Ok(Progress::StageNext(stage));
+    }
+    call_verb(alloc, world, stack, active, function, o, name, what, stage)
+}
+
+fn is_callable(world: &World, o: i32, name: &str) -> bool
+    ensures { result ≡ is_some (called_verb world.now o name.now) }
+{
+    called_verb(world, o, name.as_bytes()).is_some()
+}
+
+fn call_verb<'a>(
+    alloc: Global,
+    world: &World,
+    stack: &CallStack<'a>,
+    active: &Activation,
+    function: &str,
+    o: i32,
+    name: &str,
+    what: Option<i32>,
+    stage: Stage,
+) -> Result<Progress<'a>, Failure>
+    ensures { IsKnownFailure result → hook (calling_of stack.now active.now) world.now function.now o name.now (arguments_of what) stage ≡ seen_progress result }
 {
     let base = Value::Obj(o);
     let verb = Value::Str(text(alloc, name)?);
+    let args = arguments(alloc, what)?;
     match enter_verb(alloc, world, stack, active, &base, &verb, args) {
         Ok(called) => Ok(Progress::VerbNext(through(alloc, function, called)?, stage)),
         Err(Failure::Fails(code)) => or_passed_over(stage, code),
@@ -77,8 +104,17 @@ pub(crate) fn text(alloc: Global, bytes: &str) -> Result<MooStr, AllocError>
     MooStr::try_from_bytes(alloc, bytes.as_bytes()).map_err(|_| AllocError)
 }
 
-/// The arguments of a verb that is told of one object.
-pub(crate) fn one_object(alloc: Global, o: i32) -> Result<Vec<Value>, AllocError>
+// The arguments of a verb that is told of an object, or of nothing.
+fn arguments(alloc: Global, what: Option<i32>) -> Result<Vec<Value>, AllocError>
+    ensures { IfOk result (λ args. trees args.items ≡ arguments_of what) }
+{
+    match what {
+        None => Ok(Vec::new(alloc)),
+        Some(o) => one_object(alloc, o),
+    }
+}
+
+fn one_object(alloc: Global, o: i32) -> Result<Vec<Value>, AllocError>
     ensures { IfOk result (λ args. trees args.items ≡ object o ∷ []) }
 {
     let mut args = Vec::new(alloc);

@@ -5,7 +5,7 @@ ghost use Rattle.moo_outcome.specs.Seen.{IsKnownFailure};
 ghost use Rattle.moo_hook.specs.Moving.{move_calls, is_to_move, moved, moving, may_enter, accepted, has_come, left_behind};
 ghost use Rattle.moo_hook.specs.Seen.{calling_of, seen_progress};
 
-use crate::hook::{hook, one_object};
+use crate::hook::hook;
 use crate::objects::{is_nowhere, is_place, location};
 use crate::progress::{Progress, Stage, told};
 use moo_outcome::{Activation, CallStack, Failure};
@@ -129,6 +129,15 @@ fn call_verb<'a>(
 ) -> Result<Progress<'a>, Failure>
     ensures { IsKnownFailure result → move_calls (calling_of stack.now active.now) world.now o name.now what stage ≡ (seen_progress result, world.now) }
 {
-    let args = one_object(alloc, what)?;
-    hook(alloc, world, stack, active, "move", o, name, args, stage)
+    hook(
+        alloc,
+        world,
+        stack,
+        active,
+        "move",
+        o,
+        name,
+        Some(what),
+        stage,
+    )
 }

@@ -2,18 +2,17 @@
 //! task' of docs/LANGUAGE.md. Where no frame is left for a verb that is to be called, E_MAXREC is raised; what was done
 //! stays.
 ghost use Rattle.std.specs.Prelude.{◌≡◌};
-ghost use Rattle.moo_value.specs.View.{trees};
 ghost use Rattle.moo_outcome.specs.Seen.{IsKnownFailure};
 ghost use Rattle.moo_hook.specs.Objects.{first_inside};
 ghost use Rattle.moo_hook.specs.Recycling.{recycle_calls, recycling, owner_of, taken_away, moved_out, emptied};
-ghost use Rattle.moo_hook.specs.Seen.{calling_of, seen_progress};
+ghost use Rattle.moo_hook.specs.Seen.{calling_of, seen_progress, arguments_of};
 
-use crate::hook::{hook, one_object};
+use crate::hook::hook;
 use crate::objects::first_inside;
 use crate::progress::{Progress, Stage, told};
 use crate::quota::{change_quota, quota};
 use moo_outcome::{Activation, CallStack, Failure};
-use moo_value::{ErrorCode, Value};
+use moo_value::ErrorCode;
 use moo_world::{Rights, World};
 use std::alloc::Global;
 
@@ -30,7 +29,7 @@ pub(crate) fn begin_recycling<'a>(
     if !Rights::may_own(world, active.programmer, o) {
         return Err(Failure::Fails(ErrorCode::Permission));
     }
-    call_verb(alloc, world, stack, active, o, "recycle", Vec::new(alloc))
+    call_verb(alloc, world, stack, active, o, "recycle", None)
 }
 
 /// Moves the first of what is in the object out, and calls the object's `exitfunc`. Where nothing is in it the object
@@ -61,8 +60,7 @@ fn move_out<'a>(
     ensures { IsKnownFailure result → moved_out (calling_of stack.now active.now) world.old o inside ≡ (seen_progress result, world.new) }
 {
     told(world.move_bare(inside, -1))?;
-    let args = one_object(alloc, inside)?;
-    call_verb(alloc, world, stack, active, o, "exitfunc", args)
+    call_verb(alloc, world, stack, active, o, "exitfunc", Some(inside))
 }
 
 // The object no longer counts for its owner, whose quota is the one that is found once the object is gone.
@@ -93,10 +91,10 @@ fn call_verb<'a>(
     active: &Activation,
     o: i32,
     name: &str,
-    args: Vec<Value>,
+    what: Option<i32>,
 ) -> Result<Progress<'a>, Failure>
-    ensures { IsKnownFailure result → recycle_calls (calling_of stack.now active.now) world.now o name.now (trees args.items) ≡ (seen_progress result, world.now) }
+    ensures { IsKnownFailure result → recycle_calls (calling_of stack.now active.now) world.now o name.now (arguments_of what) ≡ (seen_progress result, world.now) }
 {
     let stage = Stage::Emptying(o);
-    hook(alloc, world, stack, active, "recycle", o, name, args, stage)
+    hook(alloc, world, stack, active, "recycle", o, name, what, stage)
 }

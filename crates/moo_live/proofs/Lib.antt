@@ -1,1 +1,2 @@
 pub mod Potential
+pub mod Taking

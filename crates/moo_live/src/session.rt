@@ -8,6 +8,7 @@ use crate::hook::Hook;
 use moo_connection::{Connections, Sent};
 use moo_value::MooStr;
 use std::alloc::{AllocError, Global};
+use std::collections::VecDeque;
 use std::marker::Model;
 use std::mem;
 
@@ -17,7 +18,7 @@ pub struct Session {
     pub(crate) alloc: Global,
     pub(crate) connections: Connections,
     // Those that are to run, the first first.
-    pub(crate) hooks: Vec<Hook>,
+    pub(crate) hooks: VecDeque<Hook>,
     pub(crate) asked: bool,
     pub(crate) closing: bool,
     pub(crate) sent: Vec<Sent>,
@@ -47,7 +48,7 @@ impl Session {
         Session {
             alloc,
             connections: Connections::new(alloc),
-            hooks: Vec::new(alloc),
+            hooks: VecDeque::new(alloc),
             asked: false,
             closing: false,
             sent: Vec::new(alloc),
@@ -66,7 +67,7 @@ impl Session {
     pub fn cause(&mut self, hook: Hook) -> Result<(), AllocError>
         ensures { OnOk result (self.new ≡ caused hook self.old) }
     {
-        self.hooks.push(hook)?;
+        self.hooks.push_back(hook)?;
         Ok(())
     }
 
@@ -75,11 +76,7 @@ impl Session {
         ensures some { IfSome result (λ h. (hs : List hook) × (self.old.hooks ≡ h ∷ hs) × (self.new ≡ with_hooks hs self.old)) }
         ensures none { IfNone result ((self.old.hooks ≡ []) × (self.new ≡ self.old)) }
     {
-        if self.hooks.is_empty() {
-            None
-        } else {
-            Some(self.hooks.remove(0))
-        }
+        self.hooks.pop_front()
     }
 
     /// A checkpoint is asked for.

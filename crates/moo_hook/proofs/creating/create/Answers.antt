@@ -79,4 +79,4 @@ returns c =
     let world = simp (owner, left) at c.change_quota.ensures ∙ ap (λ x. with_quota x c.args.owner (quota c.args.world.now c.args.owner) (negsuc 0)) (made c.create.result c.in_ok-o.o _ _ _ _ (simp (up, new_owner) at c.create.ensures.world) (sym c.in_ok-o.ensures)) in
     λ k. rw (parent, used, none, control)
     (ap (λ x. (hook (calling_of c.args.stack.now c.args.active.now) x (codes "create") (next_number c.args.world.now) (codes "initialize") [] (Created (next_number c.args.world.now)), x)) (sym world)
-    ∙ ap (λ z. (z, c.change_quota.new.world)) (simp (numbered, c.new.ensures.items) at (c.hook.ensures k)))
+    ∙ ap (λ z. (z, c.change_quota.new.world)) (simp numbered at (c.hook.ensures k)))

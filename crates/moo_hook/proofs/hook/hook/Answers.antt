@@ -1,17 +1,15 @@
-use Rattle.std.proofs.Common.{w32}
+use Rattle.std.proofs.Common.{◌∙◌, sym, w32}
 use Rattle.std.proofs.lemmas.Int.{to_z-of_z}
-use Rattle.moo_value.specs.View.{trees}
-use Rattle.moo_access.specs.SeenCalled.{entered_of}
 use Rattle.moo_hook.specs.Seen.{calling_of}
-use Rattle.moo_hook.proofs.Hooked.{entered_by, refused_by, failed_so}
+use Rattle.moo_hook.proofs.Hooked.{passed_over}
 use Rattle.moo_hook.proofs.hook.hook.Goals as goal
 
-pub returns-in-Ok : goal.returns-in-Ok
-returns-in-Ok c =
+pub returns-then-not-is_callable : goal.returns-then-not-is_callable
+returns-then-not-is_callable c =
     let o = to_z-of_z w32 c.args.o c.ranges.o in
-    λ k. entered_by (calling_of c.args.stack.now c.args.active.now) c.args.world.now c.args.function.now c.args.o c.args.name.now (trees c.args.args.items) c.args.stage (entered_of c.in-Ok.called) (entered_of c.in_ok-through-in-Ok.field-0) (simp (o, c.in_ok-text.ensures) at (c.in-Ok.ensures tt)) c.in_ok-through-in-Ok.ensures
+    λ k. passed_over (calling_of c.args.stack.now c.args.active.now) c.args.world.now c.args.function.now c.args.o c.args.name.now c.args.what c.args.stage (simp o at (sym c.is_callable.ensures ∙ c.if-not-is_callable.true))
 
-pub returns-in-Err-Fails : goal.returns-in-Err-Fails
-returns-in-Err-Fails c =
+pub returns : goal.returns
+returns c =
     let o = to_z-of_z w32 c.args.o c.ranges.o in
-    λ k. refused_by (calling_of c.args.stack.now c.args.active.now) c.args.world.now c.args.function.now c.args.o c.args.name.now (trees c.args.args.items) c.args.stage c.in-Err-Fails.code _ (simp (o, c.in_ok-text.ensures) at (failed_so _ _ _ c.in-Err-Fails.field-0-is c.in-Err-Fails.ensures)) (rw c.in-Err-Fails.field-0-is at c.or_passed_over.ensures)
+    λ k. simp o at (c.call_verb.ensures k)

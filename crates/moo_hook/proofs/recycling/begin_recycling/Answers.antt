@@ -20,4 +20,4 @@ returns c =
     let programmer = to_z-of_z w32 c.args.active.now.programmer f in
     let o = to_z-of_z w32 c.args.o c.ranges.o in
     let own = simp (programmer, o) at (sym c.may_own.ensures ∙ c.if-not-may_own.false) in
-    λ k. rw own (simp (o, c.new.ensures.items) at (c.call_verb.ensures k))
+    λ k. rw own (simp o at (c.call_verb.ensures k))

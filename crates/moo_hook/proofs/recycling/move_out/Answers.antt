@@ -20,5 +20,4 @@ unfolding moved_out
 returns c =
     let inside = to_z-of_z w32 c.args.inside c.ranges.inside in
     let o = to_z-of_z w32 c.args.o c.ranges.o in
-    let args = simp inside at c.in_ok-args.ensures in
-    λ k. changed c.move_bare.result c.in_ok-told.field-0 _ _ _ _ (λ x. recycle_calls (calling_of c.args.stack.now c.args.active.now) x c.args.o (codes "exitfunc") (object c.args.inside ∷ [])) _ (simp inside at c.move_bare.ensures.world) (sym c.in_ok-told.ensures) (simp (o, args) at (c.call_verb.ensures k))
+    λ k. changed c.move_bare.result c.in_ok-told.field-0 _ _ _ _ (λ x. recycle_calls (calling_of c.args.stack.now c.args.active.now) x c.args.o (codes "exitfunc") (object c.args.inside ∷ [])) _ (simp inside at c.move_bare.ensures.world) (sym c.in_ok-told.ensures) (simp (o, inside) at (c.call_verb.ensures k))

@@ -10,6 +10,8 @@ use Rattle.moo_program.specs.View.{tree as expression, items_of, codes_of, block
 use Rattle.moo_eval.specs.declared.interpreter.Task.{Task}
 use Rattle.moo_outcome.specs.Seen.{context_of, stop_of, failure_of, seen_value, flow_of}
 use Rattle.moo_code_function.specs.Telling.{Faults}
+use Rattle.moo_function.specs.Names.{function_of}
+use Rattle.moo_hook.specs.Calls.{verb_caller}
 use Rattle.moo_eval.specs.Seen.{state_of}
 use Rattle.moo_access.specs.Target.{named}
 use Rattle.moo_eval.specs.Meaning.{EvaluatesAll, Stores, spent, begins, operands_end, places_end, applies, no_more, element_stops, element_then, splice_stops, splice_fails, splice_then, literal_is, variable_is, length_is, unary_is, binary_is, logic_decides, logic_goes_on, conditional_true, conditional_false, index_is, range_is, list_is, property_is, verb_fails, verb_runs, call_is, call_runs, is_done, hook_stops, hook_then, assign_is, catch_gives, catch_or_goes_on, target_ends, value_stops, assigns, root_ends, locates, parts_end, finds, inside, step_ends, enters, unread, spot_ends, steps_in, no_store, stores, puts_variable, scatter_fails, scatters, none_missing, default_stops, default_then, Counts, statement_spent, statement_begins, selects, list_stops, list_fails, visits, span_stops, span_fails, counts, loops, breaks_out, continues_on, unprepared, tries, finally_skipped, finally_runs, ends, leaves, proceeds, none_selected, else_runs, test_stops, arm_runs, arm_passed, turn_spent, turns, loop_stops, loop_ends, loop_left, loop_then, all_visited, visit_left, visit_then, all_counted, count_left, count_then, nothing_raised, ticks_out, handles, untaken, untold, takes, Prepares, no_codes, codes_stop, codes_then, gives_zero, gives, evaluates}
@@ -235,15 +237,15 @@ call-returns-in_err-values-clause-meaning t c =
 
 pub call-returns-in_default-clause-meaning : goal.call-returns-in_default-clause-meaning
 call-returns-in_default-clause-meaning t c =
-    λ k. applies (c.in_ok-values.ensures.meaning tt) no_more (call_is (sym c.verb_caller.ensures ∙ none_left _ c.in_default.not-Some) (rw c.in_ok-args.ensures at (c.call_function.ensures.call k)))
+    λ k. applies (c.in_ok-values.ensures.meaning tt) no_more (call_is (ap verb_caller (ap function_of (sym c.as_bytes.ensures.value) ∙ sym c.from_name-function.ensures) ∙ sym c.verb_caller.ensures ∙ none_left _ c.in_default.not-Some) (c.call_function.ensures.call c.args.name.now (ap function_of (sym c.as_bytes.ensures.value) ∙ sym c.from_name-function.ensures) k))
 
 pub call-returns-in_err-first-clause-meaning : goal.call-returns-in_err-first-clause-meaning
 call-returns-in_err-first-clause-meaning t c =
-    let p = err_from_is_err_and c.from_residual-in_err-first.result c.from_residual-in_err-first.ensures.1 in rw (p.1, p.2) (λ k. applies (c.in_ok-values.ensures.meaning tt) no_more (call_runs (sym c.verb_caller.ensures ∙ c.in-Some.is) (rw c.in_ok-args.ensures at (c.in_err-first.ensures c.evaluate_all.new.self.ticks_left c.evaluate_all.new.self.notices.items k)) is_done))
+    let p = err_from_is_err_and c.from_residual-in_err-first.result c.from_residual-in_err-first.ensures.1 in rw (p.1, p.2) (λ k. applies (c.in_ok-values.ensures.meaning tt) no_more (call_runs (ap verb_caller (ap function_of (sym c.as_bytes.ensures.value) ∙ sym c.from_name-function.ensures) ∙ sym c.verb_caller.ensures ∙ c.in-Some.is) (c.in_err-first.ensures c.evaluate_all.new.self.ticks_left c.evaluate_all.new.self.notices.items k) is_done))
 
 pub call-returns-clause-meaning : goal.call-returns-clause-meaning
 call-returns-clause-meaning t c =
-    λ k. applies (c.in_ok-values.ensures.meaning tt) no_more (call_runs (sym c.verb_caller.ensures ∙ c.in-Some.is) (rw c.in_ok-args.ensures at (c.in_ok-first.ensures c.evaluate_all.new.self.ticks_left c.evaluate_all.new.self.notices.items tt)) (c.proceed.ensures.meaning k))
+    λ k. applies (c.in_ok-values.ensures.meaning tt) no_more (call_runs (ap verb_caller (ap function_of (sym c.as_bytes.ensures.value) ∙ sym c.from_name-function.ensures) ∙ sym c.verb_caller.ensures ∙ c.in-Some.is) (c.in_ok-first.ensures c.evaluate_all.new.self.ticks_left c.evaluate_all.new.self.notices.items tt) (c.proceed.ensures.meaning k))
 
 pub proceed-returns-in_err-pending-clause-meaning : goal.proceed-returns-in_err-pending-clause-meaning
 proceed-returns-in_err-pending-clause-meaning t c =

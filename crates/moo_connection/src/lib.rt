@@ -1,4 +1,5 @@
 //! The open connections of a server: who is on them, since when, and what each keeps (docs/SESSIONS.md).
+//! A room behind `moo_session`.
 #![tactic(auto)]
 
 mod client;

@@ -97,6 +97,12 @@ return {set_verb_info(#1, "calls", {#3, "rx", "calls"}), set_verb_info(#1, "catc
 return this:calls(); --> #1:raises:  Division by zero / ... called from #1:calls / ... called from #1:t
 return this:catches(); --> "caught"
 return `this:spins() ! ANY => 1'; --> #1:spins:  Task ran out of ticks / ... called from #1:t
+same := set_verb_code(#1, "same", {"return 2;"}); return 1;
+turns := return 1;
+return {this:same(), this:same()}; --> {1, 2}
+l = {}; for i in [1..2] l = {@l, #2:turns()}; set_verb_code(#1, "turns", {"return 2;"}); endfor return l; --> {1, 2}
+return add_property(#1, "gone", 7, {#3, ""}); --> 0
+l = {}; for i in [1..2] l = {@l, `#2.gone ! ANY'}; if (i == 1) delete_property(#1, "gone"); endif endfor return l; --> {7, E_PROPNF}
 try this:spins(); finally #1.name = "cleaned"; endtry --> #1:spins:  Task ran out of ticks / ... called from #1:t
 return #1.name; --> "Root Class"
 a := return {1 / 0, 2};

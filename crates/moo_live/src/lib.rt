@@ -1,5 +1,6 @@
 //! The sessions of a server: its connections, the hooks that wait, and what an event brings: what is sent, and what becomes
 //! of what a task asked for (docs/SESSIONS.md).
+//! A room behind `moo_session`.
 #![tactic(auto)]
 
 mod changing;

@@ -1,5 +1,5 @@
 //! The texts of a script of events: the lines of its input, and those that are printed of what is sent.
-//! A room behind `moo_script`.
+//! A room behind `moo`.
 #![tactic(auto)]
 
 mod input;

@@ -9,6 +9,7 @@ mod statement;
 mod syntax_fault;
 
 pub use moo_grammar::{Names, Program};
-pub use moo_program::{Expr, Stmt};
+pub use moo_program::operator::{BinaryOperator, LogicOperator, UnaryOperator};
+pub use moo_program::{Arm, Codes, Expr, Handler, Item, Literal, Stmt};
 pub use reader::parse;
 pub use syntax_fault::{SyntaxFault, SyntaxFaultKind};

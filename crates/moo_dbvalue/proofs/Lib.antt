@@ -10,3 +10,4 @@ pub mod Cutting
 pub mod Strictness
 pub mod Clean
 pub mod ValueSmall
+pub mod Naturals

@@ -1,39 +1,57 @@
 //! Numbers and strings, one on a line.
-ghost use Rattle.std.specs.Prelude.{◌≡◌, ◌≢◌, ℕ, ℤ, MatchOption, IfErr, IfSome, Some, IsTrue, ◌↔◌, FitsSigned};
-ghost use Rattle.std.specs.Fmt.{signed_decimal};
+ghost use Rattle.std.specs.Prelude.{◌≡◌, ◌≢◌, ◌<◌, ◌^◌, ◌∷◌, ℕ, ℤ, suc, MatchOption, IfErr, FitsSigned};
+ghost use Rattle.std.specs.Fmt.{decimal, signed_decimal};
 ghost use Rattle.std.specs.Int.{w32};
 ghost use Rattle.moo_dbvalue.specs.declared.fault.Refusal.TheVariants.{Memory};
 ghost use Rattle.moo_dbvalue.specs.Lines.{Gives, limited, number_of, count_of, bounded_count_of, small_of, text_of};
 
 use crate::fault::{LineFault, Refusal};
-use itoa::Buffer;
 use moo_value::{MooStr, ValueFault};
 use std::alloc::Global;
 
-/// What the library's parser makes of a line, which takes other spellings too.
-fn parsed(line: &[u8]) -> Option<i32>
-    ensures every { (z : ℤ) → FitsSigned w32 z → line.now ≡ signed_decimal z → result ≡ Some z }
-    ensures fits { IfSome result (FitsSigned w32) }
+/// The number that digits spell in the one decimal form, where they are ten at most.
+fn natural(digits: &[u8]) -> Option<u64>
+    ensures { MatchOption result ((n : ℕ) → n < 2 ^ 32 → digits.now ≢ decimal n) (λ n. (n < 10 ^ 10) × (digits.now ≡ decimal n)) }
 {
-    let text = str::from_utf8(line).ok()?;
-    text.parse::<i32>().ok()
+    let has_zeros = digits.len() > 1 && digits[0] == b'0';
+    if has_zeros || digits.is_empty() || digits.len() > 10 {
+        return None;
+    }
+    let mut value: u64 = 0;
+    for digit in digits {
+        if *digit < b'0' || *digit > b'9' {
+            return None;
+        }
+        value = value * 10 + (*digit - b'0') as u64;
+    }
+    Some(value)
 }
 
-fn is_spelled(line: &[u8], number: i32) -> bool
-    requires { FitsSigned w32 number }
-    ensures { IsTrue result ↔ (line.now ≡ signed_decimal number) }
+/// The number below 0 of which these are the digits.
+fn below_zero(digits: &[u8]) -> Option<i32>
+    ensures { MatchOption result ((n : ℕ) → n < 2 ^ 31 → digits.now ≢ decimal (suc n)) (λ z. FitsSigned w32 z × (45 ∷ digits.now ≡ signed_decimal z)) }
 {
-    let mut buffer = Buffer::new();
-    buffer.format(number).as_bytes() == line
+    let number = natural(digits)?;
+    if number == 0 {
+        return None;
+    }
+    i32::try_from(-(number as i64)).ok()
+}
+
+/// The number from 0 on of which these are the digits.
+fn from_zero(digits: &[u8]) -> Option<i32>
+    ensures { MatchOption result ((n : ℕ) → n < 2 ^ 31 → digits.now ≢ decimal n) (λ z. FitsSigned w32 z × (digits.now ≡ signed_decimal z)) }
+{
+    i32::try_from(natural(digits)?).ok()
 }
 
 /// The number that a line spells in the one decimal form.
 fn decimal(line: &[u8]) -> Option<i32>
     ensures { MatchOption result ((z : ℤ) → FitsSigned w32 z → line.now ≢ signed_decimal z) (λ z. FitsSigned w32 z × (line.now ≡ signed_decimal z)) }
 {
-    match parsed(line) {
-        Some(number) if is_spelled(line, number) => Some(number),
-        _ => None,
+    match line.strip_prefix(b"-") {
+        Some(digits) => below_zero(digits),
+        None => from_zero(line),
     }
 }
 

@@ -71,7 +71,7 @@ pub(crate) fn make_row(
 {
     let mut row = Row::new(alloc);
     for i in 0..cells.len() {
-        row.push(make_cell(&cells[i], &way[way.len() - 1 - i])?)?;
+        row.insert(make_cell(&cells[i], &way[way.len() - 1 - i])?, 0)?;
     }
     Ok(row)
 }

@@ -1,5 +1,5 @@
 -- Memory is wanting for a plain call only where it may be.
-use Rattle.std.proofs.Common.{◌≡◌, List, true, false, Some, Result, Ok, Err, refl, sym, subst}
+use Rattle.std.proofs.Common.{inl, inr, ◌≡◌, List, true, false, Some, Result, Ok, Err, refl, sym, subst}
 use Rattle.moo_value.specs.declared.error_code.ErrorCode.{ErrorCode}
 use Rattle.moo_value.specs.declared.value.Value.{Value}
 use Rattle.moo_value.specs.Tree.{Tree}
@@ -12,10 +12,12 @@ use Rattle.moo_value_function.specs.Calls.{answer, Shows, Tells}
 use Rattle.moo_table.specs.World.{World}
 use Rattle.moo_world_function.specs.Answers.{Does, DoesSome, LacksOnly as AnswerLacksOnly, LacksOnlySome}
 use Rattle.moo_world_function.specs.Calls.{is_of_world, answer as objects_answer, world_answer, MayLack as WorldMayLack}
-use Rattle.moo_code_function.specs.Calls.{is_of_code}
+use Rattle.moo_code_function.specs.Telling.{Faults}
+use Rattle.moo_code_function.specs.Answers.{Comes, ComesSome}
+use Rattle.moo_code_function.specs.Calls.{is_of_code, Answers, MayLack as CodeMayLack}
 use Rattle.moo_builtin.specs.declared.call.Caller.{Caller}
 use Rattle.moo_builtin.specs.Calls.{Field, objects, code, field, given}
-use Rattle.moo_builtin.specs.Lacking.{RaisesOr, AnswerMayLack, LacksOnly}
+use Rattle.moo_builtin.specs.Lacking.{RaisesOr, CodeRaisesOr, AnswerMayLack, LacksOnly}
 use Rattle.moo_builtin.proofs.Joined.{field_objects, field_code, field_values, some_of_world}
 
 may_lack : (o : Outcome) (May : Type 0) → May → LacksOnly o May
@@ -45,8 +47,15 @@ world_lacks f args w new c a o does lacks tells =
     (λ e raised. raises_or answer e w new _ (subst (λ (x : Result Value OperationFault). Does x w new answer) raised is.1))
     (λ lacking. or_may answer _ (subst (λ (x : Result Value OperationFault). AnswerLacksOnly x (WorldMayLack f w c.programmer args)) lacking lacks)))
 
-pub code_lacks : (f : Function) (args : List Tree) (w : World) (c : Caller) (o : Outcome) → is_of_world f ≡ false → is_of_code f ≡ true → LacksOnly o (AnswerMayLack (field f) f args w c)
-code_lacks f args w c o other is = subst (λ (x : Field). LacksOnly o (AnswerMayLack x f args w c)) (sym (field_code f other is)) (may_lack o (AnswerMayLack code f args w c) tt)
+code_raises : (f : Function) (args : List Tree) (w new : World) (c : Caller) (e : ErrorCode) → Comes (Err (Raise e)) w new (Answers Faults f w c.programmer args) → CodeRaisesOr f w c args
+code_raises f args w new c e comes = inl (e, subst (λ (x : World). Answers Faults f w c.programmer args (Err e) x) comes.1 comes.0)
+
+pub code_lacks : (f : Function) (args : List Tree) (w new : World) (c : Caller) (a : Result Value OperationFault) (o : Outcome) → is_of_world f ≡ false → ComesSome (Some a) w new (is_of_code f) (Answers Faults f w c.programmer args) → LacksOnlySome (Some a) (CodeMayLack f w c.programmer args) → Tells o a → LacksOnly o (AnswerMayLack (field f) f args w c)
+code_lacks f args w new c a o other comes lacks tells =
+    let May = AnswerMayLack code f args w c in
+    subst (λ (x : Field). LacksOnly o (AnswerMayLack x f args w c)) (sym (field_code f other comes.0)) (tells_lacks a o May tells
+    (λ e raised. code_raises f args w new c e (subst (λ (x : Result Value OperationFault). Comes x w new (Answers Faults f w c.programmer args)) raised comes.1))
+    (λ lacking. inr (subst (λ (x : Result Value OperationFault). AnswerLacksOnly x (CodeMayLack f w c.programmer args)) lacking lacks)))
 
 pub value_lacks : (f : Function) (args : List Tree) (w : World) (c : Caller) (o : Outcome) → is_of_world f ≡ false → is_of_code f ≡ false → Shows f args o (given (answer f c.moment args)) → LacksOnly o (AnswerMayLack (field f) f args w c)
 value_lacks f args w c (outcome.Value v) other another shows = tt

@@ -1,5 +1,5 @@
 -- Where memory may be wanting for a plain call.
-use Rattle.std.specs.Prelude.{◌≡◌, List, Option, None, Some, Result, Ok, Err, ⊤}
+use Rattle.std.specs.Prelude.{◌≡◌, ◌⊎◌, List, Option, None, Some, Result, Ok, Err, ⊤}
 use Rattle.moo_value.specs.declared.error_code.ErrorCode.{ErrorCode}
 use Rattle.moo_value.specs.Tree.{Tree}
 use Rattle.moo_function.specs.declared.function.Function.{Function}
@@ -11,6 +11,8 @@ use Rattle.moo_value_function.specs.declared.call.Outcome.TheVariants as outcome
 use Rattle.moo_table.specs.World.{World}
 use Rattle.moo_world_function.specs.Objects.{is_valid}
 use Rattle.moo_world_function.specs.Calls.{answer as world_answer, MayLack as WorldMayLack}
+use Rattle.moo_code_function.specs.Telling.{Faults}
+use Rattle.moo_code_function.specs.Calls.{Answers, MayLack as CodeMayLack}
 use Rattle.moo_builtin.specs.declared.call.Caller.{Caller}
 use Rattle.moo_builtin.specs.Calls.{Field, values, objects, code, field, given}
 
@@ -19,12 +21,15 @@ abbrev pub RaisesOr : {X : Type 0} → Result X ErrorCode → Type 0 → Type 0
 RaisesOr (Ok x) May = May
 RaisesOr (Err e) May = ⊤
 
--- For arguments that fit: where the functions of the field may lack it, and for the message of an error. Those on code answer a list
--- or read a text.
+-- a function on code raises an error, whose message takes memory, or lacks it itself
+abbrev pub CodeRaisesOr : Function → World → Caller → List Tree → Type 0
+CodeRaisesOr f w c args = ((e : ErrorCode) × Answers Faults f w c.programmer args (Err e) w) ⊎ CodeMayLack f w c.programmer args
+
+-- For arguments that fit: where the functions of the field may lack it, and for the message of an error.
 abbrev pub AnswerMayLack : Field → Function → List Tree → World → Caller → Type 0
 AnswerMayLack values f args w c = ValueMayLack f args (given (answer f c.moment args))
 AnswerMayLack objects f args w c = RaisesOr (world_answer f w c.programmer args) (WorldMayLack f w c.programmer args)
-AnswerMayLack code f args w c = ⊤
+AnswerMayLack code f args w c = CodeRaisesOr f w c args
 
 -- For a call of this function, if there is one: a name of none and arguments that are refused raise an error.
 abbrev pub CallMayLack : Option Function → List Tree → World → Caller → Type 0

@@ -27,8 +27,8 @@ pub struct Caller {
 /// raises E_ARGS, then one of a wrong type E_TYPE, then an object that isn't valid E_INVARG; then comes what the function
 /// itself looks at, and the programmer's right last. A function that isn't plain raises E_INVARG. A raise and want of
 /// memory leave the world as it was. Memory is wanting only for a list, a string or a change that is made, for the
-/// copies of a search that folds letters, on the code of verbs, or for the message of an error. The arguments may be
-/// taken out of their places, where it raises too.
+/// copies of a search that folds letters, for a text that is to be a program, or for the message of an error. The
+/// arguments may be taken out of their places, where it raises too.
 pub fn call_plain(
     alloc: Global,
     name: &MooStr,

@@ -1,13 +1,13 @@
 -- What a call comes to, from what its parts come to.
 use Rattle.std.proofs.Common.{◌≡◌, ◌≢◌, ℕ, Bool, true, false, refl, subst, []}
-use Rattle.std.specs.Prelude.{ℤ, List, Option, None, Some, Result, Ok, Err, IfOk, IfErr}
+use Rattle.std.specs.Prelude.{ℤ, List, Option, None, Some, Result, Ok, Err, IsOk, IfOk, IfErr}
 use Rattle.moo_value.specs.declared.error_code.ErrorCode.{ErrorCode}
 use Rattle.moo_value.specs.declared.value.Value.{Value}
 use Rattle.moo_value.specs.Tree.{Tree, list_of}
 use Rattle.moo_value.specs.View.{tree}
 use Rattle.moo_operation.specs.declared.fault.OperationFault.{OperationFault}
 use Rattle.moo_operation.specs.declared.fault.OperationFault.TheVariants.{Raise, Memory}
-use Rattle.moo_text_function.specs.Answers.{Gives}
+use Rattle.moo_text_function.specs.Answers.{IsMade, Gives}
 use Rattle.moo_program.specs.Tree.{Block}
 use Rattle.moo_grammar.specs.declared.names.Names.TheVariants.{Known}
 use Rattle.moo_grammar.specs.Texts.{IsParsed}
@@ -18,6 +18,7 @@ use Rattle.moo_syntax.specs.Programs.{Blames}
 use Rattle.moo_table.specs.World.{World}
 use Rattle.moo_world.specs.Calls.{number_of}
 use Rattle.moo_world.specs.VerbCalls.{program_raises}
+use Rattle.moo_world_function.specs.Answers.{LacksOnly}
 use Rattle.moo_world_function.specs.Order.{asked}
 use Rattle.moo_world_function.specs.Verbs.{chosen, on_verb}
 use Rattle.moo_code_function.specs.Telling.{Faults}
@@ -67,3 +68,17 @@ asked_of (Some i) raises allowed j h = let parts = asked_at (raises i) (allowed 
 pub may_be_set : (w : World) (p o : ℤ) (t : Tree) (i : ℕ) → verb_to_set w p o t ≡ Ok i → program_raises w (number_of w.objects o) i true ≡ None
 unfolding verb_to_set
 may_be_set w p o t i h = asked_of (chosen w o t) (λ k. program_raises w (number_of w.objects o) k true) (may_program w p o) i h
+
+-- memory is wanting where it may be
+pub may_lack : (a : Result Value OperationFault) (May : Type 0) → May → LacksOnly a May
+may_lack (Ok v) May may = tt
+may_lack (Err (Raise e)) May may = tt
+may_lack (Err Memory) May may = may
+
+pub gives_lacks : (a : Result Value OperationFault) (r : Result Tree ErrorCode) → Gives a r → LacksOnly a (IsMade r)
+gives_lacks (Ok v) r gives = tt
+gives_lacks (Err (Raise e)) r gives = tt
+gives_lacks (Err Memory) r gives = gives
+
+pub is_ok : {X : Type 0} (r : Result X ErrorCode) (x : X) → r ≡ Ok x → IsOk r
+is_ok r x is = rw is refl

@@ -3,7 +3,8 @@ ghost use Rattle.std.specs.Prelude.{◌≡◌, true};
 ghost use Rattle.moo_value.specs.View.{trees};
 ghost use Rattle.moo_code_function.specs.Telling.{Faults};
 ghost use Rattle.moo_code_function.specs.Answers.{Comes, ComesSome};
-ghost use Rattle.moo_code_function.specs.Calls.{is_of_code, Answers};
+ghost use Rattle.moo_code_function.specs.Calls.{is_of_code, Answers, MayLack};
+ghost use Rattle.moo_world_function.specs.Answers.{LacksOnly, LacksOnlySome};
 
 use crate::listing::verb_code;
 use crate::setting::set_verb_code;
@@ -15,7 +16,8 @@ use std::alloc::Global;
 
 /// What a function that lists the code of a verb or sets it comes to for a programmer, for arguments that fit its row of
 /// the table. A verb that isn't there raises E_VERBNF; the programmer's right comes last. A raise and want of memory leave
-/// the world as it was. `None`, with nothing changed, where the function is another one.
+/// the world as it was; memory is wanting only for a listing, or for a text once its verb may be set. `None`, with nothing
+/// changed, where the function is another one.
 pub fn call_code(
     alloc: Global,
     function: Function,
@@ -23,7 +25,8 @@ pub fn call_code(
     world: &mut World,
     programmer: i32,
 ) -> Option<Result<Value, OperationFault>>
-    ensures { ComesSome result world.old world.new (is_of_code function) (Answers Faults function world.old programmer (trees args.now)) }
+    ensures answer { ComesSome result world.old world.new (is_of_code function) (Answers Faults function world.old programmer (trees args.now)) }
+    ensures memory { LacksOnlySome result (MayLack function world.old programmer (trees args.now)) }
 {
     if !is_of_code(function) {
         return None;
@@ -45,7 +48,8 @@ fn answer(
     programmer: i32,
 ) -> Result<Value, OperationFault>
     requires { is_of_code function ≡ true }
-    ensures { Comes result world.old world.new (Answers Faults function world.old programmer (trees args.now)) }
+    ensures answer { Comes result world.old world.new (Answers Faults function world.old programmer (trees args.now)) }
+    ensures memory { LacksOnly result (MayLack function world.old programmer (trees args.now)) }
 {
     match function {
         Function::VerbCode => verb_code(alloc, args, world, programmer),

@@ -1,5 +1,5 @@
 //! `set_verb_code`.
-ghost use Rattle.std.specs.Prelude.{◌≡◌, ◌∷◌, ◌++◌, [], true, None, Ok, Err, IfOk, IfErr, OnOk};
+ghost use Rattle.std.specs.Prelude.{◌≡◌, ◌∷◌, ◌++◌, [], true, None, Ok, Err, IsOk, IfOk, IfErr, OnOk};
 ghost use Rattle.moo_value.specs.declared.error_code.ErrorCode.{ErrorCode};
 ghost use Rattle.moo_value.specs.Tree.{object, string, list_of};
 ghost use Rattle.moo_value.specs.View.{tree, trees};
@@ -11,6 +11,8 @@ ghost use Rattle.moo_world.specs.VerbCalls.{program_raises};
 ghost use Rattle.moo_code_function.specs.Telling.{Faults};
 ghost use Rattle.moo_code_function.specs.Answers.{Comes, IsAnswered};
 ghost use Rattle.moo_code_function.specs.Setting.{is_programmer, may_program, place_to_set, verb_to_set, lines_in, given_lines, with_code, is_of_text, told_fault, IsSet, SetsText, SetsCode};
+ghost use Rattle.moo_code_function.specs.Calls.{SetMayLack};
+ghost use Rattle.moo_world_function.specs.Answers.{LacksOnly};
 
 use crate::answers::{QUOTA, TYPE_MISMATCH, listed};
 use moo_grammar::{Names, Program};
@@ -29,7 +31,8 @@ pub fn set_verb_code(
     world: &mut World,
     programmer: i32,
 ) -> Result<Value, OperationFault>
-    ensures { Comes result world.old world.new (SetsCode Faults world.old programmer (trees args.now)) }
+    ensures answer { Comes result world.old world.new (SetsCode Faults world.old programmer (trees args.now)) }
+    ensures memory { LacksOnly result (SetMayLack world.old programmer (trees args.now)) }
 {
     match args {
         [Value::Obj(o), choice, text] => set_chosen(alloc, *o, choice, text, world, programmer),
@@ -45,7 +48,8 @@ fn set_chosen(
     world: &mut World,
     programmer: i32,
 ) -> Result<Value, OperationFault>
-    ensures { Comes result world.old world.new (SetsCode Faults world.old programmer (object o ∷ tree choice.now ∷ tree text.now ∷ [])) }
+    ensures answer { Comes result world.old world.new (SetsCode Faults world.old programmer (object o ∷ tree choice.now ∷ tree text.now ∷ [])) }
+    ensures memory { LacksOnly result (IsOk (verb_to_set world.old programmer o (tree choice.now))) }
 {
     match verb_to_set(o, choice, world, programmer) {
         Ok(index) => set_text(alloc, o, index, text, world),

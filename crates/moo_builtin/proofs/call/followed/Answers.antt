@@ -24,26 +24,27 @@ returns-in-Some-call_code-clause-call c =
     let p = to_z-of_z w32 c.args.caller.programmer fits in
     let none = rw p at c.in_default.ensures.answer in
     let other = not_of_world c.args.function c.args.world.now c.args.caller.programmer (trees c.args.args.now) none.0 in
-    code_followed Faults c.args.function (trees c.args.args.now) c.args.world.now c.call_code.new.world c.args.caller c.in-Some-call_code.answer c.settled-in-Some-call_code.result other (rw (none.1, p) at c.in-Some-call_code.ensures) c.settled-in-Some-call_code.ensures
+    code_followed Faults c.args.function (trees c.args.args.now) c.args.world.now c.call_code.new.world c.args.caller c.in-Some-call_code.answer c.settled-in-Some-call_code.result other (rw (none.1, p) at c.in-Some-call_code.ensures.answer) c.settled-in-Some-call_code.ensures
 
 pub returns-in-Some-call_code-clause-memory : goal.returns-in-Some-call_code-clause-memory
 returns-in-Some-call_code-clause-memory c =
     let fits : SFits w32 c.args.caller.programmer = search rules in
-    let none = rw (to_z-of_z w32 c.args.caller.programmer fits) at c.in_default.ensures.answer in
+    let p = to_z-of_z w32 c.args.caller.programmer fits in
+    let none = rw p at c.in_default.ensures.answer in
     let other = not_of_world c.args.function c.args.world.now c.args.caller.programmer (trees c.args.args.now) none.0 in
-    code_lacks c.args.function (trees c.args.args.now) c.args.world.now c.args.caller c.settled-in-Some-call_code.result other c.in-Some-call_code.ensures.0
+    code_lacks c.args.function (trees c.args.args.now) c.args.world.now c.call_code.new.world c.args.caller c.in-Some-call_code.answer c.settled-in-Some-call_code.result other (rw (none.1, p) at c.in-Some-call_code.ensures.answer) (rw (none.1, p) at c.in-Some-call_code.ensures.memory) c.settled-in-Some-call_code.ensures
 
 pub returns-clause-call : goal.returns-clause-call
 returns-clause-call c =
     let fits : SFits w32 c.args.caller.programmer = search rules in
     let none = rw (to_z-of_z w32 c.args.caller.programmer fits) at c.in_default.ensures.answer in
     let other = not_of_world c.args.function c.args.world.now c.args.caller.programmer (trees c.args.args.now) none.0 in
-    let same : c.call_code.new.world ≡ c.args.world.now = c.in_default-call_code.ensures.1 ∙ none.1 in
-    rw same (value_followed Faults c.args.function (trees c.args.args.now) c.args.world.now c.args.caller c.over_values.result other c.in_default-call_code.ensures.0 c.over_values.ensures)
+    let same : c.call_code.new.world ≡ c.args.world.now = c.in_default-call_code.ensures.answer.1 ∙ none.1 in
+    rw same (value_followed Faults c.args.function (trees c.args.args.now) c.args.world.now c.args.caller c.over_values.result other c.in_default-call_code.ensures.answer.0 c.over_values.ensures)
 
 pub returns-clause-memory : goal.returns-clause-memory
 returns-clause-memory c =
     let fits : SFits w32 c.args.caller.programmer = search rules in
     let none = rw (to_z-of_z w32 c.args.caller.programmer fits) at c.in_default.ensures.answer in
     let other = not_of_world c.args.function c.args.world.now c.args.caller.programmer (trees c.args.args.now) none.0 in
-    value_lacks c.args.function (trees c.args.args.now) c.args.world.now c.args.caller c.over_values.result other c.in_default-call_code.ensures.0 c.over_values.ensures
+    value_lacks c.args.function (trees c.args.args.now) c.args.world.now c.args.caller c.over_values.result other c.in_default-call_code.ensures.answer.0 c.over_values.ensures

@@ -6,3 +6,4 @@ pub mod BuiltIn
 pub mod Patterns
 pub mod Verbs
 pub mod Objects
+pub mod Rows

@@ -1,23 +1,21 @@
 // An object by itself.
-ghost use Rattle.std.specs.Prelude.{◌≡◌, ◌<◌, ◌-◌, ◌==◌, IfOk, OnOk, OnErr, [], ◌∷◌, ◌++◌, take, length, filter, map, not, position, slice_get, slice_set};
-ghost use Rattle.std.specs.Option.{ForSome, option_copied, option_and_then};
-ghost use Rattle.std.specs.List.{list_any, remove};
-ghost use Rattle.moo_object.specs.Verbs.{fits_verb, changed_at, with_verb_info, with_args, with_program};
+ghost use Rattle.std.specs.Prelude.{◌≡◌, ◌<◌, IfOk, OnOk, OnErr, [], ◌∷◌, ◌++◌, length, filter, map, not, position, slice_set};
+ghost use Rattle.std.specs.List.{list_any};
 ghost use Rattle.moo_value.specs.Compare.{folded};
-ghost use Rattle.moo_value.specs.View.{tree};
 ghost use Rattle.moo_object.specs.Names.{same_name};
 ghost use Rattle.moo_object.specs.Flags.{no_flags};
-ghost use Rattle.moo_object.specs.Cells.{AreDistinct, is_key, cell_at, cleared, key_of, with_value, at_key, emptied, with_info, renamed};
-ghost use Rattle.moo_object.specs.Objects.{fitted_cell, fitted_row};
+ghost use Rattle.moo_object.specs.Cells.{cleared};
+ghost use Rattle.moo_object.specs.Rows.{put_before};
 
-use crate::cell::{PropCell, PropPerms};
+mod cells;
+mod verbs;
+
+use crate::cell::PropCell;
 use crate::flags::Flags;
 use crate::name::{defines_name, forget_name, position_of_name, put_name};
-use crate::row::{Row, absent_definer, place_for, renamed_cell};
-use crate::verb::{Need, Verb, VerbPerms, change_args, change_info, change_program};
-use crate::verb_args::VerbArgs;
-use moo_grammar::Program;
-use moo_value::{MooStr, Value};
+use crate::row::Row;
+use crate::verb::Verb;
+use moo_value::MooStr;
 use std::alloc::{AllocError, Global};
 use std::marker::Model;
 
@@ -134,75 +132,6 @@ impl Object {
         &self.defined
     }
 
-    /// The cells, in the order of definitions.
-    pub fn cells(&self) -> &[PropCell]
-        ensures { result.now ≡ self.now.cells }
-    {
-        self.cells.as_slice()
-    }
-
-    /// The verbs, in order.
-    pub fn verbs(&self) -> &[Verb]
-        ensures { result.now ≡ self.now.verbs }
-    {
-        &self.verbs
-    }
-
-    /// The verb at a place, which counts from 0.
-    pub fn verb(&self, index: usize) -> Option<&Verb>
-        ensures { option_copied result ≡ slice_get self.now.verbs index }
-    {
-        self.verbs.get(index)
-    }
-
-    /// The place of the first verb that a name fits. For a call only verbs that can be executed count.
-    pub fn verb_position(&self, need: Need, name: &[u8]) -> Option<usize>
-        ensures { result ≡ position (fits_verb need name.now) self.now.verbs }
-    {
-        self.verbs.iter().position(|verb| verb.fits(need, name))
-    }
-
-    /// Adds a verb behind the others.
-    pub fn add_verb(&mut self, verb: Verb) -> Result<(), AllocError>
-        ensures ok { OnOk result (self.new ≡ record self.old { verbs = self.old.verbs ++ verb ∷ [] }) }
-        ensures err { OnErr result (self.new ≡ self.old) }
-    {
-        self.verbs.push(verb)?;
-        Ok(())
-    }
-
-    /// Takes the verb at a place away.
-    pub fn delete_verb(&mut self, index: usize)
-        requires { index < length self.old.verbs }
-        ensures { self.new ≡ record self.old { verbs = remove self.old.verbs index } }
-    {
-        let _verb = self.verbs.remove(index);
-    }
-
-    /// Gives the verb at a place other names, another owner and other permissions.
-    pub fn set_verb_info(&mut self, index: usize, names: MooStr, owner: i32, perms: VerbPerms)
-        requires { index < length self.old.verbs }
-        ensures { self.new ≡ record self.old { verbs = changed_at index (with_verb_info names owner perms) self.old.verbs } }
-    {
-        change_info(&mut self.verbs, index, names, owner, perms);
-    }
-
-    /// Says for which commands the verb at a place is.
-    pub fn set_verb_args(&mut self, index: usize, args: VerbArgs)
-        requires { index < length self.old.verbs }
-        ensures { self.new ≡ record self.old { verbs = changed_at index (with_args args) self.old.verbs } }
-    {
-        change_args(&mut self.verbs, index, args);
-    }
-
-    /// Gives the verb at a place another program, or none.
-    pub fn set_program(&mut self, index: usize, program: Option<Program>)
-        requires { index < length self.old.verbs }
-        ensures { self.new ≡ record self.old { verbs = changed_at index (with_program program) self.old.verbs } }
-    {
-        change_program(&mut self.verbs, index, program);
-    }
-
     /// Gives the object another name.
     pub fn set_name(&mut self, name: MooStr)
         ensures { self.new ≡ record self.old { name = name } }
@@ -224,122 +153,17 @@ impl Object {
         self.flags = flags;
     }
 
-    /// Gives the object other cells.
-    pub fn set_cells(&mut self, cells: Row)
-        ensures { self.new ≡ record self.old { cells = cells } }
-    {
-        self.cells = cells;
-    }
-
-    /// The cells under a parent with these cells, for the object of this number: those of its own
-    /// definitions, and for each of its parent's the one that there is, or a clear one. What stays in
-    /// order is found where it is looked for first, and a definer that is new above is looked for
-    /// once.
-    pub fn fitted_row(
-        &self,
-        alloc: Global,
-        number: usize,
-        above: &[PropCell],
-    ) -> Result<Row, AllocError>
-        requires { AreDistinct self.now.cells }
-        ensures { IfOk result (λ row. row ≡ fitted_row number self.now above.now) }
-    {
-        let room = self.defined.len().saturating_add(above.len());
-        let mut row = self.own_cells(alloc, number, room)?;
-        self.push_fitted(&mut row, above)?;
-        Ok(Row::from_cells(row))
-    }
-
-    // The cells of the object's own definitions, for the object of this number, in a row with room for so many.
-    fn own_cells(
-        &self,
-        alloc: Global,
-        number: usize,
-        room: usize,
-    ) -> Result<Vec<PropCell>, AllocError>
-        ensures { IfOk result (λ row. row.items ≡ filter (λ c. c.definer == number) self.now.cells) }
-    {
-        let mut row = Vec::with_capacity(alloc, room)?;
-        for cell in self.cells.as_slice() {
-            if cell.definer() == number {
-                row.push(cell.try_clone()?)?;
-            }
-        }
-        Ok(row)
-    }
-
-    // Adds a cell for each of the parent's cells.
-    fn push_fitted(&self, row: &mut Vec<PropCell>, above: &[PropCell]) -> Result<(), AllocError>
-        requires { AreDistinct self.now.cells }
-        ensures { OnOk result (row.new.items ≡ row.old.items ++ map (fitted_cell self.now) above.now) }
-    {
-        let cells = self.cells.as_slice();
-        let mut next = 0;
-        let mut absent = None;
-        for other in above {
-            let place = place_for(cells, other, next, absent);
-            row.push(self.fitted_cell(other, place)?)?;
-            match place {
-                Some(place) => next = place + 1,
-                None => absent = absent_definer(cells, other, absent),
-            }
-        }
-        Ok(())
-    }
-
-    // The cell for what a definition's cell on the parent is for: the one there is, at this place, or a
-    // clear one.
-    fn fitted_cell(&self, above: &PropCell, place: Option<usize>) -> Result<PropCell, AllocError>
-        requires within { ForSome place (λ i. i < length self.now.cells) }
-        requires found { option_and_then (slice_get self.now.cells) place ≡ cell_at self.now.cells (key_of above.now) }
-        ensures { IfOk result (λ c. c ≡ fitted_cell self.now above.now) }
-    {
-        match place {
-            Some(place) => self.cells.as_slice()[place].try_clone(),
-            None => above.cleared(self.owner),
-        }
-    }
-
-    /// Sets the value of the cell of a name.
-    pub fn set_value(&mut self, name: &[u8], value: Value)
-        ensures { self.new ≡ record self.old { cells = with_value (folded name.now) (tree value) self.old.cells } }
-    {
-        self.cells.set_value(name, value);
-    }
-
-    /// Makes the cell for a definition clear.
-    pub fn clear_value(&mut self, definer: usize, name: &[u8])
-        ensures { self.new ≡ record self.old { cells = map (at_key (definer, folded name.now) emptied) self.old.cells } }
-    {
-        self.cells.clear(definer, name);
-    }
-
-    /// Gives the cell for a definition another owner and other permissions.
-    pub fn set_cell_info(&mut self, definer: usize, name: &[u8], owner: i32, perms: PropPerms)
-        ensures { self.new ≡ record self.old { cells = map (at_key (definer, folded name.now) (with_info owner perms)) self.old.cells } }
-    {
-        self.cells.set_info(definer, name, owner, perms);
-    }
-
-    /// Adds a definition with its cell, each behind the others.
-    pub fn define(&mut self, name: MooStr, cell: PropCell) -> Result<(), AllocError>
-        ensures ok { OnOk result (self.new ≡ record self.old { defined = self.old.defined ++ name ∷ []; cells = self.old.cells ++ cell ∷ [] }) }
+    /// Adds a definition behind the others, and its cell before the last ones, of which there are `behind`.
+    pub fn define(&mut self, name: MooStr, cell: PropCell, behind: usize) -> Result<(), AllocError>
+        ensures ok { OnOk result (self.new ≡ record self.old { defined = self.old.defined ++ name ∷ []; cells = put_before behind cell self.old.cells }) }
         ensures err { OnErr result (self.new ≡ self.old) }
     {
         self.defined.push(name)?;
-        if let Err(fault) = self.cells.push(cell) {
+        if let Err(fault) = self.cells.insert(cell, behind) {
             let _name = self.defined.pop();
             return Err(fault);
         }
         Ok(())
-    }
-
-    /// Takes the last definition and the last cell away.
-    pub fn undefine(&mut self)
-        ensures { self.new ≡ record self.old { defined = take (length self.old.defined - 1) self.old.defined; cells = take (length self.old.cells - 1) self.old.cells } }
-    {
-        let _name = self.defined.pop();
-        self.cells.pop();
     }
 
     /// Whether the object itself defines a property of this name.
@@ -362,37 +186,6 @@ impl Object {
         ensures { self.new ≡ record self.old { defined = slice_set self.old.defined index name } }
     {
         put_name(&mut self.defined, index, name);
-    }
-
-    /// The cells, with another name in the cell for a definition.
-    pub fn renamed_row(
-        &self,
-        alloc: Global,
-        definer: usize,
-        name: &[u8],
-        new_name: &MooStr,
-    ) -> Result<Row, AllocError>
-        ensures { IfOk result (λ row. row ≡ map (at_key (definer, folded name.now) (renamed (folded new_name.now))) self.now.cells) }
-    {
-        let mut row = Vec::with_capacity(alloc, self.cells.as_slice().len())?;
-        for cell in self.cells.as_slice() {
-            row.push(renamed_cell(cell, definer, name, new_name)?)?;
-        }
-        Ok(Row::from_cells(row))
-    }
-
-    /// Takes the object's cell for a definition away.
-    pub fn lose(&mut self, definer: usize, name: &[u8])
-        ensures { self.new ≡ record self.old { cells = filter (λ c. not (is_key (definer, folded name.now) c)) self.old.cells } }
-    {
-        self.cells.lose(definer, name);
-    }
-
-    /// Takes the object's cells for all definitions of an object away.
-    pub fn lose_all_of(&mut self, definer: usize)
-        ensures { self.new ≡ record self.old { cells = filter (λ c. not (c.definer == definer)) self.old.cells } }
-    {
-        self.cells.lose_all_of(definer);
     }
 
     /// Takes a name out of those that the object defines.

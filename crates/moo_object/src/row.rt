@@ -1,10 +1,11 @@
 // The cells of an object.
-ghost use Rattle.std.specs.Prelude.{◌≡◌, ◌<◌, [], ◌∷◌, ◌++◌, ◌-◌, ◌==◌, IfOk, OnOk, OnErr, take, length, filter, map, not, false, position, slice_get};
+ghost use Rattle.std.specs.Prelude.{◌≡◌, ◌<◌, [], ◌==◌, IfOk, OnOk, OnErr, length, filter, map, not, false, position, slice_get};
 ghost use Rattle.std.specs.Option.{ForSome, option_copied, option_and_then};
 ghost use Rattle.std.specs.List.{list_any};
 ghost use Rattle.moo_value.specs.Compare.{folded};
 ghost use Rattle.moo_value.specs.View.{tree};
 ghost use Rattle.moo_object.specs.Cells.{AreDistinct, with_value, is_key, key_of, cell_at, cell_named, at_key, emptied, with_info, renamed};
+ghost use Rattle.moo_object.specs.Rows.{put_before, taken_before};
 
 use crate::cell::{PropCell, PropPerms};
 use moo_value::{MooStr, Value};
@@ -54,20 +55,24 @@ impl Row {
         &self.cells
     }
 
-    /// Adds a cell behind the others.
-    pub fn push(&mut self, cell: PropCell) -> Result<(), AllocError>
-        ensures ok { OnOk result (self.new ≡ self.old ++ cell ∷ []) }
+    /// Adds a cell before the last ones, of which there are `behind`.
+    pub fn insert(&mut self, cell: PropCell, behind: usize) -> Result<(), AllocError>
+        ensures ok { OnOk result (self.new ≡ put_before behind cell self.old) }
         ensures err { OnErr result (self.new ≡ self.old) }
     {
-        self.cells.push(cell)?;
+        let place = self.cells.len().saturating_sub(behind);
+        self.cells.insert(place, cell)?;
         Ok(())
     }
 
-    /// Takes the last cell away.
-    pub fn pop(&mut self)
-        ensures { self.new ≡ take (length self.old - 1) self.old }
+    /// Takes the cell before the last ones away, of which there are `behind`.
+    pub fn remove(&mut self, behind: usize)
+        ensures { self.new ≡ taken_before behind self.old }
     {
-        let _cell = self.cells.pop();
+        let place = self.cells.len().saturating_sub(behind).saturating_sub(1);
+        if place < self.cells.len() {
+            let _cell = self.cells.remove(place);
+        }
     }
 
     /// Takes the cell for a definition away.

@@ -1,31 +1,27 @@
 -- A new definition keeps a world well formed.
-use Rattle.std.proofs.Common.{◌≡◌, ℕ, ◌-◌, ◌<◌, List, [], ◌∷◌, ◌++◌, Option, Some, None, Bool, true, false, ◌&&◌, eqb, leb, ltb, refl, sym, ◌∙◌, ap, subst, ⊎_elim, arith, length, get_or, set, map, take, IsSome, FitsSigned, w32}
+use Rattle.std.proofs.Common.{◌≡◌, ℕ, ◌<◌, List, [], ◌∷◌, ◌++◌, Option, Some, None, Bool, true, false, ◌&&◌, eqb, leb, ltb, refl, sym, ◌∙◌, ap, subst, ⊎_elim, arith, length, map, IsSome, FitsSigned, w32}
 use Rattle.std.specs.List.{list_any, All, range_with_len}
 use Rattle.std.specs.Option.{unwrap_or}
-use Rattle.std.proofs.lemmas.List.{get_or-set_same, get_or-set_other, length-set, length_push, length-append, length-map, map-append, append_assoc, set-set, set-get_or, take_at, get_or_read}
+use Rattle.std.proofs.lemmas.List.{get_or-set_same, get_or-set_other, length-set, length_push, length-append, length-map, map-append, append_assoc}
 use Rattle.std.proofs.lemmas.List.Elements.{All-push, filter-append}
 use Rattle.std.proofs.lemmas.Bool.{cases_Bool, cases_eq, eqb-true, eqb-false, eq-eqb, or_parts, or_left, or_from, or_cases, false≢true, leb-false, le-ltb}
 use Rattle.moo_value.specs.Compare.{folded}
 use Rattle.moo_value.specs.Size.{IsString}
-use Rattle.moo_forest.specs.Forest.{Links, ancestors, above_of, IsWayUp, is_within}
-use Rattle.moo_forest.specs.Walk.{step_at, IsWalkDown}
-use Rattle.moo_forest.specs.declared.walk.Step.{Step}
-use Rattle.moo_forest.proofs.Climbing.{not_met, way_up_is_ancestors}
-use Rattle.moo_forest.proofs.Dissolving.{above_apart}
+use Rattle.moo_forest.specs.Forest.{Links, ancestors, IsWayUp, is_within}
+use Rattle.moo_forest.proofs.Climbing.{not_met}
 use Rattle.moo_object.specs.Names.{same_name}
-use Rattle.moo_object.specs.Cells.{Cell, Key, key_of, cell_at, AreDistinct}
+use Rattle.moo_object.specs.Cells.{Cell, Key, key_of}
 use Rattle.moo_object.specs.Objects.{Object}
 use Rattle.moo_object.proofs.Names.{same_name-false, ne-same_name}
-use Rattle.moo_table.specs.World.{World, nothing, object_of, thing_of, keys_defined_on, keys_along, definitions, has_twice, has_clash, is_crowded, most, fitted_over, fitted_along, cells_of, IsFilled, IsFine, HasStored, IsJoined, IsWellFormed, refitted}
-use Rattle.moo_table.specs.Steps.{AreFitted, AreReady, without_last, IsDefinable}
+use Rattle.moo_table.specs.World.{World, nothing, object_of, thing_of, keys_defined_on, keys_along, definitions, has_twice, has_clash, is_crowded, most, fitted_over, fitted_along, IsFilled, IsFine, HasStored, IsJoined, IsWellFormed, refitted}
+use Rattle.moo_table.specs.Steps.{IsDefinable}
 use Rattle.moo_table.specs.Changes.{with_definition, with_definition_on, after_define}
 use Rattle.moo_table.specs.Properties.{has_name}
 use Rattle.moo_table.proofs.Counting.{programs_defined}
 use Rattle.moo_table.proofs.Changing.{valid_within, roomy_here}
-use Rattle.moo_table.proofs.FittedRows.{IsOwnExact, own_exact, own_cells, already_fitted, cells_distinct, one_more_distinct, unnamed_key}
-use Rattle.moo_table.proofs.Joining.{within_low, walk_low}
+use Rattle.moo_table.proofs.FittedRows.{IsOwnExact, own_exact, own_cells, already_fitted}
+use Rattle.moo_table.proofs.Joining.{within_low}
 use Rattle.moo_table.proofs.Refitting.{joined_kept, fitted_stocked, all_fail, none_passes, length_refitted, was_none}
-use Rattle.moo_table.proofs.Rowing.{IsFittedOutside, IsRejoined, row_for, rows_fit}
 
 defined_then : (o : Option Object) (name : List ℕ) (cell : Cell) → IsSome o → (unwrap_or (with_definition name cell o) nothing).defined ≡ (unwrap_or o nothing).defined ++ name ∷ []
 defined_then None name cell valid = absurd (false≢true valid)
@@ -58,34 +54,6 @@ fine_then (Some o) name cell string stored owner room f = record {
     verbs = f.numbers.verbs;
   };
 }
-
-last_off : {X : Type 0} (xs : List X) (y : X) → take (length (xs ++ y ∷ []) - 1) (xs ++ y ∷ []) ≡ xs
-last_off xs y = let len = length_push xs y in take_at xs (y ∷ []) (length (xs ++ y ∷ []) - 1) (omega (arith, len))
-
-same_object : (o : Object) (ds : List (List ℕ)) (cs : List Cell) → ds ≡ o.defined → cs ≡ o.cells → ◌≡◌ {A = Object} (record o { defined = ds; cells = cs }) o
-same_object o ds cs p q = ap (λ d. (let r : Object = record o { defined = d; cells = cs } in r)) p ∙ ap (λ c. (let r : Object = record o { cells = c } in r)) q
-
--- the last definition and its cell taken away again
-undefined : (o : Option Object) (name : List ℕ) (cell : Cell) → without_last (with_definition name cell o) ≡ o
-undefined None name cell = refl
-undefined (Some o) name cell =
-    ap (λ r. Some r) (same_object o (take (length (o.defined ++ name ∷ []) - 1) (o.defined ++ name ∷ [])) (take (length (o.cells ++ cell ∷ []) - 1) (o.cells ++ cell ∷ []))
-    (last_off o.defined name) (last_off o.cells cell))
-
--- a slot written twice is as at first
-pub slot_restored : (objects : List (Option Object)) (x : ℕ) (name : List ℕ) (cell : Cell) (read first again second : Option Object) → IsSome (object_of objects x) → read ≡ get_or objects x read →
-    first ≡ with_definition name cell read → again ≡ get_or (set objects x first) x again → second ≡ without_last again → set (set objects x first) x second ≡ objects
-slot_restored objects x name cell read first again second valid read_is first_is again_is second_is =
-    let within = valid_within objects x valid in
-    let at = get_or_read objects x read within read_is None in
-    let same = again_is ∙ get_or-set_same objects x first again within in
-    set-set objects x first second ∙
-    ap (set objects x) (second_is ∙ ap without_last (same ∙ first_is) ∙ undefined read name cell ∙ at) ∙ set-get_or objects x None
-
-pub slot_defined : (objects : List (Option Object)) (x : ℕ) (name : List ℕ) (cell : Cell) (read slot : Option Object) → IsSome (object_of objects x) → read ≡ get_or objects x read → slot ≡ with_definition name cell read →
-    set objects x slot ≡ with_definition_on objects x name cell
-slot_defined objects x name cell read slot valid read_is is =
-    ap (set objects x) (is ∙ ap (with_definition name cell) (get_or_read objects x read (valid_within objects x valid) read_is None))
 
 -- one name put into a list
 record Inserted (n : List ℕ) (old new : List (List ℕ)) : Type 0 where
@@ -121,13 +89,13 @@ right_of true b h e = h
 right_of false b h e = absurd (false≢true e)
 
 module _ (w : World) (x : ℕ) (name : List ℕ) (cell : Cell) (f : IsWellFormed w) (valid : IsSome (object_of w.objects x)) (d : IsDefinable w x name cell) where
-  here : object_of (with_definition_on w.objects x name cell) x ≡ with_definition name cell (object_of w.objects x)
+  pub here : object_of (with_definition_on w.objects x name cell) x ≡ with_definition name cell (object_of w.objects x)
   here = get_or-set_same w.objects x (with_definition name cell (object_of w.objects x)) None (valid_within w.objects x valid)
 
-  there : (y : ℕ) → (y ≡ x → ⊥) → object_of (with_definition_on w.objects x name cell) y ≡ object_of w.objects y
+  pub there : (y : ℕ) → (y ≡ x → ⊥) → object_of (with_definition_on w.objects x name cell) y ≡ object_of w.objects y
   there y other = get_or-set_other w.objects x y (with_definition name cell (object_of w.objects x)) None other
 
-  many : length (with_definition_on w.objects x name cell) ≡ length w.objects
+  pub many : length (with_definition_on w.objects x name cell) ≡ length w.objects
   many = length-set w.objects x (with_definition name cell (object_of w.objects x))
 
   still_none : (y : ℕ) → object_of (with_definition_on w.objects x name cell) y ≡ None → object_of w.objects y ≡ None
@@ -174,19 +142,6 @@ module _ (w : World) (x : ℕ) (name : List ℕ) (cell : Cell) (f : IsWellFormed
   free_of y on = right_of (is_within w.inheritance y x) (has_name w.objects w.inheritance (folded name) y)
       (none_passes (λ z. is_within w.inheritance z x && has_name w.objects w.inheritance (folded name) z) (length w.objects) d.free y (within_low w.objects w.inheritance f.parents x valid y on)) on
 
-  -- no two cells are for the same definition
-  pub distinct_then : (y : ℕ) → AreDistinct (thing_of (with_definition_on w.objects x name cell) y).cells
-  distinct_then y = ⊎_elim
-      (λ e. rw e (rw cells_here (one_more_distinct (thing_of w.objects x).cells cell (cells_distinct w f x) unheld)))
-      (λ ne. let same = cells_there y ne in rw same (cells_distinct w f y))
-      (cases_eq y x)
-    where
-      unheld : cell_at (thing_of w.objects x).cells (key_of cell) ≡ None
-      unheld = ap (cell_at (thing_of w.objects x).cells) d.own ∙
-          unnamed_key (thing_of w.objects x).cells (x, folded name)
-          (ap (list_any (λ (k : Key). same_name k.1 (folded name))) (f.stocked.exact_cells x) ∙
-          free_of x (or_left (eqb x x) (list_any (eqb x) (ancestors w.inheritance x)) (eq-eqb x x refl)))
-
   filled_then : (y : ℕ) → All (IsFilled y) (thing_of (with_definition_on w.objects x name cell) y).cells
   filled_then y = ⊎_elim
       (λ e. rw e (rw cells_here (All-push (IsFilled x) (thing_of w.objects x).cells cell (f.stocked.own_filled x) (λ own. d.filled))))
@@ -194,7 +149,7 @@ module _ (w : World) (x : ℕ) (name : List ℕ) (cell : Cell) (f : IsWellFormed
       (cases_eq y x)
 
   -- along a way that does not meet x nothing is new
-  fitted_apart : (way : List ℕ) → list_any (eqb x) way ≡ false → fitted_along (with_definition_on w.objects x name cell) way ≡ fitted_along w.objects way
+  pub fitted_apart : (way : List ℕ) → list_any (eqb x) way ≡ false → fitted_along (with_definition_on w.objects x name cell) way ≡ fitted_along w.objects way
   fitted_apart [] apart = refl
   fitted_apart (y ∷ way) apart =
       let parts = or_parts (eqb x y) (list_any (eqb x) way) apart in
@@ -306,38 +261,8 @@ module _ (w : World) (x : ℕ) (name : List ℕ) (cell : Cell) (f : IsWellFormed
         few_programs = omega (arith, programs_defined w.objects w.inheritance x name cell (valid_within w.objects x valid), f.few_programs);
       }
 
-  outside_then : IsFittedOutside (with_definition_on w.objects x name cell) w.inheritance x
-  outside_then = record {
-    fitted = λ y h.
-        fitted_apart (y ∷ ancestors w.inheritance y) h ∙ already_fitted w f y (ancestors w.inheritance y) (f.parents.forest.rooted y) ∙
-        sym (cells_there y (λ e. eqb-false x y (or_parts (eqb x y) (list_any (eqb x) (ancestors w.inheritance y)) h).0 (sym e)));
-    once = λ y h. once_then y;
-    roomy = λ y h. roomy_then y;
-  }
-
-  top_then : fitted_over x (object_of (with_definition_on w.objects x name cell) x) (cells_of (with_definition_on w.objects x name cell) (above_of w.inheritance x)) ≡ row_for (with_definition_on w.objects x name cell) w.inheritance x
-  top_then = ap (fitted_over x (object_of (with_definition_on w.objects x name cell) x)) (rest (above_of w.inheritance x) refl)
-    where
-      rest : (q : Option ℕ) → above_of w.inheritance x ≡ q → cells_of (with_definition_on w.objects x name cell) q ≡ fitted_along (with_definition_on w.objects x name cell) (ancestors w.inheritance x)
-      rest None is = sym (ap (fitted_along (with_definition_on w.objects x name cell)) (way_up_is_ancestors w.inheritance f.parents.forest.exact x [] is))
-      rest (Some up) is =
-          sym (outside_then.fitted up (above_apart w.inheritance f.parents.forest x up is)) ∙
-          sym (ap (fitted_along (with_definition_on w.objects x name cell)) (way_up_is_ancestors w.inheritance f.parents.forest.exact x (up ∷ ancestors w.inheritance up) (is, f.parents.forest.rooted up)))
-
-  same_tree : IsRejoined w.inheritance w.inheritance x
-  same_tree = record { forest = f.parents.forest; above = λ y ne. refl; apart = λ y off. refl }
-
-  -- the rows put in place fit all
-  pub ready_then : (walk : List Step) (rows : List (List Cell)) → IsWalkDown w.inheritance x walk →
-      AreFitted (with_definition_on w.objects x name cell) walk (fitted_over (step_at walk 0).node (object_of (with_definition_on w.objects x name cell) (step_at walk 0).node) (cells_of (with_definition_on w.objects x name cell) (above_of w.inheritance x))) (length walk) rows →
-      AreReady (with_definition_on w.objects x name cell) w.inheritance walk rows
-  ready_then walk rows wd a =
-      let objects = with_definition_on w.objects x name cell in
-      let top = ap (λ n. fitted_over n (object_of objects n) (cells_of objects (above_of w.inheritance x))) wd.first ∙ top_then in
-      record {
-        many = a.many;
-        within = λ k h. (let low = walk_low w.objects w.inheritance f.parents x valid walk wd k h in omega (arith, low, many));
-        fit = rows_fit objects w.inheritance w.inheritance x walk f.parents.forest same_tree wd (f.parents.many ∙ sym many)
-            (λ y on. (let low = within_low w.objects w.inheritance f.parents x valid y on in omega (arith, low, many)))
-            outside_then (fitted_over (step_at walk 0).node (object_of objects (step_at walk 0).node) (cells_of objects (above_of w.inheritance x))) rows top a;
-      }
+  -- what does not stand within x has the cells that fitting gives it
+  pub fitted_outside : (y : ℕ) → is_within w.inheritance y x ≡ false → fitted_along (with_definition_on w.objects x name cell) (y ∷ ancestors w.inheritance y) ≡ (thing_of (with_definition_on w.objects x name cell) y).cells
+  fitted_outside y off =
+      fitted_apart (y ∷ ancestors w.inheritance y) off ∙ already_fitted w f y (ancestors w.inheritance y) (f.parents.forest.rooted y) ∙
+      sym (cells_there y (λ e. eqb-false x y (or_parts (eqb x y) (list_any (eqb x) (ancestors w.inheritance y)) off).0 (sym e)))

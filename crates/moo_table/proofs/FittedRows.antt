@@ -1,10 +1,9 @@
 -- Cells fitted along a way up.
-use Rattle.std.proofs.Common.{◌≡◌, ℕ, List, [], ◌∷◌, ◌++◌, Option, Some, None, true, false, eqb, refl, sym, ◌∙◌, ap, ⊎_elim, map, get_or}
+use Rattle.std.proofs.Common.{◌≡◌, ℕ, List, [], ◌∷◌, ◌++◌, Option, Some, None, true, false, eqb, refl, sym, ◌∙◌, ap, ⊎_elim, map}
 use Rattle.std.specs.List.{All, AllByRecursion, list_any, filter}
-use Rattle.std.specs.Option.{unwrap_or, option_or}
+use Rattle.std.specs.Option.{unwrap_or}
 use Rattle.std.proofs.lemmas.List.{append-nil, map-append}
-use Rattle.std.proofs.lemmas.List.Elements.{filter-append, All-nil, All-cons, All-push}
-use Rattle.std.proofs.lemmas.List.Folds.{find-append}
+use Rattle.std.proofs.lemmas.List.Elements.{filter-append, All-nil, All-cons}
 use Rattle.std.proofs.lemmas.Bool.{cases_Bool, eqb-true, eqb-false, eq-eqb, ne_eqb, or_parts, and_parts, and_from, and_right}
 use Rattle.moo_value.specs.Compare.{folded}
 use Rattle.moo_object.specs.Names.{same_name}
@@ -235,14 +234,6 @@ cells_distinct w f x =
     let cells = (thing_of w.objects x).cells in
     found_all cells cells
     (all_found cells (ap has_twice (sym (names_of_keys cells)) ∙ ap (λ ks. has_twice (map (λ (k : Key). k.1) ks)) (f.stocked.exact_cells x) ∙ f.stocked.names_once x))
-
--- nor with one more, for which there was none
-pub one_more_distinct : (cells : List Cell) (c : Cell) → AreDistinct cells → cell_at cells (key_of c) ≡ None → AreDistinct (cells ++ c ∷ [])
-one_more_distinct cells c once none =
-    let mine : is_key (key_of c) c ≡ true = and_from (eqb c.definer c.definer) (same_name c.name c.name) (eq-eqb _ _ refl) (eq-same_name c.name c.name refl) in
-    All-push (λ d. cell_at (cells ++ c ∷ []) (key_of d) ≡ Some d) cells c
-    (λ k d h. find-append (is_key (key_of (get_or cells k d))) cells (c ∷ []) ∙ ap (λ r. option_or r (cell_at (c ∷ []) (key_of (get_or cells k d)))) (once k d h))
-    (find-append (is_key (key_of c)) cells (c ∷ []) ∙ ap (λ r. option_or r (cell_at (c ∷ []) (key_of c))) none ∙ (rw mine refl))
 
 -- there is no cell for a definition of a name that no cell has
 pub unnamed_key : (cells : List Cell) (k : Key) → list_any (λ (j : Key). same_name j.1 k.1) (map key_of cells) ≡ false → cell_at cells k ≡ None

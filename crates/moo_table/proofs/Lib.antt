@@ -25,3 +25,4 @@ pub mod Truths
 pub mod Renamed
 pub mod Respelling
 pub mod NamesMet
+pub mod Placing

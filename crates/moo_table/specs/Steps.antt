@@ -1,5 +1,5 @@
 -- The steps of changes, for the functions that changes are made of: the meaning of a change needs none of these words.
-use Rattle.std.specs.Prelude.{◌≡◌, ◌⊎◌, ℕ, ◌<◌, ◌+◌, ◌-◌, List, [], ◌∷◌, ◌++◌, Option, Some, None, Bool, true, false, length, slice_index_or, slice_set, map, nat_lt, take, is_some, FitsSigned}
+use Rattle.std.specs.Prelude.{◌≡◌, ◌⊎◌, ℕ, ◌<◌, ◌+◌, List, [], ◌∷◌, ◌++◌, Option, Some, None, Bool, true, false, length, slice_index_or, slice_set, map, nat_lt, is_some, FitsSigned}
 use Rattle.std.specs.Int.{w32}
 use Rattle.std.specs.List.{list_any}
 use Rattle.std.specs.BTreeMap as tree
@@ -12,7 +12,8 @@ use Rattle.moo_value.specs.Size.{IsString}
 use Rattle.moo_forest.specs.Forest.{Links}
 use Rattle.moo_forest.specs.Walk.{step_at, met}
 use Rattle.moo_forest.specs.declared.walk.Step.{Step}
-use Rattle.moo_object.specs.Cells.{Cell, is_named, key_of}
+use Rattle.moo_object.specs.Cells.{Cell, is_named, key_of, cleared}
+use Rattle.moo_object.specs.Rows.{put_before, taken_before}
 use Rattle.moo_object.specs.Names.{same_name}
 use Rattle.moo_object.specs.Objects.{Object}
 use Rattle.moo_table.specs.World.{World, fitted_over, with_cells, object_of, thing_of, refitted, most, HasStored}
@@ -48,10 +49,20 @@ HasJust known names = (n : List ℕ) → is_some (tree.get_by (λ k. slice_cmp n
 abbrev pub is_crowded_by : List (Option Object) → ℕ → ℕ → ℕ → Bool
 is_crowded_by objects gained lost y = nat_lt (most + lost) (length (thing_of objects y).cells + gained)
 
--- an object without its last definition and its last cell
-abbrev pub without_last : Option Object → Option Object
-without_last None = None
-without_last (Some o) = Some (record o { defined = take (length o.defined - 1) o.defined; cells = take (length o.cells - 1) o.cells })
+-- an object with a clear cell for one more definition, before the last k of its cells
+abbrev pub with_clear_cell : ℕ → Cell → Option Object → Option Object
+with_clear_cell k cell None = None
+with_clear_cell k cell (Some o) = Some (record o { cells = put_before k (cleared o.owner cell) o.cells })
+
+-- an object with one more definition of its own, whose cell stands before the last k of its cells
+abbrev pub with_own_cell : ℕ → List ℕ → Cell → Option Object → Option Object
+with_own_cell k name cell None = None
+with_own_cell k name cell (Some o) = Some (record o { defined = o.defined ++ name ∷ []; cells = put_before k cell o.cells })
+
+-- an object without the cell before the last k of its cells
+abbrev pub without_cell_before : ℕ → Option Object → Option Object
+without_cell_before k None = None
+without_cell_before k (Some o) = Some (record o { cells = taken_before k o.cells })
 
 -- the rows along a walk, put in place, fit the objects to a tree
 pub record AreReady (objects : List (Option Object)) (tree : List Links) (walk : List Step) (rows : List (List Cell)) : Type 0 where
@@ -63,6 +74,13 @@ pub record AreReady (objects : List (Option Object)) (tree : List Links) (walk :
 abbrev pub changed_along : (Option Object → Option Object) → List (Option Object) → List ℕ → List (Option Object)
 changed_along f objects [] = objects
 changed_along f objects (y ∷ ys) = changed_along f (slice_set objects y (f (object_of objects y))) ys
+
+-- the objects of a walk once the first has one more definition, and each other one a clear cell for it
+abbrev pub defined_along : ℕ → List ℕ → Cell → List (Option Object) → List ℕ → List (Option Object)
+defined_along k name cell objects [] = objects
+defined_along k name cell objects (x ∷ ys) =
+    let below = changed_along (with_clear_cell k cell) objects ys in
+    slice_set below x (with_own_cell k name cell (object_of below x))
 
 -- a definition that keeps a world well formed: of a name that is free, with a cell of its own, where there is room
 pub record IsDefinable (w : World) (x : ℕ) (name : List ℕ) (cell : Cell) : Type 0 where

@@ -1,14 +1,14 @@
-//! New definitions of one object, and what is tested of those that inherit from it.
+//! New definitions of one object and the cells for them, and what is tested of those that inherit from it.
 
-ghost use Rattle.std.specs.Prelude.{◌≡◌, ◌<◌, length, OnOk, OnErr, Some, ℕ, nat_le, None};
+ghost use Rattle.std.specs.Prelude.{◌≡◌, ◌<◌, length, vec_len, List, OnOk, OnErr, Option, Some, ℕ, nat_le, None};
 ghost use Rattle.std.specs.Option.{unwrap_or};
 ghost use Rattle.std.specs.List.{list_any};
 ghost use Rattle.moo_value.specs.Compare.{folded};
 ghost use Rattle.moo_forest.specs.Walk.{met, step_at};
-ghost use Rattle.moo_object.specs.Cells.{is_named};
+ghost use Rattle.moo_object.specs.Cells.{Cell, is_named};
+ghost use Rattle.moo_object.specs.Objects.{Object as Contents};
 ghost use Rattle.moo_table.specs.World.{thing_of, nothing, most};
-ghost use Rattle.moo_table.specs.Steps.{without_last};
-ghost use Rattle.moo_table.specs.Changes.{with_definition};
+ghost use Rattle.moo_table.specs.Steps.{changed_along, defined_along, with_clear_cell, with_own_cell, without_cell_before};
 
 use crate::MOST;
 use moo_forest::Step;
@@ -62,23 +62,95 @@ pub fn full_in(slot: &Option<Object>) -> bool
     }
 }
 
-/// Adds a definition with its cell to an object, each behind the others. Where memory is short,
-/// nothing changes.
-pub fn define_in(slot: &mut Option<Object>, name: MooStr, cell: PropCell) -> Result<(), AllocError>
-    ensures ok { OnOk result (slot.new ≡ with_definition name cell slot.old) }
+/// Adds a definition with its cell to the first object of a walk, and a clear cell for it to each other one. In
+/// each row the cell stands before those that the first object inherits, of which there are `behind`. Where memory
+/// is short, nothing changes.
+pub fn define_along(
+    objects: &mut Vec<Option<Object>>,
+    walk: &[Step],
+    name: MooStr,
+    cell: PropCell,
+    behind: usize,
+) -> Result<(), AllocError>
+    requires { (k : ℕ) → k < length walk.now → (step_at walk.now k).node < vec_len objects.old }
+    ensures ok { OnOk result (objects.new.items ≡ defined_along behind name cell objects.old.items (met walk.now)) }
+    ensures err { OnErr result (objects.new.items ≡ objects.old.items) }
+{
+    let Some((first, below)) = walk.split_first() else {
+        return Ok(());
+    };
+    add_clear_along(objects, below, &cell, behind)?;
+    if let Err(fault) = define_in(&mut objects[first.node], name, cell, behind) {
+        take_along(objects, below, behind);
+        return Err(fault);
+    }
+    Ok(())
+}
+
+// Adds a definition with its cell to an object.
+fn define_in(
+    slot: &mut Option<Object>,
+    name: MooStr,
+    cell: PropCell,
+    behind: usize,
+) -> Result<(), AllocError>
+    ensures ok { OnOk result (slot.new ≡ with_own_cell behind name cell slot.old) }
     ensures err { OnErr result (slot.new ≡ slot.old) }
 {
     match slot {
-        Some(object) => object.define(name, cell),
+        Some(object) => object.define(name, cell, behind),
         None => Ok(()),
     }
 }
 
-/// Takes the last definition and the last cell away.
-pub fn undefine_in(slot: &mut Option<Object>)
-    ensures { slot.new ≡ without_last slot.old }
+// Adds a clear cell to each object on a walk, or to none.
+fn add_clear_along(
+    objects: &mut Vec<Option<Object>>,
+    walk: &[Step],
+    cell: &PropCell,
+    behind: usize,
+) -> Result<(), AllocError>
+    requires { (k : ℕ) → k < length walk.now → (step_at walk.now k).node < vec_len objects.old }
+    ensures ok { OnOk result (objects.new.items ≡ changed_along (with_clear_cell behind cell.now) objects.old.items (met walk.now)) }
+    ensures err { OnErr result (objects.new.items ≡ objects.old.items) }
+    ensures many { vec_len objects.new ≡ vec_len objects.old }
+{
+    for i in 0..walk.len() {
+        if let Err(fault) = add_clear_in(&mut objects[walk[i].node], cell, behind) {
+            take_along(objects, &walk[..i], behind);
+            return Err(fault);
+        }
+    }
+    Ok(())
+}
+
+fn add_clear_in(slot: &mut Option<Object>, cell: &PropCell, behind: usize) -> Result<(), AllocError>
+    ensures ok { OnOk result (slot.new ≡ with_clear_cell behind cell.now slot.old) }
+    ensures err { OnErr result (slot.new ≡ slot.old) }
+{
+    match slot {
+        Some(object) => object.add_clear(cell, behind),
+        None => Ok(()),
+    }
+}
+
+// Takes the cells away again that were added along a walk.
+fn take_along(objects: &mut Vec<Option<Object>>, walk: &[Step], behind: usize)
+    requires { (k : ℕ) → k < length walk.now → (step_at walk.now k).node < vec_len objects.old }
+    ensures back { (cell : Cell) (before : List (Option Contents)) → objects.old.items ≡ changed_along (with_clear_cell behind cell) before (met walk.now) → objects.new.items ≡ before }
+    ensures many { vec_len objects.new ≡ vec_len objects.old }
+{
+    let mut left = walk.len();
+    while left > 0 {
+        left -= 1;
+        take_in(&mut objects[walk[left].node], behind);
+    }
+}
+
+fn take_in(slot: &mut Option<Object>, behind: usize)
+    ensures { slot.new ≡ without_cell_before behind slot.old }
 {
     if let Some(object) = slot {
-        object.undefine();
+        object.remove_cell(behind);
     }
 }

@@ -1,6 +1,6 @@
 //! New properties.
 
-ghost use Rattle.std.specs.Prelude.{◌<◌, IsSome, Some, None};
+ghost use Rattle.std.specs.Prelude.{IsSome, Some, None};
 ghost use Rattle.moo_value.specs.Compare.{folded};
 ghost use Rattle.moo_value.specs.View.{tree};
 ghost use Rattle.moo_forest.specs.Walk.{IsWalkDown};
@@ -15,8 +15,8 @@ use crate::World;
 use crate::fault::WorldFault;
 use moo_forest::Step;
 use moo_object::{PropCell, PropPerms, built_in};
-use moo_table::defining::{define_in, some_full, some_named, undefine_in};
-use moo_table::fitting::{put_rows, rows_below};
+use moo_table::defining::{define_along, some_full, some_named};
+use moo_table::properties::cells_of;
 use moo_value::{ErrorCode, MooStr, Value};
 use std::alloc::Global;
 
@@ -71,7 +71,7 @@ impl World {
         let _weight = value.weight();
         let walk = self.test_property(alloc, x, name.as_bytes())?;
         let cell = PropCell::defined(x, name.try_clone()?, value, owner, perms);
-        self.put_definition(alloc, x, name, cell, &walk)
+        self.put_definition(x, name, cell, &walk)
     }
 
     // Whether a valid object may define a property of this name, and what inherits from it.
@@ -100,10 +100,9 @@ impl World {
         Ok(walk)
     }
 
-    // Adds a definition that is allowed, and fits what inherits from it.
+    // Adds a definition that is allowed, and a cell for it to each object that has it.
     fn put_definition(
         &mut self,
-        alloc: Global,
         x: usize,
         name: MooStr,
         cell: PropCell,
@@ -114,17 +113,8 @@ impl World {
         requires walk { IsWalkDown self.old.inheritance x walk.now }
         ensures { Changes result self.old self.new None (after_define self.old x name cell) }
     {
-        let above = self.inheritance.above(x);
-        define_in(&mut self.objects[x], name, cell)?;
-        match rows_below(&self.objects, alloc, walk, above) {
-            Ok(rows) => {
-                put_rows(&mut self.objects, walk, rows);
-                Ok(())
-            }
-            Err(_) => {
-                undefine_in(&mut self.objects[x]);
-                Err(WorldFault::Memory)
-            }
-        }
+        let behind = cells_of(&self.objects, self.inheritance.above(x)).len();
+        define_along(&mut self.objects, walk, name, cell, behind)?;
+        Ok(())
     }
 }

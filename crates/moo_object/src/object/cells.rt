@@ -1,0 +1,167 @@
+// The cells of an object.
+ghost use Rattle.std.specs.Prelude.{◌≡◌, ◌<◌, ◌==◌, IfOk, OnOk, OnErr, ◌++◌, length, filter, map, not, slice_get};
+ghost use Rattle.std.specs.Option.{ForSome, option_and_then};
+ghost use Rattle.moo_value.specs.Compare.{folded};
+ghost use Rattle.moo_value.specs.View.{tree};
+ghost use Rattle.moo_object.specs.Cells.{AreDistinct, is_key, cell_at, cleared, key_of, with_value, at_key, emptied, with_info, renamed};
+ghost use Rattle.moo_object.specs.Rows.{put_before, taken_before};
+ghost use Rattle.moo_object.specs.Objects.{fitted_cell, fitted_row};
+
+use crate::cell::{PropCell, PropPerms};
+use crate::object::Object;
+use crate::row::{Row, absent_definer, place_for, renamed_cell};
+use moo_value::{MooStr, Value};
+use std::alloc::{AllocError, Global};
+
+impl Object {
+    /// The cells, in the order of definitions.
+    pub fn cells(&self) -> &[PropCell]
+        ensures { result.now ≡ self.now.cells }
+    {
+        self.cells.as_slice()
+    }
+
+    /// Gives the object other cells.
+    pub fn set_cells(&mut self, cells: Row)
+        ensures { self.new ≡ record self.old { cells = cells } }
+    {
+        self.cells = cells;
+    }
+
+    /// The cells under a parent with these cells, for the object of this number: those of its own
+    /// definitions, and for each of its parent's the one that there is, or a clear one. What stays in
+    /// order is found where it is looked for first, and a definer that is new above is looked for
+    /// once.
+    pub fn fitted_row(
+        &self,
+        alloc: Global,
+        number: usize,
+        above: &[PropCell],
+    ) -> Result<Row, AllocError>
+        requires { AreDistinct self.now.cells }
+        ensures { IfOk result (λ row. row ≡ fitted_row number self.now above.now) }
+    {
+        let room = self.defined.len().saturating_add(above.len());
+        let mut row = self.own_cells(alloc, number, room)?;
+        self.push_fitted(&mut row, above)?;
+        Ok(Row::from_cells(row))
+    }
+
+    // The cells of the object's own definitions, for the object of this number, in a row with room for so many.
+    fn own_cells(
+        &self,
+        alloc: Global,
+        number: usize,
+        room: usize,
+    ) -> Result<Vec<PropCell>, AllocError>
+        ensures { IfOk result (λ row. row.items ≡ filter (λ c. c.definer == number) self.now.cells) }
+    {
+        let mut row = Vec::with_capacity(alloc, room)?;
+        for cell in self.cells.as_slice() {
+            if cell.definer() == number {
+                row.push(cell.try_clone()?)?;
+            }
+        }
+        Ok(row)
+    }
+
+    // Adds a cell for each of the parent's cells.
+    fn push_fitted(&self, row: &mut Vec<PropCell>, above: &[PropCell]) -> Result<(), AllocError>
+        requires { AreDistinct self.now.cells }
+        ensures { OnOk result (row.new.items ≡ row.old.items ++ map (fitted_cell self.now) above.now) }
+    {
+        let cells = self.cells.as_slice();
+        let mut next = 0;
+        let mut absent = None;
+        for other in above {
+            let place = place_for(cells, other, next, absent);
+            row.push(self.fitted_cell(other, place)?)?;
+            match place {
+                Some(place) => next = place + 1,
+                None => absent = absent_definer(cells, other, absent),
+            }
+        }
+        Ok(())
+    }
+
+    // The cell for what a definition's cell on the parent is for: the one there is, at this place, or a
+    // clear one.
+    fn fitted_cell(&self, above: &PropCell, place: Option<usize>) -> Result<PropCell, AllocError>
+        requires within { ForSome place (λ i. i < length self.now.cells) }
+        requires found { option_and_then (slice_get self.now.cells) place ≡ cell_at self.now.cells (key_of above.now) }
+        ensures { IfOk result (λ c. c ≡ fitted_cell self.now above.now) }
+    {
+        match place {
+            Some(place) => self.cells.as_slice()[place].try_clone(),
+            None => above.cleared(self.owner),
+        }
+    }
+
+    /// Sets the value of the cell of a name.
+    pub fn set_value(&mut self, name: &[u8], value: Value)
+        ensures { self.new ≡ record self.old { cells = with_value (folded name.now) (tree value) self.old.cells } }
+    {
+        self.cells.set_value(name, value);
+    }
+
+    /// Makes the cell for a definition clear.
+    pub fn clear_value(&mut self, definer: usize, name: &[u8])
+        ensures { self.new ≡ record self.old { cells = map (at_key (definer, folded name.now) emptied) self.old.cells } }
+    {
+        self.cells.clear(definer, name);
+    }
+
+    /// Gives the cell for a definition another owner and other permissions.
+    pub fn set_cell_info(&mut self, definer: usize, name: &[u8], owner: i32, perms: PropPerms)
+        ensures { self.new ≡ record self.old { cells = map (at_key (definer, folded name.now) (with_info owner perms)) self.old.cells } }
+    {
+        self.cells.set_info(definer, name, owner, perms);
+    }
+
+    /// Adds a clear cell for what another cell is for, before the last ones, of which there are `behind`.
+    pub fn add_clear(&mut self, other: &PropCell, behind: usize) -> Result<(), AllocError>
+        ensures ok { OnOk result (self.new ≡ record self.old { cells = put_before behind (cleared self.old.owner other.now) self.old.cells }) }
+        ensures err { OnErr result (self.new ≡ self.old) }
+    {
+        let cell = other.cleared(self.owner)?;
+        self.cells.insert(cell, behind)
+    }
+
+    /// Takes the cell before the last ones away, of which there are `behind`.
+    pub fn remove_cell(&mut self, behind: usize)
+        ensures { self.new ≡ record self.old { cells = taken_before behind self.old.cells } }
+    {
+        self.cells.remove(behind);
+    }
+
+    /// The cells, with another name in the cell for a definition.
+    pub fn renamed_row(
+        &self,
+        alloc: Global,
+        definer: usize,
+        name: &[u8],
+        new_name: &MooStr,
+    ) -> Result<Row, AllocError>
+        ensures { IfOk result (λ row. row ≡ map (at_key (definer, folded name.now) (renamed (folded new_name.now))) self.now.cells) }
+    {
+        let mut row = Vec::with_capacity(alloc, self.cells.as_slice().len())?;
+        for cell in self.cells.as_slice() {
+            row.push(renamed_cell(cell, definer, name, new_name)?)?;
+        }
+        Ok(Row::from_cells(row))
+    }
+
+    /// Takes the object's cell for a definition away.
+    pub fn lose(&mut self, definer: usize, name: &[u8])
+        ensures { self.new ≡ record self.old { cells = filter (λ c. not (is_key (definer, folded name.now) c)) self.old.cells } }
+    {
+        self.cells.lose(definer, name);
+    }
+
+    /// Takes the object's cells for all definitions of an object away.
+    pub fn lose_all_of(&mut self, definer: usize)
+        ensures { self.new ≡ record self.old { cells = filter (λ c. not (c.definer == definer)) self.old.cells } }
+    {
+        self.cells.lose_all_of(definer);
+    }
+}

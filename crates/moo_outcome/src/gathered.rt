@@ -24,11 +24,11 @@ pub struct Gathered {
     last: Vec<Value>,
 }
 
-// Values, and a list that was spliced in behind them.
+/// Values, and a list that was spliced in behind them.
 #[derive(Drop)]
-struct Stretch {
-    values: Vec<Value>,
-    list: MooList,
+pub struct Stretch {
+    pub values: Vec<Value>,
+    pub list: MooList,
 }
 
 impl Model for Gathered {
@@ -99,6 +99,14 @@ impl Gathered {
     {
         let Gathered { stretches, last } = self;
         joined(alloc, &stretches, last)
+    }
+
+    /// The stretches of the values as they lie, and the values behind the last one.
+    pub fn into_stretches(self) -> (Vec<Stretch>, Vec<Value>)
+        ensures { in_a_row result.0.items ++ trees result.1.items ≡ self }
+    {
+        let Gathered { stretches, last } = self;
+        (stretches, last)
     }
 
     /// The values, for the arguments of a verb, which have to make a list: E_QUOTA, before an element is copied, where the

@@ -19,7 +19,7 @@ use Rattle.moo_dbrecord.specs.Texts.{Text, Slack, Spells, header_line, objects_l
 use Rattle.moo_dbrecord.specs.declared.fault.DbFault.{DbFault}
 use Rattle.moo_dbrecord.specs.declared.fault.ProgramFaultKind.{ProgramFaultKind}
 use Rattle.moo_dbrecord.specs.DumpReading.{Progress, verb_read}
-use Rattle.moo_dbrecord.specs.Answer.{Told, Taken, taken_of, taken_on, begin, and_then, HasTaken, IsGoing, HasFailed, HasNoEnd, Stops}
+use Rattle.moo_dbrecord.specs.Answer.{IsWholeLine, Told, Taken, taken_of, taken_on, begin, and_then, HasTaken, IsGoing, HasFailed, HasNoEnd, Stops}
 use Rattle.moo_dbrecord.specs.declared.db_reader.DbReader.{DbReader}
 use Rattle.moo_dbrecord.specs.declared.db_reader.RecordFault.{RecordFault}
 use Rattle.moo_dbrecord.specs.declared.dump_reader.Section.{Section}
@@ -33,7 +33,7 @@ use Rattle.moo_dbrecord.proofs.Sparing.{open_alike, reads_alike, alike_self, ali
 use Rattle.moo_dbprogram.specs.Says.{Programs, programs_of, HasSource, IsParsedAs, AreParsedAs, HasProgramsWithin}
 use Rattle.moo_dbprogram.specs.Faults.{told_kind, source_kind_of, HasProgramAt, through_program}
 use Rattle.moo_dbprogram.specs.declared.program_reader.ProgramReader.{ProgramReader}
-use Rattle.moo_dbprogram.specs.Reading.{IsWholeLine, IsBehind, IsRefused, IsSourceRefused, ended_between, verb_at, sources_at}
+use Rattle.moo_dbprogram.specs.Reading.{IsBehind, IsRefused, IsSourceRefused, ended_between, verb_at, sources_at}
 
 -- ---- the records
 

@@ -8,7 +8,7 @@ use Rattle.moo_dbrecord.specs.Texts.{Text, text_of}
 use Rattle.moo_dbrecord.specs.declared.dump.Dump.{Dump}
 use Rattle.moo_dbrecord.specs.Sparing.{outline}
 use Rattle.moo_dbrecord.specs.DumpReading.{Progress}
-use Rattle.moo_dbrecord.specs.Answer.{Told, Taken, taken_on, begin, StopsAt, Stops, HasNoEnd, and_then, answer_to, finished}
+use Rattle.moo_dbrecord.specs.Answer.{IsWholeLine, Told, Taken, taken_on, begin, StopsAt, Stops, HasNoEnd, and_then, answer_to, finished}
 use Rattle.moo_dbrecord.specs.Faults.{kind_of_refusal, fault_of}
 use Rattle.moo_dbrecord.specs.declared.db_reader.RecordFault.{RecordFault}
 use Rattle.moo_dbrecord.specs.declared.fault.DbFault.{DbFault}
@@ -18,7 +18,7 @@ use Rattle.moo_dbrecord.proofs.Sources.{finished_text}
 use Rattle.moo_dbprogram.specs.Says.{AreParsedAs, HasProgramsWithin, programs_of}
 use Rattle.moo_dbprogram.specs.declared.program_reader.ProgramReader.{ProgramReader}
 use Rattle.moo_dbprogram.specs.Faults.{AreSoundBefore, through_program}
-use Rattle.moo_dbprogram.specs.Reading.{IsWholeLine, IsRecordFault, IsToldProgram, IsRefused, IsBehind, HasRead, IsWell, HasRefused, IsRead}
+use Rattle.moo_dbprogram.specs.Reading.{IsRecordFault, IsToldProgram, IsRefused, IsBehind, HasRead, IsWell, HasRefused, IsRead}
 use Rattle.moo_dbprogram.proofs.Behind.{parsed_within}
 
 -- ---- what stands before a fault

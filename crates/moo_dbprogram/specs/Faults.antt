@@ -95,16 +95,36 @@ IsOfLimits k = (k ≡ kind.Memory) ⊎ (k ≡ kind.TooLarge) ⊎ IsTooDeep k
 
 -- ---- two faults that are told of one text
 
--- of a program that is none two faults may be told
+-- of a program that is none two faults may be told, both of its source
 pub record AreOfOneProgram (j k : DbFaultKind) : Type 0 where
   pub object : ℕ
   pub verb : ℕ
+  pub source : List Line
   pub fault : ProgramFault
   pub other : ProgramFault
   pub is : j ≡ kind.Program object verb fault
   pub also : k ≡ kind.Program object verb other
+  pub blamed : IsBlamed source fault
+  pub also_blamed : IsBlamed source other
 
 -- on the same line the same is told, but for which fault of one program it is
 pub record AreToldAlike (d e : DbFault) : Type 0 where
   pub line : d.line ≡ e.line
   pub kind : (d.kind ≡ e.kind) ⊎ AreOfOneProgram d.kind e.kind
+
+-- ---- what is told of sources
+
+-- which faults may be told of a source
+abbrev pub Telling : Type 1
+Telling = List Line → ProgramFault → Type 0
+
+-- a choice of what each source is told
+abbrev pub Choice : Type 0
+Choice = List Line → Option ProgramFault
+
+abbrev pub chosen_by : Choice → Telling
+chosen_by choice source f = choice source ≡ Some f
+
+-- where a program is told, it is what may be told of its source
+abbrev pub TellsBy : Telling → List ℕ → DbFault → Type 0
+TellsBy T bytes e = (o v : ℕ) (f : ProgramFault) → e.kind ≡ kind.Program o v f → (h : IsProgramFault bytes e.line o v f) → T h.source f

@@ -8,7 +8,7 @@ use Rattle.moo_dbrecord.specs.Programs.{Table}
 use Rattle.moo_dbrecord.specs.Texts.{Text}
 use Rattle.moo_dbrecord.specs.DumpReading.{Progress, verb_read}
 use Rattle.moo_dbrecord.specs.Sparing.{IsAt}
-use Rattle.moo_dbrecord.specs.Answer.{Told, Stops, IsGoing, HasNoEnd, taken_of, taken_on, begin, answer_to}
+use Rattle.moo_dbrecord.specs.Answer.{Told, Stops, IsGoing, taken_of, taken_on, begin, answer_to}
 use Rattle.moo_dbrecord.specs.Faults.{fault_of}
 use Rattle.moo_dbrecord.specs.declared.db_reader.RecordFault.{RecordFault}
 use Rattle.moo_dbrecord.specs.declared.db_reader.DbReader.{DbReader}
@@ -19,12 +19,6 @@ use Rattle.moo_dbprogram.specs.Says.{AreParsedAs, programs_of, Says}
 use Rattle.moo_dbprogram.specs.Faults.{source_kind, IsProgramFault, AreSoundBefore}
 use Rattle.moo_dbprogram.specs.declared.database.Database.{Database}
 use Rattle.moo_dbprogram.specs.declared.program_reader.ProgramReader.{ProgramReader}
-
--- a line with its end
-pub record IsWholeLine (bytes : List ℕ) : Type 0 where
-  pub line : Line
-  pub is : bytes ≡ line ++ 10 ∷ []
-  pub clean : HasNoEnd line
 
 -- The bytes are taken, and each source among them that has its dot has its program. The sources may be dropped by then.
 pub record IsBehind (r : ProgramReader) (bytes : List ℕ) : Type 0 where

@@ -1,5 +1,5 @@
 //! What follows from the definitions.
-ghost use Rattle.std.specs.Prelude.{◌≢◌, ◌++◌, ℕ, List};
+ghost use Rattle.std.specs.Prelude.{◌≡◌, ◌≢◌, ◌++◌, ℕ, List};
 ghost use Rattle.moo_program.specs.Tree.{Block};
 ghost use Rattle.moo_dbrecord.specs.Texts.{Text, Spells};
 ghost use Rattle.moo_dbrecord.specs.Answer.{answer_to};
@@ -11,7 +11,7 @@ ghost use Rattle.moo_grammar.specs.declared.names.Names.TheVariants.{Any};
 ghost use Rattle.moo_grammar.specs.Texts.{IsProgramOf, IsParsed};
 ghost use Rattle.moo_dbvalue.specs.Lines.{Line, limited};
 ghost use Rattle.moo_dbprogram.specs.Says.{HasPrograms};
-ghost use Rattle.moo_dbprogram.specs.Faults.{IsBlamed, IsProgramFault, AreToldAlike, through_program};
+ghost use Rattle.moo_dbprogram.specs.Faults.{IsBlamed, IsProgramFault, AreToldAlike, Choice, TellsBy, chosen_by, through_program};
 ghost use Rattle.moo_dbprogram.specs.Reading.{IsRefused};
 
 /// A source that is blamed has no program within the limits, and none at all unless it is too deep.
@@ -32,4 +32,10 @@ pub fn no_text_goes_on_from_a_program()
 pub fn one_fault_is_told()
     ensures { (bytes : List ℕ) (d e : DbFault) → IsRefused bytes (answer_to limited bytes) d → IsRefused bytes (answer_to limited bytes) e
         → d.kind ≢ Memory → e.kind ≢ Memory → AreToldAlike d e }
+{}
+
+/// For each choice, made once, of what is told of each source that is no program, one fault is told of a text, want of memory aside.
+pub fn one_fault_by_choice()
+    ensures { (choice : Choice) (bytes : List ℕ) (d e : DbFault) → IsRefused bytes (answer_to limited bytes) d → IsRefused bytes (answer_to limited bytes) e
+        → TellsBy (chosen_by choice) bytes d → TellsBy (chosen_by choice) bytes e → d.kind ≢ Memory → e.kind ≢ Memory → d ≡ e }
 {}

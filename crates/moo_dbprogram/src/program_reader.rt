@@ -1,32 +1,23 @@
 //! A text that comes in pieces, and the programs in it.
-ghost use Rattle.std.specs.Prelude.{◌≡◌, ◌++◌, ◌≤◌, ℕ, List, [], Some, Ok, take, length, OnOk, IfErr, IfOk, IsErrOf, MatchOption, MatchResult};
+ghost use Rattle.std.specs.Prelude.{◌≡◌, ◌++◌, ℕ, List, [], Some, Ok, OnOk, IfErr, IfOk, IsErrOf, MatchResult};
 ghost use Rattle.moo_dbvalue.specs.Lines.{Line, limited};
 ghost use Rattle.moo_dbrecord.specs.Programs.{entry_at};
 ghost use Rattle.moo_dbrecord.specs.Texts.{Text, Spells, SpellsWithin, text_of};
 ghost use Rattle.moo_dbrecord.specs.Sparing.{AreAlikeTaken, has_objects};
-ghost use Rattle.moo_dbrecord.specs.Answer.{IsGoing, Stops, HasNoEnd, taken_of, taken_on, begin, front_lines, Stand, StandWithoutLimits};
+ghost use Rattle.moo_dbrecord.specs.Answer.{IsGoing, IsWholeLine, Stops, HasNoEnd, taken_of, taken_on, begin, front_lines, Stand, StandWithoutLimits};
 ghost use Rattle.moo_dbrecord.specs.declared.fault.ProgramFault.{ProgramFault};
 ghost use Rattle.moo_dbrecord.specs.declared.fault.DbFault.{DbFault};
 ghost use Rattle.moo_dbprogram.specs.Says.{IsParsedAs, programs_of, Says, HasPrograms, HasProgramsWithin};
 ghost use Rattle.moo_dbprogram.specs.Faults.{IsProgramFault, IsOfLine, IsOfLimits};
-ghost use Rattle.moo_dbprogram.specs.Reading.{IsWholeLine, IsBehind, IsRefused, HasRead, IsWell, HasRefused, Answers, lines_of, ended_between, verb_at, sources_at, place_of, IsSourceRefused};
+ghost use Rattle.moo_dbprogram.specs.Reading.{IsBehind, IsRefused, HasRead, IsWell, HasRefused, Answers, lines_of, ended_between, verb_at, sources_at, place_of, IsSourceRefused};
 
 use crate::database::Database;
 use crate::fault::kind_of_source;
 use crate::program_rows::put_program;
-use memchr::memchr;
-use moo_dbrecord::{DbFault, DbFaultKind, DbReader, Dump, RecordFault};
+use moo_dbrecord::{DbFault, DbFaultKind, DbReader, Dump, RecordFault, first_line};
 use moo_grammar::Program;
 use moo_syntax::{Names, parse};
 use std::alloc::Global;
-
-/// How many bytes the first line has, with its end.
-fn first_line(bytes: &[u8]) -> Option<usize>
-    ensures { MatchOption result (HasNoEnd bytes.now) (λ n. (n ≤ length bytes.now) × IsWholeLine (take n bytes.now)) }
-{
-    let at = memchr(b'\n', bytes)?;
-    Some(at + 1)
-}
 
 /// Takes a line with its end, and tells the verb whose program it ends.
 fn take_line(
@@ -34,13 +25,14 @@ fn take_line(
     records: &mut DbReader,
     line: &[u8],
 ) -> Result<Option<(u32, u32)>, RecordFault>
+    requires { IsWholeLine line.now }
     ensures steps { IsGoing records.old → OnOk result (taken_on limited (taken_of records.old) line.now ≡ Ok (taken_of records.new)) }
     ensures stops { IsGoing records.old → IfErr result (λ e. Stops e (taken_on limited (taken_of records.old) line.now)) }
     ensures ok { OnOk result (IsGoing records.new) }
     ensures ended { IfOk result (λ verb. verb ≡ ended_between (verb_at records.old) (verb_at records.new)) }
 {
     let verb = records.verb();
-    records.feed(alloc, line)?;
+    records.feed_line(alloc, line)?;
     match records.verb() {
         Some(_) => Ok(None),
         None => Ok(verb),
@@ -191,6 +183,24 @@ impl ProgramReader {
             return Err(fault);
         }
         let taken = self.take(alloc, piece);
+        if let Err(fault) = taken {
+            self.failed = Some(fault);
+        }
+        taken
+    }
+
+    /// Takes the next line with its end, as `feed` does, without a search for it.
+    pub fn feed_line(&mut self, alloc: Global, line: &[u8]) -> Result<(), DbFault>
+        requires { IsWholeLine line.now }
+        ensures taken { (bytes : List ℕ) → HasRead self.old bytes → HasRead self.new (bytes ++ line.now) }
+        ensures ok { OnOk result (IsWell self.new) }
+        ensures failed { IfErr result (HasRefused self.new) }
+        ensures again { (e : DbFault) → HasRefused self.old e → IsErrOf result e }
+    {
+        if let Some(fault) = self.failed {
+            return Err(fault);
+        }
+        let taken = self.line(alloc, line);
         if let Err(fault) = taken {
             self.failed = Some(fault);
         }

@@ -11,17 +11,18 @@ use Rattle.moo_dbrecord.specs.declared.fault.DbFault.{DbFault}
 use Rattle.moo_dbrecord.specs.declared.fault.DbFaultKind.TheVariants as kind
 use Rattle.moo_dbrecord.proofs.AnswerFound.{answer_found}
 use Rattle.moo_dbrecord.proofs.Placed.{one_set_of_objects}
-use Rattle.moo_dbprogram.specs.Faults.{AreToldAlike}
+use Rattle.moo_dbprogram.specs.Faults.{AreToldAlike, Choice, TellsBy, chosen_by}
 use Rattle.moo_dbprogram.specs.Reading.{IsRefused}
 use Rattle.moo_dbprogram.proofs.Blame.{blamed_is_outside}
 use Rattle.moo_dbprogram.proofs.Whole.{source_told}
-use Rattle.moo_dbprogram.proofs.Order.{told_line, one_is_told}
+use Rattle.moo_dbprogram.proofs.Order.{AreSame, same_alike, same_fault, told_line, one_is_told, one_by_choice}
 use Rattle.moo_restore.specs.First.{IsFirst}
 use Rattle.moo_restore.specs.Faults.{IsHierarchyFault, IsCountFault}
 use Rattle.moo_saved.specs.Saved.{saved_of}
 use Rattle.moo_saved.specs.declared.saved.Saved as stored
 use Rattle.moo_load.specs.Objects.{of_objects, AreFaultless, HasNoObjectFault, HasObjectFault, line_of_object}
-use Rattle.moo_load.specs.Loading.{IsLoaded, HasToldObject, IsRefusedSo, LoadAnswers, IsKnown, AreAlike}
+use Rattle.moo_load.specs.Loading.{IsLoaded, HasToldObject, IsRefusedSo, LoadAnswers, LoadAnswersBy, IsKnown, AreAlike}
+use Rattle.moo_load.specs.Loading as loading
 use Rattle.moo_load.proofs.Worlds.{one_spelled}
 use Rattle.moo_load.proofs.Whole.{is_found, has_source, no_saved}
 
@@ -75,19 +76,19 @@ no_object bytes e none h = at h.is
 same_line : (ps qs : List ℤ) (os us : List (Option recorded.Object)) (x y : ℕ) → ps ≡ qs → os ≡ us → x ≡ y → line_of_object ps os x ≡ line_of_object qs us y
 same_line ps qs os us x y p o e = ap (λ (l : List ℤ). line_of_object l os x) p ∙ ap (λ (l : List (Option recorded.Object)). line_of_object qs l x) o ∙ ap (line_of_object qs us) e
 
-one_object : (bytes : List ℕ) (d e : DbFault) → HasToldObject bytes d → HasToldObject bytes e → AreToldAlike d e
+one_object : (bytes : List ℕ) (d e : DbFault) → HasToldObject bytes d → HasToldObject bytes e → AreSame d e
 one_object bytes d e h k = at h.is k.is
   where
     at : ((d.kind ≡ kind.BadHierarchy h.object) × HasObjectFault IsHierarchyFault bytes d.line h.object) ⊎ ((d.kind ≡ kind.PropertyCount h.object) × HasObjectFault IsCountFault bytes d.line h.object)
-        → ((e.kind ≡ kind.BadHierarchy k.object) × HasObjectFault IsHierarchyFault bytes e.line k.object) ⊎ ((e.kind ≡ kind.PropertyCount k.object) × HasObjectFault IsCountFault bytes e.line k.object) → AreToldAlike d e
+        → ((e.kind ≡ kind.BadHierarchy k.object) × HasObjectFault IsHierarchyFault bytes e.line k.object) ⊎ ((e.kind ≡ kind.PropertyCount k.object) × HasObjectFault IsCountFault bytes e.line k.object) → AreSame d e
     at (inl p) (inl q) =
         let same = begun bytes q.1.players p.1.players q.1.objects p.1.objects q.1.begins p.1.begins in
         let x = one_first _ (length q.1.objects) h.object k.object (subst (λ (os : List (Option recorded.Object)). IsHierarchyFault (of_objects os) h.object) same.1 p.1.fault) q.1.fault in
-        record { line = p.1.line ∙ same_line p.1.players q.1.players p.1.objects q.1.objects h.object k.object same.0 same.1 x ∙ sym q.1.line; kind = inl (p.0 ∙ ap kind.BadHierarchy x ∙ sym q.0) }
+        (p.1.line ∙ same_line p.1.players q.1.players p.1.objects q.1.objects h.object k.object same.0 same.1 x ∙ sym q.1.line, p.0 ∙ ap kind.BadHierarchy x ∙ sym q.0)
     at (inr p) (inr q) =
         let same = begun bytes q.1.players p.1.players q.1.objects p.1.objects q.1.begins p.1.begins in
         let x = one_first _ (length q.1.objects) h.object k.object (subst (λ (os : List (Option recorded.Object)). IsCountFault (of_objects os) h.object) same.1 p.1.fault).1 q.1.fault.1 in
-        record { line = p.1.line ∙ same_line p.1.players q.1.players p.1.objects q.1.objects h.object k.object same.0 same.1 x ∙ sym q.1.line; kind = inl (p.0 ∙ ap kind.PropertyCount x ∙ sym q.0) }
+        (p.1.line ∙ same_line p.1.players q.1.players p.1.objects q.1.objects h.object k.object same.0 same.1 x ∙ sym q.1.line, p.0 ∙ ap kind.PropertyCount x ∙ sym q.0)
     at (inl p) (inr q) =
         let same = begun bytes q.1.players p.1.players q.1.objects p.1.objects q.1.begins p.1.begins in
         absurd (no_first _ (length q.1.objects) h.object (subst (λ (os : List (Option recorded.Object)). IsHierarchyFault (of_objects os) h.object) same.1 p.1.fault) q.1.fault.0)
@@ -101,10 +102,26 @@ one_refusal : (bytes : List ℕ) (d e : DbFault) → IsRefusedSo bytes d → IsR
 one_refusal bytes d e (inl h) (inl k) known other = one_is_told bytes d e h.refused k.refused known other
 one_refusal bytes d e (inl h) (inr k) known other = absurd (no_object bytes e (h.objects known) k)
 one_refusal bytes d e (inr h) (inl k) known other = absurd (no_object bytes d (k.objects other) h)
-one_refusal bytes d e (inr h) (inr k) known other = one_object bytes d e h k
+one_refusal bytes d e (inr h) (inr k) known other = same_alike d e (one_object bytes d e h k)
 
 pub one_answer : (bytes : List ℕ) (a b : Result stored.Saved DbFault) → LoadAnswers a bytes → LoadAnswers b bytes → IsKnown a → IsKnown b → AreAlike a b
 one_answer bytes (Ok s) (Ok t) h k known other = one_spelled bytes (saved_of s) (saved_of t) (is_found bytes (Ok s) h) (is_found bytes (Ok t) k)
 one_answer bytes (Ok s) (Err e) h k known other = loaded_or_refused bytes s e h k other
 one_answer bytes (Err d) (Ok t) h k known other = loaded_or_refused bytes t d k h known
 one_answer bytes (Err d) (Err e) h k known other = one_refusal bytes d e h k known other
+
+-- ---- for a choice of what is told of each source
+
+chosen_refusal : (choice : Choice) (bytes : List ℕ) (d e : DbFault) → IsRefusedSo bytes d → IsRefusedSo bytes e → TellsBy (chosen_by choice) bytes d → TellsBy (chosen_by choice) bytes e
+    → d.kind ≢ kind.Memory → e.kind ≢ kind.Memory → AreSame d e
+chosen_refusal choice bytes d e (inl h) (inl k) by also known other = one_by_choice choice bytes d e h.refused k.refused by also known other
+chosen_refusal choice bytes d e (inl h) (inr k) by also known other = absurd (no_object bytes e (h.objects known) k)
+chosen_refusal choice bytes d e (inr h) (inl k) by also known other = absurd (no_object bytes d (k.objects other) h)
+chosen_refusal choice bytes d e (inr h) (inr k) by also known other = one_object bytes d e h k
+
+pub one_answer_by_choice : (choice : Choice) (bytes : List ℕ) (a b : Result stored.Saved DbFault) → LoadAnswersBy (chosen_by choice) a bytes → LoadAnswersBy (chosen_by choice) b bytes
+    → IsKnown a → IsKnown b → loading.AreSame a b
+one_answer_by_choice choice bytes (Ok s) (Ok t) h k known other = one_spelled bytes (saved_of s) (saved_of t) (is_found bytes (Ok s) h.0) (is_found bytes (Ok t) k.0)
+one_answer_by_choice choice bytes (Ok s) (Err e) h k known other = loaded_or_refused bytes s e h.0 k.0 other
+one_answer_by_choice choice bytes (Err d) (Ok t) h k known other = loaded_or_refused bytes t d k.0 h.0 known
+one_answer_by_choice choice bytes (Err d) (Err e) h k known other = same_fault d e (chosen_refusal choice bytes d e h.0 k.0 h.1 k.1 known other)

@@ -6,7 +6,7 @@ use Rattle.moo_dbvalue.specs.Lines.{limited}
 use Rattle.moo_dbobject.specs.Objects.{object_of}
 use Rattle.moo_dbobject.specs.declared.object_record.ObjectRecord.{ObjectRecord}
 use Rattle.moo_dbrecord.specs.DumpReading.{Progress, verb_read}
-use Rattle.moo_dbrecord.specs.Answer.{Told, Taken, and_then, taken_on, begin, answer_to, HasNoEnd, Stand}
+use Rattle.moo_dbrecord.specs.Answer.{IsWholeLine, Told, Taken, and_then, taken_on, begin, answer_to, HasNoEnd, Stand}
 use Rattle.moo_dbrecord.specs.Sparing.{has_objects}
 use Rattle.moo_dbrecord.specs.declared.fault.DbFault.{DbFault}
 use Rattle.moo_dbrecord.specs.declared.fault.DbFaultKind.TheVariants as kind
@@ -16,7 +16,7 @@ use Rattle.moo_dbrecord.proofs.TakenLaws.{taken_on-append}
 use Rattle.moo_dbrecord.proofs.Standing.{stand_so, stands_on, stand_in, stand_ends, stopped_behind, ends, ends_append, clean_ends, taken_ends, fault_ends}
 use Rattle.moo_dbrecord.proofs.Placed.{bytes_past, objects_stand, one_set_of_objects}
 use Rattle.moo_dbprogram.specs.Reading as programs
-use Rattle.moo_dbprogram.specs.Reading.{IsWholeLine, IsBehind, IsRecordFault, IsToldProgram, IsRefused, HasRead, IsWell, place_of}
+use Rattle.moo_dbprogram.specs.Reading.{IsBehind, IsRecordFault, IsToldProgram, IsRefused, HasRead, IsWell, place_of}
 use Rattle.moo_dbprogram.specs.declared.program_reader.ProgramReader.{ProgramReader}
 use Rattle.moo_dbprogram.proofs.Behind.{taken_between, part_sources}
 use Rattle.moo_dbprogram.proofs.Refused.{refused_then, refused_whole, read_failed, read_well}

@@ -10,7 +10,7 @@ use Rattle.moo_dbrecord.specs.Writing.{no_notes}
 use Rattle.moo_dbrecord.specs.Answer.{answer_to}
 use Rattle.moo_dbrecord.specs.declared.fault.DbFault.{DbFault}
 use Rattle.moo_dbrecord.specs.declared.fault.DbFaultKind.TheVariants as kind
-use Rattle.moo_dbprogram.specs.Faults.{AreToldAlike}
+use Rattle.moo_dbprogram.specs.Faults.{AreToldAlike, Telling, TellsBy}
 use Rattle.moo_dbprogram.specs.Reading.{IsRefused}
 use Rattle.moo_dbprogram.specs.declared.database.Database.{Database}
 use Rattle.moo_restore.specs.Records.{Records}
@@ -107,3 +107,16 @@ AreAlike (Ok s) (Ok t) = saved_of s ≡ saved_of t
 AreAlike (Ok s) (Err e) = ⊥
 AreAlike (Err d) (Ok t) = ⊥
 AreAlike (Err d) (Err e) = AreToldAlike d e
+
+-- ---- for a telling of sources that are no programs
+
+-- what is answered of bytes, and where a program is told, it is what may be told of its source
+abbrev pub LoadAnswersBy : Telling → Result stored.Saved DbFault → List ℕ → Type 0
+LoadAnswersBy T r bytes = LoadAnswers r bytes × IfErr r (TellsBy T bytes)
+
+-- the same saved world, or the same fault
+abbrev pub AreSame : Result stored.Saved DbFault → Result stored.Saved DbFault → Type 0
+AreSame (Ok s) (Ok t) = saved_of s ≡ saved_of t
+AreSame (Ok s) (Err e) = ⊥
+AreSame (Err d) (Ok t) = ⊥
+AreSame (Err d) (Err e) = d ≡ e

@@ -1,30 +1,21 @@
 //! A database text whose objects are looked at as soon as the last of them has come.
-ghost use Rattle.std.specs.Prelude.{◌≡◌, ◌<◌, ◌≤◌, ◌++◌, ◌⊎◌, ℕ, true, false, List, [], take, length, map, option_map, OnOk, IfErr, IsErrOf, MatchOption};
+ghost use Rattle.std.specs.Prelude.{◌≡◌, ◌++◌, ◌⊎◌, ℕ, true, false, List, [], map, option_map, OnOk, IfErr, IsErrOf};
 ghost use Rattle.moo_dbobject.specs.Objects.{object_of};
 ghost use Rattle.moo_dbrecord.specs.declared.fault.DbFault.{DbFault};
-ghost use Rattle.moo_dbrecord.specs.Answer.{HasNoEnd};
+ghost use Rattle.moo_dbrecord.specs.Answer.{HasNoEnd, IsWholeLine};
 ghost use Rattle.moo_dbrecord.specs.Sparing.{has_objects};
-ghost use Rattle.moo_dbprogram.specs.Reading.{IsWholeLine, HasRead, IsWell, place_of};
+ghost use Rattle.moo_dbprogram.specs.Reading.{HasRead, IsWell, place_of};
 ghost use Rattle.moo_load.specs.Objects.{AreFaultless};
 ghost use Rattle.moo_load.specs.Loading.{LoadAnswers, IsRefusedFrom, IsTextUntold};
 ghost use Rattle.moo_load.specs.Taking.{IsLoading, HasTaken, IsGoing, HasFailed};
 
 use crate::loading::{load, told};
-use memchr::memchr;
 use moo_dbobject::ObjectRecord;
 use moo_dbprogram::ProgramReader;
-use moo_dbrecord::DbFault;
+use moo_dbrecord::{DbFault, first_line};
 use moo_restore::check_objects;
 use moo_saved::Saved;
 use std::alloc::Global;
-
-/// How many bytes the first line has, with its end.
-fn first_line(bytes: &[u8]) -> Option<usize>
-    ensures { MatchOption result (HasNoEnd bytes.now) (λ n. (0 < n) × (n ≤ length bytes.now) × IsWholeLine (take n bytes.now)) }
-{
-    let at = memchr(b'\n', bytes)?;
-    Some(at + 1)
-}
 
 /// Tells the first object at fault, in a text with so many lines so far, these players and these objects.
 fn check(
@@ -82,7 +73,7 @@ impl WorldReader {
         ensures stops { (bytes : List ℕ) → IsLoading self.old bytes → IfErr result (IsRefusedFrom (bytes ++ line.now)) }
         ensures same { self.new.failed ≡ self.old.failed }
     {
-        self.programs.feed(alloc, line)?;
+        self.programs.feed_line(alloc, line)?;
         self.look(alloc)?;
         self.is_checked = self.programs.has_objects();
         Ok(())

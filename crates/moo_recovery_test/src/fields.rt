@@ -50,8 +50,8 @@ fn is_kept(alloc: Global, line: usize, number: i32) -> Result<bool, Fail> {
     Ok(told(alloc, line, &new)?.as_slice() == text.as_slice())
 }
 
-/// Which numbers a line may have: flags of an object who is no player, permissions and objects of a verb, its preposition,
-/// and permissions of a property.
+/// Which numbers a line may have: flags of an object, permissions and objects of a verb, its preposition, and permissions of
+/// a property.
 fn may_stand(line: usize, number: i32) -> bool {
     match line {
         33 => number >= 0 && number < 256,
@@ -61,12 +61,11 @@ fn may_stand(line: usize, number: i32) -> bool {
     }
 }
 
-/// The first number that is kept and may not stand on a line, or may and is not. Players are told elsewhere, so no odd
-/// flags are tried.
+/// The first number that is kept and may not stand on a line, or may and is not. The flag of a player may stand on one whom
+/// the row of players leaves out.
 fn first_wrong(alloc: Global, line: usize) -> Result<Option<i32>, Fail> {
     for number in -4..260 {
-        let is_player = line == 33 && number % 2 != 0;
-        if !is_player && is_kept(alloc, line, number)? != may_stand(line, number) {
+        if is_kept(alloc, line, number)? != may_stand(line, number) {
             return Ok(Some(number));
         }
     }

@@ -1,6 +1,6 @@
 //! The first object that has not a cell for each definition on it and its ancestors.
 
-ghost use Rattle.std.specs.Prelude.{◌≡◌, ◌+◌, ◌-◌, None, length, IfOk, OnOk, slice_index_or};
+ghost use Rattle.std.specs.Prelude.{◌≡◌, None, length, slice_index_or};
 ghost use Rattle.std.specs.Option.{option_map};
 ghost use Rattle.moo_dbobject.specs.Objects.{object_of};
 ghost use Rattle.moo_restore.specs.First.{IsFirst};
@@ -12,33 +12,28 @@ ghost use Rattle.moo_restore.specs.Tours.{IsTour};
 use crate::first::least_of;
 use crate::tour::Visit;
 use moo_dbobject::ObjectRecord;
-use std::alloc::{AllocError, Global};
 
 /// The first object that has more or fewer cells than there are definitions on it and its
 /// ancestors, among those from which going up ends.
-pub(crate) fn first_miscounted(
-    alloc: Global,
-    objects: &[Option<ObjectRecord>],
-    tour: &[Visit],
-) -> Result<Option<usize>, AllocError>
+pub(crate) fn first_miscounted(objects: &[Option<ObjectRecord>], tour: &[Visit]) -> Option<usize>
     requires { IsTour (parent_links (with_objects objects.now)) tour.now }
-    ensures { IfOk result (λ x. let r = with_objects objects.now in IsFirst (WhereEnded r (HasItsCells r)) (length objects.now) x) }
+    ensures { let r = with_objects objects.now in IsFirst (WhereEnded r (HasItsCells r)) (length objects.now) result }
 {
-    // For each definition on the way the object that has it.
-    let mut definers = Vec::new(alloc);
+    // So many definitions are on the way.
+    let mut definitions: u128 = 0;
     let mut first = None;
     for visit in tour {
         match *visit {
             Visit::Enter(x) => {
-                add_definers(&mut definers, x, name_count(objects, x))?;
-                if definers.len() != cell_count(objects, x) {
+                definitions += name_count(objects, x) as u128;
+                if definitions != cell_count(objects, x) as u128 {
                     first = least_of(first, Some(x));
                 }
             }
-            Visit::Leave(x) => drop_definers(&mut definers, name_count(objects, x)),
+            Visit::Leave(x) => definitions -= name_count(objects, x) as u128,
         }
     }
-    Ok(first)
+    first
 }
 
 fn name_count(objects: &[Option<ObjectRecord>], x: usize) -> usize
@@ -57,19 +52,4 @@ fn cell_count(objects: &[Option<ObjectRecord>], x: usize) -> usize
         Some(Some(object)) => object.cells.len(),
         _ => 0,
     }
-}
-
-fn add_definers(definers: &mut Vec<usize>, x: usize, many: usize) -> Result<(), AllocError>
-    ensures { OnOk result (length definers.new.items ≡ length definers.old.items + many) }
-{
-    for _ in 0..many {
-        definers.push(x)?;
-    }
-    Ok(())
-}
-
-fn drop_definers(definers: &mut Vec<usize>, many: usize)
-    ensures { length definers.new.items ≡ length definers.old.items - many }
-{
-    definers.truncate(definers.len().saturating_sub(many));
 }

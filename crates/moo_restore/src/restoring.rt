@@ -78,7 +78,7 @@ pub(crate) fn check(
     if let Some(x) = first_in_hierarchy(alloc, objects, tour)? {
         return Err(RestoreFault::Hierarchy(x));
     }
-    match first_miscounted(alloc, objects, tour)? {
+    match first_miscounted(objects, tour) {
         Some(x) => Err(RestoreFault::PropertyCount(x)),
         None => Ok(()),
     }

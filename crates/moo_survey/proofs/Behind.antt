@@ -9,12 +9,12 @@ use Rattle.moo_dbrecord.specs.Sparing.{AreAlike, AreAlikeTaken, IsAt}
 use Rattle.moo_dbrecord.specs.Programs.{entry_at}
 use Rattle.moo_dbrecord.specs.declared.fault.DbFault.{DbFault}
 use Rattle.moo_dbrecord.specs.DumpReading.{Progress, verb_read}
-use Rattle.moo_dbrecord.specs.Answer.{Told, Taken, taken_of, taken_on, begin, HasTaken, IsGoing, HasNoEnd}
+use Rattle.moo_dbrecord.specs.Answer.{IsWholeLine, Told, Taken, taken_of, taken_on, begin, HasTaken, IsGoing, HasNoEnd}
 use Rattle.moo_dbrecord.specs.declared.db_reader.DbReader.{DbReader}
 use Rattle.moo_dbrecord.proofs.Standing.{taken_ends}
 use Rattle.moo_dbrecord.proofs.Sparing.{reads_alike, alike_self, alike_then, at_on}
 use Rattle.moo_dbprogram.specs.Faults.{told_kind}
-use Rattle.moo_dbprogram.specs.Reading.{IsWholeLine, ended_between, verb_at}
+use Rattle.moo_dbprogram.specs.Reading.{ended_between, verb_at}
 use Rattle.moo_dbprogram.proofs.Behind.{taken_going, taken_between, part_sources, line_passes, still_sources, program_stands, IsAtDot}
 use Rattle.moo_survey.specs.Survey.{IsRefusedProgram, AreRefusedBetween, IsToldOf}
 use Rattle.moo_survey.specs.Reading.{IsBehind, IsNoted}

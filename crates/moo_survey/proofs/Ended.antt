@@ -7,13 +7,12 @@ use Rattle.moo_dbvalue.specs.declared.fault.Refusal.TheVariants as refusal
 use Rattle.moo_dbrecord.specs.Texts.{Text}
 use Rattle.moo_dbrecord.specs.Programs.{entry_at}
 use Rattle.moo_dbrecord.specs.DumpReading.{Progress}
-use Rattle.moo_dbrecord.specs.Answer.{Told, Taken, taken_on, begin, StopsAt, Stops, HasNoEnd, Stand, and_then, answer_to, finished}
+use Rattle.moo_dbrecord.specs.Answer.{IsWholeLine, Told, Taken, taken_on, begin, StopsAt, Stops, HasNoEnd, Stand, and_then, answer_to, finished}
 use Rattle.moo_dbrecord.specs.Faults.{kind_of_refusal, fault_of}
 use Rattle.moo_dbrecord.specs.declared.db_reader.RecordFault.{RecordFault}
 use Rattle.moo_dbrecord.specs.declared.fault.DbFault.{DbFault}
 use Rattle.moo_dbrecord.proofs.TakenLaws.{taken_on-append, rest_taken}
 use Rattle.moo_dbrecord.proofs.Standing.{stands_on, stand_so, stand_ends, taken_ends, line_fault, told_behind, sources_stand}
-use Rattle.moo_dbprogram.specs.Reading.{IsWholeLine}
 use Rattle.moo_survey.specs.Survey.{AreTheRefused, IsSurvey}
 use Rattle.moo_survey.specs.Reading.{IsBehind, IsEnded, IsWholly}
 use Rattle.moo_survey.specs.declared.survey.Survey.{Survey}

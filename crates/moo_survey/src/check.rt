@@ -14,6 +14,7 @@ use moo_load::{DbFault, DbFaultKind};
 use moo_report::{Refusal, Watch, show, tell};
 use std::alloc::Global;
 use std::io::{Read, Write};
+use std::mem::forget;
 
 /// The exit status where a database is refused.
 const REFUSED: u8 = 1;
@@ -22,6 +23,8 @@ const REFUSED: u8 = 1;
 /// status: 0, or 1 where it is refused. Then each program that is refused is told in a line, in order, and how
 /// many they are or the line of the first fault that is none of a program. 3 where the input or the output
 /// failed and 4 where memory was wanting, each told in a line of its own where the output still takes it.
+///
+/// The memory of what was read is left to the end of the process, which gives it back at once.
 pub fn run_check_all<I: Read, O: Write>(alloc: Global, input: &mut I, output: &mut O) -> u8
     ensures { ShowsAll (I.remaining input.old) (O.contents output.old) (O.contents output.new) result }
 {
@@ -58,6 +61,7 @@ fn checked<I: Read, O: Write>(
             let Ok(line) = counts_line(alloc, &saved) else {
                 return Err(watch.lack());
             };
+            forget(saved);
             show(&line, output, watch)
         }
         Answer::Checked(Err(fault)) => tell(alloc, fault, output, watch),

@@ -11,6 +11,7 @@ use moo_load::{DbFault, DbFaultKind, DbReader, Saved};
 use moo_report::{Refusal, Watch};
 use std::alloc::Global;
 use std::io::Read;
+use std::mem::forget;
 
 /// How many bytes are read at once.
 const PIECE: usize = 65_536;
@@ -92,7 +93,10 @@ impl Readers {
         ensures { (bytes : List ℕ) → HaveFed self bytes → Answers result bytes }
     {
         match self.check.finish(alloc) {
-            Ok(saved) => Answer::Checked(Ok(saved)),
+            Ok(saved) => {
+                forget(self.survey);
+                Answer::Checked(Ok(saved))
+            }
             Err(fault) => {
                 if is_of_program(fault.kind) {
                     let (faults, end) = self.survey.finish();

@@ -1,28 +1,19 @@
 //! The refused programs of a text that comes in pieces.
-ghost use Rattle.std.specs.Prelude.{◌≡◌, ◌<◌, ◌≤◌, ◌++◌, ℕ, List, [], Ok, Some, take, length, OnOk, IfErr, IfNone, IfOk, IfSome, MatchOption};
+ghost use Rattle.std.specs.Prelude.{◌≡◌, ◌++◌, ℕ, List, [], Ok, Some, OnOk, IfErr, IfNone, IfOk, IfSome};
 ghost use Rattle.moo_program.specs.Tree.{Block};
 ghost use Rattle.moo_grammar.specs.declared.names.Names.TheVariants.{Any};
 ghost use Rattle.moo_grammar.specs.Texts.{IsParsed};
 ghost use Rattle.moo_dbvalue.specs.Lines.{Line, limited};
 ghost use Rattle.moo_dbrecord.specs.Programs.{entry_at};
 ghost use Rattle.moo_dbrecord.specs.Sparing.{AreAlikeTaken};
-ghost use Rattle.moo_dbrecord.specs.Answer.{IsGoing, Stops, HasNoEnd, taken_of, taken_on};
-ghost use Rattle.moo_dbprogram.specs.Reading.{IsWholeLine, IsSourceRefused, ended_between, verb_at, sources_at};
+ghost use Rattle.moo_dbrecord.specs.Answer.{IsGoing, IsWholeLine, Stops, HasNoEnd, taken_of, taken_on};
+ghost use Rattle.moo_dbprogram.specs.Reading.{IsSourceRefused, ended_between, verb_at, sources_at};
 ghost use Rattle.moo_survey.specs.Reading.{IsBehind, IsNoted, IsEnded, IsWholly};
 
 use crate::fault::kind_of_source;
-use memchr::memchr;
-use moo_dbrecord::{DbFault, DbFaultKind, DbReader, RecordFault};
+use moo_dbrecord::{DbFault, DbFaultKind, DbReader, RecordFault, first_line};
 use moo_syntax::{Names, parse};
 use std::alloc::Global;
-
-/// How many bytes the first line has, with its end.
-fn first_line(bytes: &[u8]) -> Option<usize>
-    ensures { MatchOption result (HasNoEnd bytes.now) (λ n. (n ≤ length bytes.now) × IsWholeLine (take n bytes.now)) }
-{
-    let at = memchr(b'\n', bytes)?;
-    Some(at + 1)
-}
 
 /// Takes a line with its end, and tells the verb whose program it ends.
 fn take_line(
@@ -30,13 +21,14 @@ fn take_line(
     records: &mut DbReader,
     line: &[u8],
 ) -> Result<Option<(u32, u32)>, RecordFault>
+    requires { IsWholeLine line.now }
     ensures steps { IsGoing records.old → OnOk result (taken_on limited (taken_of records.old) line.now ≡ Ok (taken_of records.new)) }
     ensures stops { IsGoing records.old → IfErr result (λ e. Stops e (taken_on limited (taken_of records.old) line.now)) }
     ensures ok { OnOk result (IsGoing records.new) }
     ensures ended { IfOk result (λ verb. verb ≡ ended_between (verb_at records.old) (verb_at records.new)) }
 {
     let verb = records.verb();
-    records.feed(alloc, line)?;
+    records.feed_line(alloc, line)?;
     match records.verb() {
         Some(_) => Ok(None),
         None => Ok(verb),

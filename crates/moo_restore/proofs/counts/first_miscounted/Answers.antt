@@ -1,4 +1,4 @@
-use Rattle.std.proofs.Common.{◌≡◌, ◌∙◌, length, take, sym, ap, subst, arith}
+use Rattle.std.proofs.Common.{◌≡◌, ◌∙◌, length, take, refl, sym, ap, subst, arith}
 use Rattle.std.proofs.lemmas.List.{length-map, take_all}
 use Rattle.std.specs.Option.{option_map}
 use Rattle.moo_dbobject.specs.Objects.{object_of}
@@ -9,7 +9,7 @@ use Rattle.moo_restore.specs.Names.{with_objects, WhereEnded}
 use Rattle.moo_restore.specs.declared.tour.Visit.TheVariants.{Enter}
 use Rattle.moo_restore.proofs.Counting.{object_read, counting_enters_wrong, counting_enters_right, counting_leaves, its_cells_past}
 use Rattle.moo_restore.proofs.Passing.{IsFoundAmong, found_in_all}
-use Rattle.moo_restore.proofs.counts.first_miscounted.Goals.{in-Enter+in_ok-add_definers-in-Enter+then-len-cell_count, in-Enter+in_ok-add_definers-in-Enter+else-len-cell_count, in-Leave}
+use Rattle.moo_restore.proofs.counts.first_miscounted.Goals.{in-Enter+then-definitions-cell_count, in-Enter+else-definitions-cell_count, in-Leave}
 use Rattle.moo_restore.proofs.counts.first_miscounted.Goals as goal
 
 pub loop-visit-preserved : goal.loop-visit-preserved
@@ -19,28 +19,26 @@ loop-visit-preserved c =
     let tour = c.args.tour.now in
     let i = c.loop-visit.visit-index in
     elim c.match-visit.branch [
-      | in-Enter+in_ok-add_definers-in-Enter+then-len-cell_count w ↦ (
+      | in-Enter+then-definitions-cell_count w ↦ (
           let x = w.in-Enter.x in
           let own = w.name_count.ensures ∙ ap (λ b. length (names_in b)) (sym (object_read objects x)) in
           let cells = w.cell_count.ensures ∙ ap (λ b. length (cells_in b)) (sym (object_read objects x)) in
-          rw (w.definers-is, w.first-is, w.least_of-first.ensures)
-          (counting_enters_wrong r tour i c.loop-visit.definers.items w.add_definers.new.definers.items c.loop-visit.first x w.name_count.result
-          c.loop-visit-test.true (Enter 0) own c.loop-visit.invariant w.in-Enter.is w.cell_count.result cells w.in_ok-add_definers-in-Enter.ensures
-          (λ e. w.if-len-cell_count.true (w.len.ensures ∙ (let ok = w.add_definers.new.definers.ok.0 in omega (arith, ok, e))))))
-      | in-Enter+in_ok-add_definers-in-Enter+else-len-cell_count w ↦ (
+          rw (w.definitions-is, w.first-is, w.least_of-first.ensures)
+          (counting_enters_wrong r tour i c.loop-visit.definitions _ c.loop-visit.first x w.name_count.result
+          c.loop-visit-test.true (Enter 0) own c.loop-visit.invariant w.in-Enter.is w.cell_count.result cells refl (search arith) w.if-definitions-cell_count.true))
+      | in-Enter+else-definitions-cell_count w ↦ (
           let x = w.in-Enter.x in
           let own = w.name_count.ensures ∙ ap (λ b. length (names_in b)) (sym (object_read objects x)) in
           let cells = w.cell_count.ensures ∙ ap (λ b. length (cells_in b)) (sym (object_read objects x)) in
-          rw (w.definers-is, w.first-is)
-          (counting_enters_right r tour i c.loop-visit.definers.items w.add_definers.new.definers.items c.loop-visit.first x w.name_count.result
-          c.loop-visit-test.true (Enter 0) own c.loop-visit.invariant w.in-Enter.is w.cell_count.result cells w.in_ok-add_definers-in-Enter.ensures
-          (let ok = w.add_definers.new.definers.ok.0 in let len = w.len.ensures in let same = w.if-len-cell_count.false in omega (arith, ok, len, same))))
+          rw (w.definitions-is, w.first-is)
+          (counting_enters_right r tour i c.loop-visit.definitions _ c.loop-visit.first x w.name_count.result
+          c.loop-visit-test.true (Enter 0) own c.loop-visit.invariant w.in-Enter.is w.cell_count.result cells refl (search arith) w.if-definitions-cell_count.false))
       | in-Leave w ↦ (
           let x = w.in-Leave.x in
           let own = w.name_count-in-Leave.ensures ∙ ap (λ b. length (names_in b)) (sym (object_read objects x)) in
-          rw (w.definers-is, w.first-is)
-          (counting_leaves r tour i c.loop-visit.definers.items w.drop_definers.new.definers.items c.loop-visit.first x w.name_count-in-Leave.result
-          c.loop-visit-test.true (Enter 0) own c.loop-visit.invariant w.in-Leave.is w.drop_definers.ensures))
+          rw (w.definitions-is, w.first-is)
+          (counting_leaves r tour i c.loop-visit.definitions _ c.loop-visit.first x w.name_count-in-Leave.result
+          c.loop-visit-test.true (Enter 0) own c.loop-visit.invariant w.in-Leave.is refl))
     ]
 
 pub returns : goal.returns

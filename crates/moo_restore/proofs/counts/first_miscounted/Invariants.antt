@@ -3,4 +3,4 @@ use Rattle.moo_restore.proofs.Counting.{IsCounting}
 use Rattle.moo_restore.proofs.counts.first_miscounted.Given as goal
 
 abbrev pub invariant-loop-visit : goal.invariant-loop-visit
-invariant-loop-visit l = IsCounting (with_objects l.objects) l.tour l.visit-index l.definers.items l.first
+invariant-loop-visit l = IsCounting (with_objects l.objects) l.tour l.visit-index l.definitions l.first

@@ -78,6 +78,7 @@ fn values_that_are_too_heavy_are_errors(rt: HostRuntime) -> Result<(), Fail> {
 const GROWING: &str =
     r#"n = 0; l = {}; try while (1) l = {l, l}; n = n + 1; endwhile except (E_QUOTA) return n; endtry --> 18
 n = 0; l = 1; try while (1) l = {l}; n = n + 1; endwhile except (E_QUOTA) return n; endtry --> 200
+n = 0; l = {1, 2}; for i in [1..18] l = {@l, @l}; endfor m = {0, l[1..475710]}; l = {@l, @m[2]}; try while (1) l = {@l, m[1]}; n = n + 1; endwhile except (E_QUOTA) return {n, length(l), l[$]}; endtry --> {1, 999999, 0}
 n = 0; s = "a"; try while (1) s = s + s; n = n + 1; endwhile except (E_QUOTA) return {n, length(s)}; endtry --> {19, 524288}"#;
 
 #[test]
@@ -101,7 +102,15 @@ const LAST_TICKS: &str = r#"for i in [1..99995] endfor return ticks_left(); --> 
 for i in [1..99996] endfor return ticks_left(); --> Task ran out of ticks
 for i in [1..99996] endfor return; --> 0
 for i in [1..99997] endfor return; --> Task ran out of ticks
-for i in [1..99998] endfor --> Task ran out of ticks"#;
+for i in [1..99998] endfor --> Task ran out of ticks
+for i in [1..99993] endfor return i + 1; --> 99994
+for i in [1..99994] endfor return i + 1; --> Task ran out of ticks
+for i in [1..99995] endfor return i + 1; --> Task ran out of ticks
+for i in [1..99996] endfor return i + 1; --> Task ran out of ticks
+l = {}; for i in [1..99989] endfor l = {@l, 1}; --> 0
+l = {}; for i in [1..99990] endfor l = {@l, 1}; --> Task ran out of ticks
+l = {}; for i in [1..99991] endfor l = {@l, 1}; --> Task ran out of ticks
+l = {}; for i in [1..99993] endfor l = {@l, 1}; --> Task ran out of ticks"#;
 
 #[test]
 fn nothing_goes_past_the_limits(rt: HostRuntime) -> Result<(), Fail> {

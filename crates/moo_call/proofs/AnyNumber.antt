@@ -5,7 +5,6 @@ use Rattle.moo_value.specs.declared.error_code.ErrorCode.{ErrorCode}
 use Rattle.moo_value.specs.declared.error_code.ErrorCode.TheVariants.{Arguments, TypeMismatch, InvalidArgument}
 use Rattle.moo_value.specs.declared.value.Value.{Value}
 use Rattle.moo_value.specs.Tree.{Tree, integer, object, error, string, list}
-use Rattle.moo_value.specs.View.{tree}
 use Rattle.moo_operation.specs.declared.fault.OperationFault.{OperationFault}
 use Rattle.moo_operation.specs.declared.fault.OperationFault.TheVariants.{Raise, Memory}
 use Rattle.moo_text_function.specs.Answers.{Gives}
@@ -17,9 +16,8 @@ use Rattle.moo_function.specs.Table.{Row, row, takes_more}
 use Rattle.moo_function.specs.Names.{function_of}
 use Rattle.moo_function.specs.Check.{fits, kind_at, names_valid, holds_from, all_fit, all_valid, refusal}
 use Rattle.moo_value_function.specs.declared.call.Outcome.{Outcome}
-use Rattle.moo_value_function.specs.declared.call.Outcome.TheVariants as outcome
 use Rattle.moo_value_function.specs.Numbers.{least_of, greatest_of}
-use Rattle.moo_value_function.specs.Calls.{Raised, plainly, simply, answer, Tells}
+use Rattle.moo_value_function.specs.Calls.{plainly, simply, answer, Tells}
 use Rattle.moo_table.specs.World.{World}
 use Rattle.moo_world_function.specs.Objects.{is_valid}
 use Rattle.moo_code_function.specs.Telling.{Faults}

@@ -22,7 +22,7 @@ returns-then-are_too_many c =
 
 pub returns-in-ToText : goal.returns-in-ToText
 returns-in-ToText c =
-    λ name named. settles c.settled-in-ToText.result c.joined_text.result (to_text c.args.values) c.args.world.now (CallsPlain Faults name c.args.values c.args.world.now c.args.caller) c.settled-in-ToText.ensures c.joined_text.ensures
+    λ name named. settles c.settled.result c.joined_text.result (to_text c.args.values) c.args.world.now (CallsPlain Faults name c.args.values c.args.world.now c.args.caller) c.settled.ensures c.joined_text.ensures
     (calls_text name c.args.values c.args.world.now c.args.caller (named ∙ c.in-Some.is ∙ ap Some c.in-ToText.is))
 
 pub returns-in-Minimum : goal.returns-in-Minimum
@@ -32,5 +32,5 @@ returns-in-Minimum c =
 
 pub returns-in-Maximum : goal.returns-in-Maximum
 returns-in-Maximum c =
-    λ name named. settles c.settled-in-Maximum.result c.extreme_number.result (extreme_from Greatest None c.args.values) c.args.world.now (CallsPlain Faults name c.args.values c.args.world.now c.args.caller) c.settled-in-Maximum.ensures c.extreme_number.ensures
+    λ name named. settles c.settled-in-Maximum.result c.extreme_number-in-Maximum.result (extreme_from Greatest None c.args.values) c.args.world.now (CallsPlain Faults name c.args.values c.args.world.now c.args.caller) c.settled-in-Maximum.ensures c.extreme_number-in-Maximum.ensures
     (calls_greatest name c.args.values c.args.world.now c.args.caller (named ∙ c.in-Some.is ∙ ap Some c.in-Maximum.is))

@@ -1,6 +1,6 @@
 use Rattle.std.proofs.Common.{[], Ok, sym, ap, ◌∙◌}
 use Rattle.std.proofs.lemmas.Result.{err_from_is_err_and}
-use Rattle.moo_value.specs.Tree.{Tree, string}
+use Rattle.moo_value.specs.Tree.{string}
 use Rattle.moo_value.specs.View.{trees}
 use Rattle.moo_text_function.specs.Conversions.{to_text}
 use Rattle.moo_call.specs.Spliced.{text_from}

@@ -17,10 +17,7 @@ pub struct Device<'a, L, T> {
 }
 
 /// The file of this path, open for reading. Why it can't be opened is told.
-pub fn open<'a, R: Log + Files>(
-    rt: &'a R,
-    path: &'a str,
-) -> io::Result<Device<'a, R, R::File>> {
+pub fn open<'a, R: Log + Files>(rt: &'a R, path: &'a str) -> io::Result<Device<'a, R, R::File>> {
     match File::open(rt, path) {
         Ok(file) => Ok(Device::new(rt, path, file)),
         Err(error) => {

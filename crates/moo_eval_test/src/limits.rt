@@ -133,7 +133,7 @@ s = "@l, "; for i in [1..11] s = s + s; endfor p = "l = {1}; for i in [1..15] l 
 s = "@l, "; for i in [1..11] s = s + s; endfor p = "l = {1}; for i in [1..19] l = {@l, @l}; endfor return `"; return {eval(p + "length(" + s + "1) ! ANY';"), eval(p + "notify(" + s + "1) ! ANY';"), eval(p + "move(" + s + "1) ! ANY';"), eval(p + "pass(" + s + "1) ! ANY';")}; --> {{1, E_ARGS}, {1, E_ARGS}, {1, E_ARGS}, {1, E_QUOTA}}
 l = {3, 1}; return {min(@l, 2), max(@{}, @l, 2), min(2, @{}, @l, @{0}, 1), `min(@{}, @{}) ! ANY', `max(@l, @{"a"}) ! ANY', tostr(@{}), tostr("a", @l, #2, @{{}, "b"})}; --> {1, 3, 0, E_ARGS, E_TYPE, "", "a31#2{list}b"}
 s = "@l, "; for i in [1..11] s = s + s; endfor p = "l = {1}; for i in [1..19] l = {@l, @l}; endfor return `"; return {eval(p + "min(#1, " + s + "1) ! ANY';"), eval(p + "max(#1, " + s + "1) ! ANY';"), eval(p + "tostr(" + s + "1) ! ANY';")}; --> {{1, E_TYPE}, {1, E_TYPE}, {1, E_QUOTA}}
-s = "@l, "; for i in [1..11] s = s + s; endfor p = "l = {1}; for i in [1..15] l = {@l, @l}; endfor return `"; return {eval(p + "min(" + s + "0) ! ANY';"), eval(p + "max(" + s + "2) ! ANY';")}; --> {{1, 0}, {1, 2}}"##;
+s = "@l, "; for i in [1..11] s = s + s; endfor p = "l = {1}; for i in [1..9] l = {@l, @l}; endfor return `"; return {eval(p + "min(" + s + "0) ! ANY';"), eval(p + "max(" + s + "2) ! ANY';")}; --> {{1, 0}, {1, 2}}"##;
 
 #[test]
 fn spliced_lists_are_shared(rt: HostRuntime) -> Result<(), Fail> {

@@ -1,14 +1,15 @@
 -- What waits for the sockets of a slab.
-use Rattle.std.proofs.Common.{◌≡◌, ℕ, ◌≤◌, List, [], ◌∷◌, ◌++◌, length, take, drop, Option, Some, None, refl, sym, ◌∙◌, ap, subst, arith}
-use Rattle.std.specs.Prelude.{IsSome}
+use Rattle.std.proofs.Common.{◌≡◌, ℕ, ◌≤◌, Bool, true, false, List, [], ◌∷◌, ◌++◌, length, take, drop, Option, Some, None, refl, sym, ◌∙◌, ap, subst, arith}
+use Rattle.std.specs.Prelude.{IsSome, eqb, if◌then◌else◌}
 use Rattle.std.specs.Option.{option_map}
+use Rattle.std.proofs.lemmas.Bool.{eqb-false, eqb-true}
 use Rattle.std.proofs.lemmas.List.{get_or_past, take-append-drop}
-use Rattle.slab.specs.Slab.{Slab, get, with_value}
+use Rattle.slab.specs.Slab.{Slab, Updates, get, with_value}
 use Rattle.slab.proofs.SlabLemmas.{Updates-with_value}
 use Rattle.moo_socket.specs.Waiting.{waits_of}
 use Rattle.moo_socket.specs.declared.socket.Socket.{Socket}
 use Rattle.moo_serving.specs.declared.event.Event.{Event}
-use Rattle.moo_sockets.specs.Coming.{Follow, held, held_after}
+use Rattle.moo_sockets.specs.Coming.{Closes, Follow, held, held_after}
 use Rattle.moo_sockets.proofs.Counting.{after_append}
 use Rattle.moo_sockets.specs.Sending.{Sends}
 
@@ -37,6 +38,14 @@ sends c key bytes old before mid after out waiting is found gave went count = re
   all = sym gave ∙ sym (take-append-drop out (waits_of mid)) ∙ ap (λ (w : List ℕ). take out (waits_of mid) ++ w) (sym went.1);
   count = count;
 }
+
+-- a socket is taken out, and the others are kept
+pub closes : (c key : ℕ) (old mid new : Slab Socket) → key ≡ c → Updates old mid key None → ((k : ℕ) → held new k ≡ held mid k) → Closes c old new
+closes c key old mid new is updates same k = same k ∙ by_test (eqb c k) refl
+  where
+    by_test : (b : Bool) → eqb c k ≡ b → held mid k ≡ (if b then None else held old k)
+    by_test true here = ap (λ (j : ℕ). held mid j) (sym (is ∙ eqb-true c k here)) ∙ ap waits updates.changed
+    by_test false other = ap waits (updates.others k (λ e. eqb-false c k other (sym (e ∙ is))))
 
 -- events, and others behind them
 pub follow_append : (first second all : List Event) (old mid new : Slab Socket) → all ≡ first ++ second → Follow first old mid → Follow second mid new → Follow all old new

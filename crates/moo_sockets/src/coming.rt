@@ -13,8 +13,9 @@ use std::alloc::AllocError;
 use std::io;
 use std::io::ErrorKind;
 
-/// The most bytes that one read takes.
-const READ_MOST: usize = 4096;
+/// The most bytes that one read takes. One read is one event, and all its lines are done before anybody else's turn: so few bytes that
+/// a turn is short, and enough for most of what people type.
+const READ_MOST: usize = 256;
 
 impl Sockets {
     /// What one round takes in: one new connection at most, and then one read of each socket that may have bytes, by rising number.

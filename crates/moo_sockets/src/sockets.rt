@@ -94,10 +94,22 @@ impl Sockets {
     }
 
     /// Closes a connection's socket. What still waits for it goes nowhere.
+    #[tactic(auto, using(crate::proofs::Sent::closes))]
     pub fn close(&mut self, c: u16)
         ensures { Closes c self.old.sockets self.new.sockets }
     {
         self.sockets.try_remove(usize::from(c));
+        self.shrink();
+    }
+
+    // A round goes through all numbers below the capacity. Where most are free, those above the highest in use are given up, so that a
+    // crowd which is gone costs nothing.
+    fn shrink(&mut self)
+        ensures { (c : ℕ) → held self.new.sockets c ≡ held self.old.sockets c }
+    {
+        if self.sockets.len() < self.sockets.capacity() / 4 {
+            self.sockets.shrink_to_fit();
+        }
     }
 
     /// Waits for sockets that are ready, so many seconds at most, and marks them.

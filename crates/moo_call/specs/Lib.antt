@@ -1,3 +1,4 @@
+pub mod Spliced
 pub mod Tasks
 pub mod Later
 pub mod Connections

@@ -15,13 +15,14 @@ ghost use Rattle.moo_builtin.specs.Outcomes.{IsReply};
 
 use crate::arguments::are_too_many;
 use crate::raising::raised_here;
+use crate::spliced::{Extreme, extreme_number, joined_text};
 use crate::task::{is_of_task, task_reply};
 use crate::ticks::Ticks;
 use moo_builtin::{Caller, call_found};
 use moo_function::Function;
 use moo_outcome::{Activation, CallStack, Failure, Gathered, Notice, Stop};
 use moo_value::{ErrorCode, Value};
-use moo_value_function::{Outcome, raised};
+use moo_value_function::{Outcome, raised, settled};
 use moo_world::World;
 use moo_world_function::refusal;
 use std::alloc::{AllocError, Global};
@@ -141,8 +142,26 @@ fn outcome(
     if are_too_many(found, &values) {
         return raised(alloc, ErrorCode::Arguments);
     }
+    match found {
+        Function::ToText => settled(alloc, joined_text(alloc, values)),
+        Function::Minimum => settled(alloc, extreme_number(Extreme::Least, values)),
+        Function::Maximum => settled(alloc, extreme_number(Extreme::Greatest, values)),
+        _ => called(alloc, found, values, world, caller),
+    }
+}
+
+// A plain call with the values themselves.
+fn called(
+    alloc: Global,
+    function: Function,
+    values: Gathered,
+    world: &mut World,
+    caller: Caller,
+) -> Outcome
+    ensures { (name : List ℕ) → function_of name ≡ Some function → IsReply result world.old world.new (CallsPlain Faults name values world.old caller) }
+{
     match values.into_values(alloc) {
-        Ok(mut args) => call_found(alloc, Some(found), &mut args, world, caller),
+        Ok(mut args) => call_found(alloc, Some(function), &mut args, world, caller),
         Err(AllocError) => Outcome::Memory,
     }
 }

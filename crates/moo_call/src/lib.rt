@@ -8,6 +8,7 @@ mod call;
 mod connections;
 pub mod laws;
 mod raising;
+mod spliced;
 mod task;
 mod ticks;
 

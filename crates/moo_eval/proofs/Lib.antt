@@ -20,3 +20,4 @@ mod Begun
 mod Entering
 mod Functions
 mod Direct
+mod Lengthened

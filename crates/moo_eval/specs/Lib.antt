@@ -10,3 +10,5 @@ pub mod Line
 pub mod Laws
 pub mod HookLaws
 pub mod Functions
+pub mod Leaves
+pub mod Growth

@@ -1,26 +1,28 @@
 //! Assignments.
-ghost use Rattle.std.specs.Prelude.{◌≡◌, ◌≤◌, None, IfSome, map};
-ghost use Rattle.moo_program.specs.Tree.{variable, assign, performs};
+ghost use Rattle.std.specs.Prelude.{◌≡◌, ◌≤◌, None, Err, IfSome, IfErr, OnOk, map};
+ghost use Rattle.moo_program.specs.Tree.{variable, assign, performs, list, splice, element, no_items};
 ghost use Rattle.moo_program.specs.View.{tree, items_of};
 ghost use Rattle.moo_value.specs.View.{tree as value_tree};
 ghost use Rattle.moo_access.specs.Target.{Path, scattered};
 ghost use Rattle.moo_eval.specs.Meaning.{Computes, Does, Locates, Finds, Steps, Stores, Puts, SetsDefaults};
-ghost use Rattle.moo_outcome.specs.Seen.{context_of, seen_answer, seen_by, seen_done, seen_flow, IsKnown, IsKnownFailure};
+ghost use Rattle.moo_outcome.specs.Seen.{context_of, failure_of, seen_answer, seen_by, seen_done, seen_flow, HadMemoryIn, IsKnown, IsKnownFailure};
+ghost use Rattle.moo_eval.specs.Growth.{IsLengthened};
 ghost use Rattle.moo_code_function.specs.Telling.{Faults};
 ghost use Rattle.moo_eval.specs.Seen.{state_of};
 ghost use Rattle.moo_access.specs.SeenTarget.{root_seen, step_of, steps_of, path_of, spot_of};
 ghost use Rattle.moo_outcome.specs.SeenScatter.{left_out_of};
 
+use crate::growth::set_longer;
 use crate::interpreter::Task;
 use moo_access::{
     Path, Places, Root, Spot, Step, as_property, push_step, rebuilt, root_alone, set_variable,
     taken_apart, write_property,
 };
 use moo_outcome::{
-    Activation, CallStack, Failure, Flow, LeftOut, Stop, dealt, missing, set_shares,
+    Activation, CallStack, Failure, Flow, LeftOut, Stop, dealt, missing, set_shares, settle,
 };
 use moo_program::{Expr, Item};
-use moo_value::{MooStr, Value};
+use moo_value::{ErrorCode, MooStr, Value};
 use moo_world::World;
 
 impl Task {
@@ -84,6 +86,54 @@ impl Task {
         let value = self.evaluate(world, active, stack, None, value)?;
         active.variables.set(name, value)?;
         Ok(Flow::Next)
+    }
+
+    /// `name = {@name, last}`, whose own value is not used.
+    #[cycle(evaluation)]
+    pub(crate) fn lengthen(
+        &mut self,
+        world: &mut World,
+        active: &mut Activation,
+        stack: &CallStack<'_>,
+        name: &MooStr,
+        last: &Expr,
+    ) -> Result<Flow, Stop>
+        ensures meaning { IsKnown result → Does Faults (context_of stack.now None) (performs (assign (variable name.now) (list (splice (variable name.now) (element (tree last.now) no_items))))) (state_of self.old world.old active.old) (seen_flow result) (state_of self.new world.new active.new) }
+        ensures ticks { self.new.ticks_left ≤ self.old.ticks_left }
+    {
+        self.take_tick(active, stack)?;
+        self.take_tick(active, stack)?;
+        match self.put_behind(world, active, stack, name, last) {
+            Ok(()) => Ok(Flow::Next),
+            Err(failure) => {
+                let value = settle(self.alloc(), stack, active, Err(failure))?;
+                active.variables.set(name, value)?;
+                Ok(Flow::Next)
+            }
+        }
+    }
+
+    // Sets the variable to the list `{@name, last}`, if it is one.
+    #[cycle(evaluation)]
+    fn put_behind(
+        &mut self,
+        world: &mut World,
+        active: &mut Activation,
+        stack: &CallStack<'_>,
+        name: &MooStr,
+        last: &Expr,
+    ) -> Result<(), Failure>
+        ensures ok { OnOk result (IsLengthened Faults (context_of stack.now None) name.now (tree last.now) (state_of self.old world.old active.old) (state_of self.new world.new active.new)) }
+        ensures err { IfErr result (λ failure. HadMemoryIn failure → Computes Faults (context_of stack.now None) (list (splice (variable name.now) (element (tree last.now) no_items))) (state_of self.old world.old active.old) (Err (failure_of failure)) (state_of self.new world.new active.new)) }
+        ensures ticks { self.new.ticks_left ≤ self.old.ticks_left }
+    {
+        let found = self.variable(active, stack, None, name)?;
+        let Value::List(list) = found else {
+            return Err(Failure::Fails(ErrorCode::TypeMismatch));
+        };
+        let last = self.evaluate(world, active, stack, None, last)?;
+        set_longer(self.alloc(), &mut active.variables, name, list, last)?;
+        Ok(())
     }
 
     // The way to what a target sets, whose containers are read from the root on.
@@ -247,8 +297,8 @@ pub(crate) fn as_assignment(expr: &Expr) -> Option<(&MooStr, &Expr)>
     Some((name, value))
 }
 
-// The name of a variable.
-fn as_variable(expr: &Expr) -> Option<&MooStr>
+/// The name of a variable.
+pub(crate) fn as_variable(expr: &Expr) -> Option<&MooStr>
     ensures { IfSome result (λ name. tree expr.now ≡ variable name.now) }
 {
     match expr {

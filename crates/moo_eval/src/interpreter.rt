@@ -1,8 +1,8 @@
 //! Expressions.
-ghost use Rattle.std.specs.Prelude.{◌≡◌, ◌-◌, ◌<◌, ◌≤◌, ℕ, List, [], ◌++◌, None, IfOk, IfErr, OnOk, OnErr};
-ghost use Rattle.moo_program.specs.Tree.{unary, binary, logic, conditional, index, range, list};
+ghost use Rattle.std.specs.Prelude.{◌≡◌, ◌-◌, ◌<◌, ◌≤◌, ℕ, List, [], ◌++◌, None, IsTrue, IsFalse, IfOk, IfErr, OnOk, OnErr};
+ghost use Rattle.moo_program.specs.Tree.{unary, binary, index, range, list};
 ghost use Rattle.moo_program.specs.View.{tree, items_of};
-ghost use Rattle.moo_value.specs.View.{tree as tree_of, trees};
+ghost use Rattle.moo_value.specs.View.{tree as tree_of};
 ghost use Rattle.moo_outcome.specs.Outcome.{out_of_ticks};
 ghost use Rattle.moo_eval.specs.Meaning.{Evaluates, Computes, EvaluatesAll};
 ghost use Rattle.moo_outcome.specs.Seen.{context_of, trace_of, stop_of, seen_value, seen_answer, seen_by, HadMemory, IsKnown, IsKnownFailure};
@@ -15,6 +15,7 @@ ghost use Rattle.moo_hook.specs.Seen.{progress_of, seen_progress};
 ghost use Rattle.moo_hook.specs.Turns.{stage_turns, progress_turns};
 ghost use Rattle.moo_eval.specs.Seen.{state_of};
 
+use crate::integers;
 use moo_call::{Ticks, call_function};
 use moo_function::Function;
 use moo_hook::{Progress, Stage, resume_call};
@@ -23,7 +24,7 @@ use moo_outcome::{
     Activation, CallStack, Failure, Gathered, Notice, Stop, literal_value, measure, read_variable,
     settle,
 };
-use moo_program::operator::{BinaryOperator, LogicOperator, UnaryOperator};
+use moo_program::operator::{BinaryOperator, UnaryOperator};
 use moo_program::{Expr, Item};
 use moo_value::{ErrorCode, Value};
 use moo_world::World;
@@ -76,6 +77,22 @@ impl Task {
         Ok(())
     }
 
+    /// Takes three ticks, where three are left.
+    #[inline]
+    pub(crate) fn take_three(&mut self) -> bool
+        ensures taken { IsTrue result → (2 < self.old.ticks_left) × (self.new ≡ record self.old { ticks_left = self.old.ticks_left - 1 - 1 - 1 }) }
+        ensures kept { IsFalse result → self.new ≡ self.old }
+    {
+        let left = self.ticks_left.left();
+        if left < 3 {
+            return false;
+        }
+        self.ticks_left.take();
+        self.ticks_left.take();
+        self.ticks_left.take();
+        true
+    }
+
     /// The value of an expression, which takes a tick as it begins. `indexed` is what `$` measures.
     #[cycle(evaluation)]
     pub fn evaluate(
@@ -92,7 +109,10 @@ impl Task {
         if let Expr::Variable(name) = expr {
             return self.variable(active, stack, indexed, name);
         }
-        self.evaluate_node(world, active, stack, indexed, expr)
+        match self.at_once(active, expr) {
+            Some(value) => Ok(value),
+            None => self.evaluate_node(world, active, stack, indexed, expr),
+        }
     }
 
     // An expression of any kind.
@@ -278,50 +298,7 @@ impl Task {
     {
         let left = self.evaluate(world, active, stack, indexed, left)?;
         let right = self.evaluate(world, active, stack, indexed, right)?;
-        Ok(operation::binary(self.alloc, operator, &left, &right)?)
-    }
-
-    // The second operand is evaluated only where the first doesn't decide.
-    #[cycle(evaluation)]
-    fn logic(
-        &mut self,
-        world: &mut World,
-        active: &mut Activation,
-        stack: &CallStack<'_>,
-        indexed: Option<&Value>,
-        operator: LogicOperator,
-        left: &Expr,
-        right: &Expr,
-    ) -> Result<Value, Failure>
-        ensures meaning { IsKnownFailure result → Computes Faults (context_of stack.now indexed.entry) (logic operator (tree left.now) (tree right.now)) (state_of self.old world.old active.old) (seen_answer result) (state_of self.new world.new active.new) }
-        ensures ticks { self.new.ticks_left ≤ self.old.ticks_left }
-    {
-        let first = self.evaluate(world, active, stack, indexed, left)?;
-        if operation::is_decided(operator, &first) {
-            return Ok(first);
-        }
-        Ok(self.evaluate(world, active, stack, indexed, right)?)
-    }
-
-    #[cycle(evaluation)]
-    fn conditional(
-        &mut self,
-        world: &mut World,
-        active: &mut Activation,
-        stack: &CallStack<'_>,
-        indexed: Option<&Value>,
-        test: &Expr,
-        first: &Expr,
-        second: &Expr,
-    ) -> Result<Value, Failure>
-        ensures meaning { IsKnownFailure result → Computes Faults (context_of stack.now indexed.entry) (conditional (tree test.now) (tree first.now) (tree second.now)) (state_of self.old world.old active.old) (seen_answer result) (state_of self.new world.new active.new) }
-        ensures ticks { self.new.ticks_left ≤ self.old.ticks_left }
-    {
-        let test = self.evaluate(world, active, stack, indexed, test)?;
-        if operation::is_true(&test) {
-            return Ok(self.evaluate(world, active, stack, indexed, first)?);
-        }
-        Ok(self.evaluate(world, active, stack, indexed, second)?)
+        Ok(integers::binary(self.alloc, operator, &left, &right)?)
     }
 
     // The index is evaluated with the base as what `$` measures.

@@ -3,7 +3,10 @@
 
 mod assignment;
 mod calls;
+mod deciding;
+mod growth;
 mod hooks;
+mod integers;
 mod interpreter;
 pub mod laws;
 mod leaves;

@@ -9,6 +9,7 @@ ghost use Rattle.moo_code_function.specs.Telling.{Faults};
 ghost use Rattle.moo_eval.specs.Seen.{state_of};
 
 use crate::assignment::as_assignment;
+use crate::growth::as_longer;
 use crate::interpreter::Task;
 use moo_operation::is_true;
 use moo_outcome::{Activation, CallStack, Flow, Stop, copied_name};
@@ -98,6 +99,9 @@ impl Task {
         ensures ticks { self.new.ticks_left ≤ self.old.ticks_left }
     {
         if let Some((name, value)) = as_assignment(expr) {
+            if let Some(last) = as_longer(name, value) {
+                return self.lengthen(world, active, stack, name, last);
+            }
             return self.assign_alone(world, active, stack, name, value);
         }
         let _value = self.evaluate(world, active, stack, None, expr)?;

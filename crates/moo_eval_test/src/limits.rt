@@ -78,6 +78,7 @@ fn values_that_are_too_heavy_are_errors(rt: HostRuntime) -> Result<(), Fail> {
 const GROWING: &str =
     r#"n = 0; l = {}; try while (1) l = {l, l}; n = n + 1; endwhile except (E_QUOTA) return n; endtry --> 18
 n = 0; l = 1; try while (1) l = {l}; n = n + 1; endwhile except (E_QUOTA) return n; endtry --> 200
+n = 0; l = {1, 2}; for i in [1..18] l = {@l, @l}; endfor m = {0, l[1..475710]}; l = {@l, @m[2]}; try while (1) l = {@l, m[1]}; n = n + 1; endwhile except (E_QUOTA) return {n, length(l), l[$]}; endtry --> {1, 999999, 0}
 n = 0; s = "a"; try while (1) s = s + s; n = n + 1; endwhile except (E_QUOTA) return {n, length(s)}; endtry --> {19, 524288}"#;
 
 #[test]
@@ -101,7 +102,15 @@ const LAST_TICKS: &str = r#"for i in [1..99995] endfor return ticks_left(); --> 
 for i in [1..99996] endfor return ticks_left(); --> Task ran out of ticks
 for i in [1..99996] endfor return; --> 0
 for i in [1..99997] endfor return; --> Task ran out of ticks
-for i in [1..99998] endfor --> Task ran out of ticks"#;
+for i in [1..99998] endfor --> Task ran out of ticks
+for i in [1..99993] endfor return i + 1; --> 99994
+for i in [1..99994] endfor return i + 1; --> Task ran out of ticks
+for i in [1..99995] endfor return i + 1; --> Task ran out of ticks
+for i in [1..99996] endfor return i + 1; --> Task ran out of ticks
+l = {}; for i in [1..99989] endfor l = {@l, 1}; --> 0
+l = {}; for i in [1..99990] endfor l = {@l, 1}; --> Task ran out of ticks
+l = {}; for i in [1..99991] endfor l = {@l, 1}; --> Task ran out of ticks
+l = {}; for i in [1..99993] endfor l = {@l, 1}; --> Task ran out of ticks"#;
 
 #[test]
 fn nothing_goes_past_the_limits(rt: HostRuntime) -> Result<(), Fail> {
@@ -112,7 +121,8 @@ fn nothing_goes_past_the_limits(rt: HostRuntime) -> Result<(), Fail> {
 }
 
 // Lists that are spliced in stand in order. Past the limit of weight they are E_QUOTA, for the arguments of a verb before
-// what is called is looked at, however many there are. More values than a function takes are E_ARGS at once.
+// what is called is looked at, however many there are. More values than a function takes are E_ARGS at once; one that
+// takes any number goes through the lists where they lie.
 const SPLICED: &str =
     r##"l = {1, 2}; m = {3, @l, 4}; return {{@l, 5, @m, @{}, 6, @{@l, 7, @{8}}}, {@l, @l, 9}, {0, @l}, {@{}, @l}, {@{}}}; --> {{1, 2, 5, 3, 1, 2, 4, 6, 1, 2, 7, 8}, {1, 2, 1, 2, 9}, {0, 1, 2}, {1, 2}, {}}
 l = {1, 2}; m = {@l}; m[1] = 9; return {l, m, {@l, 3}, {@m}, l, tostr(@l, @{"a", @m}, @{}, 5)}; --> {{1, 2}, {9, 2}, {1, 2, 3}, {9, 2}, {1, 2}, "12a925"}
@@ -120,7 +130,9 @@ x = 1; return {x, @{x = 2, x}, x = 3, x, `{1, @x, x = 4} ! ANY', x}; --> {1, 2, 
 l = {1, 2}; return {{@l, l[1] = 9, @l}, {l, l[2] = 8, l}}; --> {{1, 2, 9, 9, 2}, {{9, 2}, 8, {9, 8}}}
 l = {1}; for i in [1..19] l = {@l, @l}; endfor m = l[1..475711]; n = {@l, @m}; return {length(n), length({@n}), `{@n, 1} ! ANY', `{1, @n} ! ANY'}; --> {999999, 999999, E_QUOTA, E_QUOTA}
 s = "@l, "; for i in [1..11] s = s + s; endfor p = "l = {1}; for i in [1..15] l = {@l, @l}; endfor return `"; return {eval(p + "{" + s + "1} ! ANY';"), eval(p + "1:name(" + s + "1) ! ANY';"), eval(p + "#1:name(1, " + s + "@{}) ! ANY';")}; --> {{1, E_QUOTA}, {1, E_QUOTA}, {1, E_QUOTA}}
-s = "@l, "; for i in [1..11] s = s + s; endfor p = "l = {1}; for i in [1..19] l = {@l, @l}; endfor return `"; return {eval(p + "length(" + s + "1) ! ANY';"), eval(p + "notify(" + s + "1) ! ANY';"), eval(p + "move(" + s + "1) ! ANY';"), eval(p + "pass(" + s + "1) ! ANY';")}; --> {{1, E_ARGS}, {1, E_ARGS}, {1, E_ARGS}, {1, E_QUOTA}}"##;
+s = "@l, "; for i in [1..11] s = s + s; endfor p = "l = {1}; for i in [1..19] l = {@l, @l}; endfor return `"; return {eval(p + "length(" + s + "1) ! ANY';"), eval(p + "notify(" + s + "1) ! ANY';"), eval(p + "move(" + s + "1) ! ANY';"), eval(p + "pass(" + s + "1) ! ANY';")}; --> {{1, E_ARGS}, {1, E_ARGS}, {1, E_ARGS}, {1, E_QUOTA}}
+l = {3, 1}; return {min(@l, 2), max(@{}, @l, 2), min(2, @{}, @l, @{0}, 1), `min(@{}, @{}) ! ANY', `max(@l, @{"a"}) ! ANY', tostr(@{}), tostr("a", @l, #2, @{{}, "b"})}; --> {1, 3, 0, E_ARGS, E_TYPE, "", "a31#2{list}b"}
+s = "@l, "; for i in [1..11] s = s + s; endfor p = "l = {1}; for i in [1..19] l = {@l, @l}; endfor return `"; return {eval(p + "min(" + s + "0) ! ANY';"), eval(p + "max(#1, " + s + "1) ! ANY';"), eval(p + "tostr(" + s + "1) ! ANY';")}; --> {{1, 0}, {1, E_TYPE}, {1, E_QUOTA}}"##;
 
 #[test]
 fn spliced_lists_are_shared(rt: HostRuntime) -> Result<(), Fail> {

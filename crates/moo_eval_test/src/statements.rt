@@ -13,6 +13,11 @@ x = {}; for o in [#1..#3] x = {@x, o}; endfor return x; --> {#1, #2, #3}
 for i in [3..1] return 1; endfor return 2; --> 2
 n = 0; for i in [2147483646..2147483647] n = n + 1; endfor return {n, i}; --> {2, 2147483647}
 x = {}; for i in ({3, "a"}) x = {i, @x}; endfor return x; --> {"a", 3}
+l = {1}; m = l; l = {@l, 2}; l = {@l, l}; L = {@l, m}; return {l, m}; --> {{1, 2, {1, 2}, {1}}, {1}}
+l = {1}; l = {@l, l = 5}; m = {l}; l = {@l, l[1] = 3}; return {l, m}; --> {{1, 5, 3}, {{1, 5}}}
+l = {1}; try l = {@l, 1 / 0}; except (E_DIV) endtry l = {@l, 2}; return l; --> {1, 2}
+l = 5; try l = {@l, x}; except e (ANY) return {l, e[1]}; endtry --> {5, E_TYPE}
+try l = {@l, x = 5}; except e (ANY) return {e[1], `x ! ANY'}; endtry --> {E_VARNF, E_VARNF}
 x = 0; while (x < 5) x = x + 1; endwhile return x; --> 5
 for i in ({1, 2, 3}) if (i == 2) break; endif endfor return i; --> 2
 while outer (1) while (1) break Outer; endwhile return 1; endwhile return 3; --> 3
@@ -51,7 +56,8 @@ return size(@1, x); --> Type mismatch"#;
 
 const WITHOUT_D: &str = r#"for i in (5) return 1; endfor return 2; --> 2
 for i in [1..#2] return 1; endfor return 2; --> 2
-while (1 / 0) return 1; endwhile if (1 / 0) return 2; endif return 3; --> 3"#;
+while (1 / 0) return 1; endwhile if (1 / 0) return 2; endif return 3; --> 3
+l = 5; l = {@l, x = 6}; m = {@m, 1}; n = {1}; n = {@n, 1 / 0}; return {l, `x ! ANY', m, n}; --> {E_TYPE, E_VARNF, E_TYPE, {1, E_DIV}}"#;
 
 // What stands between the two looks at the ticks takes so many. The looks take 5 themselves.
 const TICKS: &str = r#"t = ticks_left(); return t - ticks_left() - 5; --> 0
@@ -68,6 +74,8 @@ t = ticks_left(); try #0.name = 1; except (ANY) endtry return t - ticks_left() -
 t = ticks_left(); try #0.name[1] = 1; except (ANY) endtry return t - ticks_left() - 5; --> 5
 t = ticks_left(); try #0:name(1, @{}); except (ANY) endtry return t - ticks_left() - 5; --> 7
 t = ticks_left(); `1 + 1 ! ANY => 3'; return t - ticks_left() - 5; --> 5
+t = ticks_left(); t + 1 < 2; return t - ticks_left() - 5; --> 6
+t = ticks_left(); l = {}; l = {@l, t + t}; return t - ticks_left() - 5; --> 10
 t = ticks_left(); `1 ! E_DIV, E_TYPE => 3'; return t - ticks_left() - 5; --> 5
 t = ticks_left(); `1 / 0 ! E_DIV => 3'; return t - ticks_left() - 5; --> 7
 t = ticks_left(); length({1}); return t - ticks_left() - 5; --> 4

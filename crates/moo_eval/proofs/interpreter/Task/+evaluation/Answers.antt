@@ -14,10 +14,13 @@ use Rattle.moo_function.specs.Names.{function_of}
 use Rattle.moo_hook.specs.Calls.{verb_caller}
 use Rattle.moo_eval.specs.Seen.{state_of}
 use Rattle.moo_access.specs.Target.{named}
-use Rattle.moo_eval.specs.Meaning.{EvaluatesAll, Stores, spent, begins, operands_end, places_end, applies, no_more, element_stops, element_then, splice_stops, splice_fails, splice_then, literal_is, variable_is, length_is, unary_is, binary_is, logic_decides, logic_goes_on, conditional_true, conditional_false, index_is, range_is, list_is, property_is, verb_fails, verb_runs, call_is, call_runs, is_done, hook_stops, hook_then, assign_is, catch_gives, catch_or_goes_on, target_ends, value_stops, assigns, root_ends, locates, parts_end, finds, inside, step_ends, enters, unread, spot_ends, steps_in, no_store, stores, puts_variable, scatter_fails, scatters, none_missing, default_stops, default_then, Counts, statement_spent, statement_begins, selects, list_stops, list_fails, visits, span_stops, span_fails, counts, loops, breaks_out, continues_on, unprepared, tries, finally_skipped, finally_runs, ends, leaves, proceeds, none_selected, else_runs, test_stops, arm_runs, arm_passed, turn_spent, turns, loop_stops, loop_ends, loop_left, loop_then, all_visited, visit_left, visit_then, all_counted, count_left, count_then, nothing_raised, ticks_out, handles, untaken, untold, takes, Prepares, no_codes, codes_stop, codes_then, gives_zero, gives, evaluates}
+use Rattle.moo_eval.specs.Meaning.{Computes, EvaluatesAll, Stores, spent, begins, operands_end, places_end, applies, no_more, element_stops, element_then, splice_stops, splice_fails, splice_then, literal_is, variable_is, length_is, unary_is, binary_is, logic_decides, logic_goes_on, conditional_true, conditional_false, index_is, range_is, list_is, property_is, verb_fails, verb_runs, call_is, call_runs, is_done, hook_stops, hook_then, assign_is, catch_gives, catch_or_goes_on, target_ends, value_stops, assigns, root_ends, locates, parts_end, finds, inside, step_ends, enters, unread, spot_ends, steps_in, no_store, stores, puts_variable, scatter_fails, scatters, none_missing, default_stops, default_then, Counts, statement_spent, statement_begins, selects, list_stops, list_fails, visits, span_stops, span_fails, counts, loops, breaks_out, continues_on, unprepared, tries, finally_skipped, finally_runs, ends, leaves, proceeds, none_selected, else_runs, test_stops, arm_runs, arm_passed, turn_spent, turns, loop_stops, loop_ends, loop_left, loop_then, all_visited, visit_left, visit_then, all_counted, count_left, count_then, nothing_raised, ticks_out, handles, untaken, untold, takes, Prepares, no_codes, codes_stop, codes_then, gives_zero, gives, evaluates}
 use Rattle.moo_value.specs.declared.error_code.ErrorCode.TheVariants.{TypeMismatch}
 use Rattle.moo_access.specs.SeenTarget.{path_of, steps_of}
 use Rattle.moo_eval.proofs.Caught.{guards_end, passes_on, none_left, known_caught}
+use Rattle.moo_program.specs.Tree as program
+use Rattle.moo_program.specs.Tree.{variable, splice, element, no_items}
+use Rattle.moo_eval.proofs.Lengthened.{lengthened, too_long, first_stops, first_fails, unspliced, second_stops, set_longer, set_error, not_set}
 use Rattle.moo_eval.proofs.Direct.{assigned, unassigned, performed, unperformed}
 use Rattle.moo_eval.proofs.Exits.{refused, gathered, unlisted, same_state, optional_ends, goes_on-not, state_at, no_flow, guarded_on, property_put, runs_at}
 use Rattle.moo_outcome.proofs.Rest.{drop_next, next_tree}
@@ -45,6 +48,14 @@ evaluate_node-returns-in_err-take_tick-clause-meaning t c =
 pub evaluate-returns-in-Variable-clause-meaning : goal.evaluate-returns-in-Variable-clause-meaning
 evaluate-returns-in-Variable-clause-meaning t c =
     λ k. rw c.in-Variable.is (c.variable.ensures.meaning c.args.world.now k)
+
+pub evaluate-returns-in-Some-clause-meaning : goal.evaluate-returns-in-Some-clause-meaning
+evaluate-returns-in-Some-clause-meaning t c =
+    λ k. c.in-Some.ensures.some (context_of c.args.stack.now c.args.indexed) c.args.world.now
+
+pub evaluate-returns-in-None-clause-meaning : goal.evaluate-returns-in-None-clause-meaning
+evaluate-returns-in-None-clause-meaning t c =
+    λ k. rw c.in-None.ensures.none at (c.evaluate_node.ensures.meaning k)
 
 pub compute-returns-in-Variable-clause-meaning : goal.compute-returns-in-Variable-clause-meaning
 compute-returns-in-Variable-clause-meaning t c =
@@ -742,6 +753,51 @@ assign_alone-returns-in_err-take_tick-clause-meaning t c =
 pub assign_alone-returns-in_err-value-clause-meaning : goal.assign_alone-returns-in_err-value-clause-meaning
 assign_alone-returns-in_err-value-clause-meaning t c =
     let p = err_from_is_err_and c.from_residual-in_err-value.result c.from_residual-in_err-value.ensures.1 in rw (p.1, p.2) (λ k. unperformed c.in_ok-take_tick.ensures.taken (unassigned (rw c.in_ok-take_tick.ensures.left at (c.in_err-value.ensures.meaning k))))
+
+pub lengthen-returns-in-Ok-clause-meaning : goal.lengthen-returns-in-Ok-clause-meaning
+lengthen-returns-in-Ok-clause-meaning t c =
+    λ k. set_longer c.in_ok-take_tick.ensures.taken (rw c.in_ok-take_tick.ensures.left at c.in_ok-take_tick-2.ensures.taken) (rw (c.in_ok-take_tick-2.ensures.left, c.in_ok-take_tick.ensures.left) at c.in-Ok.ensures.ok)
+
+pub lengthen-returns-in_ok-set-in-Err-clause-meaning : goal.lengthen-returns-in_ok-set-in-Err-clause-meaning
+lengthen-returns-in_ok-set-in-Err-clause-meaning t c =
+    λ k. set_error c.in_ok-take_tick.ensures.taken (rw c.in_ok-take_tick.ensures.left at c.in_ok-take_tick-2.ensures.taken) (rw (c.in_ok-take_tick-2.ensures.left, c.in_ok-take_tick.ensures.left) at (c.in-Err.ensures.err (c.in_ok-value-in-Err.ensures.known tt))) (c.in_ok-value-in-Err.ensures.outcome tt) (same_state (sym c.in_ok-set-in-Err.ensures) refl)
+
+pub lengthen-returns-in_err-value-in-Err-clause-meaning : goal.lengthen-returns-in_err-value-in-Err-clause-meaning
+lengthen-returns-in_err-value-in-Err-clause-meaning t c =
+    let p = err_from_is_err_and c.from_residual-in_err-value-in-Err.result c.from_residual-in_err-value-in-Err.ensures.1 in rw (p.1, p.2) (λ k. not_set c.in_ok-take_tick.ensures.taken (rw c.in_ok-take_tick.ensures.left at c.in_ok-take_tick-2.ensures.taken) (rw (c.in_ok-take_tick-2.ensures.left, c.in_ok-take_tick.ensures.left) at (c.in-Err.ensures.err (c.in_err-value-in-Err.ensures.known k))) (c.in_err-value-in-Err.ensures.outcome k))
+
+pub lengthen-returns-in_err-take_tick-clause-meaning : goal.lengthen-returns-in_err-take_tick-clause-meaning
+lengthen-returns-in_err-take_tick-clause-meaning t c =
+    let p = err_from_is_err_and c.from_residual.result c.from_residual.ensures.1 in rw (p.1, p.2) (λ k. let h = c.in_err-take_tick.ensures.spent k in rw (c.in_err-take_tick.ensures.kept, h.1) (evaluates (spent h.0) refl))
+
+pub lengthen-returns-in_err-take_tick-2-clause-meaning : goal.lengthen-returns-in_err-take_tick-2-clause-meaning
+lengthen-returns-in_err-take_tick-2-clause-meaning t c =
+    let p = err_from_is_err_and c.from_residual-in_err-take_tick-2.result c.from_residual-in_err-take_tick-2.ensures.1 in rw (p.1, p.2) (λ k. let h = c.in_err-take_tick-2.ensures.spent k in rw (c.in_err-take_tick-2.ensures.kept, c.in_ok-take_tick.ensures.left, h.1) (unperformed c.in_ok-take_tick.ensures.taken (unassigned (spent (rw c.in_ok-take_tick.ensures.left at h.0)))))
+
+pub put_behind-returns-clause-ok : goal.put_behind-returns-clause-ok
+put_behind-returns-clause-ok t c =
+    let h = c.in_ok-set_longer.ensures.ok in
+    lengthened c.in-List.list (rw c.in-List.is at (c.in_ok-found.ensures.meaning c.args.world.now tt)) (c.in_ok-last.ensures.meaning tt) h.1 (same_state (sym h.2) refl)
+
+pub put_behind-returns-in_err-found-clause-err : goal.put_behind-returns-in_err-found-clause-err
+put_behind-returns-in_err-found-clause-err t c =
+    let p = err_from_is_err_and c.from_residual.result c.from_residual.ensures.1 in rw (p.1, p.2) (λ k. first_stops (c.in_err-found.ensures.meaning c.args.world.now k))
+
+pub put_behind-returns-in_default-clause-err : goal.put_behind-returns-in_default-clause-err
+put_behind-returns-in_default-clause-err t c =
+    λ k. first_fails (c.in_ok-found.ensures.meaning c.args.world.now tt) (unspliced _ c.in_default.not-List)
+
+pub put_behind-returns-in_err-last-clause-err : goal.put_behind-returns-in_err-last-clause-err
+put_behind-returns-in_err-last-clause-err t c =
+    let p = err_from_is_err_and c.from_residual-in_err-last.result c.from_residual-in_err-last.ensures.1 in rw (p.1, p.2) (λ k. second_stops c.in-List.list (rw c.in-List.is at (c.in_ok-found.ensures.meaning c.args.world.now tt)) (c.in_err-last.ensures.meaning k))
+
+pub put_behind-returns-in_err-set_longer-clause-err : goal.put_behind-returns-in_err-set_longer-clause-err
+put_behind-returns-in_err-set_longer-clause-err t c =
+    let p = err_from_is_err_and c.from_residual-in_err-set_longer.result c.from_residual-in_err-set_longer.ensures.1 in
+    rw (p.1, p.2) (λ k. subst (λ s. Computes Faults (context_of c.args.stack.now None) (program.list (splice (variable c.args.name.now) (element (expression c.args.last.now) no_items))) (state_of c.args.self.now c.args.world.now c.args.active.now) (Err (failure_of c.in_err-set_longer.field-0.0)) s) (same_state (sym (c.in_err-set_longer.ensures.kept k)) refl) (too_long c.in-List.list (rw c.in-List.is at (c.in_ok-found.ensures.meaning c.args.world.now tt)) (c.in_ok-last.ensures.meaning tt) (c.in_err-set_longer.ensures.err k)))
+
+pub evaluate_alone-returns-in-Some-as_longer-clause-meaning : goal.evaluate_alone-returns-in-Some-as_longer-clause-meaning
+evaluate_alone-returns-in-Some-as_longer-clause-meaning t c = λ k. rw (c.in-Some.ensures, c.in-Some-as_longer.ensures) (c.lengthen.ensures.meaning k)
 
 pub evaluate_alone-returns-in-Some-clause-meaning : goal.evaluate_alone-returns-in-Some-clause-meaning
 evaluate_alone-returns-in-Some-clause-meaning t c = λ k. rw c.in-Some.ensures (c.assign_alone.ensures.meaning k)

@@ -33,6 +33,12 @@ decreases-assign_variable l = 7 * l.self.now.ticks_left + 4
 abbrev pub decreases-assign_alone : goal.decreases-assign_alone
 decreases-assign_alone l = 7 * l.self.now.ticks_left
 
+abbrev pub decreases-lengthen : goal.decreases-lengthen
+decreases-lengthen l = 7 * l.self.now.ticks_left
+
+abbrev pub decreases-put_behind : goal.decreases-put_behind
+decreases-put_behind l = 7 * l.self.now.ticks_left + 2
+
 abbrev pub decreases-evaluate_all : goal.decreases-evaluate_all
 decreases-evaluate_all l = 7 * l.self.now.ticks_left + 2
 

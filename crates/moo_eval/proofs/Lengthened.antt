@@ -1,0 +1,84 @@
+-- Lists that grow in the variable that they stand in.
+use Rattle.std.proofs.Common.{◌≡◌, ℕ, ◌+◌, ◌≤◌, ◌<◌, max, List, [], ◌∷◌, ◌++◌, Bool, true, false, IsTrue, leb, Option, Result, Ok, Err, refl, sym, ap, ◌∙◌, subst, arith}
+use Rattle.std.proofs.lemmas.Bool.{false≢true}
+use Rattle.std.proofs.lemmas.Bool.Decides.{nat_tests}
+use Rattle.moo_value.specs.Tree.{Tree, list_of}
+use Rattle.moo_value.specs.View.{tree}
+use Rattle.moo_value.specs.declared.value.Value.{Value}
+use Rattle.moo_value.specs.declared.value.Value.TheVariants.{Int, Obj, Err as ErrorOf, Str, List as ListOf}
+use Rattle.moo_value.specs.TreeCode.{trees_of-elements_of}
+use Rattle.moo_value.specs.Size.{weight, depth, list_weight, list_depth, weight_limit, depth_limit, IsWithinLimits}
+use Rattle.moo_value.proofs.Lists.{list_weight-push, list_depth-push}
+use Rattle.moo_program.specs.declared.tree.Item.{Item}
+use Rattle.moo_program.specs.Tree as program
+use Rattle.moo_program.specs.Tree.{Expr, Items, variable, splice, element, no_items, assign, performs}
+use Rattle.moo_program.specs.View.{with_item, items_of}
+use Rattle.moo_operation.specs.Places.{made_list, spliced_of}
+use Rattle.moo_operation.proofs.Lawful.{limited_past}
+use Rattle.moo_outcome.specs.Variables.{bind}
+use Rattle.moo_outcome.specs.Outcome.{Stop, Failure, stops, fails, next, answers, settled}
+use Rattle.moo_outcome.specs.State.{Context}
+use Rattle.moo_access.specs.State.{State, ticked, bound, trace}
+use Rattle.moo_code_function.specs.Telling.{Telling}
+use Rattle.moo_value.specs.declared.error_code.ErrorCode.TheVariants.{Quota, TypeMismatch}
+use Rattle.moo_eval.specs.Growth.{IsLengthened}
+use Rattle.moo_eval.specs.Meaning.{Evaluates, Computes, Does, begins, applies, operands_end, no_more, element_stops, element_then, splice_stops, splice_fails, splice_then, list_is}
+use Rattle.moo_eval.proofs.Direct.{assigned, unassigned, performed, unperformed}
+
+-- the elements of a list with one more behind them
+pub lengthened : {T : Telling} {c : Context} {x : List ℕ} {e : Expr} {s s1 s2 t : State} {v w : Tree} (vs : List Tree) → Evaluates T c (variable x) s (Ok (list_of vs)) s1 → Evaluates T c e s1 (Ok v) s2 → made_list (vs ++ v ∷ []) ≡ Ok w → bound (bind x w ∷ []) s2 ≡ t → IsLengthened T c x e s t
+lengthened {s2 = s2} {w = w} vs d g made sets = record {
+  value = w;
+  between = s2;
+  computes = applies (splice_then d (ap Ok (trees_of-elements_of vs)) (element_then g no_more refl) refl) no_more (list_is (ap answers made));
+  sets = sets;
+}
+
+-- past the limits
+pub too_long : {T : Telling} {c : Context} {x : List ℕ} {e : Expr} {s s1 s2 : State} {v : Tree} {failure : Failure} (vs : List Tree) → Evaluates T c (variable x) s (Ok (list_of vs)) s1 → Evaluates T c e s1 (Ok v) s2 → answers (made_list (vs ++ v ∷ [])) ≡ Err failure → Computes T c (program.list (splice (variable x) (element e no_items))) s (Err failure) s2
+too_long vs d g made = applies (splice_then d (ap Ok (trees_of-elements_of vs)) (element_then g no_more refl) refl) no_more (list_is made)
+
+-- the first part stops
+pub first_stops : {T : Telling} {c : Context} {x : List ℕ} {e : Expr} {s s' : State} {stop : Stop} → Evaluates T c (variable x) s (Err stop) s' → Computes T c (program.list (splice (variable x) (element e no_items))) s (Err (stops stop)) s'
+first_stops d = operands_end (splice_stops d)
+
+-- the first part is no list
+pub unspliced : (v : Value) → ((l : List Tree) → v ≡ ListOf l → ⊥) → answers (spliced_of (tree v)) ≡ Err (fails TypeMismatch)
+unspliced (Int i) h = refl
+unspliced (Obj o) h = refl
+unspliced (ErrorOf e) h = refl
+unspliced (Str s) h = refl
+unspliced (ListOf l) h = absurd (h l refl)
+
+pub first_fails : {T : Telling} {c : Context} {x : List ℕ} {e : Expr} {s s' : State} {v : Tree} {failure : Failure} → Evaluates T c (variable x) s (Ok v) s' → answers (spliced_of v) ≡ Err failure → Computes T c (program.list (splice (variable x) (element e no_items))) s (Err failure) s'
+first_fails d f = operands_end (splice_fails d f)
+
+-- the second part stops
+pub second_stops : {T : Telling} {c : Context} {x : List ℕ} {e : Expr} {s s1 s' : State} {stop : Stop} (vs : List Tree) → Evaluates T c (variable x) s (Ok (list_of vs)) s1 → Evaluates T c e s1 (Err stop) s' → Computes T c (program.list (splice (variable x) (element e no_items))) s (Err (stops stop)) s'
+second_stops vs d g = operands_end (splice_then d (ap Ok (trees_of-elements_of vs)) (element_stops g) refl)
+
+-- as a statement, after a tick for the assignment and one for the list
+pub set_longer : {T : Telling} {c : Context} {x : List ℕ} {e : Expr} {s t : State} → 0 < s.ticks → 0 < (ticked s).ticks → IsLengthened T c x e (ticked (ticked s)) t → Does T c (performs (assign (variable x) (program.list (splice (variable x) (element e no_items))))) s (Ok next) t
+set_longer z z' h = performed z (assigned (begins z' h.computes refl) h.sets)
+
+pub set_error : {T : Telling} {c : Context} {x : List ℕ} {e : Expr} {s s' t : State} {failure : Failure} {v : Tree} → 0 < s.ticks → 0 < (ticked s).ticks → Computes T c e (ticked (ticked s)) (Err failure) s' → settled c.frame.d (trace c s') (Err failure) ≡ Ok v → bound (bind x v ∷ []) s' ≡ t → Does T c (performs (assign (variable x) e)) s (Ok next) t
+set_error z z' d f b = performed z (assigned (begins z' d f) b)
+
+pub not_set : {T : Telling} {c : Context} {x : List ℕ} {e : Expr} {s s' : State} {failure : Failure} {stop : Stop} → 0 < s.ticks → 0 < (ticked s).ticks → Computes T c e (ticked (ticked s)) (Err failure) s' → settled c.frame.d (trace c s') (Err failure) ≡ Err stop → Does T c (performs (assign (variable x) e)) s (Err stop) s'
+not_set z z' d f = unperformed z (unassigned (begins z' d f))
+
+-- what a list may hold
+pub within : (a b : ℕ) → (IsTrue (leb a b) → a ≤ b) × (a ≤ b → IsTrue (leb a b))
+within a b = (λ h. grind (arith, nat_tests), λ h. grind (arith, nat_tests))
+
+pub fits_push : (ts : List Tree) (t : Tree) (w d : ℕ) → w ≡ list_weight ts + weight t → d ≡ max (list_depth ts) (depth t + 1) → w ≤ weight_limit → (IsTrue (leb d depth_limit) → IsWithinLimits (list_of (ts ++ t ∷ []))) × (IsWithinLimits (list_of (ts ++ t ∷ [])) → IsTrue (leb d depth_limit))
+fits_push ts t w d e f h = (
+  (λ k. let l = (within d depth_limit).0 k in record { weight = omega (arith, e, h, list_weight-push ts t); depth = omega (arith, f, l, list_depth-push ts t) }),
+  (λ limits. let l = limits.depth in (within d depth_limit).1 (omega (arith, f, l, list_depth-push ts t))),
+)
+
+pub too_heavy_push : (ts : List Tree) (t : Tree) (w : ℕ) → w ≡ list_weight ts + weight t → weight_limit < w → (IsTrue false → IsWithinLimits (list_of (ts ++ t ∷ []))) × (IsWithinLimits (list_of (ts ++ t ∷ [])) → IsTrue false)
+too_heavy_push ts t w e h = ((λ never. absurd (false≢true never)), (λ limits. let l = limits.weight in absurd (omega (arith, e, h, l, list_weight-push ts t))))
+
+pub is_quota : (ts : List Tree) → (¬ IsWithinLimits (list_of ts)) → answers (made_list ts) ≡ Err (fails Quota)
+is_quota ts h = ap answers (limited_past (list_of ts) h)

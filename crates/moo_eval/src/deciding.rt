@@ -1,0 +1,62 @@
+//! Expressions of which not every part is evaluated.
+ghost use Rattle.std.specs.Prelude.{◌≤◌};
+ghost use Rattle.moo_program.specs.Tree.{logic, conditional};
+ghost use Rattle.moo_program.specs.View.{tree};
+ghost use Rattle.moo_outcome.specs.Seen.{context_of, seen_answer, IsKnownFailure};
+ghost use Rattle.moo_code_function.specs.Telling.{Faults};
+ghost use Rattle.moo_eval.specs.Meaning.{Computes};
+ghost use Rattle.moo_eval.specs.Seen.{state_of};
+
+use crate::interpreter::Task;
+use moo_operation::{is_decided, is_true};
+use moo_outcome::{Activation, CallStack, Failure};
+use moo_program::Expr;
+use moo_program::operator::LogicOperator;
+use moo_value::Value;
+use moo_world::World;
+
+impl Task {
+    // The second operand is evaluated only where the first doesn't decide.
+    #[cycle(evaluation)]
+    pub(crate) fn logic(
+        &mut self,
+        world: &mut World,
+        active: &mut Activation,
+        stack: &CallStack<'_>,
+        indexed: Option<&Value>,
+        operator: LogicOperator,
+        left: &Expr,
+        right: &Expr,
+    ) -> Result<Value, Failure>
+        ensures meaning { IsKnownFailure result → Computes Faults (context_of stack.now indexed.entry) (logic operator (tree left.now) (tree right.now)) (state_of self.old world.old active.old) (seen_answer result) (state_of self.new world.new active.new) }
+        ensures ticks { self.new.ticks_left ≤ self.old.ticks_left }
+    {
+        let first = self.evaluate(world, active, stack, indexed, left)?;
+        if is_decided(operator, &first) {
+            return Ok(first);
+        }
+        Ok(self.evaluate(world, active, stack, indexed, right)?)
+    }
+
+    // The test decides which of two is evaluated.
+    #[cycle(evaluation)]
+    pub(crate) fn conditional(
+        &mut self,
+        world: &mut World,
+        active: &mut Activation,
+        stack: &CallStack<'_>,
+        indexed: Option<&Value>,
+        test: &Expr,
+        first: &Expr,
+        second: &Expr,
+    ) -> Result<Value, Failure>
+        ensures meaning { IsKnownFailure result → Computes Faults (context_of stack.now indexed.entry) (conditional (tree test.now) (tree first.now) (tree second.now)) (state_of self.old world.old active.old) (seen_answer result) (state_of self.new world.new active.new) }
+        ensures ticks { self.new.ticks_left ≤ self.old.ticks_left }
+    {
+        let test = self.evaluate(world, active, stack, indexed, test)?;
+        if is_true(&test) {
+            return Ok(self.evaluate(world, active, stack, indexed, first)?);
+        }
+        Ok(self.evaluate(world, active, stack, indexed, second)?)
+    }
+}

@@ -23,7 +23,7 @@ pub returns-in_err-goes-clause-ended : goal.returns-in_err-goes-clause-ended
 returns-in_err-goes-clause-ended g c =
     let p = err_from_is_err_and c.from_residual.result c.from_residual.ensures.1 in
     rw (p.1, p.2) (record {
-      made = c.loop-made.made;
+      made = c.loop-made._made;
       mid = c.loop-made.self;
       makes = c.loop-made.invariant.makes;
       few = omega (arith, c.loop-made-test.true);
@@ -40,7 +40,7 @@ returns-then-not-goes-clause-course g c =
 pub returns-then-not-goes-clause-served : goal.returns-then-not-goes-clause-served
 returns-then-not-goes-clause-served g c =
     let over = c.in_ok-goes.ensures.over c.if-not-goes.true in
-    served_over g.S.Sessions.layer g.D.Disk.view g.D.Disk.honest c.loop-made.made c.args.rounds c.args.self.now c.loop-made.self c.step.new.self (omega (arith, c.loop-made-test.true)) c.loop-made.invariant.makes over.0 over.1
+    served_over g.S.Sessions.layer g.D.Disk.view g.D.Disk.honest c.loop-made._made c.args.rounds c.args.self.now c.loop-made.self c.step.new.self (omega (arith, c.loop-made-test.true)) c.loop-made.invariant.makes over.0 over.1
 
 pub loop-made-preserved : goal.loop-made-preserved
 loop-made-preserved g c = record {
@@ -48,13 +48,13 @@ loop-made-preserved g c = record {
   course = course_steps g.S.Sessions.layer g.D.Disk.view g.D.Disk.honest g.D.Disk.stands
       c.args.self.now.server c.loop-made.self.server c.step.new.self.server c.args.self.now.disk c.loop-made.self.disk c.step.new.self.disk c.step.new.self.server c.step.new.self.disk refl refl
       c.loop-made.invariant.course c.in_ok-goes.ensures.course;
-  makes = made_more g.S.Sessions.layer g.D.Disk.view g.D.Disk.honest c.loop-made.made c.args.self.now c.loop-made.self c.step.new.self c.loop-made.invariant.makes (c.in_ok-goes.ensures.goes c.if-not-goes.false);
+  makes = made_more g.S.Sessions.layer g.D.Disk.view g.D.Disk.honest c.loop-made._made c.args.self.now c.loop-made.self c.step.new.self c.loop-made.invariant.makes (c.in_ok-goes.ensures.goes c.if-not-goes.false);
   upto = omega (arith, c.loop-made-test.true);
 }
 
 pub returns-clause-served : goal.returns-clause-served
 returns-clause-served g c =
-    served_out g.S.Sessions.layer g.D.Disk.view g.D.Disk.honest c.loop-made.made c.args.rounds c.args.self.now c.loop-made.self (omega (arith, c.loop-made-test.false, c.loop-made.invariant.upto)) c.loop-made.invariant.makes
+    served_out g.S.Sessions.layer g.D.Disk.view g.D.Disk.honest c.loop-made._made c.args.rounds c.args.self.now c.loop-made.self (omega (arith, c.loop-made-test.false, c.loop-made.invariant.upto)) c.loop-made.invariant.makes
 
 pub step-requires : goal.step-requires
 step-requires g c = c.loop-made.invariant.follows

@@ -1,5 +1,6 @@
 #!/usr/bin/env python3
-"""What one client's lines cost beside others that are silent: beside.py MOO SECONDS CLIENTS.., each a number of silent ones, rising."""
+"""What one client's lines cost beside others that are silent: beside.py MOO SECONDS CLIENTS.., each a number of silent ones, rising; and in the
+end, when all of them have left."""
 import os, re, shutil, socket, subprocess, sys, tempfile, time
 
 moo, seconds = os.path.abspath(sys.argv[1]), float(sys.argv[2])
@@ -21,22 +22,30 @@ def used():
     return (int(words[11]) + int(words[12])) / os.sysconf("SC_CLK_TCK")
 
 
+def measure(told):
+    typing = connect()
+    typing.sendall(b"4\r\n")
+    assert b"onnect" in typing.recv(4096)
+    typing.setsockopt(socket.IPPROTO_TCP, socket.TCP_NODELAY, 1)
+    begun, before, lines = time.perf_counter(), used(), 0
+    while time.perf_counter() - begun < seconds:
+        typing.sendall(b"x\r\n")
+        assert typing.recv(4096)
+        lines += 1
+    took = time.perf_counter() - begun
+    print(f"{told}: {lines / took:,.0f} lines/s, processor {(used() - before) / lines * 1e6:,.0f} us a line", flush=True)
+    typing.close()
+
+
 try:
     sockets = []
     for clients in map(int, sys.argv[3:]):
         sockets += [connect() for _ in range(clients - len(sockets))]
-        typing = connect()
-        typing.sendall(b"4\r\n")
-        assert b"onnect" in typing.recv(4096)
-        typing.setsockopt(socket.IPPROTO_TCP, socket.TCP_NODELAY, 1)
-        begun, before, lines = time.perf_counter(), used(), 0
-        while time.perf_counter() - begun < seconds:
-            typing.sendall(b"x\r\n")
-            assert typing.recv(4096)
-            lines += 1
-        took = time.perf_counter() - begun
-        print(f"{clients} silent: {lines / took:,.0f} lines/s, processor {(used() - before) / lines * 1e6:,.0f} us a line", flush=True)
-        typing.close()
+        measure(f"{clients} silent")
+    for silent in sockets:
+        silent.close()
+    time.sleep(2)
+    measure("they have left")
 finally:
     server.kill()
     server.wait()

@@ -5,18 +5,22 @@ use clap::error::ErrorKind;
 use moo_answer::run_expr;
 use moo_command_line::{Service, Work, read_words};
 use moo_database::{run_check, run_copy};
+use moo_device::{Device, open, tell};
 use moo_report::Refusal;
 use moo_script::run_script;
 use moo_serve::{Served, run_serve};
 use moo_server::LiveWorld;
 use moo_survey::run_check_all;
-use std::fs::File;
 use std::io::BufReader;
 use std::process::ExitCode;
 use std::{env, io};
 
 /// The exit status of a command line that asks for nothing that the program does.
 const USAGE: u8 = 2;
+
+/// What the streams are called where they fail.
+const INPUT: &str = "standard input";
+const OUTPUT: &str = "standard output";
 
 fn main(rt: HostRuntime) -> ExitCode {
     match run(&rt) {
@@ -35,36 +39,31 @@ fn run(rt: &HostRuntime) -> io::Result<u8> {
             Err(io::Error::from(io::ErrorKind::OutOfMemory))
         }
         Err(error) => {
-            error.print(rt)?;
+            if let Err(reason) = error.print(rt) {
+                tell(rt, OUTPUT, &reason);
+                return Err(reason);
+            }
             Ok(if error.use_stderr() { USAGE } else { 0 })
         }
     }
 }
 
 fn run_work(rt: &HostRuntime, work: Work) -> io::Result<u8> {
+    let alloc = rt.alloc();
+    let mut output = Device::new(rt, OUTPUT, io::writer(rt));
     match work {
         Work::Expr => {
-            let mut input = BufReader::new(rt.alloc(), rt.reader())?;
-            Ok(run_expr(rt.alloc(), &mut input, &mut io::writer(rt)))
+            let mut input = BufReader::new(alloc, Device::new(rt, INPUT, rt.reader()))?;
+            Ok(run_expr(alloc, &mut input, &mut output))
         }
-        Work::Check(path) => {
-            let mut file = File::open(rt, path)?;
-            Ok(run_check(rt.alloc(), &mut file, &mut io::writer(rt)))
-        }
-        Work::CheckAll(path) => {
-            let mut file = File::open(rt, path)?;
-            Ok(run_check_all(rt.alloc(), &mut file, &mut io::writer(rt)))
-        }
-        Work::Copy(path) => {
-            let mut file = File::open(rt, path)?;
-            Ok(run_copy(rt.alloc(), &mut file, &mut io::writer(rt)))
-        }
+        Work::Check(path) => Ok(run_check(alloc, &mut open(rt, path)?, &mut output)),
+        Work::CheckAll(path) => Ok(run_check_all(alloc, &mut open(rt, path)?, &mut output)),
+        Work::Copy(path) => Ok(run_copy(alloc, &mut open(rt, path)?, &mut output)),
         Work::Script(path) => {
-            let mut file = File::open(rt, path)?;
-            let mut input = BufReader::new(rt.alloc(), rt.reader())?;
-            let mut output = io::writer(rt);
+            let mut file = open(rt, path)?;
+            let mut input = BufReader::new(alloc, Device::new(rt, INPUT, rt.reader()))?;
             Ok(run_script::<LiveWorld, _, _, _, _>(
-                rt.alloc(),
+                alloc,
                 rt,
                 &mut file,
                 &mut input,

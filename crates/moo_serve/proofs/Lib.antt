@@ -1,3 +1,4 @@
 pub mod Coursing
 pub mod Rounding
+pub mod Serviced
 pub mod Writing

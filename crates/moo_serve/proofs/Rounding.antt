@@ -73,6 +73,15 @@ module _ {S Sessions D : Type 0} (l : Layer S Sessions Saved) (view : D → Disk
         (subst (λ (d : D). Course l view honest before old (first.0 ++ second.0) after d) (sym same') (course_join l view honest before mid after old between new first.0 second.0 first.1 second.1)),
   )
 
+  -- events, and a server and a disk that are then the same
+  pub course_still : (before after : Serving S) (old new : D) (server : Serving S) (disk : D) → server ≡ after → disk ≡ new
+      → ((events : List Event) × Course l view honest before old events after new) → (events : List Event) × Course l view honest before old events server disk
+  course_still before after old new server disk same same' course = (
+    course.0,
+    subst (λ (s : Serving S). Course l view honest before old course.0 s disk) (sym same)
+        (subst (λ (d : D). Course l view honest before old course.0 after d) (sym same') course.1),
+  )
+
   pub follows_steps : (after : Serving S) (new : D) (server : Serving S) (disk : D) → server ≡ after → disk ≡ new → Follows l view honest stands after new → Follows l view honest stands server disk
   follows_steps after new server disk same same' follows =
       subst (λ (s : Serving S). Follows l view honest stands s disk) (sym same) (subst (λ (d : D). Follows l view honest stands after d) (sym same') follows)

@@ -92,6 +92,7 @@ module _ {S Sessions : Type 0} (l : Layer S Sessions Saved) where
     below = n;
     each = are.each;
     beyond = λ c from below. by_end c from below end;
+    untaken = λ c from. (are.left c from).waiting;
   }
     where
       by_end : (c : ℕ) → n ≤ c → c < 65536 → (65536 ≤ n) ⊎ ((k : ℕ) → n ≤ k → held old k ≡ None) → (held old c ≡ None) × (held new c ≡ None)

@@ -1,4 +1,7 @@
 -- What a program does that serves connections: a server over a disk in calls of one event each, round by round.
 pub mod Course
+pub mod Program
 pub mod Rounds
+pub mod Service
+pub mod Status
 pub mod Writing

@@ -1,4 +1,8 @@
 //! Why a server ends before it is closed.
+ghost use Rattle.std.specs.Prelude.{◌≡◌};
+ghost use Rattle.moo_serve.specs.Status.{fault_status};
+ghost use Rattle.moo_serve.specs.declared.fault.ServeFault.TheVariants.{Memory, Open, Refused, Sockets};
+
 use moo_checkpoint::OpenFault;
 use moo_serving::Cause;
 use moo_sockets::SocketsFault;
@@ -28,7 +32,9 @@ pub enum ServeFault {
 
 impl ServeFault {
     /// The program's exit status: 1 for a database that is refused, 3 for a device, 4 for memory, 5 for an event.
-    pub fn status(&self) -> u8 {
+    pub fn status(&self) -> u8
+        ensures { result ≡ fault_status self.now }
+    {
         match self {
             ServeFault::Open(OpenFault::Db(_)) => 1,
             ServeFault::Open(OpenFault::Device)
@@ -44,24 +50,32 @@ impl ServeFault {
 }
 
 impl From<Cause> for ServeFault {
+    ghost from_gives = { λ cause fault. fault ≡ Refused cause };
+
     fn from(cause: Cause) -> ServeFault {
         ServeFault::Refused(cause)
     }
 }
 
 impl From<OpenFault> for ServeFault {
+    ghost from_gives = { λ cause fault. fault ≡ Open cause };
+
     fn from(fault: OpenFault) -> ServeFault {
         ServeFault::Open(fault)
     }
 }
 
 impl From<SocketsFault> for ServeFault {
+    ghost from_gives = { λ cause fault. fault ≡ Sockets cause };
+
     fn from(fault: SocketsFault) -> ServeFault {
         ServeFault::Sockets(fault)
     }
 }
 
 impl From<AllocError> for ServeFault {
+    ghost from_gives = { λ _ fault. fault ≡ Memory };
+
     fn from(_fault: AllocError) -> ServeFault {
         ServeFault::Memory
     }

@@ -1,11 +1,12 @@
 //! A server is given events, each in a run of its own.
-ghost use Rattle.std.specs.Prelude.{◌≡◌, ℕ, List, [], OnOk, if◌then◌else◌};
+ghost use Rattle.std.specs.Prelude.{◌≡◌, ℕ, List, [], IfErr, OnOk, if◌then◌else◌};
 ghost use Rattle.moo_layer.specs.Sessions.{Output};
 ghost use Rattle.moo_serving.specs.Seen.{seen};
 ghost use Rattle.moo_serving.specs.Server.{Follows, Hands, waiting_of};
 ghost use Rattle.moo_serving.specs.declared.event.Event as given;
 ghost use Rattle.moo_serve.specs.Course.{Course, Given, hangs_up};
 ghost use Rattle.moo_serve.specs.Rounds.{GivenIfOpen};
+ghost use Rattle.moo_serve.specs.Service.{IsRefused};
 
 use moo_disk::Disk;
 use moo_layer::Starts;
@@ -23,6 +24,7 @@ pub fn give<S: Starts, D: Disk>(
     ensures follows { Follows S.layer D.view D.honest D.stands server.new disk.new }
     ensures course { (taken : List given.Event) × Course S.layer D.view D.honest server.old disk.old taken server.new disk.new }
     ensures all { OnOk result (Given S.layer D.view D.honest server.old disk.old events.now server.new disk.new) }
+    ensures refused { IfErr result (λ cause. IsRefused S.layer D.view D.honest D.failures cause server.old disk.old server.new disk.new) }
 {
     for event in events {
         if let Err(fault) = server.run(disk, slice::from_ref(event)) {
@@ -43,6 +45,7 @@ pub fn give_if_open<S: Starts, D: Disk>(
     ensures follows { Follows S.layer D.view D.honest D.stands server.new disk.new }
     ensures course { (taken : List given.Event) × Course S.layer D.view D.honest server.old disk.old taken server.new disk.new }
     ensures all { OnOk result (GivenIfOpen S.layer D.view D.honest server.old disk.old events.now server.new disk.new) }
+    ensures refused { IfErr result (λ cause. IsRefused S.layer D.view D.honest D.failures cause server.old disk.old server.new disk.new) }
 {
     if matches!(server.phase(), Phase::Closed) {
         return Ok(());

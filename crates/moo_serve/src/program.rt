@@ -1,16 +1,20 @@
 //! `moo serve`: a database file, served until it is closed.
+ghost use Rattle.std.specs.Prelude.{IfErr, OnOk};
+ghost use Rattle.moo_serve.specs.Program.{FailsFile, NoDisk, ServesFile, ShowsService};
+ghost use Rattle.moo_serve.specs.Service.{Fails, IsOutside, Serves};
+
 use crate::fault::ServeFault;
 use crate::serving::Serving;
 use log::{Log, info, warn};
 use moo_checkpoint::OpenFault;
-use moo_files::FileDisk;
+use moo_disk::Disk;
+use moo_files::{FileDisk, Watched};
 use moo_layer::Starts;
-use moo_report::fault_line;
 use moo_sockets::SocketsFault;
 use std::alloc::Global;
 use std::io;
-use std::io::Write;
-use std::net::{IpAddr, Net};
+use std::io::{ErrorKind, Write};
+use std::net::{IpAddr, Net, SocketAddr};
 use std::rt::{Clock, Files};
 
 /// What is to be served, and how.
@@ -36,40 +40,51 @@ pub fn run_serve<S: Starts, R: Net + Clock + Log, F: Files + Drop, O: Write>(
     alloc: Global,
     output: &mut O,
     served: Served<'_>,
-) -> u8 {
-    match serve::<S, R, F, O>(rt, files, alloc, output, served) {
+) -> u8
+    ensures { ShowsService S.layer F F.File F.Dir served.entry.most_waiting served.entry.rounds result }
+{
+    match serve_file::<S, R, F, O>(rt, files, alloc, output, served) {
         Ok(()) => 0,
         Err(fault) => {
-            match &fault {
-                ServeFault::Sockets(SocketsFault::Device(error)) => {
-                    warn!(rt; target: "moo", "{}:{}: {error}", served.host, served.port);
-                }
-                ServeFault::Output(error) => {
-                    warn!(rt; target: "moo", "standard output: {error}");
-                }
-                _ => {}
-            }
-            let _ = tell(alloc, output, &fault);
+            tell_reason(rt, served, &fault);
+            let _ = tell(output, &fault);
             fault.status()
         }
     }
 }
 
-fn serve<S: Starts, R: Net + Clock + Log, F: Files + Drop, O: Write>(
+// Serves the database under a file's name.
+fn serve_file<S: Starts, R: Net + Clock + Log, F: Files + Drop, O: Write>(
     rt: &R,
     files: F,
     alloc: Global,
     output: &mut O,
     served: Served<'_>,
-) -> Result<(), ServeFault> {
-    let disk = match FileDisk::open(alloc, files, served.db) {
-        Ok(disk) => disk,
-        Err(error) => {
-            warn!(rt; target: "moo", "{}: {error}", served.db);
-            return Err(ServeFault::Open(OpenFault::Device));
+) -> Result<(), ServeFault>
+    ensures served { OnOk result (ServesFile S.layer F F.File F.Dir served.entry.most_waiting served.entry.rounds) }
+    ensures ended { IfErr result (FailsFile S.layer F F.File F.Dir served.entry.most_waiting served.entry.rounds) }
+{
+    match FileDisk::open(alloc, files, served.db) {
+        Ok(disk) => {
+            tell_spare(rt, served, &disk);
+            serve_disk::<S, FileDisk<F>, R, O>(rt, alloc, disk, output, served)
         }
-    };
-    let mut serving = Serving::<S, FileDisk<F>>::open(
+        Err(error) => Err(no_disk(rt, served, error)),
+    }
+}
+
+/// Serves what a disk holds. The output gets the line that tells where it listens.
+pub fn serve_disk<S: Starts, D: Disk + Watched + Drop, R: Net + Clock + Log, O: Write>(
+    rt: &R,
+    alloc: Global,
+    disk: D,
+    output: &mut O,
+    served: Served<'_>,
+) -> Result<(), ServeFault>
+    ensures served { OnOk result (Serves S.layer D.view D.honest disk served.entry.most_waiting served.entry.rounds) }
+    ensures ended { IfErr result (Fails S.layer D.view D.honest D.failures disk served.entry.most_waiting served.entry.rounds) }
+{
+    let mut serving = Serving::<S, D>::open(
         rt,
         alloc,
         disk,
@@ -79,20 +94,59 @@ fn serve<S: Starts, R: Net + Clock + Log, F: Files + Drop, O: Write>(
     )?;
     let address = serving.address()?;
     info!(rt; target: "moo", "listening on {address} over {}", served.db);
+    tell_address(alloc, output, address)?;
+    serving.serve(rt, served.rounds)
+}
+
+// Why there is no disk.
+fn no_disk<R: Log>(rt: &R, served: Served<'_>, error: io::Error) -> ServeFault
+    ensures { NoDisk result }
+{
+    if error.kind() == ErrorKind::OutOfMemory {
+        return ServeFault::Memory;
+    }
+    warn!(rt; target: "moo", "{}: {error}", served.db);
+    ServeFault::Open(OpenFault::Device)
+}
+
+// Where no spare can be made beside the file, each checkpoint will fail.
+fn tell_spare<R: Log, F: Files + Drop>(rt: &R, served: Served<'_>, disk: &FileDisk<F>) {
+    if let Err(error) = disk.try_spare() {
+        warn!(rt; target: "moo", "no checkpoint can be made: {}.new: {error}", served.db);
+    }
+}
+
+fn tell_address<O: Write>(
+    alloc: Global,
+    output: &mut O,
+    address: SocketAddr,
+) -> Result<(), ServeFault>
+    ensures { IfErr result IsOutside }
+{
     let line = format!(in alloc; "listening on {address}\n")?;
     output
         .write_all(line.as_bytes())
         .map_err(ServeFault::Output)?;
-    output.flush().map_err(ServeFault::Output)?;
-    serving.serve(rt, served.rounds)
+    output.flush().map_err(ServeFault::Output)
 }
 
-// A refused database is told in the words of the program's other commands.
-fn tell<O: Write>(alloc: Global, output: &mut O, fault: &ServeFault) -> io::Result<()> {
-    let line = match fault {
-        ServeFault::Open(OpenFault::Db(fault)) => fault_line(alloc, *fault)?,
-        other => format!(in alloc; "{other}\n")?.into_bytes(),
-    };
-    output.write_all(&line)?;
+// The reason of a fault goes to the log: in the system's words where a device has answered them.
+fn tell_reason<R: Log>(rt: &R, served: Served<'_>, fault: &ServeFault) {
+    match fault {
+        ServeFault::Sockets(SocketsFault::Device(error)) => {
+            warn!(rt; target: "moo", "{}:{}: {error}", served.host, served.port);
+        }
+        ServeFault::Output(error) => {
+            warn!(rt; target: "moo", "standard output: {error}");
+        }
+        // A disk's is told where it was met.
+        ServeFault::Open(OpenFault::Device) => {}
+        other => warn!(rt; target: "moo", "{}: {other}", served.db),
+    }
+}
+
+// Tells why it ends, a refused database in the words of the program's other commands. It takes no memory.
+fn tell<O: Write>(output: &mut O, fault: &ServeFault) -> io::Result<()> {
+    writeln!(output, "{fault}")?;
     output.flush()
 }

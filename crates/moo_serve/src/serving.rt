@@ -1,10 +1,12 @@
 //! Rounds of non-blocking calls between the sockets of connections and a server.
-ghost use Rattle.std.specs.Prelude.{◌≡◌, ◌⊎◌, ◌↔◌, List, IfOk, IsTrue, OnOk};
+ghost use Rattle.std.specs.Prelude.{◌≡◌, ◌⊎◌, ◌↔◌, List, IfErr, IfOk, IsTrue, OnOk, false, true};
+ghost use Rattle.moo_saved.specs.Saved.{Saved, SpellsSaved};
+ghost use Rattle.moo_serving.specs.Calls.{Opened};
 ghost use Rattle.moo_serving.specs.Server.{Follows};
 ghost use Rattle.moo_serving.specs.declared.event.Event as given;
-ghost use Rattle.moo_serving.specs.declared.serving.Serving as server;
 ghost use Rattle.moo_serve.specs.Course.{Course};
-ghost use Rattle.moo_serve.specs.Rounds.{IsClosed, Logs, Rounds};
+ghost use Rattle.moo_serve.specs.Rounds.{IsClosed, Rounds};
+ghost use Rattle.moo_serve.specs.Service.{Begun, BreaksOff, EndsFor, IsOutside, IsServed, LeavesUnbegun, NotStarted, Steps, Turns, Waits};
 
 use crate::coming::{come, now};
 use crate::fault::ServeFault;
@@ -53,23 +55,20 @@ impl<S: Starts, D: Disk + Watched> Serving<S, D> {
     pub fn open<N: Net + Clock + Log>(
         rt: &N,
         alloc: Global,
-        mut disk: D,
+        disk: D,
         host: IpAddr,
         port: u16,
         most_waiting: usize,
     ) -> Result<Serving<S, D>, ServeFault>
     where
         D: Drop,
-        ensures { IfOk result (λ serving. Follows S.layer D.view D.honest D.stands serving.server serving.disk) }
+        ensures begun { IfOk result (Begun S.layer D.view D.honest disk most_waiting) }
+        ensures follows { IfOk result (λ serving. Follows S.layer D.view D.honest D.stands serving.server serving.disk) }
+        ensures refused { IfErr result (NotStarted D.view D.honest D.failures disk) }
     {
+        let mut disk = disk;
         let moment = now(rt).unwrap_or(0);
-        let server = match Server::<S>::open(alloc, &mut disk, moment) {
-            Ok(server) => server,
-            Err(fault) => {
-                tell_failure(rt, &disk);
-                return Err(ServeFault::Open(fault));
-            }
-        };
+        let server = begin(rt, alloc, &mut disk, moment)?;
         let sockets = Sockets::open(rt, alloc, host, port)?;
         Ok(Serving {
             alloc,
@@ -82,7 +81,9 @@ impl<S: Starts, D: Disk + Watched> Serving<S, D> {
     }
 
     /// Where it listens.
-    pub fn address(&self) -> Result<SocketAddr, ServeFault> {
+    pub fn address(&self) -> Result<SocketAddr, ServeFault>
+        ensures { IfErr result IsOutside }
+    {
         let address = self.sockets.address()?;
         Ok(address)
     }
@@ -92,15 +93,36 @@ impl<S: Starts, D: Disk + Watched> Serving<S, D> {
         requires { Follows S.layer D.view D.honest D.stands self.old.server self.old.disk }
         ensures follows { Follows S.layer D.view D.honest D.stands self.new.server self.new.disk }
         ensures course { (events : List given.Event) × Course S.layer D.view D.honest self.old.server self.old.disk events self.new.server self.new.disk }
+        ensures served { OnOk result (IsServed S.layer D.view D.honest rounds self.old self.new) }
+        ensures ended { IfErr result (λ fault. BreaksOff S.layer D.view D.honest D.failures rounds fault self.old self.new) }
     {
-        for _ in 0..rounds {
-            match self.round(rt)? {
-                Round::Busy => {}
-                Round::Idle => self.wait()?,
-                Round::Over => break,
+        for _made in 0..rounds {
+            let goes = self.step(rt)?;
+            if !goes {
+                return Ok(());
             }
         }
         Ok(())
+    }
+
+    // A round, and a wait behind one that found nothing. It answers whether the server goes on.
+    fn step<L: Clock + Log>(&mut self, rt: &L) -> Result<bool, ServeFault>
+        requires { Follows S.layer D.view D.honest D.stands self.old.server self.old.disk }
+        ensures follows { Follows S.layer D.view D.honest D.stands self.new.server self.new.disk }
+        ensures course { (events : List given.Event) × Course S.layer D.view D.honest self.old.server self.old.disk events self.new.server self.new.disk }
+        ensures goes { IfOk result (λ goes. goes ≡ true → Steps S.layer D.view D.honest self.old self.new) }
+        ensures over { IfOk result (λ goes. goes ≡ false → IsClosed self.new.server × ((self.new ≡ self.old) ⊎ Steps S.layer D.view D.honest self.old self.new)) }
+        ensures ended { IfErr result (λ fault. EndsFor S.layer D.view D.honest D.failures fault self.old.server self.old.disk self.new.server self.new.disk) }
+    {
+        let found = self.round(rt)?;
+        match found {
+            Round::Busy => Ok(true),
+            Round::Idle => {
+                self.wait()?;
+                Ok(true)
+            }
+            Round::Over => Ok(false),
+        }
     }
 
     /// One round: what came on the sockets, the moment and a flush are given to the server, each event in a run of its own; then one write
@@ -110,11 +132,9 @@ impl<S: Starts, D: Disk + Watched> Serving<S, D> {
         requires { Follows S.layer D.view D.honest D.stands self.old.server self.old.disk }
         ensures follows { Follows S.layer D.view D.honest D.stands self.new.server self.new.disk }
         ensures course { (events : List given.Event) × Course S.layer D.view D.honest self.old.server self.old.disk events self.new.server self.new.disk }
-        ensures round { OnOk result ((IsClosed self.old.server × (self.new ≡ self.old))
-            ⊎ ((turned : server.Serving S) × Logs S.layer turned self.new.server
-            × Rounds S.layer D.view D.honest self.old.most_waiting self.old.moment self.new.moment self.old.server turned self.old.disk self.new.disk
-            self.old.sockets.sockets self.new.sockets.sockets)) }
+        ensures round { OnOk result ((IsClosed self.old.server × (self.new ≡ self.old)) ⊎ Turns S.layer D.view D.honest self.old self.new) }
         ensures over { IfOk result (λ found. (found ≡ Round.Over) ↔ IsClosed self.new.server) }
+        ensures ended { IfErr result (λ fault. EndsFor S.layer D.view D.honest D.failures fault self.old.server self.old.disk self.new.server self.new.disk) }
     {
         if self.is_closed() {
             return Ok(Round::Over);
@@ -134,6 +154,8 @@ impl<S: Starts, D: Disk + Watched> Serving<S, D> {
         ensures course { (events : List given.Event) × Course S.layer D.view D.honest self.old.server self.old.disk events self.new.server self.new.disk }
         ensures round { OnOk result (Rounds S.layer D.view D.honest self.old.most_waiting self.old.moment self.new.moment self.old.server self.new.server self.old.disk self.new.disk
             self.old.sockets.sockets self.new.sockets.sockets) }
+        ensures most { self.new.most_waiting ≡ self.old.most_waiting }
+        ensures ended { IfErr result (λ fault. EndsFor S.layer D.view D.honest D.failures fault self.old.server self.old.disk self.new.server self.new.disk) }
     {
         self.sockets.rest();
         self.sockets.look(0)?;
@@ -173,11 +195,32 @@ impl<S: Starts, D: Disk + Watched> Serving<S, D> {
 
     /// Waits until a socket is ready, for a second at most.
     pub fn wait(&mut self) -> Result<(), ServeFault>
-        ensures server { self.new.server ≡ self.old.server }
-        ensures disk { self.new.disk ≡ self.old.disk }
+        ensures waits { Waits self.old self.new }
+        ensures outside { IfErr result IsOutside }
     {
         self.sockets.look(WAIT_SECONDS)?;
         Ok(())
+    }
+}
+
+// The server that begins from what a disk holds. Where it can't be read, why is told.
+fn begin<S: Starts, D: Disk + Watched, L: Log>(
+    rt: &L,
+    alloc: Global,
+    disk: &mut D,
+    moment: u32,
+) -> Result<Server<S>, ServeFault>
+    ensures opened { IfOk result (λ server. (s : Saved) × (D.honest disk.old → SpellsSaved (D.view disk.old).main_text s)
+        × Opened S.layer D.view D.honest server disk.old disk.new s moment) }
+    ensures follows { IfOk result (λ server. Follows S.layer D.view D.honest D.stands server disk.new) }
+    ensures refused { IfErr result (LeavesUnbegun D.view D.honest D.failures disk.old disk.new) }
+{
+    match Server::<S>::open(alloc, disk, moment) {
+        Ok(server) => Ok(server),
+        Err(fault) => {
+            tell_failure(rt, disk);
+            Err(ServeFault::Open(fault))
+        }
     }
 }
 

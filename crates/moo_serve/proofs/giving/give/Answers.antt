@@ -1,8 +1,10 @@
-use Rattle.std.proofs.Common.{◌≡◌, List, [], ◌∷◌, ◌++◌, ◌+◌, take, sym, ◌∙◌, ap, subst, arith}
+use Rattle.std.proofs.Common.{◌≡◌, List, [], ◌∷◌, ◌++◌, ◌+◌, take, Err, refl, sym, ◌∙◌, ap, subst, arith}
 use Rattle.std.proofs.lemmas.List.{take_more, take_all}
+use Rattle.moo_layer.specs.Sessions.{silence}
+use Rattle.moo_serving.specs.Server.{Runs}
 use Rattle.moo_serving.specs.declared.event.Event.{Event}
 use Rattle.moo_serve.specs.Course.{Given}
-use Rattle.moo_serve.proofs.Coursing.{course_join, course_refused, follows_on, given_join, given_none, given_one}
+use Rattle.moo_serve.proofs.Coursing.{course_join, course_refused, follows_on, given_join, given_none, given_one, hands_none}
 use Rattle.moo_serve.proofs.giving.give.Goals as goal
 
 pub loop-event-init : goal.loop-event-init
@@ -43,3 +45,19 @@ returns-clause-all g c =
     let end : take c.loop-event.event-index c.args.events.now ≡ c.args.events.now =
     take_all c.loop-event.event-index c.args.events.now (omega (arith, c.loop-event-test.false)) in
     subst (λ (es : List Event). Given g.S.Sessions.layer g.D.Disk.view g.D.Disk.honest c.args.server.now c.args.disk.now es c.loop-event.server c.loop-event.disk) end c.loop-event.invariant.1
+
+pub returns-in-Err-clause-refused : goal.returns-in-Err-clause-refused
+returns-in-Err-clause-refused g c = record {
+  events = take c.loop-event.event-index c.args.events.now;
+  mid = c.loop-event.server;
+  between = c.loop-event.disk;
+  course = c.loop-event.invariant.1.course;
+  event = c.event-item.result;
+  fault = c.in-Err.fault;
+  left = c.run.new.self;
+  runs = subst
+      (λ (es : List Event). Runs g.S.Sessions.layer g.D.Disk.view g.D.Disk.honest g.D.Disk.failures c.loop-event.server c.run.new.self c.loop-event.disk c.run.new.disk es (Err c.in-Err.fault))
+      c.from_ref.ensures.value c.in-Err.ensures.ran;
+  cause_is = refl;
+  handed = (silence, hands_none g.S.Sessions.layer c.run.new.self);
+}

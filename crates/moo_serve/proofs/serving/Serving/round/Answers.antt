@@ -1,7 +1,9 @@
 use Rattle.std.proofs.Common.{[], inl, inr, refl, rules}
+use Rattle.std.proofs.lemmas.Result.{err_from_is_err_and}
 use Rattle.moo_serve.specs.Rounds.{IsClosed}
 use Rattle.moo_serve.proofs.Coursing.{course_none}
 use Rattle.moo_serve.proofs.Rounding.{course_end, follows_end}
+use Rattle.moo_serve.proofs.Serviced.{ends_hands}
 use Rattle.moo_serve.proofs.serving.Serving.round.Goals as goal
 
 pub returns-then-is_closed-clause-follows : goal.returns-then-is_closed-clause-follows
@@ -46,7 +48,26 @@ returns-clause-course g c =
     c.args.self.now.server c.turn-turned.new.self.server c.log_lines.new.server c.args.self.now.disk c.turn-turned.new.self.disk c.in_ok-turned.ensures.course c.log_lines.ensures.handed
 
 pub returns-clause-round : goal.returns-clause-round
-returns-clause-round g c = inr (c.turn-turned.new.self.server, record { handed = c.log_lines.ensures.handed; unsent = c.log_lines.ensures.unsent }, c.in_ok-turned.ensures.round)
+returns-clause-round g c = inr (record {
+  turned = c.turn-turned.new.self.server;
+  logs = record { handed = c.log_lines.ensures.handed; unsent = c.log_lines.ensures.unsent };
+  rounds = c.in_ok-turned.ensures.round;
+  most_is = c.in_ok-turned.ensures.most;
+})
 
 pub returns-clause-over : goal.returns-clause-over
 returns-clause-over g c = c.found.ensures
+
+pub returns-then-is_closed-clause-ended : goal.returns-then-is_closed-clause-ended
+returns-then-is_closed-clause-ended g c = tt
+
+pub returns-in_err-turned-clause-ended : goal.returns-in_err-turned-clause-ended
+returns-in_err-turned-clause-ended g c =
+    let p = err_from_is_err_and c.from_residual.result c.from_residual.ensures.1 in
+    rw (p.1, p.2)
+    (ends_hands g.S.Sessions.layer g.D.Disk.view g.D.Disk.honest g.D.Disk.failures _
+    c.args.self.now.server c.turn-turned.new.self.server c.log_lines.new.server c.args.self.now.disk c.turn-turned.new.self.disk
+    c.in_err-turned.ensures.ended c.log_lines.ensures.handed)
+
+pub returns-clause-ended : goal.returns-clause-ended
+returns-clause-ended g c = tt

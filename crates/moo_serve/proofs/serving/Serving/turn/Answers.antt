@@ -1,8 +1,10 @@
 use Rattle.std.proofs.Common.{List, [], ◌∙◌, subst, rules}
+use Rattle.std.proofs.lemmas.Result.{err_from_is_err_and}
 use Rattle.moo_serving.specs.declared.event.Event.{Event}
 use Rattle.moo_serve.specs.Course.{Given}
 use Rattle.moo_serve.specs.Rounds.{GivenIfOpen}
 use Rattle.moo_serve.proofs.Coursing.{course_none}
+use Rattle.moo_serve.proofs.Serviced.{refused_behind}
 use Rattle.moo_serve.proofs.Rounding.{begins_on, course_end, course_round, follows_end}
 use Rattle.moo_serve.proofs.serving.Serving.turn.Goals as goal
 
@@ -92,3 +94,48 @@ returns-clause-round g c = record {
   ends = subst (λ (es : List Event). GivenIfOpen g.S.Sessions.layer g.D.Disk.view g.D.Disk.honest c.write_all.new.server c.give.new.disk es c.give_if_open.new.server c.give_if_open.new.disk)
       c.deref-2.ensures.value c.in_ok-give_if_open.ensures.all;
 }
+
+pub returns-in_err-look-clause-most : goal.returns-in_err-look-clause-most
+returns-in_err-look-clause-most g c = search rules
+
+pub returns-in_err-came-clause-most : goal.returns-in_err-came-clause-most
+returns-in_err-came-clause-most g c = search rules
+
+pub returns-in_err-give-clause-most : goal.returns-in_err-give-clause-most
+returns-in_err-give-clause-most g c = search rules
+
+pub returns-in_err-parted-clause-most : goal.returns-in_err-parted-clause-most
+returns-in_err-parted-clause-most g c = search rules
+
+pub returns-in_err-give_if_open-clause-most : goal.returns-in_err-give_if_open-clause-most
+returns-in_err-give_if_open-clause-most g c = search rules
+
+pub returns-clause-most : goal.returns-clause-most
+returns-clause-most g c = search rules
+
+pub returns-in_err-look-clause-ended : goal.returns-in_err-look-clause-ended
+returns-in_err-look-clause-ended g c =
+    let p = err_from_is_err_and c.from_residual.result c.from_residual.ensures.1 in rw (p.1, p.2) tt
+
+pub returns-in_err-came-clause-ended : goal.returns-in_err-came-clause-ended
+returns-in_err-came-clause-ended g c =
+    let p = err_from_is_err_and c.from_residual-in_err-came.result c.from_residual-in_err-came.ensures.1 in rw (p.1, p.2) tt
+
+pub returns-in_err-give-clause-ended : goal.returns-in_err-give-clause-ended
+returns-in_err-give-clause-ended g c =
+    let p = err_from_is_err_and c.from_residual-in_err-give.result c.from_residual-in_err-give.ensures.1 in rw (p.1, p.2) c.in_err-give.ensures.refused
+
+pub returns-in_err-parted-clause-ended : goal.returns-in_err-parted-clause-ended
+returns-in_err-parted-clause-ended g c =
+    let p = err_from_is_err_and c.from_residual-in_err-parted.result c.from_residual-in_err-parted.ensures.1 in rw (p.1, p.2) tt
+
+pub returns-in_err-give_if_open-clause-ended : goal.returns-in_err-give_if_open-clause-ended
+returns-in_err-give_if_open-clause-ended g c =
+    let p = err_from_is_err_and c.from_residual-in_err-give_if_open.result c.from_residual-in_err-give_if_open.ensures.1 in rw (p.1, p.2) (refused_behind g.S.Sessions.layer g.D.Disk.view g.D.Disk.honest g.D.Disk.failures _
+    c.args.self.now.server c.write_all.new.server c.give_if_open.new.server c.args.self.now.disk c.give.new.disk c.give_if_open.new.disk
+    (course_end g.S.Sessions.layer g.D.Disk.view g.D.Disk.honest g.D.Disk.stands c.args.self.now.server c.give.new.server c.write_all.new.server c.args.self.now.disk c.give.new.disk
+    c.in_ok-give.ensures.course c.in_ok-parted.ensures.handed)
+    c.in_err-give_if_open.ensures.refused)
+
+pub returns-clause-ended : goal.returns-clause-ended
+returns-clause-ended g c = tt

@@ -1,0 +1,10 @@
+use Rattle.moo_serve.proofs.serving.begin.Goals as goal
+
+pub returns-in-Err-clause-refused : goal.returns-in-Err-clause-refused
+returns-in-Err-clause-refused g c = record {
+  text = c.in-Err.ensures.refused;
+  none = λ h f is saved spells. c.in-Err.ensures.accepted h saved spells f is;
+  device = c.in-Err.ensures.device;
+  main = c.in-Err.ensures.main;
+  spare = c.in-Err.ensures.spare;
+}

@@ -1,0 +1,113 @@
+//! What clients see, over any layer of sessions.
+use crate::clients::{FILE, answer, connected, database, rounds, serving};
+use crate::clock::SetClock;
+use moo_layer::Starts;
+use moo_serve::Round;
+use std::fs;
+use std::io::Write;
+use std::test::Fail;
+
+const GREETING: &[u8] = b"*** Connected ***\r\n";
+
+/// The most bytes that may wait for a client.
+const MOST: usize = 16_777_216;
+
+/// Sends 200 lines of 65,536 letters to the one who types it, and then disconnects it.
+const BIG: &[u8] =
+    b";s = \"x\"; for i in [1..16] s = s + s; endfor for i in [1..200] notify(player, s); endfor boot_player(player);\n";
+
+/// Every row, each over a new database.
+pub fn all<S: Starts>(rt: &HostRuntime) -> Result<(), Fail> {
+    a_client_looks_and_is_redirected::<S>(rt)?;
+    output_waits_until_it_is_read::<S>(rt)?;
+    one_who_never_reads_is_hung_up::<S>(rt)?;
+    the_next_one_under_a_number_starts_clean::<S>(rt)?;
+    a_clock_that_is_set_back_is_not_told::<S>(rt)?;
+    a_shutdown_is_written_and_the_server_closes::<S>(rt)?;
+    fs::remove_file(rt, FILE)?;
+    Ok(())
+}
+
+fn a_client_looks_and_is_redirected<S: Starts>(rt: &HostRuntime) -> Result<(), Fail> {
+    let mut serving = serving::<S, _>(rt, database(rt)?, MOST)?;
+    let client = connected(rt, serving.address()?)?;
+    (&client).write_all(b"look\r\n")?;
+    let want = b"*** Connected ***\r\nI couldn't understand that.\r\n";
+    let seen = answer(rt, rt.alloc(), &mut serving, &client, want.len())?;
+    assert_eq!(rt; seen.as_slice(), want.as_slice());
+    let other = connected(rt, serving.address()?)?;
+    let old = b"*** Redirecting connection to new port ***\r\n";
+    let seen = answer(rt, rt.alloc(), &mut serving, &client, old.len() + 1)?;
+    assert_eq!(rt; seen.as_slice(), old.as_slice());
+    let new = b"*** Redirecting old connection to this port ***\r\n";
+    let seen = answer(rt, rt.alloc(), &mut serving, &other, new.len())?;
+    assert_eq!(rt; seen.as_slice(), new.as_slice());
+    Ok(())
+}
+
+// 200 lines, `*** Disconnected ***`, and then the end: one who is leaving is closed behind the last byte.
+fn output_waits_until_it_is_read<S: Starts>(rt: &HostRuntime) -> Result<(), Fail> {
+    let mut serving = serving::<S, _>(rt, database(rt)?, MOST)?;
+    let client = connected(rt, serving.address()?)?;
+    (&client).write_all(BIG)?;
+    rounds(rt, &mut serving, 100)?;
+    let count = GREETING.len() + 200 * 65_538 + 22;
+    let seen = answer(rt, rt.alloc(), &mut serving, &client, count + 1)?;
+    assert_eq!(rt; seen.len(), count);
+    assert!(rt; seen.as_slice().ends_with(b"x\r\n*** Disconnected ***\r\n"));
+    Ok(())
+}
+
+fn one_who_never_reads_is_hung_up<S: Starts>(rt: &HostRuntime) -> Result<(), Fail> {
+    let mut serving = serving::<S, _>(rt, database(rt)?, 1_000_000)?;
+    let client = connected(rt, serving.address()?)?;
+    (&client).write_all(BIG)?;
+    rounds(rt, &mut serving, 20)?;
+    let seen = answer(rt, rt.alloc(), &mut serving, &client, 200 * 65_538)?;
+    assert!(rt; seen.len() < 200 * 65_538);
+    Ok(())
+}
+
+fn the_next_one_under_a_number_starts_clean<S: Starts>(rt: &HostRuntime) -> Result<(), Fail> {
+    let mut serving = serving::<S, _>(rt, database(rt)?, MOST)?;
+    let first = connected(rt, serving.address()?)?;
+    (&first).write_all(b"look\nlook\nhalf a line")?;
+    drop(first);
+    rounds(rt, &mut serving, 8)?;
+    let client = connected(rt, serving.address()?)?;
+    (&client).write_all(b"\n")?;
+    let seen = answer(rt, rt.alloc(), &mut serving, &client, GREETING.len() + 1)?;
+    assert_eq!(rt; seen.as_slice(), GREETING);
+    Ok(())
+}
+
+// What the world takes for the time: the last moment that was told stands until the clock has passed it.
+fn a_clock_that_is_set_back_is_not_told<S: Starts>(rt: &HostRuntime) -> Result<(), Fail> {
+    let mut serving = serving::<S, _>(rt, database(rt)?, MOST)?;
+    let client = connected(rt, serving.address()?)?;
+    let times: [(u64, &[u8]); 3] = [
+        (2_000_000_000, b"{1, 2000000000}\r\n"),
+        (1_500_000_000, b"{1, 2000000000}\r\n"),
+        (2_000_000_005, b"{1, 2000000005}\r\n"),
+    ];
+    let seen = answer(rt, rt.alloc(), &mut serving, &client, GREETING.len())?;
+    assert_eq!(rt; seen.as_slice(), GREETING);
+    for (now, want) in times {
+        let clock = SetClock(now);
+        rounds(&clock, &mut serving, 2)?;
+        (&client).write_all(b";return time();\n")?;
+        let seen = answer(&clock, rt.alloc(), &mut serving, &client, want.len())?;
+        assert_eq!(rt; seen.as_slice(), want);
+    }
+    Ok(())
+}
+
+fn a_shutdown_is_written_and_the_server_closes<S: Starts>(rt: &HostRuntime) -> Result<(), Fail> {
+    let mut serving = serving::<S, _>(rt, database(rt)?, MOST)?;
+    let client = connected(rt, serving.address()?)?;
+    (&client).write_all(b";#2.name = \"A Hall\"; shutdown();\n")?;
+    assert_eq!(rt; rounds(rt, &mut serving, 12)?, Round::Over);
+    let text = fs::read_to_string(rt, FILE)?;
+    assert!(rt; text.as_str().contains("\nA Hall\n"));
+    Ok(())
+}

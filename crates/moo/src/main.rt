@@ -20,6 +20,7 @@ const USAGE: u8 = 2;
 
 /// What the streams are called where they fail.
 const INPUT: &str = "standard input";
+
 const OUTPUT: &str = "standard output";
 
 fn main(rt: HostRuntime) -> ExitCode {
@@ -62,13 +63,7 @@ fn run_work(rt: &HostRuntime, work: Work) -> io::Result<u8> {
         Work::Script(path) => {
             let mut file = open(rt, path)?;
             let mut input = BufReader::new(alloc, Device::new(rt, INPUT, rt.reader()))?;
-            Ok(run_script::<LiveWorld, _, _, _, _>(
-                alloc,
-                rt,
-                &mut file,
-                &mut input,
-                &mut output,
-            ))
+            Ok(run_script::<LiveWorld, _, _, _, _>(alloc, rt, &mut file, &mut input, &mut output))
         }
         Work::Serve(service) => serve(rt, service),
     }

@@ -6,5 +6,5 @@ pub returns-then-is_of_program : goal.returns-then-is_of_program
 returns-then-is_of_program c = λ bytes h.
     whole_surveyed bytes c.finish-faults.result.0.items c.finish-faults.result.1 c.in-Err.fault (sym c.is_of_program.ensures ∙ c.if-is_of_program.true) (c.in-Err.ensures.answer bytes h.check) (c.finish-faults.ensures bytes h.survey)
 
-pub returns : goal.returns
-returns c = λ bytes h. (c.in-Err.ensures.answer bytes h.check, sym c.is_of_program.ensures ∙ c.if-is_of_program.false)
+pub returns-else-is_of_program : goal.returns-else-is_of_program
+returns-else-is_of_program c = λ bytes h. (c.in-Err.ensures.answer bytes h.check, sym c.is_of_program.ensures ∙ c.if-is_of_program.false)

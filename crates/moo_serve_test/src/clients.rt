@@ -94,3 +94,16 @@ pub fn rounds<S: Starts, D: Disk + Watched, L: Clock + Log>(
     }
     Ok(last)
 }
+
+/// Fails where a client has seen other bytes.
+pub fn same(seen: &[u8], want: &[u8]) -> Result<(), Fail> {
+    holds(seen == want, "a client has seen other bytes")
+}
+
+/// Fails with this message where something isn't so.
+pub fn holds(is_so: bool, message: &'static str) -> Result<(), Fail> {
+    if is_so {
+        return Ok(());
+    }
+    Err(Fail::new(message))
+}

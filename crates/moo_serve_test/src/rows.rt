@@ -1,5 +1,5 @@
 //! What clients see, over any layer of sessions.
-use crate::clients::{FILE, answer, connected, database, rounds, serving};
+use crate::clients::{FILE, answer, connected, database, holds, rounds, same, serving};
 use crate::clock::SetClock;
 use moo_layer::Starts;
 use moo_serve::Round;
@@ -34,14 +34,14 @@ fn a_client_looks_and_is_redirected<S: Starts>(rt: &HostRuntime) -> Result<(), F
     (&client).write_all(b"look\r\n")?;
     let want = b"*** Connected ***\r\nI couldn't understand that.\r\n";
     let seen = answer(rt, rt.alloc(), &mut serving, &client, want.len())?;
-    assert_eq!(rt; seen.as_slice(), want.as_slice());
+    same(seen.as_slice(), want.as_slice())?;
     let other = connected(rt, serving.address()?)?;
     let old = b"*** Redirecting connection to new port ***\r\n";
     let seen = answer(rt, rt.alloc(), &mut serving, &client, old.len() + 1)?;
-    assert_eq!(rt; seen.as_slice(), old.as_slice());
+    same(seen.as_slice(), old.as_slice())?;
     let new = b"*** Redirecting old connection to this port ***\r\n";
     let seen = answer(rt, rt.alloc(), &mut serving, &other, new.len())?;
-    assert_eq!(rt; seen.as_slice(), new.as_slice());
+    same(seen.as_slice(), new.as_slice())?;
     Ok(())
 }
 
@@ -53,8 +53,8 @@ fn output_waits_until_it_is_read<S: Starts>(rt: &HostRuntime) -> Result<(), Fail
     rounds(rt, &mut serving, 100)?;
     let count = GREETING.len() + 200 * 65_538 + 22;
     let seen = answer(rt, rt.alloc(), &mut serving, &client, count + 1)?;
-    assert_eq!(rt; seen.len(), count);
-    assert!(rt; seen.as_slice().ends_with(b"x\r\n*** Disconnected ***\r\n"));
+    let is_whole = seen.as_slice().ends_with(b"x\r\n*** Disconnected ***\r\n");
+    holds(seen.len() == count && is_whole, "output is lost")?;
     Ok(())
 }
 
@@ -64,7 +64,7 @@ fn one_who_never_reads_is_hung_up<S: Starts>(rt: &HostRuntime) -> Result<(), Fai
     (&client).write_all(BIG)?;
     rounds(rt, &mut serving, 20)?;
     let seen = answer(rt, rt.alloc(), &mut serving, &client, 200 * 65_538)?;
-    assert!(rt; seen.len() < 200 * 65_538);
+    holds(seen.len() < 200 * 65_538, "one who never reads gets all")?;
     Ok(())
 }
 
@@ -77,7 +77,7 @@ fn the_next_one_under_a_number_starts_clean<S: Starts>(rt: &HostRuntime) -> Resu
     let client = connected(rt, serving.address()?)?;
     (&client).write_all(b"\n")?;
     let seen = answer(rt, rt.alloc(), &mut serving, &client, GREETING.len() + 1)?;
-    assert_eq!(rt; seen.as_slice(), GREETING);
+    same(seen.as_slice(), GREETING)?;
     Ok(())
 }
 
@@ -91,13 +91,13 @@ fn a_clock_that_is_set_back_is_not_told<S: Starts>(rt: &HostRuntime) -> Result<(
         (2_000_000_005, b"{1, 2000000005}\r\n"),
     ];
     let seen = answer(rt, rt.alloc(), &mut serving, &client, GREETING.len())?;
-    assert_eq!(rt; seen.as_slice(), GREETING);
+    same(seen.as_slice(), GREETING)?;
     for (now, want) in times {
         let clock = SetClock(now);
         rounds(&clock, &mut serving, 2)?;
         (&client).write_all(b";return time();\n")?;
         let seen = answer(&clock, rt.alloc(), &mut serving, &client, want.len())?;
-        assert_eq!(rt; seen.as_slice(), want);
+        same(seen.as_slice(), want)?;
     }
     Ok(())
 }
@@ -106,8 +106,12 @@ fn a_shutdown_is_written_and_the_server_closes<S: Starts>(rt: &HostRuntime) -> R
     let mut serving = serving::<S, _>(rt, database(rt)?, MOST)?;
     let client = connected(rt, serving.address()?)?;
     (&client).write_all(b";#2.name = \"A Hall\"; shutdown();\n")?;
-    assert_eq!(rt; rounds(rt, &mut serving, 12)?, Round::Over);
+    let last = rounds(rt, &mut serving, 12)?;
+    holds(matches!(last, Round::Over), "the server isn't closed")?;
     let text = fs::read_to_string(rt, FILE)?;
-    assert!(rt; text.as_str().contains("\nA Hall\n"));
+    holds(
+        text.as_str().contains("\nA Hall\n"),
+        "the last world isn't saved",
+    )?;
     Ok(())
 }

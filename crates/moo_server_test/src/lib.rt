@@ -9,6 +9,8 @@ mod closing;
 #[cfg(test)]
 mod lives;
 #[cfg(test)]
+mod memory;
+#[cfg(test)]
 mod moments;
 #[cfg(test)]
 mod playing;

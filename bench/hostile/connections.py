@@ -69,6 +69,7 @@ def crowds(database, players):
         (database, 1_000, "open at once, each with 8,192 bytes that end no line", together(1_000, ["bytes {0} " + half])),
         (database, 4_000, "open at once", together(4_000, [])),
         (database, 16_000, "open at once", together(16_000, [])),
+        (database, 1, "with the last number, and 131,072 moments: the script's own part", f"open {NUMBERS - 1}\n" + "moment 0\n" * 131_072),
         (database, NUMBERS, "one after another", in_turn(NUMBERS)),
         (database, NUMBERS, "open at once", together(NUMBERS, [])),
         (players, 16_000, "open at once, each a player's", together(16_000, ["line {0} #{1}"])),

@@ -4,6 +4,8 @@ import os, re, resource, subprocess, tempfile, time
 TOP = os.path.dirname(os.path.dirname(os.path.dirname(os.path.realpath(__file__))))
 MOO = os.environ.get("MOO", os.path.join(TOP, "moo"))
 STACK = 65_536 * 1024
+# The most bytes that `moo serve` reads of a connection at once: what they say is one event.
+PIECE = int(os.environ.get("PIECE", 256))
 # The most address space of one run, in bytes: a program that wants more is refused memory, and the machine stays up.
 ROOM = int(os.environ.get("ROOM", 3 << 30))
 

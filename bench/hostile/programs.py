@@ -13,6 +13,8 @@ LIST = 'l={1};while(length(l)<500000)l={@l,@l};endwhile l={@l,@l[1..999980-lengt
 SOURCE = 't="1;";while(length(t)<400000)t=t+t;endwhile '
 VERB = 'add_verb(player,{player,"rxd","v"},{"this","none","this"});'
 MANY = '{player,"rxd",s},{"this","none","this"}'
+# A program with 62,500 variables.
+VARIABLES = 'b="";i=0;while(i<250)i=i+1;b=tostr(b,"?",i,";");endwhile t="return 0;";i=0;while(i<250)i=i+1;t=t+strsub(b,"?",tostr("v",i,"_"));endwhile '
 NAMES = 's="a ";while(length(s)<500000)s=s+s;endwhile i=0;while(i<100)i=i+1;add_verb(player,' + MANY + ');endwhile '
 
 # By world: a name, what comes before the loop, its body, and how many ticks it runs.
@@ -34,6 +36,14 @@ PROGRAMS = {
         ("`listinsert` at the front of 999,980", LIST, "listinsert(l,1);", 100),
         ("a list of 999,980 copied for one place", LIST, "m=l;m[1]=2;", 200),
         ("`l[1] = 2` of 999,980", LIST, "l[1]=2;", 1_000),
+        ("`l[1][1] = 2`, a list within a list", LIST + "l={l[1..999000]};", "l[1][1]=2;", 200),
+        ("`player.p[1] = 2` of 999,980", LIST + 'add_property(player,"p",l,{player,"r"});l=0;', "player.p[1]=2;", 200),
+        ("`{@l, 1}` of 999,980", LIST, "{@l,1};", 200),
+        ("`l[2..$]` of 999,980", LIST, "l[2..$];", 200),
+        ("`{f, @g} = l` of 999,980", LIST, "{f,@g}=l;", 200),
+        ("`max(@l)` of 999,980", LIST, "max(@l);", 200),
+        ("`player:v(@l)` of 999,980", LIST + VERB, "player:v(@l);", 200),
+        ("`s[1] = \"y\"` of 1 MB", STRING, 's[1]="y";', 2_000),
         ("`eval` of a text of 524,288 bytes", SOURCE, "`eval(t[1..2000]+\"0=0;\"+t) ! ANY';", 100),
         ("`set_verb_code` of 524,288 bytes", SOURCE + VERB, 'set_verb_code(player,"v",{t});', 50),
         ("a new verb of 524,288 bytes each turn", SOURCE, VERB + 'set_verb_code(player,length(verbs(player)),{t});', 100),
@@ -42,6 +52,9 @@ PROGRAMS = {
         ("`notify` of nothing", "", 'notify(player,"");', 40_000),
         ("a property of 1 MB each turn", STRING, 'add_property(player,tostr("p",c),s+"a",{player,"r"});', 2_000),
         ("a property that shares 1 MB each turn", STRING, 'add_property(player,tostr("p",c),s,{player,"r"});', 5_000),
+        ("a call of a verb with 62,500 variables", VARIABLES + VERB + 'set_verb_code(player,"v",{t});', "player:v();", 1_000),
+        ("a property that isn't there, beside 50 with names of 1 MB", STRING + 'i=0;while(i<50)i=i+1;add_property(player,tostr(s[1..999980],100+i),0,{player,"r"});endwhile t=s[1..999980]+"zzz";',
+         "`player.(t) ! ANY';", 50),
         ("a call beside 100 verbs that share 1 MB of names", NAMES, "`player:zz() ! ANY';", 50),
     ],
     "room of 100,000 things": [

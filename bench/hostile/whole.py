@@ -6,6 +6,9 @@ HEADS = ["Program", "By", "Seconds", "Megabytes", "Ended"]
 OUT, PERM, MAXREC = "Task ran out of ticks", "Permission denied", "Too many verb calls"
 STRING = programs.STRING
 REPEAT = "player:v();"
+# Things in the room that share their aliases.
+ALIASES = ('l={"a"};while(length(l)<240000)l={@l,@l};endwhile l={@l,@l[1..499990-length(l)]};'
+           'i=0;while(i<100)i=i+1;c=create(#-1);add_property(c,"aliases",l,{player,"r"});move(c,#2);endwhile')
 
 
 def coded(name, line):
@@ -13,7 +16,7 @@ def coded(name, line):
     return f'add_verb(player,{{player,"rxd","{name}"}},{{"this","none","this"}});set_verb_code(player,"{name}",{{"{line}"}});'
 
 
-# A name, the number of who types it, the lines typed, and what has to stand in what is printed.
+# A name, the number of who types it, what is typed behind `eval`, or a piece of bytes, and what has to stand in what is printed.
 PROGRAMS = [
     ("`while (1) endwhile`", 4, ["while(1)endwhile"], OUT),
     ("calls of itself, until no frame is left", 4, [coded("v", "return this:v();") + REPEAT], MAXREC),
@@ -22,6 +25,7 @@ PROGRAMS = [
     ("a list in a list past the depth", 4, ["l={};c=0;while(1)`l={l} ! ANY => c=c+1';endwhile"], OUT),
     ("a list of 200 levels printed", 4, ["l={};i=0;while(i<197)l={l};i=i+1;endwhile notify(player,toliteral(l));"], "{{{{"),
     ("160,000 lines of notices, in 20 commands", 4, ['while(1)notify(player,"");endwhile'] * 20, OUT),
+    ("one piece: a million lines of notices", 4, [b"y\n" * 128], OUT),
     ("recycles itself, and goes on", 4, ["x=recycle(player);player:v();notify(player,player.name);"], "*** Recycled ***"),
     ("moves its room into itself", 4, [coded("accept", "return 1;") + "move(#2,player);"], "Recursive move"),
     ("moves itself to and fro", 4, ["while(1)move(player,#-1);move(player,#2);endwhile"], OUT),
@@ -31,7 +35,7 @@ PROGRAMS = [
     ("boots itself in a loop", 4, ["while(1)boot_player(player);endwhile"], "*** Disconnected ***"),
     ("boots, sends and shuts down for others", 4, ["boot_player(#3);", "notify(#3,\"x\");", "shutdown();", "dump_database();", "server_log(\"x\");"], PERM),
     ("20,000 objects asked for", 4, ["while(1)create(#-1);endwhile"], OUT),
-    ("a piece of 4,096 bytes: 2,048 commands of a loop each", 4, [coded("x", "while(1)endwhile"), None], OUT),
+    (f"one piece: {program.PIECE // 2:,} commands of a loop each", 4, [b"x\n" * (program.PIECE // 2)], OUT),
     ("a `do_command` that shuts down", 3, ["add_verb(#0,{player,\"rxd\",\"do_command\"},{\"this\",\"none\",\"this\"});set_verb_code(#0,\"do_command\",{\"shutdown();\"});", "x"], "*** Shutting down ***\nrefused: Closed"),
     ("a `checkpoint_started` that recycles all", 3, ["add_verb(#0,{player,\"rxd\",\"checkpoint_started\"},{\"this\",\"none\",\"this\"});"
      "set_verb_code(#0,\"checkpoint_started\",{\"for o in [#0..max_object()]recycle(o);endfor\"});dump_database();"], "*** Recycled ***"),
@@ -40,12 +44,13 @@ PROGRAMS = [
 # With 1 GB of address space: what asks for more ends the server, with status 4.
 WANTING = [
     ("`notify` of 1 MB without end", [STRING + "while(1)notify(player,s);endwhile"]),
+    ("variables with 1 MB of their own each", [STRING + 'add_property(player,"p",s,{player,"r"});t="";i=0;while(i<2000)i=i+1;t=tostr(t,"v",i,"=player.p[2..$];");endwhile eval(t);']),
     ("3,000 properties that share 1 MB, and a checkpoint", [STRING + 'i=0;while(i<3000)i=i+1;add_property(player,tostr("p",i),s,{player,"r"});endwhile', "return 1+1;", "__checkpoint__"]),
 ]
 
-# Over the starter world, in one piece of 4,096 bytes: who types it, and the line that it repeats.
+# Over the starter world, in one piece: who types it, and the line that it repeats.
 STARTER = [
-    ("a stranger's lines, as many as 4,096 bytes hold", "anybody", [], "x"),
+    ("a stranger's lines, as many as a piece holds", "anybody", [], "x"),
     ("the same of `connect x y`", "anybody", [], "connect x y"),
     ("a guest's `look`", "player", ["connect guest"], "look"),
     ("a guest's `@who`", "player", ["connect guest"], "@who"),
@@ -57,7 +62,7 @@ STARTER = [
 def typed(who, lines):
     events = f"open 1\nline 1 #{who}\n"
     for line in lines:
-        events += f"line 1 eval {line}\n" if line else f"bytes 1 {(b'x' + bytes([10])).hex() * 2048}\n"
+        events += f"bytes 1 {line.hex()}\n" if isinstance(line, bytes) else f"line 1 eval {line}\n"
     return events
 
 
@@ -65,6 +70,7 @@ def main(folder):
     path = os.path.join(folder, "whole.db")
     things = programs.things_of("small")
     things[4].verbs.append(world.verb("x", "while(1)endwhile", 4, "rd", True))
+    things[4].verbs.append(world.verb("y", 'while(1)notify(player,"");endwhile', 4, "rd", True))
     with open(path, "w") as file:
         file.write(world.text(things))
     empty = program.script(path, typed(4, []))
@@ -84,11 +90,29 @@ def main(folder):
         is_well &= fits
     starter = os.path.join(program.TOP, "worlds", "starter.db")
     for name, by, before, line in STARTER:
-        begin = "open 1\n" + "".join(f"line 1 {each}\n" for each in before)
-        piece = (line.encode() + bytes([10])) * (4096 // (len(line) + 1))
-        empty = program.script(starter, begin)
-        run = program.script(starter, begin + f"bytes 1 {piece.hex()}\nopen 2\n")
-        fits = run.status == 0 and "\n2: " in run.output
-        rows.append((f"{name} ({4096 // (len(line) + 1)})", by, f"{max(run.seconds - empty.seconds, 0):.3g}", f"{run.megabytes:.0f}", "status 0" if fits else f"WRONG: status {run.status}"))
+        cells, fits = repeated(starter, name, by, before, line)
+        rows.append(cells)
+        is_well &= fits
+    with open(path, "w") as file:
+        file.write(world.text(programs.things_of("room of 100,000 things")))
+    for name, by, before, times in (
+        ("`l x` in a room with 100,000 things", "player", ["#5"], 0),
+        ("`l x` once, beside 100 things with the same list of 499,990 aliases", "all who are there", ["#4", "eval " + ALIASES], 1),
+    ):
+        cells, fits = repeated(path, name, by, before, "l x", times)
+        rows.append(cells)
         is_well &= fits
     return rows, is_well
+
+
+def repeated(database, name, by, before, line, times=0):
+    """One piece of the same line again and again, as often as it holds the line where no number is told, behind the lines
+    before it; another logs in behind it."""
+    begin = "open 1\n" + "".join(f"line 1 {each}\n" for each in before)
+    times = times or program.PIECE // (len(line) + 1)
+    piece = (line.encode() + bytes([10])) * times
+    empty = program.script(database, begin)
+    run = program.script(database, begin + f"bytes 1 {piece.hex()}\nopen 2\nline 2 #4\n")
+    fits = run.status == 0 and "\n2: " in run.output
+    seconds = f"{max(run.seconds - empty.seconds, 0):.3g}"
+    return (f"{name} ({times})", by, seconds, f"{run.megabytes:.0f}", "status 0" if fits else f"WRONG: status {run.status}"), fits

@@ -1,0 +1,92 @@
+"""What a player without a flag can do in the starter world by one piece of bytes: each line that the world's own transcripts
+type, as often as the piece holds it, at the landing, in a room that is full of things, and beside two hundred other players."""
+import glob, os
+from concurrent.futures import ThreadPoolExecutor
+import program
+
+HEADS = ["Where", "Line", "Times", "Seconds", "Megabytes of what is sent"]
+WORLD = os.path.join(program.TOP, "worlds", "starter.db")
+ANN = ["open 1", "line 1 connect Ann open-sesame"]
+# A name of 60 letters is as long as one may be.
+LONG = "w" * 57
+LETTERS = "abcdefghijklmnopqrst"
+SHORT = ["l", "i", "l me", "?", "@who", "@audit"]
+
+
+def typed():
+    """Each line that a transcript types, once, but for programs behind a semicolon."""
+    lines = set(SHORT)
+    for path in glob.glob(os.path.join(program.TOP, "worlds/starter/tests/*.script")):
+        with open(path) as file:
+            words = [line.rstrip("\n").split(" ", 2) for line in file]
+        lines |= {each[2] for each in words if each[0] == "line" and len(each) == 3}
+    return sorted(line for line in lines if line and not line.startswith(";"))
+
+
+def settled(events):
+    """The starter world behind these events and a checkpoint."""
+    run = program.script(WORLD, "\n".join(events + ["open 0", "line 0 connect wizard", "line 0 @dump-database"] + ["flush"] * 30 + ["show"]) + "\n")
+    return run.output[run.output.index("** LambdaMOO Database"):]
+
+
+def one_player():
+    """Ann, whose description is as long as a line may be, and nearly all blanks."""
+    return ["open 1", "line 1 create Ann open-sesame", f"line 1 @set me.description to x{' ' * 7_900}y"]
+
+
+def furnished():
+    """Ann, and fifteen players who have each put twenty things down in the meadow."""
+    events = one_player()
+    for player in range(15):
+        number, letter = 10 + player, LETTERS[player]
+        events += [f"open {number}", f"line {number} create P{letter} open-sesame", f"line {number} w"]
+        for thing in LETTERS:
+            events += [f"line {number} @create $thing named {letter}{thing} {LONG}", f"line {number} drop {letter}{thing}"]
+    return events
+
+
+def crowd(word):
+    """Two hundred players on connections of their own, who come by this word."""
+    events = []
+    for number in range(200):
+        name = f"P{LETTERS[number // 20]}{LETTERS[number % 20]}"
+        events += [f"open {100 + number}", f"line {100 + number} {word} {name} open-sesame"]
+    return events
+
+
+# Where Ann is: the events that make the world, and those that are played before the piece.
+PLACES = {
+    "at the landing, described by a letter, 7,900 blanks and a letter": (one_player(), ANN),
+    "in a room with 300 things, put there by fifteen players": (furnished(), ANN + ["line 1 w"]),
+    "at the landing, with 200 other players": (one_player() + crowd("create"), crowd("connect") + ANN),
+}
+
+
+def piece(line):
+    times = max(1, program.PIECE // (len(line) + 1))
+    return times, f"bytes 1 {(line.encode() + bytes([10])).hex() * times}"
+
+
+def tried(path, before, line):
+    """What so many of a line take beyond what comes before them, and whether the server goes on."""
+    times, event = piece(line)
+    run = program.script(path, "\n".join(before + [event, "open 9"]) + "\n", most=1 << 28)
+    fits = run.status == 0 and "\n9: " in run.output
+    return line, times, run.seconds, len(run.output) / 1e6, fits
+
+
+def main(folder):
+    rows, is_well, lines = [], True, typed()
+    for name, (making, before) in PLACES.items():
+        path = os.path.join(folder, "settled.db")
+        with open(path, "w") as file:
+            file.write(settled(making))
+        empty = program.script(path, "\n".join(before + ["open 9"]) + "\n")
+        with ThreadPoolExecutor(2) as pool:
+            found = list(pool.map(lambda line: tried(path, before, line), lines))
+        is_well &= all(each[4] for each in found)
+        found.sort(key=lambda each: -each[2])
+        rows.append((f"**{name}**", f"{len(found)} lines tried", "", "", "" if all(each[4] for each in found) else "WRONG"))
+        for line, times, seconds, sent, _ in found[:5]:
+            rows.append((name, f"`{line}`", times, f"{seconds - empty.seconds:.2f}", f"{sent:.1f}"))
+    return rows, is_well

@@ -1,5 +1,5 @@
 """What a player without a flag can do in the starter world by one piece of bytes: each line that the world's own transcripts
-type, as often as the piece holds it, at the landing, in a room that is full of things, and beside two hundred other players."""
+type, as often as the piece holds it, at the landing, in a room that is full of things, and there beside two hundred others."""
 import glob, os
 from concurrent.futures import ThreadPoolExecutor
 import program
@@ -45,12 +45,13 @@ def furnished():
     return events
 
 
-def crowd(word):
-    """Two hundred players on connections of their own, who come by this word."""
+def crowd(word, *lines):
+    """Two hundred players on connections of their own, who come by this word and type these lines."""
     events = []
     for number in range(200):
         name = f"P{LETTERS[number // 20]}{LETTERS[number % 20]}"
         events += [f"open {100 + number}", f"line {100 + number} {word} {name} open-sesame"]
+        events += [f"line {100 + number} {line}" for line in lines]
     return events
 
 
@@ -58,7 +59,7 @@ def crowd(word):
 PLACES = {
     "at the landing, described by a letter, 7,900 blanks and a letter": (one_player(), ANN),
     "in a room with 300 things, put there by fifteen players": (furnished(), ANN + ["line 1 w"]),
-    "at the landing, with 200 other players": (one_player() + crowd("create"), crowd("connect") + ANN),
+    "there, beside 200 other players": (furnished() + crowd("create", "w"), crowd("connect") + ANN + ["line 1 w"]),
 }
 
 

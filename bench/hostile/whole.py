@@ -51,6 +51,7 @@ WANTING = [
 # Over the starter world, in one piece: who types it, and the line that it repeats.
 STARTER = [
     ("a stranger's lines, as many as a piece holds", "anybody", [], "x"),
+    ("the same of empty lines, each answered by the login screen", "anybody", [], ""),
     ("the same of `connect x y`", "anybody", [], "connect x y"),
     ("a guest's `look`", "player", ["connect guest"], "look"),
     ("a guest's `@who`", "player", ["connect guest"], "@who"),

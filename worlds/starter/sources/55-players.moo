@@ -39,10 +39,7 @@ elseif (!(this in connected_players()))
 elseif (idle_seconds(this) >= 300)
   who:tell("Lost in thought for ", $time:span(idle_seconds(this)), ".");
 endif
-names = {};
-for o in (this.contents)
-  names = {@names, o.name};
-endfor
+names = $string:names(this.contents);
 if (names)
   who:tell_lines($string:wrap("Carries: " + $string:join(names, ", ") + "."));
 endif
@@ -105,6 +102,7 @@ if (!argstr || argstr == "here")
   here:noticed(player, "look", here);
   return;
 endif
+seen = 1;
 if (prepstr == "at" && !dobjstr)
   text = iobjstr;
   o = iobj;
@@ -117,12 +115,14 @@ elseif (prepstr in {"in", "inside", "into"} && !dobjstr)
 elseif (prepstr in {"in", "on", "from"} && dobjstr && valid(iobj))
   text = dobjstr;
   o = (`iobj.opened ! ANY => 0') || iobj == player || iobj == here ? $match:among(text, iobj.contents) | #-3;
+  seen = 0;
 else
   text = argstr;
   o = dobj;
+  seen = argstr == dobjstr;
 endif
 if (!valid(o))
-  o = o == #-2 ? o | $match:object(text, player);
+  o = o == #-2 ? o | $match:object(text, player, seen);
 endif
 if ($match:found(o, text, player))
   o:look_self(player);
@@ -133,10 +133,7 @@ endif
 .
 
 @program $player:"i*nventory" none none none rd
-names = {};
-for o in (player.contents)
-  names = {@names, o.name};
-endfor
+names = $string:names(player.contents);
 player:tell_lines($string:wrap(names ? "You carry: " + $string:join(names, ", ") + "." | "You carry nothing."));
 .
 
@@ -261,22 +258,29 @@ if (player != this)
   return;
 endif
 here = player.location;
+start = $login.start;
 // from nowhere the way leads to the first room, whatever became of the home
-dest = valid(here) && $isa(player.home, $room) ? player.home | $login.start;
+dest = valid(here) && $isa(player.home, $room) ? player.home | start;
 if (here == dest)
   player:tell("You are at home.");
   return;
 endif
-for place in ({dest, $login.start})
-  if (player.location == here && `place:accept(player) ! ANY => 0')
-    // first the move: what a room does with `announce` keeps nobody in it
-    move(player, place);
-    if (valid(here))
-      here:announce(player.name + " goes home.", {player});
-    endif
-    place:announce(player.name + " comes home.", {player});
+words = {" goes home.", " comes home."};
+// one's own room isn't asked
+if (!$controls(player, dest) && !`dest:accept(player) ! ANY => 0')
+  player:tell(dest.name, " doesn't let you in.");
+  if (dest == start || here == start || !(`start:accept(player) ! ANY => 0'))
+    return;
   endif
-endfor
+  dest = start;
+  words = {" leaves.", " arrives."};
+endif
+// first the move: what a room does with `announce` keeps nobody in it
+move(player, dest);
+if (valid(here))
+  here:announce(player.name + words[1], {player});
+endif
+dest:announce(player.name + words[2], {player});
 .
 
 @program $player:@sethome none none none rd wiz
@@ -320,7 +324,7 @@ endif
 .
 
 @program $player:"@exam*ine examine exam" any any any rd
-o = valid(dobj) ? dobj | $match:object(argstr, player);
+o = valid(dobj) || dobj == #-2 ? dobj | $match:object(argstr, player, argstr == dobjstr);
 if (!$match:found(o, argstr, player))
   return;
 endif
@@ -342,11 +346,11 @@ endif
 lines = {};
 k = o;
 while (valid(k) && k != #1 && !(k in {$player, $builder, $prog, $wiz, $guest, $room}) && length(lines) < 40)
-  for i in [1..length(`verbs(k) ! E_PERM => {}')]
+  for i in [1..min(100, length(`verbs(k) ! E_PERM => {}'))]
     a = `verb_args(k, i) ! E_PERM => {}';
     if (a && "this" in {a[1], a[3]} && a != {"this", "none", "this"})
-      w = $string:explode(verb_info(k, i)[3])[1];
-      w = strsub(w, "*", "");
+      w = verb_info(k, i)[3];
+      w = strsub({@$string:explode(w[1..min(80, length(w))]), "?"}[1], "*", "");
       d = a[1] == "this" ? " " + o.name | (a[1] == "any" ? " ANYTHING" | "");
       d2 = a[3] == "this" ? " " + o.name | (a[3] == "any" ? " ANYTHING" | "");
       q = a[2] in {"none", "any"} ? "" | " " + $string:explode(a[2], "/")[a[2] in {"at/to", "on top of/on/onto/upon"} ? 2 | 1];
@@ -364,7 +368,7 @@ endif
 // post TEXT: writes on the board of the room
 @program $player:post any any any rd
 for o in (valid(player.location) ? player.location.contents | {})
-  if ($isa(o, $board))
+  if (!is_player(o) && $isa(o, $board))
     return o:add(argstr);
   endif
 endfor

@@ -117,9 +117,9 @@ elseif (prepstr in {"in", "on", "from"} && dobjstr && valid(iobj))
   o = (`iobj.opened ! ANY => 0') || iobj == player || iobj == here ? $match:among(text, iobj.contents) | #-3;
   seen = 0;
 else
-  text = argstr;
+  text = prepstr ? argstr | dobjstr;
   o = dobj;
-  seen = argstr == dobjstr;
+  seen = !prepstr;
 endif
 if (!valid(o))
   o = o == #-2 ? o | $match:object(text, player, seen);

@@ -10,7 +10,8 @@ ANN = ["open 1", "line 1 connect Ann open-sesame"]
 # A name of 60 letters is as long as one may be.
 LONG = "w" * 57
 LETTERS = "abcdefghijklmnopqrst"
-SHORT = ["l", "i", "l me", "?", "@who", "@audit"]
+# Lines as short as they may be, and two that lead out of a room and in again.
+SHORT = ["l", "i", "l me", "l x", 'l "', "?", "who", "@who", "@audit", '"x', ":x", "x", "home", "post x", "wh x y", "page x y", "exam x", "@set x.y to z", "e\nw", "w\ne"]
 
 
 def typed():
@@ -69,11 +70,17 @@ def piece(line):
 
 
 def tried(path, before, line):
-    """What so many of a line take beyond what comes before them, and whether the server goes on."""
+    """What so many of a line take beyond the program's start, and whether the server goes on."""
     times, event = piece(line)
     run = program.script(path, "\n".join(before + [event, "open 9"]) + "\n", most=1 << 28)
     fits = run.status == 0 and "\n9: " in run.output
-    return line, times, run.seconds, len(run.output) / 1e6, fits
+    return run.seconds, len(run.output) / 1e6, fits
+
+
+def least(path, before, line):
+    """The least seconds of three runs of these events and such a piece; without a line those of the events alone."""
+    events = before + ([piece(line)[1]] if line else []) + ["open 9"]
+    return min(program.script(path, "\n".join(events) + "\n", most=1 << 28).seconds for _ in range(3))
 
 
 def main(folder):
@@ -82,12 +89,15 @@ def main(folder):
         path = os.path.join(folder, "settled.db")
         with open(path, "w") as file:
             file.write(settled(making))
-        empty = program.script(path, "\n".join(before + ["open 9"]) + "\n")
         with ThreadPoolExecutor(2) as pool:
-            found = list(pool.map(lambda line: tried(path, before, line), lines))
-        is_well &= all(each[4] for each in found)
-        found.sort(key=lambda each: -each[2])
-        rows.append((f"**{name}**", f"{len(found)} lines tried", "", "", "" if all(each[4] for each in found) else "WRONG"))
-        for line, times, seconds, sent, _ in found[:5]:
-            rows.append((name, f"`{line}`", times, f"{seconds - empty.seconds:.2f}", f"{sent:.1f}"))
+            found = dict(zip(lines, pool.map(lambda line: tried(path, before, line), lines)))
+        fits = all(each[2] for each in found.values())
+        is_well &= fits
+        rows.append((f"**{name}**", f"{len(found)} lines tried", "", "", "" if fits else "WRONG"))
+        empty = least(path, before, "")
+        dearest = sorted(found, key=lambda line: -found[line][0])[:12]
+        again = sorted(((least(path, before, line) - empty, line) for line in dearest), reverse=True)
+        for seconds, line in again[:6]:
+            words = "`, `".join(line.split("\n"))
+            rows.append((name, f"`{words}`", piece(line)[0], f"{seconds:.3f}", f"{found[line][1]:.1f}"))
     return rows, is_well

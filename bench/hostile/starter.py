@@ -78,10 +78,15 @@ def tried(path, before, line):
     return run.seconds, len(run.output) / 1e6, fits
 
 
-def least(path, before, line):
-    """The least seconds of three runs of these events and such a piece; without a line those of the events alone."""
-    events = before + ([piece(line)[1]] if line else []) + ["open 9"]
+def least(path, before, line, pieces):
+    """The least seconds of three runs of these events and so many such pieces."""
+    events = before + [piece(line)[1]] * pieces + ["open 9"]
     return min(program.script(path, "\n".join(events) + "\n", most=1 << 28).seconds for _ in range(3))
+
+
+def alone(path, before, line):
+    """What one piece takes: a fourth of what four take beyond the events before them."""
+    return (least(path, before, line, 4) - least(path, before, line, 0)) / 4
 
 
 def main(folder):
@@ -95,10 +100,9 @@ def main(folder):
         fits = all(each[2] for each in found.values())
         is_well &= fits
         rows.append((f"**{name}**", f"{len(found)} lines tried", "", "", "" if fits else "WRONG"))
-        empty = least(path, before, "")
         told = len(program.script(path, "\n".join(before + ["open 9"]) + "\n", most=1 << 28).output) / 1e6
         dearest = sorted(found, key=lambda line: -found[line][0])
-        again = sorted(((least(path, before, line) - empty, line) for line in dearest[:12]), reverse=True)
+        again = sorted(((alone(path, before, line), line) for line in dearest[:12]), reverse=True)
         for seconds, line in again[:6]:
             words = "`, `".join(line.split("\n"))
             rows.append((name, f"`{words}`", piece(line)[0], f"{seconds:.3f}", f"{found[line][1] - told:.1f}"))

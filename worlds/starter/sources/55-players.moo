@@ -41,7 +41,7 @@ elseif (idle_seconds(this) >= 300)
 endif
 names = $string:names(this.contents);
 if (names)
-  who:tell_lines($string:wrap("Carries: " + $string:join(names, ", ") + "."));
+  who:tell_lines($string:flow("Carries:", names));
 endif
 .
 
@@ -134,7 +134,7 @@ endif
 
 @program $player:"i*nventory" none none none rd
 names = $string:names(player.contents);
-player:tell_lines($string:wrap(names ? "You carry: " + $string:join(names, ", ") + "." | "You carry nothing."));
+player:tell_lines(names ? $string:flow("You carry:", names) | {"You carry nothing."});
 .
 
 @program $player:"@who who" any any any rd

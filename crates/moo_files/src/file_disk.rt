@@ -6,11 +6,15 @@ ghost use Rattle.moo_files.specs.Files.{no_view};
 use crate::news::{News, Watched};
 use moo_disk::{Disk, DiskFault};
 use std::alloc::Global;
-use std::fs::{File, OpenFile};
+use std::fs::{File, OpenFile, OpenOptions};
 use std::io::{ErrorKind, Read, Seek, SeekFrom, Write};
+use std::os::unix::fs::OpenOptionsExt;
 use std::path::Path;
 use std::rt::Files;
 use std::{fs, io};
+
+/// The permissions of a spare until it has those of main: its owner's alone.
+const OWNERS_ALONE: u32 = 0o600;
 
 /// What a call was about.
 #[derive(Clone, Copy, Debug, PartialEq, Eq)]
@@ -75,10 +79,15 @@ impl<R: Files + Drop> FileDisk<R> {
 }
 
 impl<R: Files> FileDisk<R> {
+    /// The path of the spare.
+    pub fn spare(&self) -> &str {
+        self.spare.as_str()
+    }
+
     /// Whether a spare can be made: the error says why not. One that is made for it is removed again, and one that is there already is left
     /// as it is.
     pub fn try_spare(&self) -> io::Result<()> {
-        match File::create_new(&self.files, self.spare.as_str()) {
+        match self.create_new() {
             Ok(_) => fs::remove_file(&self.files, self.spare.as_str()),
             Err(error) if error.kind() == ErrorKind::AlreadyExists => Ok(()),
             Err(error) => Err(error),
@@ -104,13 +113,22 @@ impl<R: Files> FileDisk<R> {
         }
     }
 
-    // A file that was not there before, so that it can't be the one under main, by a link either. It may be read by whom main may.
+    // A file that was not there before, so that it can't be the one under main, by a link either.
     fn create_new(&self) -> io::Result<R::File> {
+        OpenOptions::new()
+            .write(true)
+            .create_new(true)
+            .mode(OWNERS_ALONE)
+            .open(&self.files, self.spare.as_str())
+    }
+
+    // A fresh spare in the place of what has its name. Who may read main may read it; before it has main's permissions nobody else may.
+    fn fresh_spare(&self) -> io::Result<R::File> {
         match fs::remove_file(&self.files, self.spare.as_str()) {
             Err(error) if error.kind() != ErrorKind::NotFound => return Err(error),
             _ => {}
         }
-        let file = File::create_new(&self.files, self.spare.as_str())?;
+        let file = self.create_new()?;
         file.set_permissions(fs::metadata(&self.files, self.main.as_str())?.permissions())?;
         Ok(file)
     }
@@ -164,7 +182,7 @@ impl<R: Files> Disk for FileDisk<R> {
     ghost stands = { λ d. IsSome d.writing };
 
     fn create_spare(&mut self) -> Result<(), DiskFault> {
-        let created = self.create_new();
+        let created = self.fresh_spare();
         let file = self.counted(Place::Spare, created)?;
         self.writing = Some(file);
         self.bytes = 0;

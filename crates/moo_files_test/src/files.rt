@@ -68,6 +68,8 @@ fn faults_are_counted_and_told(rt: HostRuntime) -> Result<(), Fail> {
     assert!(rt; matches!(disk.news(), News::Failed(name, _) if name.ends_with("lost.db")));
     assert!(rt; disk.create_spare().is_err());
     assert_eq!(rt; disk.calls(), 2);
+    let spare = fs::metadata(&rt, "lost.db.new")?;
+    assert_eq!(rt; spare.permissions().mode() & 0o777, 0o600);
     fs::remove_file(&rt, "lost.db.new")?;
     assert!(rt; FileDisk::open(rt.alloc(), rt.clone()?, "lost.db").is_err());
     Ok(())

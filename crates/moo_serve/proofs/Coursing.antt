@@ -214,7 +214,13 @@ module _ {S Sessions : Type 0} (l : Layer S Sessions Saved) where
 
     pub given_none : (server : Serving S) (disk : D) → Given l view honest server disk [] server disk
     unfolding course_none
-    given_none server disk = record { course = course_none server disk; sent = λ c. refl }
+    given_none server disk = record { course = course_none server disk; sent = λ c. refl; logged = sym (append-nil (waiting_of l server).logged) }
+
+    logged_append : (entries others : List (Entry Saved)) → (out_of (entries ++ others)).logged ≡ (out_of entries).logged ++ (out_of others).logged
+    logged_append [] others = refl
+    logged_append (entry ∷ entries) others =
+        ap (λ (lines : List (List ℕ)). entry.out.logged ++ lines) (logged_append entries others)
+        ∙ sym (append_assoc entry.out.logged (out_of entries).logged (out_of others).logged)
 
     pub given_join : (before mid after : Serving S) (old between new : D) (events events' : List Event)
         → Given l view honest before old events mid between → Given l view honest mid between events' after new
@@ -227,6 +233,11 @@ module _ {S Sessions : Type 0} (l : Layer S Sessions Saved) where
               second.sent c ∙ ap (λ (w : List ℕ). sent_after c w second.course.entries) (first.sent c)
               ∙ sym (sent_append c ((waiting_of l before).sent c) first.course.entries second.course.entries)
               ∙ ap (λ (es : List (Entry Saved)). sent_after c ((waiting_of l before).sent c) es) (sym both.1);
+          logged =
+              second.logged ∙ ap (λ (lines : List (List ℕ)). lines ++ (out_of second.course.entries).logged) first.logged
+              ∙ append_assoc (waiting_of l before).logged (out_of first.course.entries).logged (out_of second.course.entries).logged
+              ∙ ap (λ (lines : List (List ℕ)). (waiting_of l before).logged ++ lines) (sym (logged_append first.course.entries second.course.entries))
+              ∙ ap (λ (es : List (Entry Saved)). (waiting_of l before).logged ++ (out_of es).logged) (sym both.1);
         }
 
     -- what waits behind one event
@@ -242,21 +253,24 @@ module _ {S Sessions : Type 0} (l : Layer S Sessions Saved) where
     given_ran : (before mid after : Serving S) (old new : D) (event : Event) (done : ℕ)
         → (ran : Ran l view honest before mid old new (event ∷ []) done) → done ≡ 1 → (honest old → honest new) → ((h : Output) × Hands l h mid after)
         → ((c : ℕ) → (waiting_of l after).sent c ≡ (if hangs_up c (seen_event event) then [] else (waiting_of l mid).sent c))
+        → (waiting_of l after).logged ≡ (waiting_of l mid).logged
         → Given l view honest before old (take done (event ∷ [])) after new
     unfolding course_hands course_one
-    given_ran before mid after old new event done ran one still dropped left = record {
+    given_ran before mid after old new event done ran one still dropped left log = record {
       course = course_hands before mid after old new (take done (event ∷ [])) dropped.0 (course_one before mid old new event done ran still) dropped.1;
       sent = λ c.
           left c ∙ ap (λ (w : Output). if hangs_up c (seen_event event) then [] else w.sent c) ran.waiting
           ∙ sym (sent_one c ((waiting_of l before).sent c) (seen_event event) ran.entries (ran.events_are ∙ ap (λ (n : ℕ). map seen_event (take n (event ∷ []))) one));
+      logged = log ∙ ap (λ (w : Output). w.logged) ran.waiting;
     }
 
     pub given_one : (failures : D → ℕ) (before mid after : Serving S) (old new : D) (event : Event) (events : List Event) (done : ℕ)
         → events ≡ event ∷ [] → done ≡ length events → (honest old → honest new)
         → Runs l view honest failures before mid old new events (Ok done) → ((h : Output) × Hands l h mid after)
         → ((c : ℕ) → (waiting_of l after).sent c ≡ (if hangs_up c (seen_event event) then [] else (waiting_of l mid).sent c))
+        → (waiting_of l after).logged ≡ (waiting_of l mid).logged
         → Given l view honest before old (event ∷ []) after new
-    given_one failures before mid after old new event events done is all still runs dropped left =
+    given_one failures before mid after old new event events done is all still runs dropped left log =
         let one : done ≡ 1 = all ∙ ap (λ (es : List Event). length es) is in
         subst (λ (n : ℕ). Given l view honest before old (take n (event ∷ [])) after new) one
-        (given_ran before mid after old new event done (subst (λ (es : List Event). Runs l view honest failures before mid old new es (Ok done)) is runs).ran one still dropped left)
+        (given_ran before mid after old new event done (subst (λ (es : List Event). Runs l view honest failures before mid old new es (Ok done)) is runs).ran one still dropped left log)

@@ -1,9 +1,11 @@
 -- A server over a disk, begun and brought to its end.
-use Rattle.std.proofs.Common.{◌≡◌, ◌⊎◌, inl, inr, ℕ, ◌+◌, ◌<◌, List, [], ◌++◌, Bool, true, false, refl, sym, ◌∙◌, ap, subst, add-one, arith}
+use Rattle.std.proofs.Common.{◌≡◌, ◌⊎◌, inl, inr, ℕ, ◌+◌, ◌<◌, List, Bool, true, false, refl, sym, ◌∙◌, ap, subst, add-one, arith}
 use Rattle.std.specs.Prelude.{◌↔◌, IfErr, OnOk, Result, Ok, Err}
+use Rattle.slab.specs.Slab.{Slab}
 use Rattle.moo_disk.specs.Disk.{DiskView}
 use Rattle.moo_files.specs.Files.{file_failures, file_honest, file_view}
 use Rattle.moo_files.specs.declared.file_disk.FileDisk.{FileDisk}
+use Rattle.moo_socket.specs.declared.socket.Socket.{Socket}
 use Rattle.moo_saved.specs.Saved.{Saved}
 use Rattle.moo_layer.specs.Sessions.{Layer, Output, then_out}
 use Rattle.moo_serving.specs.Server.{Hands}
@@ -13,13 +15,13 @@ use Rattle.moo_serving.specs.declared.serving.Serving as inner
 use Rattle.moo_serve.specs.Course.{Course}
 use Rattle.moo_serve.specs.Program.{FailsFile, ServesFile}
 use Rattle.moo_serve.specs.Rounds.{IsClosed}
-use Rattle.moo_serve.specs.Service.{Begun, BreaksOff, EndsFor, Fails, IsOutside, IsRefused, IsServed, LeavesUnbegun, Makes, NotStarted, Serves, Steps, Turns, Waits}
+use Rattle.moo_serve.specs.Service.{Begun, BreaksOff, EndsFor, Fails, IsOutside, IsRefused, IsServed, LeavesUnbegun, Makes, NotStarted, RefusesParted, Serves, Steps, Turns, Waits}
 use Rattle.moo_serve.specs.declared.fault.ServeFault.{ServeFault}
 use Rattle.moo_serve.specs.declared.fault.ServeFault.TheVariants as the
 use Rattle.moo_serve.specs.declared.serving.Round.{Round}
 use Rattle.moo_serve.specs.declared.serving.Round.TheVariants as round
 use Rattle.moo_serve.specs.declared.serving.Serving.{Serving}
-use Rattle.moo_serve.proofs.Coursing.{course_join, course_none, hands_join}
+use Rattle.moo_serve.proofs.Coursing.{hands_join}
 
 abbrev pub is_over : Round → Bool
 is_over round.Over = true
@@ -31,8 +33,8 @@ goes_on found is over = let no : false ≡ true = sym is ∙ ap is_over over in 
 pub waits_none : {S D : Type 0} (s : Serving S D) → Waits s s
 waits_none s = record { server_is = refl; disk_is = refl; moment_is = refl; most_is = refl; sockets = λ c. refl }
 
-module _ {D : Type 0} (view : D → DiskView) (honest : D → Type 0) (failures : D → ℕ) where
-  pub not_started : (fault : ServeFault) (disk left : D) → LeavesUnbegun view honest failures disk left fault → NotStarted view honest failures disk fault
+module _ {S Sessions D : Type 0} (l : Layer S Sessions Saved) (view : D → DiskView) (honest : D → Type 0) (failures : D → ℕ) where
+  pub not_started : (fault : ServeFault) (disk left : D) → LeavesUnbegun view honest failures disk left fault → NotStarted l view honest failures disk fault
   not_started (the.Open fault) disk left unbegun = (left, unbegun)
   not_started (the.Sockets fault) disk left unbegun = absurd unbegun
   not_started (the.Output fault) disk left unbegun = absurd unbegun
@@ -75,31 +77,22 @@ module _ {S Sessions D : Type 0} (l : Layer S Sessions Saved) (view : D → Disk
   served_out n rounds old new all makes = record { made = n; makes = makes; few = omega arith; ends = inr all }
 
   module _ (failures : D → ℕ) where
-    -- a refusal behind other events
-    pub refused_behind : (cause : Cause) (before mid after : inner.Serving S) (old between new : D)
-        → ((events : List Event) × Course l view honest before old events mid between)
-        → IsRefused l view honest failures cause mid between after new → IsRefused l view honest failures cause before old after new
-    refused_behind cause before mid after old between new first refused = record {
-      events = first.0 ++ refused.events;
-      mid = refused.mid;
-      between = refused.between;
-      course = course_join l view honest before mid refused.mid old between refused.between first.0 refused.events first.1 refused.course;
-      event = refused.event;
-      fault = refused.fault;
-      left = refused.left;
-      runs = refused.runs;
-      cause_is = refused.cause_is;
-      handed = refused.handed;
-    }
+    -- the same, said of a list that is equal
+    pub refused_of : (cause : Cause) (events others : List Event) (before after : inner.Serving S) (old new : D) → events ≡ others
+        → IsRefused l view honest failures cause events before old after new → IsRefused l view honest failures cause others before old after new
+    refused_of cause events others before after old new same refused = subst (λ (es : List Event). IsRefused l view honest failures cause es before old after new) same refused
 
-    refused_hands : (cause : Cause) (before mid after : inner.Serving S) (old new : D) → IsRefused l view honest failures cause before old mid new
-        → ((h : Output) × Hands l h mid after) → IsRefused l view honest failures cause before old after new
-    refused_hands cause before mid after old new refused handed = record {
-      events = refused.events;
+    refused_hands : (cause : Cause) (events : List Event) (before mid after : inner.Serving S) (old new : D)
+        → IsRefused l view honest failures cause events before old mid new → ((h : Output) × Hands l h mid after)
+        → IsRefused l view honest failures cause events before old after new
+    refused_hands cause events before mid after old new refused handed = record {
+      taken = refused.taken;
+      event = refused.event;
+      rest = refused.rest;
+      all = refused.all;
       mid = refused.mid;
       between = refused.between;
-      course = refused.course;
-      event = refused.event;
+      gives = refused.gives;
       fault = refused.fault;
       left = refused.left;
       runs = refused.runs;
@@ -107,34 +100,49 @@ module _ {S Sessions D : Type 0} (l : Layer S Sessions Saved) (view : D → Disk
       handed = (then_out refused.handed.0 handed.0, hands_join l refused.handed.0 handed.0 refused.left mid after refused.handed.1 handed.1);
     }
 
-    -- A fault outside ends any server,
-    pub outside_ends : (fault : ServeFault) (before : inner.Serving S) (old : D) (after : inner.Serving S) (new : D) → IsOutside fault
-        → EndsFor l view honest failures fault before old after new
-    outside_ends (the.Open fault) before old after new outside = outside
-    outside_ends (the.Sockets fault) before old after new outside = outside
-    outside_ends (the.Output fault) before old after new outside = outside
-    outside_ends (the.Refused cause) before old after new outside = absurd outside
-    outside_ends the.Memory before old after new outside = outside
-
-    -- then some of what waits is handed out
-    pub ends_hands : (fault : ServeFault) (before mid after : inner.Serving S) (old new : D) → EndsFor l view honest failures fault before old mid new
-        → ((h : Output) × Hands l h mid after) → EndsFor l view honest failures fault before old after new
-    ends_hands (the.Open fault) before mid after old new ends handed = ends
-    ends_hands (the.Sockets fault) before mid after old new ends handed = ends
-    ends_hands (the.Output fault) before mid after old new ends handed = ends
-    ends_hands (the.Refused cause) before mid after old new ends handed = refused_hands cause before mid after old new ends handed
-    ends_hands the.Memory before mid after old new ends handed = ends
-
-    -- and breaks off before the first round.
-    pub none_made : (rounds : ℕ) (fault : ServeFault) (start : Serving S D) → IsOutside fault → BreaksOff l view honest failures rounds fault start start
-    none_made rounds fault start outside = record {
-      made = 0;
-      mid = start;
-      makes = refl;
-      few = omega arith;
-      course = ([], course_none l view honest start.server start.disk);
-      ends = outside_ends fault start.server start.disk start.server start.disk outside;
+    parted_hands : (cause : Cause) (most : ℕ) (first : List Event) (server mid after : inner.Serving S) (old new : D) (read : Slab Socket)
+        → RefusesParted l view honest failures cause most first server old read mid new → ((h : Output) × Hands l h mid after)
+        → RefusesParted l view honest failures cause most first server old read after new
+    parted_hands cause most first server mid after old new read parted handed = record {
+      given = parted.given;
+      between = parted.between;
+      gives = parted.gives;
+      parted = parted.parted;
+      written = parted.written;
+      left = parted.left;
+      writes = parted.writes;
+      handed = parted.handed;
+      refused = refused_hands cause parted.parted parted.written mid after parted.between new parted.refused handed;
     }
+
+    either_hands : (cause : Cause) (first : List Event) (old : Serving S D) (read : Slab Socket) (mid after : inner.Serving S) (new : D)
+        → IsRefused l view honest failures cause first old.server old.disk mid new ⊎ RefusesParted l view honest failures cause old.most_waiting first old.server old.disk read mid new
+        → ((h : Output) × Hands l h mid after)
+        → IsRefused l view honest failures cause first old.server old.disk after new ⊎ RefusesParted l view honest failures cause old.most_waiting first old.server old.disk read after new
+    either_hands cause first old read mid after new (inl refused) handed = inl (refused_hands cause first old.server mid after old.disk new refused handed)
+    either_hands cause first old read mid after new (inr parted) handed = inr (parted_hands cause old.most_waiting first old.server mid after old.disk new read parted handed)
+
+    -- A fault outside ends any server,
+    pub outside_ends : (fault : ServeFault) (old new : Serving S D) → IsOutside fault → EndsFor l view honest failures fault old new
+    outside_ends (the.Open fault) old new outside = outside
+    outside_ends (the.Sockets fault) old new outside = outside
+    outside_ends (the.Output fault) old new outside = outside
+    outside_ends (the.Refused cause) old new outside = absurd outside
+    outside_ends the.Memory old new outside = outside
+
+    -- and one that has ended has done so also where some of what waits is then handed out.
+    pub ends_hands : (fault : ServeFault) (old mid : Serving S D) (after : inner.Serving S) → EndsFor l view honest failures fault old mid
+        → ((h : Output) × Hands l h mid.server after) → EndsFor l view honest failures fault old (record mid { server = after })
+    ends_hands (the.Open fault) old mid after ends handed = ends
+    ends_hands (the.Sockets fault) old mid after ends handed = ends
+    ends_hands (the.Output fault) old mid after ends handed = ends
+    ends_hands (the.Refused cause) old mid after ends handed = record {
+      first = ends.first;
+      read = ends.read;
+      begins = ends.begins;
+      refused = either_hands cause ends.first old ends.read mid.server after mid.disk ends.refused handed;
+    }
+    ends_hands the.Memory old mid after ends handed = ends
 
     -- what came of a server that was begun over a disk
     pub serves_so : {T : Type 0} (most rounds : ℕ) (disk : D) (start end : Serving S D) (r : Result T ServeFault) → Begun l view honest disk most start
@@ -146,7 +154,7 @@ module _ {S Sessions D : Type 0} (l : Layer S Sessions Saved) (view : D → Disk
     pub stops_so : {T : Type 0} (most rounds : ℕ) (disk : D) (start end : Serving S D) (r : Result T ServeFault) → Begun l view honest disk most start
         → IfErr r (λ fault. BreaksOff l view honest failures rounds fault start end) → IfErr r (Fails l view honest failures disk most rounds)
     stops_so most rounds disk start end (Ok x) begun breaks = tt
-    stops_so most rounds disk start end (Err fault) begun breaks = inr (record { start = start; end = end; begun = begun; breaks = breaks })
+    stops_so most rounds disk start end (Err fault) begun breaks = inr (record { start = start; end = end; begun = begun; breaks = inr breaks })
 
 -- the same over a file
 module _ {S Sessions F File Dir : Type 0} (l : Layer S Sessions Saved) where

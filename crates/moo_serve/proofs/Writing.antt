@@ -57,12 +57,13 @@ module _ {S Sessions : Type 0} (l : Layer S Sessions Saved) where
     pub handed : (handed : Output) × Hands l handed before after
     pub each : Each (λ c event. IsWrittenTo l most before after old new c event) n events
     pub left : (c : ℕ) → n ≤ c → IsLeft l c before after old new
+    pub log : (waiting_of l after).logged ≡ (waiting_of l before).logged
 
   pub written_more : (most n : ℕ) (before mid after : Serving S) (old between new : Slab Socket) (events all : List Event) (event : Option Event)
       → AreWritten most n before mid old between events → ((h : Output) × Hands l h before after) → IsWrittenTo l most mid after between new n event
-      → ((c : ℕ) → c ≢ n → IsLeft l c mid after between new) → all ≡ events ++ only event
+      → ((c : ℕ) → c ≢ n → IsLeft l c mid after between new) → (waiting_of l after).logged ≡ (waiting_of l mid).logged → all ≡ events ++ only event
       → AreWritten most (n + 1) before after old new all
-  written_more most n before mid after old between new events all event so_far handed now others is = record {
+  written_more most n before mid after old between new events all event so_far handed now others log is = record {
     handed = handed;
     each = each_more (λ c e. IsWrittenTo l most before after old new c e) n events all event
         (each_map (λ c e. IsWrittenTo l most before mid old between c e) (λ c e. IsWrittenTo l most before after old new c e) n events earlier so_far.each)
@@ -71,6 +72,7 @@ module _ {S Sessions : Type 0} (l : Layer S Sessions Saved) where
         let was = so_far.left c (omega (arith, from)) in
         let then_is = others c (λ same. omega (arith, from, same)) in
         record { socket = then_is.socket ∙ was.socket; waiting = then_is.waiting ∙ was.waiting };
+    log = log ∙ so_far.log;
   }
     where
       earlier : (c : ℕ) → c < n → (e : Option Event) → IsWrittenTo l most before mid old between c e → IsWrittenTo l most before after old new c e
@@ -93,6 +95,7 @@ module _ {S Sessions : Type 0} (l : Layer S Sessions Saved) where
     each = are.each;
     beyond = λ c from below. by_end c from below end;
     untaken = λ c from. (are.left c from).waiting;
+    log = are.log;
   }
     where
       by_end : (c : ℕ) → n ≤ c → c < 65536 → (65536 ≤ n) ⊎ ((k : ℕ) → n ≤ k → held old k ≡ None) → (held old c ≡ None) × (held new c ≡ None)

@@ -3,7 +3,7 @@ use Rattle.std.specs.Prelude.{◌≡◌, ℕ, List, [], ◌∷◌, ◌++◌, Boo
 use Rattle.moo_disk.specs.Disk.{DiskView}
 use Rattle.moo_saved.specs.Saved.{Saved}
 use Rattle.moo_layer.specs.Sessions.{Layer, Output}
-use Rattle.moo_serving.specs.Meaning.{Entry}
+use Rattle.moo_serving.specs.Meaning.{Entry, out_of}
 use Rattle.moo_serving.specs.Seen as seen
 use Rattle.moo_serving.specs.Server.{Hands, waiting_of}
 use Rattle.moo_serving.specs.Calls.{Call, Calls, Lent, One}
@@ -44,7 +44,9 @@ abbrev pub sent_after : ℕ → List ℕ → List (Entry Saved) → List ℕ
 sent_after c waits [] = waits
 sent_after c waits (entry ∷ entries) = sent_after c (if hangs_up c entry.event then [] else waits ++ entry.out.sent c) entries
 
--- A server was given these events, in calls of one each. Nothing is lost of what they sent, but what waited for those who hung up.
+-- A server was given these events, in calls of one each. Nothing is lost of what they sent, but what waited for those who hung up; and their
+-- lines for the log wait behind those that waited.
 pub record Given {S Sessions D : Type 0} (l : Layer S Sessions Saved) (view : D → DiskView) (honest : D → Type 0) (before : Serving S) (old : D) (events : List Event) (after : Serving S) (new : D) : Type 0 where
   pub course : Course l view honest before old events after new
   pub sent : (c : ℕ) → (waiting_of l after).sent c ≡ sent_after c ((waiting_of l before).sent c) course.entries
+  pub logged : (waiting_of l after).logged ≡ (waiting_of l before).logged ++ (out_of course.entries).logged

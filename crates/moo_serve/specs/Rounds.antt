@@ -36,9 +36,10 @@ module _ {S : Type 0} where
   IsClosed server = phase_of server.halted server.course ≡ phase.Closed
 
 module _ {S Sessions : Type 0} (l : Layer S Sessions Saved) where
-  -- Lines for the log are handed out, and no output.
+  -- All lines that wait for the log are handed out, and no output.
   pub record Logs (before after : Serving S) : Type 0 where
     pub handed : (handed : Output) × Hands l handed before after
+    pub none : (waiting_of l after).logged ≡ []
     pub unsent : (waiting_of l after).sent ≡ (waiting_of l before).sent
 
 module _ {S Sessions D : Type 0} (l : Layer S Sessions Saved) (view : D → DiskView) (honest : D → Type 0) where

@@ -44,10 +44,11 @@ module _ {S Sessions : Type 0} (l : Layer S Sessions Saved) where
     pub socket : held new c ≡ held old c
     pub waiting : (waiting_of l after).sent c ≡ (waiting_of l before).sent c
 
-  -- One write to each socket, by rising number, with the hang-ups that come of it.
+  -- One write to each socket, by rising number, with the hang-ups that come of it. No line for the log is handed out.
   pub record Writes (most : ℕ) (before after : Serving S) (old new : Slab Socket) (events : List Event) : Type 0 where
     pub below : ℕ
     pub each : Each (λ c event. IsWrittenTo most before after old new c event) below events
     -- there are no others, and what waits in the server for their numbers stays there
     pub beyond : (c : ℕ) → below ≤ c → c < 65536 → (held old c ≡ None) × (held new c ≡ None)
     pub untaken : (c : ℕ) → below ≤ c → (waiting_of l after).sent c ≡ (waiting_of l before).sent c
+    pub log : (waiting_of l after).logged ≡ (waiting_of l before).logged

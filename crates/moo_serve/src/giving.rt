@@ -24,7 +24,7 @@ pub fn give<S: Starts, D: Disk>(
     ensures follows { Follows S.layer D.view D.honest D.stands server.new disk.new }
     ensures course { (taken : List given.Event) × Course S.layer D.view D.honest server.old disk.old taken server.new disk.new }
     ensures all { OnOk result (Given S.layer D.view D.honest server.old disk.old events.now server.new disk.new) }
-    ensures refused { IfErr result (λ cause. IsRefused S.layer D.view D.honest D.failures cause server.old disk.old server.new disk.new) }
+    ensures refused { IfErr result (λ cause. IsRefused S.layer D.view D.honest D.failures cause events.now server.old disk.old server.new disk.new) }
 {
     for event in events {
         if let Err(fault) = server.run(disk, slice::from_ref(event)) {
@@ -45,7 +45,7 @@ pub fn give_if_open<S: Starts, D: Disk>(
     ensures follows { Follows S.layer D.view D.honest D.stands server.new disk.new }
     ensures course { (taken : List given.Event) × Course S.layer D.view D.honest server.old disk.old taken server.new disk.new }
     ensures all { OnOk result (GivenIfOpen S.layer D.view D.honest server.old disk.old events.now server.new disk.new) }
-    ensures refused { IfErr result (λ cause. IsRefused S.layer D.view D.honest D.failures cause server.old disk.old server.new disk.new) }
+    ensures refused { IfErr result (λ cause. IsRefused S.layer D.view D.honest D.failures cause events.now server.old disk.old server.new disk.new) }
 {
     if matches!(server.phase(), Phase::Closed) {
         return Ok(());
@@ -57,6 +57,7 @@ pub fn give_if_open<S: Starts, D: Disk>(
 fn forget<S: Starts>(server: &mut Serving<S>, event: &Event)
     ensures handed { (handed : Output) × Hands S.layer handed server.old server.new }
     ensures waiting { (c : ℕ) → (waiting_of S.layer server.new).sent c ≡ (if hangs_up c (seen event.now) then [] else (waiting_of S.layer server.old).sent c) }
+    ensures log { (waiting_of S.layer server.new).logged ≡ (waiting_of S.layer server.old).logged }
 {
     if let Event::Hangup(c) = event {
         let _ = server.take_output(*c);

@@ -1,7 +1,7 @@
 //! What goes out in a round, and the connections that are closed then.
 ghost use Rattle.std.specs.Prelude.{◌≡◌, ◌≢◌, ℕ, List, IfOk, OnOk};
 ghost use Rattle.moo_layer.specs.Sessions.{Output};
-ghost use Rattle.moo_serving.specs.Server.{Hands};
+ghost use Rattle.moo_serving.specs.Server.{Hands, waiting_of};
 ghost use Rattle.moo_serve.specs.Rounds.{Logs};
 ghost use Rattle.moo_serve.specs.Writing.{IsLeft, IsWrittenTo, Writes, is_parted};
 
@@ -42,6 +42,7 @@ fn write<S: Starts, L: Log>(
     ensures handed { (handed : Output) × Hands S.layer handed server.old server.new }
     ensures written { IfOk result (λ event. IsWrittenTo S.layer most_waiting server.old server.new sockets.old.sockets sockets.new.sockets c event) }
     ensures others { OnOk result ((k : ℕ) → k ≢ c → IsLeft S.layer k server.old server.new sockets.old.sockets sockets.new.sockets) }
+    ensures log { (waiting_of S.layer server.new).logged ≡ (waiting_of S.layer server.old).logged }
 {
     if !sockets.contains(c) {
         return Ok(None);

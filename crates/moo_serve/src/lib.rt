@@ -1,5 +1,5 @@
 //! Rounds between the sockets of connections and a server over a disk.
-//! A room behind the program `moo`.
+//! A room behind `moo`.
 #![tactic(auto)]
 
 mod coming;

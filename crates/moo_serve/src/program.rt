@@ -47,7 +47,7 @@ pub fn run_serve<S: Starts, R: Net + Clock + Log, F: Files + Drop, O: Write>(
         Ok(()) => 0,
         Err(fault) => {
             tell_reason(rt, served, &fault);
-            let _ = tell(output, &fault);
+            tell(rt, output, &fault);
             fault.status()
         }
     }
@@ -66,7 +66,7 @@ fn serve_file<S: Starts, R: Net + Clock + Log, F: Files + Drop, O: Write>(
 {
     match FileDisk::open(alloc, files, served.db) {
         Ok(disk) => {
-            tell_spare(rt, served, &disk);
+            tell_spare(rt, &disk);
             serve_disk::<S, FileDisk<F>, R, O>(rt, alloc, disk, output, served)
         }
         Err(error) => Err(no_disk(rt, served, error)),
@@ -110,9 +110,9 @@ fn no_disk<R: Log>(rt: &R, served: Served<'_>, error: io::Error) -> ServeFault
 }
 
 // Where no spare can be made beside the file, each checkpoint will fail.
-fn tell_spare<R: Log, F: Files + Drop>(rt: &R, served: Served<'_>, disk: &FileDisk<F>) {
+fn tell_spare<R: Log, F: Files + Drop>(rt: &R, disk: &FileDisk<F>) {
     if let Err(error) = disk.try_spare() {
-        warn!(rt; target: "moo", "no checkpoint can be made: {}.new: {error}", served.db);
+        warn!(rt; target: "moo", "no checkpoint can be made: {}: {error}", disk.spare());
     }
 }
 
@@ -136,17 +136,29 @@ fn tell_reason<R: Log>(rt: &R, served: Served<'_>, fault: &ServeFault) {
         ServeFault::Sockets(SocketsFault::Device(error)) => {
             warn!(rt; target: "moo", "{}:{}: {error}", served.host, served.port);
         }
-        ServeFault::Output(error) => {
-            warn!(rt; target: "moo", "standard output: {error}");
-        }
+        ServeFault::Output(error) => tell_output(rt, error),
         // A disk's is told where it was met.
         ServeFault::Open(OpenFault::Device) => {}
         other => warn!(rt; target: "moo", "{}: {other}", served.db),
     }
 }
 
-// Tells why it ends, a refused database in the words of the program's other commands. It takes no memory.
-fn tell<O: Write>(output: &mut O, fault: &ServeFault) -> io::Result<()> {
+fn tell_output<R: Log>(rt: &R, error: &io::Error) {
+    warn!(rt; target: "moo", "standard output: {error}");
+}
+
+// The output is told why it ends. Where it fails only now, the log tells that too.
+fn tell<R: Log, O: Write>(rt: &R, output: &mut O, fault: &ServeFault) {
+    let Err(error) = write_line(output, fault) else {
+        return;
+    };
+    if !matches!(fault, ServeFault::Output(_)) {
+        tell_output(rt, &error);
+    }
+}
+
+// Why it ends, a refused database in the words of the program's other commands. It takes no memory.
+fn write_line<O: Write>(output: &mut O, fault: &ServeFault) -> io::Result<()> {
     writeln!(output, "{fault}")?;
     output.flush()
 }

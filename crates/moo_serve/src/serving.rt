@@ -1,12 +1,10 @@
 //! Rounds of non-blocking calls between the sockets of connections and a server.
 ghost use Rattle.std.specs.Prelude.{◌≡◌, ◌⊎◌, ◌↔◌, List, IfErr, IfOk, IsTrue, OnOk, false, true};
-ghost use Rattle.moo_saved.specs.Saved.{Saved, SpellsSaved};
-ghost use Rattle.moo_serving.specs.Calls.{Opened};
 ghost use Rattle.moo_serving.specs.Server.{Follows};
 ghost use Rattle.moo_serving.specs.declared.event.Event as given;
 ghost use Rattle.moo_serve.specs.Course.{Course};
 ghost use Rattle.moo_serve.specs.Rounds.{IsClosed, Rounds};
-ghost use Rattle.moo_serve.specs.Service.{Begun, BreaksOff, EndsFor, IsOutside, IsServed, LeavesUnbegun, NotStarted, Steps, Turns, Waits};
+ghost use Rattle.moo_serve.specs.Service.{Begun, BreaksOff, EndsFor, IsBegunFrom, IsOutside, IsServed, LeavesUnbegun, NotStarted, Steps, Turns, Waits};
 
 use crate::coming::{come, now};
 use crate::fault::ServeFault;
@@ -64,7 +62,7 @@ impl<S: Starts, D: Disk + Watched> Serving<S, D> {
         D: Drop,
         ensures begun { IfOk result (Begun S.layer D.view D.honest disk most_waiting) }
         ensures follows { IfOk result (λ serving. Follows S.layer D.view D.honest D.stands serving.server serving.disk) }
-        ensures refused { IfErr result (NotStarted D.view D.honest D.failures disk) }
+        ensures refused { IfErr result (NotStarted S.layer D.view D.honest D.failures disk) }
     {
         let mut disk = disk;
         let moment = now(rt).unwrap_or(0);
@@ -112,7 +110,7 @@ impl<S: Starts, D: Disk + Watched> Serving<S, D> {
         ensures course { (events : List given.Event) × Course S.layer D.view D.honest self.old.server self.old.disk events self.new.server self.new.disk }
         ensures goes { IfOk result (λ goes. goes ≡ true → Steps S.layer D.view D.honest self.old self.new) }
         ensures over { IfOk result (λ goes. goes ≡ false → IsClosed self.new.server × ((self.new ≡ self.old) ⊎ Steps S.layer D.view D.honest self.old self.new)) }
-        ensures ended { IfErr result (λ fault. EndsFor S.layer D.view D.honest D.failures fault self.old.server self.old.disk self.new.server self.new.disk) }
+        ensures ended { IfErr result (λ fault. EndsFor S.layer D.view D.honest D.failures fault self.old self.new) }
     {
         let found = self.round(rt)?;
         match found {
@@ -134,7 +132,7 @@ impl<S: Starts, D: Disk + Watched> Serving<S, D> {
         ensures course { (events : List given.Event) × Course S.layer D.view D.honest self.old.server self.old.disk events self.new.server self.new.disk }
         ensures round { OnOk result ((IsClosed self.old.server × (self.new ≡ self.old)) ⊎ Turns S.layer D.view D.honest self.old self.new) }
         ensures over { IfOk result (λ found. (found ≡ Round.Over) ↔ IsClosed self.new.server) }
-        ensures ended { IfErr result (λ fault. EndsFor S.layer D.view D.honest D.failures fault self.old.server self.old.disk self.new.server self.new.disk) }
+        ensures ended { IfErr result (λ fault. EndsFor S.layer D.view D.honest D.failures fault self.old self.new) }
     {
         if self.is_closed() {
             return Ok(Round::Over);
@@ -155,14 +153,15 @@ impl<S: Starts, D: Disk + Watched> Serving<S, D> {
         ensures round { OnOk result (Rounds S.layer D.view D.honest self.old.most_waiting self.old.moment self.new.moment self.old.server self.new.server self.old.disk self.new.disk
             self.old.sockets.sockets self.new.sockets.sockets) }
         ensures most { self.new.most_waiting ≡ self.old.most_waiting }
-        ensures ended { IfErr result (λ fault. EndsFor S.layer D.view D.honest D.failures fault self.old.server self.old.disk self.new.server self.new.disk) }
+        ensures ended { IfErr result (λ fault. EndsFor S.layer D.view D.honest D.failures fault self.old self.new) }
     {
         self.sockets.rest();
         self.sockets.look(0)?;
         let came = come(rt, &mut self.sockets, &mut self.moment)?;
         let calls = self.disk.calls();
-        give(&mut self.server, &mut self.disk, &came)?;
+        let given = give(&mut self.server, &mut self.disk, &came);
         tell_checkpoint(rt, &self.disk, calls);
+        given?;
         let parted = write_all(
             rt,
             self.alloc,
@@ -210,8 +209,7 @@ fn begin<S: Starts, D: Disk + Watched, L: Log>(
     disk: &mut D,
     moment: u32,
 ) -> Result<Server<S>, ServeFault>
-    ensures opened { IfOk result (λ server. (s : Saved) × (D.honest disk.old → SpellsSaved (D.view disk.old).main_text s)
-        × Opened S.layer D.view D.honest server disk.old disk.new s moment) }
+    ensures begun { IfOk result (λ server. IsBegunFrom S.layer D.view D.honest disk.old moment server disk.new) }
     ensures follows { IfOk result (λ server. Follows S.layer D.view D.honest D.stands server disk.new) }
     ensures refused { IfErr result (LeavesUnbegun D.view D.honest D.failures disk.old disk.new) }
 {

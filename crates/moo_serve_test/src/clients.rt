@@ -3,7 +3,7 @@ ghost use Rattle.std.specs.Prelude.{IfOk};
 ghost use Rattle.moo_serving.specs.Server.{Follows};
 
 use crate::clock::SetClock;
-use crate::databases::WORLD;
+use crate::databases::starting;
 use log::Log;
 use moo_disk::Disk;
 use moo_files::{FileDisk, Watched};
@@ -21,7 +21,7 @@ pub const FILE: &str = "clients.db";
 
 /// The disk of a new database.
 pub fn database(rt: &HostRuntime) -> Result<FileDisk<HostRuntime>, Fail> {
-    fs::write(rt, FILE, WORLD)?;
+    fs::write(rt, FILE, starting(rt, "return 0;")?.as_str())?;
     Ok(FileDisk::open(rt.alloc(), rt.clone()?, FILE)?)
 }
 

@@ -1,5 +1,5 @@
-//! A server and its clients in one process, in turns over loopback: tests alone. What clients see is shown over any layer of sessions, and
-//! `shown` names the program's own, so that it is made once.
+//! A server and its clients in one process, in turns over loopback, and what the program prints and logs: tests alone. Both are shown over
+//! any layer of sessions, and `shown` names the program's own, so that it is made once.
 #![tactic(auto)]
 
 #[cfg(test)]
@@ -8,6 +8,8 @@ mod clients;
 mod clock;
 #[cfg(test)]
 mod databases;
+#[cfg(test)]
+mod programs;
 #[cfg(test)]
 mod rows;
 #[cfg(test)]

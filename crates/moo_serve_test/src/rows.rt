@@ -64,7 +64,9 @@ fn one_who_never_reads_is_hung_up<S: Starts>(rt: &HostRuntime) -> Result<(), Fai
     rounds(rt, &mut serving, 20)?;
     let seen = answer(rt, rt.alloc(), &mut serving, &client, 200 * 65_538)?;
     holds(seen.len() < 200 * 65_538, "one who never reads gets all")?;
-    Ok(())
+    let next = connected(rt, serving.address()?)?;
+    let seen = answer(rt, rt.alloc(), &mut serving, &next, GREETING.len() + 1)?;
+    same(seen.as_slice(), GREETING)
 }
 
 fn the_next_one_under_a_number_starts_clean<S: Starts>(rt: &HostRuntime) -> Result<(), Fail> {

@@ -1,4 +1,4 @@
-use Rattle.std.proofs.Common.{[], Bool, sym, ap}
+use Rattle.std.proofs.Common.{[], Bool, refl, sym, ap}
 use Rattle.std.specs.Prelude.{if◌then◌else◌}
 use Rattle.moo_layer.specs.Sessions.{silence}
 use Rattle.moo_serving.specs.Server.{waiting_of}
@@ -9,4 +9,5 @@ pub returns-in_default : goal.returns-in_default
 returns-in_default g c = record {
   handed = (silence, hands_none g.S.Sessions.layer c.args.server.now);
   waiting = λ k. sym (ap (λ (b : Bool). if b then [] else (waiting_of g.S.Sessions.layer c.args.server.now).sent k) (unheard c.args.event.now c.in_default.not-Hangup k));
+  log = refl;
 }

@@ -1,5 +1,5 @@
-use Rattle.std.proofs.Common.{◌≡◌, List, [], ◌∷◌, ◌++◌, ◌+◌, take, Err, refl, sym, ◌∙◌, ap, subst, arith}
-use Rattle.std.proofs.lemmas.List.{take_more, take_all}
+use Rattle.std.proofs.Common.{◌≡◌, List, [], ◌∷◌, ◌++◌, ◌+◌, take, drop, Err, refl, sym, ◌∙◌, ap, subst, append_assoc, arith}
+use Rattle.std.proofs.lemmas.List.{take-append-drop, take_more, take_all}
 use Rattle.moo_layer.specs.Sessions.{silence}
 use Rattle.moo_serving.specs.Server.{Runs}
 use Rattle.moo_serving.specs.declared.event.Event.{Event}
@@ -37,7 +37,7 @@ loop-event-preserved g c =
           (given_join g.S.Sessions.layer g.D.Disk.view g.D.Disk.honest c.args.server.now c.loop-event.server c.forget.new.server c.args.disk.now c.loop-event.disk c.run.new.disk
           (take c.loop-event.event-index c.args.events.now) (event ∷ []) c.loop-event.invariant.1
           (given_one g.S.Sessions.layer g.D.Disk.view g.D.Disk.honest g.D.Disk.failures c.loop-event.server c.run.new.self c.forget.new.server c.loop-event.disk c.run.new.disk
-          event c.from_ref.result.now c.in_default.field-0 c.from_ref.ensures.value c.in_default.ensures.all.0 c.in_default.ensures.honest.0 c.in_default.ensures.ran c.forget.ensures.handed c.forget.ensures.waiting)),
+          event c.from_ref.result.now c.in_default.field-0 c.from_ref.ensures.value c.in_default.ensures.all.0 c.in_default.ensures.honest.0 c.in_default.ensures.ran c.forget.ensures.handed c.forget.ensures.waiting c.forget.ensures.log)),
     )
 
 pub returns-clause-all : goal.returns-clause-all
@@ -48,11 +48,18 @@ returns-clause-all g c =
 
 pub returns-in-Err-clause-refused : goal.returns-in-Err-clause-refused
 returns-in-Err-clause-refused g c = record {
-  events = take c.loop-event.event-index c.args.events.now;
+  taken = take c.loop-event.event-index c.args.events.now;
+  event = c.event-item.result;
+  rest = drop (c.loop-event.event-index + 1) c.args.events.now;
+  all =
+      sym (take-append-drop (c.loop-event.event-index + 1) c.args.events.now)
+      ∙ ap (λ (es : List Event). es ++ drop (c.loop-event.event-index + 1) c.args.events.now)
+      (take_more c.args.events.now c.loop-event.event-index c.event-item.result c.loop-event-test.true
+      ∙ ap (λ (e : Event). take c.loop-event.event-index c.args.events.now ++ e ∷ []) (sym c.event-item.is))
+      ∙ append_assoc (take c.loop-event.event-index c.args.events.now) (c.event-item.result ∷ []) (drop (c.loop-event.event-index + 1) c.args.events.now);
   mid = c.loop-event.server;
   between = c.loop-event.disk;
-  course = c.loop-event.invariant.1.course;
-  event = c.event-item.result;
+  gives = c.loop-event.invariant.1;
   fault = c.in-Err.fault;
   left = c.run.new.self;
   runs = subst

@@ -10,6 +10,7 @@ loop-key-init g c = record {
   handed = (silence, hands_none g.S.Sessions.layer c.args.server.now);
   each = c.new-parted.ensures.items;
   left = λ k from. record { socket = refl; waiting = refl };
+  log = refl;
 }
 
 pub returns-in_err-event-clause-handed : goal.returns-in_err-event-clause-handed
@@ -34,4 +35,4 @@ loop-key-preserved g c =
     c.loop-key.invariant (then_out so_far.0 now.0, hands_join g.S.Sessions.layer so_far.0 now.0 c.args.server.now c.loop-key.server c.write.new.server so_far.1 now.1)
     (subst (λ (k : ℕ). IsWrittenTo g.S.Sessions.layer c.args.most_waiting c.loop-key.server c.write.new.server c.loop-key.sockets.sockets c.write.new.sockets.sockets k c.in_ok-event.event) same
     c.in_ok-event.ensures.written)
-    (λ k differs. c.in_ok-event.ensures.others k (λ e. differs (e ∙ same))) c.in_ok-put.ensures
+    (λ k differs. c.in_ok-event.ensures.others k (λ e. differs (e ∙ same))) c.in_ok-event.ensures.log c.in_ok-put.ensures

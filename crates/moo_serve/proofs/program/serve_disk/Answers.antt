@@ -1,6 +1,6 @@
-use Rattle.std.proofs.Common.{inl, inr}
+use Rattle.std.proofs.Common.{inl, inr, refl}
 use Rattle.std.proofs.lemmas.Result.{err_from_is_err_and}
-use Rattle.moo_serve.proofs.Serviced.{none_made, serves_so, stops_so}
+use Rattle.moo_serve.proofs.Serviced.{serves_so, stops_so}
 use Rattle.moo_serve.proofs.program.serve_disk.Goals as goal
 
 pub returns-in_err-serving-clause-ended : goal.returns-in_err-serving-clause-ended
@@ -14,7 +14,7 @@ returns-in_err-address-clause-ended g c =
       start = s;
       end = s;
       begun = c.in_ok-serving.ensures.begun;
-      breaks = none_made g.S.Sessions.layer g.D.Disk.view g.D.Disk.honest g.D.Disk.failures _ _ s c.in_err-address.ensures;
+      breaks = inl (c.in_err-address.ensures, refl);
     }))
 
 pub returns-in_err-tell_address-clause-ended : goal.returns-in_err-tell_address-clause-ended
@@ -24,7 +24,7 @@ returns-in_err-tell_address-clause-ended g c =
       start = s;
       end = s;
       begun = c.in_ok-serving.ensures.begun;
-      breaks = none_made g.S.Sessions.layer g.D.Disk.view g.D.Disk.honest g.D.Disk.failures _ _ s c.in_err-tell_address.ensures;
+      breaks = inl (c.in_err-tell_address.ensures, refl);
     }))
 
 pub returns-clause-served : goal.returns-clause-served

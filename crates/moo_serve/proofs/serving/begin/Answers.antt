@@ -1,5 +1,10 @@
 use Rattle.moo_serve.proofs.serving.begin.Goals as goal
 
+pub returns-in-Ok-clause-begun : goal.returns-in-Ok-clause-begun
+returns-in-Ok-clause-begun g c =
+    let opened = c.in-Ok.ensures.opened in
+    record { saved = opened.0; spelled = opened.1; opened = opened.2; spare = c.in-Ok.ensures.spare }
+
 pub returns-in-Err-clause-refused : goal.returns-in-Err-clause-refused
 returns-in-Err-clause-refused g c = record {
   text = c.in-Err.ensures.refused;

@@ -50,7 +50,7 @@ returns-clause-course g c =
 pub returns-clause-round : goal.returns-clause-round
 returns-clause-round g c = inr (record {
   turned = c.turn-turned.new.self.server;
-  logs = record { handed = c.log_lines.ensures.handed; unsent = c.log_lines.ensures.unsent };
+  logs = c.log_lines.ensures;
   rounds = c.in_ok-turned.ensures.round;
   most_is = c.in_ok-turned.ensures.most;
 })
@@ -66,8 +66,7 @@ returns-in_err-turned-clause-ended g c =
     let p = err_from_is_err_and c.from_residual.result c.from_residual.ensures.1 in
     rw (p.1, p.2)
     (ends_hands g.S.Sessions.layer g.D.Disk.view g.D.Disk.honest g.D.Disk.failures _
-    c.args.self.now.server c.turn-turned.new.self.server c.log_lines.new.server c.args.self.now.disk c.turn-turned.new.self.disk
-    c.in_err-turned.ensures.ended c.log_lines.ensures.handed)
+    c.args.self.now c.turn-turned.new.self c.log_lines.new.server c.in_err-turned.ensures.ended c.log_lines.ensures.handed)
 
 pub returns-clause-ended : goal.returns-clause-ended
 returns-clause-ended g c = tt

@@ -26,7 +26,7 @@ returns-in_err-goes-clause-ended g c =
       made = c.loop-made._made;
       mid = c.loop-made.self;
       makes = c.loop-made.invariant.makes;
-      few = omega (arith, c.loop-made-test.true);
+      fewer = omega (arith, c.loop-made-test.true);
       course = c.in_err-goes.ensures.course;
       ends = c.in_err-goes.ensures.ended;
     })

@@ -46,8 +46,7 @@ pub returns-in_err-wait-in-Idle-clause-ended : goal.returns-in_err-wait-in-Idle-
 returns-in_err-wait-in-Idle-clause-ended g c =
     let p = err_from_is_err_and c.from_residual-in_err-wait-in-Idle.result c.from_residual-in_err-wait-in-Idle.ensures.1 in
     rw (p.1, p.2)
-    (outside_ends g.S.Sessions.layer g.D.Disk.view g.D.Disk.honest g.D.Disk.failures _ c.args.self.now.server c.args.self.now.disk c.wait.new.self.server c.wait.new.self.disk
-    c.in_err-wait-in-Idle.ensures.outside)
+    (outside_ends g.S.Sessions.layer g.D.Disk.view g.D.Disk.honest g.D.Disk.failures _ c.args.self.now c.wait.new.self c.in_err-wait-in-Idle.ensures.outside)
 
 pub returns-in-Over-clause-over : goal.returns-in-Over-clause-over
 returns-in-Over-clause-over g c = λ _. (

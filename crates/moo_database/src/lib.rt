@@ -9,5 +9,6 @@ mod loading;
 
 pub use check::{check_watched, run_check};
 pub use copy::{copy_watched, run_copy};
+pub use counts::counts_line;
 pub use loading::load;
 pub use moo_report::{Refusal, Watch};

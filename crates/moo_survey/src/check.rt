@@ -7,9 +7,9 @@ ghost use Rattle.moo_report.specs.Watching.{HasFailed};
 ghost use Rattle.moo_survey.specs.Answers.{LacksMemory};
 ghost use Rattle.moo_survey.specs.Shown.{IsAnswered, ShowsAll, survey_text};
 
-use crate::counts::counts_line;
 use crate::readers::{Answer, survey};
 use crate::told::survey_text;
+use moo_database::counts_line;
 use moo_load::{DbFault, DbFaultKind};
 use moo_report::{Refusal, Watch, show, tell};
 use std::alloc::Global;

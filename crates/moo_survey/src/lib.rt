@@ -3,7 +3,6 @@
 #![tactic(auto)]
 
 mod check;
-mod counts;
 mod fault;
 mod readers;
 mod survey;

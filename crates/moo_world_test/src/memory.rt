@@ -8,13 +8,15 @@ use moo_value::Value;
 use moo_world::{World, WorldFault};
 use std::alloc::Global;
 
-// With the four objects: two define properties, and there is a child of the room, in the room.
+// With the four objects: two define properties, the room has a verb without a program, and there is a child of the room, in
+// the room.
 const PROPERTIES: &str = r#"
 add_property #1 "size" 5 #3 "c" = 0
 add_property #2 "own" 6 #3 "c" = 0
 create #2 #3 = #4
 move #4 #2 = 0
 set #2 "size" 7 = 0
+add_verb #2 "bare" #3 "rxd" = 0
 "#;
 
 const CHANGES: &str = r#"create #2 #3
@@ -32,7 +34,12 @@ set_verb_info #0 0 "width" #4 ""
 clear_program #0 0
 set_verb_args #0 0 "any" "any" "any"
 delete_verb #0 0
-set_player #2 1"#;
+set_player #2 1
+set_player #3 0
+set_program #2 0
+#3 chparent #2 #0
+#3 add_property #1 "width" 1 { #3 "" }
+#3 set_property_info #1 "size" { #4 "" "width" }"#;
 
 // A world and its twin.
 #[derive(Drop)]

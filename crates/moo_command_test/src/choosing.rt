@@ -1,10 +1,5 @@
 // The verbs that commands choose.
-use crate::show::chosen;
-use crate::worlds::world;
-use moo_command::{choose_verb, parse_command};
-use moo_value::MooStr;
-use moo_world::World;
-use std::alloc::{AllocError, Global};
+use crate::answers::{Call, Rows};
 
 // #0 is above the room, #1 above the player; the box and the lid are in the room, and the lid has the box as its parent.
 const OBJECTS: &str = "-1|-1|rooms
@@ -38,7 +33,15 @@ const VERBS: &str = "1|x|none|none|none|l*ook
 2|x|any|over|any|throw
 3|x|any|over|any|throw";
 
-// Each row is a line of #3, ` --> `, the object that is looked on, the object that has the verb, and its place there.
+/// Each row is a line of #3, ` --> `, the object that is looked on, the object that has the verb, and its place there.
+pub const CHOSEN: Rows = Rows {
+    call: Call::Choose,
+    player: 3,
+    objects: OBJECTS,
+    verbs: VERBS,
+    rows: ROWS,
+};
+
 const ROWS: &str = "look --> 3 1 0
 l --> 3 1 0
 look box --> 
@@ -76,20 +79,3 @@ throw stone over box --> 3 3 4
 throw stone --> 
 fly --> 
  --> ";
-
-fn chosen_by(alloc: Global, world: &World, line: &str) -> Result<Vec<u8>, AllocError> {
-    let line = MooStr::try_from_bytes(alloc, line.as_bytes()).map_err(|_| AllocError)?;
-    let command = parse_command(alloc, world, 3, &line)?;
-    chosen(alloc, choose_verb(world, 3, &command))
-}
-
-#[test]
-fn verbs_of_commands(rt: HostRuntime) -> Result<(), AllocError> {
-    let world = world(rt.alloc(), OBJECTS, VERBS).map_err(|_| AllocError)?;
-    for row in ROWS.lines() {
-        let (line, expected) = row.split_once(" --> ").unwrap_or((row, ""));
-        let found = chosen_by(rt.alloc(), &world, line)?;
-        assert_eq!(rt; found.as_slice(), expected.as_bytes(), "{row}");
-    }
-    Ok(())
-}

@@ -4,6 +4,8 @@
 #![tactic(auto)]
 
 #[cfg(test)]
+mod answers;
+#[cfg(test)]
 mod choosing;
 #[cfg(test)]
 mod lines;
@@ -14,7 +16,7 @@ mod memory;
 #[cfg(test)]
 mod parsing;
 #[cfg(test)]
-mod show;
+mod tests;
 #[cfg(test)]
 mod words;
 #[cfg(test)]

@@ -1,8 +1,5 @@
 // The objects that texts name.
-use crate::worlds::world;
-use moo_command::match_object;
-use moo_world::World;
-use std::alloc::AllocError;
+use crate::answers::{Call, Rows};
 
 // A room, #1 a player in it, #2 and #3 in the player, the others in the room; #9 is nowhere. An alias may be inherited; what is no
 // string in a list, and what is no list, names nothing.
@@ -20,87 +17,87 @@ const OBJECTS: &str = "-1|-1|The Room
 -1|0|stool|=seat
 -1|0|heap|=5";
 
-// Each row is a text, ` = `, and what it names to #1. A whole match beats a beginning, wherever they stand.
-const ROWS: &str = " = -1
-me = 1
-ME = 1
-here = 0
-Here = 0
-hereafter = 5
-her = 5
-#3 = 3
-#-0 = 0
-#9 = 9
-#10 = 10
-#13 = -3
-#-1 = -3
-#-2 = -3
-#99999999999999999999 = -3
-#007 = 7
-# = -3
-#- = -3
-#+1 = -3
-#1x = -3
-##1 = -3
-1 = -3
-box = 2
-BOX = 2
-bo = -2
-boxi = 3
-box o = 4
-Wizard = 1
-wiz = 1
-MAGE = 1
-bos = 1
-boss = 1
-pie = -2
-tar = -2
-slice = 8
-apple = 7
-apple  = 6
-appl = -2
-red = 7
-red apple = 7
-far away = -3
-The Room = -3
-nothing = -3
-light = 10
-7 = -3
-stool = 11
-seat = -3
-heap = 12
-5 = -3
-a = -2
-m = 1
-hereafte = 5
- me = -3";
+/// Each row is a text, ` --> `, and what it names to #1. A whole match beats a beginning, wherever they stand.
+pub const NAMED: Rows = Rows {
+    call: Call::Match,
+    player: 1,
+    objects: OBJECTS,
+    verbs: "",
+    rows: ROWS,
+};
+
+const ROWS: &str = " --> -1
+me --> 1
+ME --> 1
+here --> 0
+Here --> 0
+hereafter --> 5
+her --> 5
+#3 --> 3
+#-0 --> 0
+#9 --> 9
+#10 --> 10
+#13 --> -3
+#-1 --> -3
+#-2 --> -3
+#99999999999999999999 --> -3
+#007 --> 7
+# --> -3
+#- --> -3
+#+1 --> -3
+#1x --> -3
+##1 --> -3
+1 --> -3
+box --> 2
+BOX --> 2
+bo --> -2
+boxi --> 3
+box o --> 4
+Wizard --> 1
+wiz --> 1
+MAGE --> 1
+bos --> 1
+boss --> 1
+pie --> -2
+tar --> -2
+slice --> 8
+apple --> 7
+apple  --> 6
+appl --> -2
+red --> 7
+red apple --> 7
+far away --> -3
+The Room --> -3
+nothing --> -3
+light --> 10
+7 --> -3
+stool --> 11
+seat --> -3
+heap --> 12
+5 --> -3
+a --> -2
+m --> 1
+hereafte --> 5
+ me --> -3";
 
 // A player that is nowhere has its own things by it; one that isn't there, nothing.
 const NOWHERE: &str = "-1|-1|Wizard
 -1|0|box";
 
-// A world, a player, and what texts name to it.
-const PLAYERS: [(&str, i32, &str); 3] = [
-    (OBJECTS, 1, ROWS),
-    (NOWHERE, 0, "here = -1\nbox = 1"),
-    (NOWHERE, 7, "box = -3\nme = 7\n#1 = 1"),
-];
+/// What texts name to a player that is nowhere.
+pub const NAMED_NOWHERE: Rows = Rows {
+    call: Call::Match,
+    player: 0,
+    objects: NOWHERE,
+    verbs: "",
+    rows: "here --> -1\nbox --> 1",
+};
 
-fn wrong_row<'a>(world: &World, player: i32, rows: &'a str) -> &'a str {
-    for row in rows.lines() {
-        let (text, expected) = row.split_once(" = ").unwrap_or((row, ""));
-        if expected.parse::<i32>() != Ok(match_object(world, player, text.as_bytes())) {
-            return row;
-        }
-    }
-    ""
-}
-
-#[test]
-fn objects_of_texts(rt: HostRuntime) -> Result<(), AllocError> {
-    for (objects, player, rows) in PLAYERS {
-        let world = world(rt.alloc(), objects, "").map_err(|_| AllocError)?;
-        assert_eq!(rt; wrong_row(&world, player, rows), "");
-    }
-    Ok(())
-}
+/// What texts name to one that isn't there.
+pub const NAMED_TO_NOBODY: Rows = Rows {
+    call: Call::Match,
+    player: 7,
+    objects: NOWHERE,
+    verbs: "",
+    rows: "box --> -3\nme --> 7\n#1 --> 1",
+};

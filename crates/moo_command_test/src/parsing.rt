@@ -1,9 +1,8 @@
 // Commands of lines.
-use crate::show::command;
+use crate::answers::{Call, Rows, string};
 use crate::worlds::world;
 use moo_command::parse_command;
 use moo_value::MooStr;
-use moo_world::World;
 use std::alloc::{AllocError, Global};
 
 // A room, #1 a player in it, with a box and a chest.
@@ -12,8 +11,16 @@ const OBJECTS: &str = "-1|-1|The Room
 -1|0|big box|box
 -1|1|chest";
 
-// Each row is a line, ` --> `, and its command: the verb, the rest, the words, the direct object, the preposition, the
-// indirect object. Each form of each preposition has one.
+/// Each row is a line, ` --> `, and its command: the verb, the rest, the words, the direct object, the preposition, the
+/// indirect object. Each form of each preposition has one.
+pub const COMMANDS: Rows = Rows {
+    call: Call::Parse,
+    player: 1,
+    objects: OBJECTS,
+    verbs: "",
+    rows: ROWS,
+};
+
 const ROWS: &str =
     r#"put "big box" in front of chest --> put|"big box" in front of chest|[big box][in][front][of][chest]|big box|2 in front of|2 chest|3 
 look --> look||||-1 |-1 |-1 
@@ -73,37 +80,20 @@ v a off b on c --> v|a off b on c|[a][off][b][on][c]|a|-3 off|14 b on c|-3
 v a off of b on c --> v|a off of b on c|[a][off][of][b][on][c]|a|-3 off of|14 b on c|-3 
 say  a   b --> say|a   b|[a][b]|a b|-3 |-1 |-1 "#;
 
-fn command_of(alloc: Global, world: &World, line: &str) -> Result<Vec<u8>, AllocError> {
-    let line = MooStr::try_from_bytes(alloc, line.as_bytes()).map_err(|_| AllocError)?;
-    command(alloc, &parse_command(alloc, world, 1, &line)?)
-}
-
-#[test]
-fn commands_of_lines(rt: HostRuntime) -> Result<(), AllocError> {
-    let world = world(rt.alloc(), OBJECTS, "").map_err(|_| AllocError)?;
-    for row in ROWS.lines() {
-        let (line, expected) = row.split_once(" --> ").unwrap_or((row, ""));
-        let found = command_of(rt.alloc(), &world, line)?;
-        assert_eq!(rt; found.as_slice(), expected.as_bytes(), "{row}");
-    }
-    Ok(())
-}
-
-// A line of nearly a million bytes: its words, joined, are a string again.
+// A line of nearly a million bytes.
 fn a_long_line(alloc: Global) -> Result<MooStr, AllocError> {
     let mut line = Vec::new(alloc);
     line.push(b':')?;
     for place in 0..999_000 {
         line.push(if place % 1_000 == 0 { b' ' } else { b'a' })?;
     }
-    MooStr::try_from_vec(alloc, line).map_err(|_| AllocError)
+    string(alloc, &line)
 }
 
-#[test]
-fn the_command_of_a_long_line(rt: HostRuntime) -> Result<(), AllocError> {
-    let world = world(rt.alloc(), "", "").map_err(|_| AllocError)?;
-    let line = a_long_line(rt.alloc())?;
-    let found = parse_command(rt.alloc(), &world, 1, &line)?;
-    assert!(rt; found.args.len() == 999 && found.dobjstr.len() == 998_999);
-    Ok(())
+/// Whether the words of such a line, joined, are a string again.
+pub fn is_a_long_line_parsed(alloc: Global) -> Result<bool, AllocError> {
+    let world = world(alloc, "", "")?;
+    let line = a_long_line(alloc)?;
+    let found = parse_command(alloc, &world, 1, &line)?;
+    Ok(found.args.len() == 999 && found.dobjstr.len() == 998_999)
 }

@@ -2,7 +2,7 @@
 ghost use Rattle.std.specs.Prelude.{◌≡◌, ◌<◌, ◌∷◌, ◌++◌, codes, IfOk, IfErr, OnOk};
 ghost use Rattle.std.specs.Fmt.{signed_decimal};
 ghost use Rattle.moo_value.specs.Tree.{IsTextByte, IsText};
-ghost use Rattle.moo_value.specs.Text.{escaped, quoted};
+ghost use Rattle.moo_value.specs.Text.{quoted};
 ghost use Rattle.moo_token.specs.Spelling.{sign_text};
 ghost use Rattle.moo_token.specs.Words.{keyword_text};
 ghost use Rattle.moo_program.specs.Limits.{FitsLine};
@@ -11,7 +11,7 @@ ghost use Rattle.moo_unparse.specs.Refused.{IsRefusedLine};
 use crate::fault::ListFault;
 use itoa::Buffer;
 use moo_token::{Keyword, Sign};
-use moo_value::{MooStr, ValueFault};
+use moo_value::{MooStr, ValueFault, write_quoted};
 use std::alloc::{AllocError, Global};
 use std::marker::Model;
 
@@ -109,21 +109,7 @@ impl Line {
         requires { IsText string.now }
         ensures { OnOk result (self.new ≡ self.old ++ quoted string.now) }
     {
-        self.byte(b'"')?;
-        for byte in string {
-            self.escaped(*byte)?;
-        }
-        self.byte(b'"')
-    }
-
-    fn escaped(&mut self, byte: u8) -> Result<(), AllocError>
-        requires { IsTextByte byte }
-        ensures { OnOk result (self.new ≡ self.old ++ escaped byte) }
-    {
-        if byte == b'"' || byte == b'\\' {
-            self.byte(b'\\')?;
-        }
-        self.byte(byte)
+        write_quoted(string, &mut self.bytes)
     }
 
     fn byte(&mut self, byte: u8) -> Result<(), AllocError>

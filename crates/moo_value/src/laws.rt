@@ -1,5 +1,5 @@
 // Laws of the comparisons and texts of values.
-ghost use Rattle.std.specs.Prelude.{◌≡◌, ◌≤◌, ◌<◌, ◌+◌, ◌⊎◌, ℕ, ℤ, List, Some, map, option_map};
+ghost use Rattle.std.specs.Prelude.{◌≡◌, ◌≤◌, ◌<◌, ◌+◌, ◌⊎◌, ◌↔◌, ℕ, ℤ, List, Some, map, option_map};
 ghost use Rattle.std.specs.Char.{to_ascii_lowercase};
 ghost use Rattle.std.specs.Ordering.{ordering_reverse};
 ghost use Rattle.std.specs.declared.cmp.Ordering.{Ordering};
@@ -8,6 +8,7 @@ ghost use Rattle.moo_value.specs.declared.value.Value.{Value};
 ghost use Rattle.moo_value.specs.Tree.{Tree, integer, object, error, string, list_of};
 ghost use Rattle.moo_value.specs.View.{tree};
 ghost use Rattle.moo_value.specs.Compare.{fold_letters, folded, order};
+ghost use Rattle.moo_value.specs.Equal.{IsEqual};
 ghost use Rattle.moo_value.specs.Text.{literal};
 
 /// Folding takes A to Z in strings as a to z, inside lists too, and leaves all else as it is.
@@ -21,21 +22,22 @@ pub fn letters_are_folded()
     ensures errors { (e : ErrorCode) → fold_letters (error e) ≡ error e }
 {}
 
+/// What `==` of the language takes as equal: the same number, object or error; strings with the same bytes but for
+/// the case of letters; lists of as many elements, each equal.
+pub fn equal_but_for_letters()
+    ensures { (t u : Tree) → (fold_letters t ≡ fold_letters u) ↔ IsEqual t u }
+{}
+
 /// `==` of the language is reflexive, symmetric and transitive.
 pub fn equal_is_an_equivalence()
-    ensures reflexive { (t : Tree) → fold_letters t ≡ fold_letters t }
-    ensures symmetric { (t u : Tree) → fold_letters t ≡ fold_letters u → fold_letters u ≡ fold_letters t }
-    ensures transitive { (t u v : Tree) → fold_letters t ≡ fold_letters u → fold_letters u ≡ fold_letters v → fold_letters t ≡ fold_letters v }
+    ensures reflexive { (t : Tree) → IsEqual t t }
+    ensures symmetric { (t u : Tree) → IsEqual t u → IsEqual u t }
+    ensures transitive { (t u v : Tree) → IsEqual t u → IsEqual u v → IsEqual t v }
 {}
 
 /// Values of the program that stand for one value are one value.
 pub fn same_is_equality()
     ensures { (v w : Value) → tree v ≡ tree w → v ≡ w }
-{}
-
-/// Values that are the same are equal as `==` has it.
-pub fn same_values_are_equal()
-    ensures { (t u : Tree) → t ≡ u → fold_letters t ≡ fold_letters u }
 {}
 
 /// The order of two values is that of the two swapped, reversed.

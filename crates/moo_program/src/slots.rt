@@ -1,5 +1,5 @@
 //! The names of the variables of a program.
-ghost use Rattle.std.specs.Prelude.{◌≡◌, false, map, IfOk};
+ghost use Rattle.std.specs.Prelude.{◌≡◌, false, map, IsTrue, IfOk};
 ghost use Rattle.moo_value.specs.Compare.{folded};
 ghost use Rattle.moo_program.specs.View.{block};
 ghost use Rattle.moo_program.specs.Slots.{firsts, slots};
@@ -30,9 +30,24 @@ fn folded_names(alloc: Global, names: &[MooStr]) -> Result<Vec<MooStr>, AllocErr
     Ok(all)
 }
 
+// Whether the letters of a name are folded.
+fn is_folded(name: &[u8]) -> bool
+    ensures { IsTrue result → folded name.now ≡ name.now }
+{
+    for byte in name {
+        if byte.to_ascii_lowercase() != *byte {
+            return false;
+        }
+    }
+    true
+}
+
 fn folded_name(alloc: Global, name: &MooStr) -> Result<MooStr, AllocError>
     ensures { IfOk result (λ s. s ≡ folded name.now) }
 {
+    if is_folded(name.as_bytes()) {
+        return name.try_clone();
+    }
     let mut bytes = Vec::new(alloc);
     for byte in name.as_bytes() {
         bytes.push(byte.to_ascii_lowercase())?;

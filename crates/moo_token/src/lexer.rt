@@ -41,6 +41,9 @@ fn ends_comment(bytes: &[u8]) -> bool
     }
 }
 
+/// For how many tokens there is room at first.
+const FIRST_ROOM: usize = 64;
+
 /// Passes what stands at the front of a line's rest: a blank, a part of a comment or a token. Tells its length, or
 /// `None` where no token stands there, which ends the spots with `Bad`.
 fn pass(
@@ -112,7 +115,7 @@ fn pass_line(
 pub fn tokens(alloc: Global, lines: &[MooStr]) -> Result<Vec<Spot>, AllocError>
     ensures { IfOk result (λ spots. IsReading lines.now spots.items) }
 {
-    let mut spots = Vec::new(alloc);
+    let mut spots = Vec::with_capacity(alloc, FIRST_ROOM)?;
     let mut opened = None;
     let mut number = 0;
     for line in lines {

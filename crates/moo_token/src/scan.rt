@@ -1,5 +1,5 @@
 //! The token at the front of bytes.
-ghost use Rattle.std.specs.Prelude.{◌≡◌, ◌<◌, ◌≤◌, ◌+◌, length, false, IfOk, IfSome};
+ghost use Rattle.std.specs.Prelude.{◌≡◌, ◌<◌, ◌≤◌, ◌+◌, length, take, false, Some, IfOk, IfSome};
 ghost use Rattle.std.specs.List.{prefix_len, list_all};
 ghost use Rattle.moo_value.specs.Size.{IsString};
 ghost use Rattle.moo_token.specs.Spelling.{is_word, is_name};
@@ -165,8 +165,38 @@ fn word(alloc: Global, bytes: &[u8]) -> Result<Token, AllocError>
     Ok(Token::Name(copied(alloc, bytes)?))
 }
 
+/// How many bytes stand before the closing quote, where no backslash does.
+fn plain_length(bytes: &[u8]) -> Option<usize>
+    ensures is { IfSome result (λ n. Some (take n bytes.now, n + 1) ≡ unquoted false bytes.now) }
+    ensures fits { IfSome result (λ n. n < length bytes.now) }
+{
+    for index in 0..bytes.len() {
+        let byte = bytes[index];
+        if byte == b'"' {
+            return Some(index);
+        }
+        if byte == b'\\' {
+            return None;
+        }
+    }
+    None
+}
+
 /// The string behind its opening quote, and the number of bytes up to and with its closing quote.
 fn unquoted(alloc: Global, bytes: &[u8]) -> Result<Option<(MooStr, usize)>, AllocError>
+    requires { IsString bytes.now }
+    ensures is { IfOk result (λ found. found ≡ unquoted false bytes.now) }
+    ensures fits { IfOk result (λ found. IfSome found (λ s. s.1 ≤ length bytes.now)) }
+{
+    let Some(length) = plain_length(bytes) else {
+        return unescaped(alloc, bytes);
+    };
+    let text = copied(alloc, &bytes[..length])?;
+    Ok(Some((text, length + 1)))
+}
+
+/// The same, byte by byte.
+fn unescaped(alloc: Global, bytes: &[u8]) -> Result<Option<(MooStr, usize)>, AllocError>
     requires { IsString bytes.now }
     ensures is { IfOk result (λ found. found ≡ unquoted false bytes.now) }
     ensures fits { IfOk result (λ found. IfSome found (λ s. s.1 ≤ length bytes.now)) }

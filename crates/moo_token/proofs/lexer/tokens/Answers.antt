@@ -2,7 +2,7 @@ use Rattle.moo_token.proofs.Steps.{starts, line_passed, line_stops, ends_unclose
 use Rattle.moo_token.proofs.lexer.tokens.Goals as goal
 
 pub loop-line-init : goal.loop-line-init
-loop-line-init c = starts _ _ c.new-spots.ensures.items
+loop-line-init c = starts _ _ c.in_ok-spots.ensures.items
 
 pub returns-then-not-branch : goal.returns-then-not-branch
 returns-then-not-branch c = line_stops _ _ _ _ _ _ c.line-item.result _ c.loop-line-test.true c.line-item.is c.as_bytes.ensures.value c.loop-line.invariant (rw c.if-not-branch.true at c.in_ok-pass_line.ensures)

@@ -1,11 +1,11 @@
 // The cells of an object.
-ghost use Rattle.std.specs.Prelude.{◌≡◌, ◌<◌, [], ◌==◌, IfOk, OnOk, OnErr, length, filter, map, not, false, position, slice_get};
+ghost use Rattle.std.specs.Prelude.{◌≡◌, ◌<◌, [], ◌==◌, OnOk, OnErr, length, filter, map, not, false, position, slice_get};
 ghost use Rattle.std.specs.Option.{ForSome, option_copied, option_and_then};
 ghost use Rattle.std.specs.List.{list_any};
 ghost use Rattle.moo_value.specs.Compare.{folded};
 ghost use Rattle.moo_value.specs.View.{tree};
-ghost use Rattle.moo_object.specs.Cells.{AreDistinct, with_value, is_key, key_of, cell_at, cell_named, at_key, emptied, with_info, renamed};
-ghost use Rattle.moo_object.specs.Rows.{put_before, taken_before};
+ghost use Rattle.moo_object.specs.Cells.{AreDistinct, with_value, is_key, key_of, cell_at, cell_named, at_key, emptied, with_info};
+ghost use Rattle.moo_object.specs.Rows.{put_before, taken_before, with_new_name};
 
 use crate::cell::{PropCell, PropPerms};
 use moo_value::{MooStr, Value};
@@ -108,6 +108,13 @@ impl Row {
         ensures { self.new ≡ map (at_key (definer, folded name.now) (with_info owner perms)) self.old }
     {
         set_cell_info(&mut self.cells, definer, name, owner, perms);
+    }
+
+    /// Gives the cell for a definition another name: the first such cell, if there are more.
+    pub fn rename(&mut self, definer: usize, name: &[u8], new_name: MooStr)
+        ensures { self.new ≡ with_new_name (definer, folded name.now) (folded new_name) self.old }
+    {
+        rename_cell(&mut self.cells, definer, name, new_name);
     }
 }
 
@@ -235,18 +242,14 @@ fn set_info_if_for(cell: &mut PropCell, definer: usize, name: &[u8], owner: i32,
     }
 }
 
-/// The cell, with another name where it is for the definition.
-pub(crate) fn renamed_cell(
-    cell: &PropCell,
-    definer: usize,
-    name: &[u8],
-    new_name: &MooStr,
-) -> Result<PropCell, AllocError>
-    ensures { IfOk result (λ c. c ≡ at_key (definer, folded name.now) (renamed (folded new_name.now)) cell.now) }
+// Gives the first cell for a definition another name.
+fn rename_cell(cells: &mut Vec<PropCell>, definer: usize, name: &[u8], new_name: MooStr)
+    ensures { cells.new.items ≡ with_new_name (definer, folded name.now) (folded new_name) cells.old.items }
 {
-    let mut copy = cell.try_clone()?;
-    if cell.is_for(definer, name) {
-        copy.set_name(new_name.try_clone()?);
+    for i in 0..cells.len() {
+        if cells[i].is_for(definer, name) {
+            cells[i].set_name(new_name);
+            return;
+        }
     }
-    Ok(copy)
 }

@@ -71,14 +71,6 @@ fine_left x (Some o) f = record {
   };
 }
 
-filtered_twice : (t : Cell → Bool) (cs : List Cell) → filter t (filter t cs) ≡ filter t cs
-filtered_twice t [] = refl
-filtered_twice t (c ∷ cs) = ⊎_elim (λ e. rw e (rw e (ap (λ ds. c ∷ ds) (filtered_twice t cs)))) (λ e. rw e (filtered_twice t cs)) (cases_Bool (t c))
-
-left_twice : (x : ℕ) (o : Option Object) → without_cells_of x (without_cells_of x o) ≡ without_cells_of x o
-left_twice x None = refl
-left_twice x (Some o) = ap (λ cs. Some (let r : Object = record o { cells = cs } in r)) (filtered_twice (λ c. not (eqb c.definer x)) o.cells)
-
 kept_cells : (x : ℕ) (cs : List Cell) → All (λ (c : Cell). eqb c.definer x ≡ false) cs → filter (λ c. not (eqb c.definer x)) cs ≡ cs
 kept_cells x [] all = refl
 kept_cells x (c ∷ cs) all =
@@ -250,5 +242,5 @@ module _ (w : World) (x : ℕ) (f : IsWellFormed w) (valid : IsSome (object_of w
   -- taking the cells out along a walk takes out all
   pub left_is : (walk : List Step) → IsWalkDown w.inheritance x walk → changed_along (without_cells_of x) (set w.objects x None) (met walk) ≡ (after_recycle w x).objects
   left_is walk d =
-      all_along (without_cells_of x) (left_twice x) (set w.objects x None) w.inheritance x walk d
+      all_along (without_cells_of x) (set w.objects x None) w.inheritance x walk d
       (walk_members w.objects w.inheritance f.parents x valid walk d (set w.objects x None) (length-set w.objects x None)) none_elsewhere

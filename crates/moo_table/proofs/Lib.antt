@@ -26,3 +26,4 @@ pub mod Renamed
 pub mod Respelling
 pub mod NamesMet
 pub mod Placing
+pub mod NewNames

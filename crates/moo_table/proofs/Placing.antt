@@ -1,7 +1,7 @@
 -- A definition put into the rows of cells in its place.
 use Rattle.std.proofs.Common.{◌≡◌, ◌≢◌, ℕ, suc, ◌+◌, ◌-◌, ◌<◌, ◌≤◌, List, [], ◌∷◌, ◌++◌, Option, Some, None, true, false, ◌||◌, cond, eqb, refl, sym, ◌∙◌, ap, subst, ⊎_elim, arith, length, get_or, set, map, take, drop, IsSome}
 use Rattle.std.specs.Prelude.{ℤ}
-use Rattle.std.specs.List.{list_any, insert, remove, All, count_by}
+use Rattle.std.specs.List.{list_any, insert, remove, All}
 use Rattle.std.specs.Option.{unwrap_or, option_or}
 use Rattle.std.proofs.lemmas.List.{get_or-set_same, get_or-set_other, length-set, length-append, length-map, length-take, map-append, append_assoc, set-set, set-get_or, take_at, drop_at, take-append-drop, get_or_read, map_more}
 use Rattle.std.proofs.lemmas.List.Edits.{length-insert}
@@ -14,8 +14,6 @@ use Rattle.moo_forest.specs.Forest.{ancestors, above_of, IsWayUp, is_within}
 use Rattle.moo_forest.specs.Walk.{met, step_at, IsWalkDown}
 use Rattle.moo_forest.specs.declared.walk.Step.{Step}
 use Rattle.moo_forest.proofs.Climbing.{not_met, way_up_is_ancestors}
-use Rattle.moo_forest.proofs.Counting.{count-cons}
-use Rattle.moo_forest.proofs.Walking.{any_counted}
 use Rattle.moo_object.specs.Names.{same_name}
 use Rattle.moo_object.specs.Cells.{Cell, Key, key_of, is_key, cell_at, cleared}
 use Rattle.moo_object.specs.Rows.{put_before, taken_before}
@@ -26,7 +24,7 @@ use Rattle.moo_table.specs.Changes.{with_definition, with_definition_on}
 use Rattle.moo_table.proofs.Changing.{valid_within}
 use Rattle.moo_table.proofs.Definitions.{here, there, fitted_apart, free_of, fitted_outside, many as many_then}
 use Rattle.moo_table.proofs.FittedRows.{own_cells, own_exact, keys_fitted, already_fitted, unnamed_key}
-use Rattle.moo_table.proofs.Along.{walk_members}
+use Rattle.moo_table.proofs.Along.{IsOnce, walk_once, length_changed, changed_at_each, walk_members}
 use Rattle.moo_table.proofs.Refitting.{definer_elsewhere, key_within, cells_stay}
 use Rattle.moo_table.proofs.Rowing.{walk_lists}
 
@@ -99,51 +97,6 @@ first_inside walk below first n is all = (subst (λ (ys : List Step). IsInside y
 
 pub later_inside : (walk below : List Step) (first : Step) (n : ℕ) → walk ≡ first ∷ below → IsInside walk n → IsInside below n
 later_inside walk below first n is all = λ k h. (subst (λ (ys : List Step). IsInside ys n) is all) (suc k) (omega arith)
-
--- none of them stands twice
-abbrev pub IsOnce : List ℕ → Type 0
-IsOnce [] = Unit {0}
-IsOnce (y ∷ ys) = (list_any (eqb y) ys ≡ false) × IsOnce ys
-
-counted_once : (ys : List ℕ) → ((y : ℕ) → count_by (eqb y) ys ≤ 1) → IsOnce ys
-counted_once [] few = tt
-counted_once (y ∷ ys) few = (
-  ⊎_elim
-      (λ e. absurd (let some = any_counted y ys e in let all : count_by (eqb y) (y ∷ ys) ≡ 1 + count_by (eqb y) ys = head y in let one = few y in omega (arith, some, all, one)))
-      (λ e. e)
-      (cases_Bool (list_any (eqb y) ys)),
-  counted_once ys (λ z. let one = few z in let more = tail z in omega (arith, one, more)),
-)
-  where
-    head : (z : ℕ) → count_by (eqb z) (z ∷ ys) ≡ 1 + count_by (eqb z) ys
-    head z = let same = eq-eqb z z refl in count-cons z z ys ∙ (rw same refl)
-
-    tail : (z : ℕ) → count_by (eqb z) ys ≤ count_by (eqb z) (y ∷ ys)
-    tail z = let more = count-cons z y ys in omega (arith, more)
-
-module _ (f : Option Object → Option Object) where
-  pub length_changed : (objects : List (Option Object)) (ys : List ℕ) → length (changed_along f objects ys) ≡ length objects
-  length_changed objects [] = refl
-  length_changed objects (y ∷ ys) = length_changed (set objects y (f (object_of objects y))) ys ∙ length-set objects y (f (object_of objects y))
-
-  -- what stands at each number after one change of each
-  changed_at_each : (objects : List (Option Object)) (ys : List ℕ) → IsOnce ys → All (λ y. y < length objects) ys → (y : ℕ) →
-      object_of (changed_along f objects ys) y ≡ cond (list_any (eqb y) ys) (f (object_of objects y)) (object_of objects y)
-  changed_at_each objects [] once all y = refl
-  changed_at_each objects (z ∷ ys) once all y =
-      let next = set objects z (f (object_of objects z)) in
-      let len = length-set objects z (f (object_of objects z)) in
-      let low : z < length objects = All-head (λ n. n < length objects) z ys all in
-      let tail = subst (λ n. All (λ q. q < n) ys) (sym len) (All-tail (λ n. n < length objects) z ys all) in
-      changed_at_each next ys once.1 tail y ∙
-      ⊎_elim
-      (λ e.
-      let same = eqb-true y z e in
-      let here : object_of next y ≡ f (object_of objects y) = ap (object_of next) same ∙ get_or-set_same objects z (f (object_of objects z)) None low ∙ ap (λ n. f (object_of objects n)) (sym same) in
-      let no_more : list_any (eqb y) ys ≡ false = ap (λ n. list_any (eqb n) ys) same ∙ once.0 in
-      rw (e, no_more) here)
-      (λ e. rw e (ap (λ o. cond (list_any (eqb y) ys) (f o) o) (get_or-set_other objects z y (f (object_of objects z)) None (eqb-false y z e))))
-      (cases_Bool (eqb y z))
 
 -- one cell more in a row, before its last ones
 record Placed (k : ℕ) (c : Cell) (old new : List Cell) : Type 0 where
@@ -365,7 +318,7 @@ module _ (w : World) (x : ℕ) (name : List ℕ) (cell : Cell) (f : IsWellFormed
       defined_along (length (cells_of w.objects (above_of w.inheritance x))) name cell w.objects (met walk) ≡ refitted (with_definition_on w.objects x name cell) w.inheritance
   defined_is [] wd = absurd (omega (arith, wd.begins))
   defined_is (s ∷ rest) wd =
-      let single = counted_once (met (s ∷ rest)) few in
+      let single = walk_once w.inheritance x (s ∷ rest) wd in
       let members = walk_members w.objects w.inheritance f.parents x valid (s ∷ rest) wd w.objects refl in
       ap (λ k. defined_along k name cell w.objects (met (s ∷ rest))) behind_is ∙
       ap (λ y. defined_along cells_behind name cell w.objects (y ∷ met rest)) wd.first ∙
@@ -374,6 +327,3 @@ module _ (w : World) (x : ℕ) (name : List ℕ) (cell : Cell) (f : IsWellFormed
       (ap (λ q. list_any (eqb q) (met rest)) (sym wd.first) ∙ single.0)
       single.1
       (All-tail (λ y. y < length w.objects) s.node (met rest) members)
-    where
-      few : (y : ℕ) → count_by (eqb y) (met (s ∷ rest)) ≤ 1
-      few y = let one = wd.once y in ⊎_elim (λ e. let n : count_by (eqb y) (met (s ∷ rest)) ≡ 1 = one ∙ (rw e refl) in omega (arith, n)) (λ e. let n : count_by (eqb y) (met (s ∷ rest)) ≡ 0 = one ∙ (rw e refl) in omega (arith, n)) (cases_Bool (is_within w.inheritance y x))

@@ -61,10 +61,6 @@ cells_short t (c ∷ cs) =
     let rest = cells_short t cs in
     ⊎_elim (λ e. rw e (omega (arith, rest))) (λ e. rw e (omega (arith, rest))) (cases_Bool (t c))
 
-filtered_twice : (t : Cell → Bool) (cs : List Cell) → filter t (filter t cs) ≡ filter t cs
-filtered_twice t [] = refl
-filtered_twice t (c ∷ cs) = ⊎_elim (λ e. rw e (rw e (ap (λ ds. c ∷ ds) (filtered_twice t cs)))) (λ e. rw e (filtered_twice t cs)) (cases_Bool (t c))
-
 kept_cells : (k : Key) (cs : List Cell) → All (λ (c : Cell). eqb c.definer k.0 ≡ false) cs → filter (λ c. not (is_key k c)) cs ≡ cs
 kept_cells k [] all = refl
 kept_cells k (c ∷ cs) all =
@@ -126,10 +122,6 @@ fine_unnamed name (Some o) f = record {
 kept_whole : (k : Key) (o : Option Object) → All (λ (c : Cell). eqb c.definer k.0 ≡ false) (unwrap_or o nothing).cells → without_cell k o ≡ o
 kept_whole k None all = refl
 kept_whole k (Some o) all = ap (λ cs. Some (let r : Object = record o { cells = cs } in r)) (kept_cells k o.cells all)
-
-lost_twice : (k : Key) (o : Option Object) → without_cell k (without_cell k o) ≡ without_cell k o
-lost_twice k None = refl
-lost_twice k (Some o) = ap (λ cs. Some (let r : Object = record o { cells = cs } in r)) (filtered_twice (λ c. not (is_key k c)) o.cells)
 
 module _ (w : World) (x : ℕ) (name : List ℕ) (f : IsWellFormed w) (valid : IsSome (object_of w.objects x)) where
   -- what stands at each number afterwards
@@ -216,7 +208,7 @@ module _ (w : World) (x : ℕ) (name : List ℕ) (f : IsWellFormed w) (valid : I
   lost_is walk d start is =
       let before = set w.objects x (without_name name (object_of w.objects x)) in
       ap (λ os. changed_along (without_cell (x, name)) os (met walk)) is ∙
-      all_along (without_cell (x, name)) (lost_twice (x, name)) before w.inheritance x walk d
+      all_along (without_cell (x, name)) before w.inheritance x walk d
       (walk_members w.objects w.inheritance f.parents x valid walk d before (length-set w.objects x (without_name name (object_of w.objects x)))) elsewhere
     where
       elsewhere : (y : ℕ) → is_within w.inheritance y x ≡ false → without_cell (x, name) (object_of (set w.objects x (without_name name (object_of w.objects x))) y) ≡ object_of (set w.objects x (without_name name (object_of w.objects x))) y

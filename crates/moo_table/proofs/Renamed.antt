@@ -1,31 +1,31 @@
 -- A definition renamed keeps a world well formed.
-use Rattle.std.proofs.Common.{◌≡◌, ℕ, ◌<◌, List, [], ◌∷◌, ◌++◌, Option, Some, None, Bool, true, false, ◌&&◌, cond, eqb, refl, sym, ◌∙◌, ap, subst, ⊎_elim, arith, length, get_or, map, IsSome, FitsSigned, w32}
+use Rattle.std.proofs.Common.{◌≡◌, ℕ, ◌<◌, List, [], ◌∷◌, ◌++◌, Option, Some, None, Bool, true, false, ◌&&◌, cond, eqb, refl, sym, ◌∙◌, ap, ⊎_elim, arith, length, get_or, map, IsSome, FitsSigned, w32}
 use Rattle.std.specs.List.{list_any, All}
 use Rattle.std.specs.Option.{option_map, unwrap_or}
 use Rattle.std.proofs.lemmas.List.{get_or-set_same, get_or-set_other, length-set, length-map, get_or-map, get_or_past, get_or_default, same_lists, map-append}
 use Rattle.std.proofs.lemmas.List.Elements.{All-cons, All-nil, All-head, All-tail}
-use Rattle.std.proofs.lemmas.Bool.{cases_Bool, cases_lt, cases_eq, eq-eqb, ne_eqb, or_parts, or_from, false≢true}
+use Rattle.std.proofs.lemmas.Bool.{cases_Bool, cases_lt, cases_eq, eq-eqb, ne_eqb, and_parts, or_parts, or_from, false≢true}
 use Rattle.moo_value.specs.Compare.{folded}
 use Rattle.moo_value.specs.Size.{IsString}
 use Rattle.moo_forest.specs.Forest.{ancestors, is_within}
 use Rattle.moo_forest.specs.Walk.{met, IsWalkDown}
 use Rattle.moo_forest.specs.declared.walk.Step.{Step}
-use Rattle.moo_forest.proofs.Walking.{node_met}
 use Rattle.moo_object.specs.Names.{same_name}
 use Rattle.moo_object.proofs.Names.{same_name-true, same_name-false, eq-same_name, ne-same_name}
 use Rattle.moo_object.specs.Objects.{Object}
 use Rattle.moo_object.specs.Cells.{Cell, Key, key_of, is_key, at_key, renamed}
-use Rattle.moo_table.specs.World.{World, nothing, object_of, thing_of, keys_defined_on, keys_along, definitions, has_twice, with_cells, IsFilled, IsWellFormed, IsFine, HasStored}
-use Rattle.moo_table.specs.Steps.{with_rows, IsRenamable}
+use Rattle.moo_object.specs.Rows.{with_new_name}
+use Rattle.moo_table.specs.World.{World, nothing, object_of, thing_of, keys_defined_on, keys_along, definitions, has_twice, IsFilled, IsWellFormed, IsFine, HasStored}
+use Rattle.moo_table.specs.Steps.{changed_along, with_new_cell_name, IsRenamable}
 use Rattle.moo_table.specs.Changes.{changed_on}
 use Rattle.moo_table.specs.Properties.{is_taken, has_name}
-use Rattle.moo_table.specs.Edits.{respelled, with_respelled, renamed_cells, with_renamed_cell}
+use Rattle.moo_table.specs.Edits.{respelled, with_respelled, with_renamed_cell}
 use Rattle.moo_table.specs.Renames.{after_rename}
 use Rattle.moo_table.proofs.Counting.{programs_renamed}
 use Rattle.moo_table.proofs.Changing.{valid_within}
-use Rattle.moo_table.proofs.Joining.{within_low, walk_low}
+use Rattle.moo_table.proofs.Joining.{within_low}
 use Rattle.moo_table.proofs.Refitting.{joined_kept, none_passes, definer_elsewhere, key_within}
-use Rattle.moo_table.proofs.Rowing.{rows_put, length_rows, walk_lists}
+use Rattle.moo_table.proofs.Along.{all_along, walk_members}
 use Rattle.moo_table.proofs.Edited.{each_at}
 use Rattle.moo_table.proofs.Respelling.{all_respelled}
 
@@ -151,7 +151,7 @@ mapped_none : (f : Object → Object) (o : Option Object) → option_map f o ≡
 mapped_none f None h = refl
 mapped_none f (Some o) h = cc
 
-renamed_thing : (k : Key) (n : List ℕ) (o : Option Object) → (unwrap_or (option_map (with_renamed_cell k n) o) nothing).cells ≡ renamed_cells k n (unwrap_or o nothing)
+renamed_thing : (k : Key) (n : List ℕ) (o : Option Object) → (unwrap_or (option_map (with_renamed_cell k n) o) nothing).cells ≡ map (at_key k (renamed n)) (unwrap_or o nothing).cells
 renamed_thing k n None = refl
 renamed_thing k n (Some o) = refl
 
@@ -206,18 +206,25 @@ object_untouched : (k : Key) (n : List ℕ) (o : Option Object) → All (λ c. i
 object_untouched k n None all = refl
 object_untouched k n (Some o) all = ap (λ cs. Some (let r : Object = record o { cells = cs } in r)) (cells_untouched k n o.cells all)
 
--- a new row put in place
-row_renamed : (k : Key) (n : List ℕ) (o : Option Object) (cells : List Cell) → cells ≡ renamed_cells k n (unwrap_or o nothing) → with_cells o cells ≡ option_map (with_renamed_cell k n) o
-row_renamed k n None cells is = refl
-row_renamed k n (Some o) cells is = ap (λ cs. Some (let r : Object = record o { cells = cs } in r)) is
+-- where no name stands twice, the first cell for a definition is the only one
+first_is_only : (k : Key) (n : List ℕ) (cells : List Cell) → has_twice (names_in (map key_of cells)) ≡ false → with_new_name k n cells ≡ map (at_key k (renamed n)) cells
+first_is_only k n [] once = refl
+first_is_only k n (c ∷ cs) once =
+    let parts = or_parts (list_any (same_name c.name) (names_in (map key_of cs))) (has_twice (names_in (map key_of cs))) once in
+    ⊎_elim
+    (λ e.
+    let name : c.name ≡ k.1 = same_name-true c.name k.1 (and_parts (eqb c.definer k.0) (same_name c.name k.1) e).1 in
+    let apart = key_within (λ j. is_that k j ≡ false) cs (names_apart k c.name (map key_of cs) name parts.0) in
+    rw e (ap (λ ds. renamed n c ∷ ds) (sym (cells_untouched k n cs apart))))
+    (λ e. rw e (ap (λ ds. c ∷ ds) (first_is_only k n cs parts.1)))
+    (cases_Bool (is_key k c))
+
+only_renamed : (k : Key) (n : List ℕ) (o : Option Object) → has_twice (names_in (map key_of (unwrap_or o nothing).cells)) ≡ false → option_map (with_new_cell_name k n) o ≡ option_map (with_renamed_cell k n) o
+only_renamed k n None once = refl
+only_renamed k n (Some o) once = ap (λ cs. Some (let r : Object = record o { cells = cs } in r)) (first_is_only k n o.cells once)
 
 elsewhere_apart : (x : ℕ) (name : List ℕ) (ks : List Key) → All (λ (k : Key). eqb k.0 x ≡ false) ks → All (λ j. is_that (x, name) j ≡ false) ks
 elsewhere_apart x name ks all i d h = let off : eqb (get_or ks i d).0 x ≡ false = all i d h in rw off refl
-
--- the rows as the code makes them
-pub rows_met : (objects : List (Option Object)) (k : Key) (n : List ℕ) (walk : List Step) → map (λ (s : Step). renamed_cells k n (thing_of objects s.node)) walk ≡ map (λ y. renamed_cells k n (thing_of objects y)) (met walk)
-rows_met objects k n [] = refl
-rows_met objects k n (s ∷ walk) = ap (λ rows. renamed_cells k n (thing_of objects s.node) ∷ rows) (rows_met objects k n walk)
 
 module _ (w : World) (x : ℕ) (name n : List ℕ) (f : IsWellFormed w) (valid : IsSome (object_of w.objects x)) where
   abbrev before : List (Option Object)
@@ -340,32 +347,27 @@ module _ (w : World) (x : ℕ) (name n : List ℕ) (f : IsWellFormed w) (valid :
         few_programs = omega (arith, programs_renamed w.objects x key name (folded n) n (valid_within w.objects x valid), f.few_programs);
       }
 
-  -- new rows along a walk rename all cells
-  pub rows_renamed : (walk : List Step) → IsWalkDown w.inheritance x walk → with_rows before (met walk) (map (λ y. renamed_cells key (folded n) (thing_of w.objects y)) (met walk)) ≡ after
-  rows_renamed walk d =
-      let row : ℕ → List Cell = λ y. renamed_cells key (folded n) (thing_of w.objects y) in
-      let long = length_rows before (met walk) (map row (met walk)) in
-      let mapped = length-map before (option_map (with_renamed_cell key (folded n))) in
-      same_lists (with_rows before (met walk) (map row (met walk))) after (long ∙ sym mapped)
-      (λ y e h.
-      get_or_default (with_rows before (met walk) (map row (met walk))) y e None h ∙ rows_put before row (met walk) members y ∙
-      ap (λ b. cond b (with_cells (object_of before y) (row y)) (object_of before y)) (walk_lists w.inheritance x walk d y) ∙
-      ⊎_elim
-      (λ on. rw on (row_renamed key (folded n) (object_of before y) (row y) (ap (map (at_key key (renamed (folded n)))) (sym (cells_before y)))))
-      (λ off. rw off (sym (object_untouched key (folded n) (object_of before y) (apart_cells y off))))
-      (cases_Bool (is_within w.inheritance y x)) ∙
-      sym (get_or_default after y e None (omega (arith, long, mapped)) ∙ at y))
-    where
-      apart_cells : (y : ℕ) → is_within w.inheritance y x ≡ false → All (λ c. is_that key (key_of c) ≡ false) (thing_of before y).cells
-      apart_cells y off =
-          let cells = cells_before y in
-          rw cells (key_within (λ j. is_that key j ≡ false) (thing_of w.objects y).cells (let keys = f.stocked.exact_cells y in rw keys (apart_at y off)))
+  -- the first cell for the definition is the only one
+  only_at : (y : ℕ) → option_map (with_new_cell_name key (folded n)) (object_of before y) ≡ option_map (with_renamed_cell key (folded n)) (object_of before y)
+  only_at y = only_renamed key (folded n) (object_of before y)
+      (ap (λ cs. has_twice (names_in (map key_of cs))) (cells_before y) ∙ ap (λ ks. has_twice (names_in ks)) (f.stocked.exact_cells y) ∙ f.stocked.names_once y)
 
-      members : All (λ y. y < length before) (met walk)
-      members k e h =
-          let many = length-map walk (λ (s : Step). s.node) in
-          let small : k < length walk = omega (arith, many) in
-          let low = walk_low w.objects w.inheritance f.parents x valid walk d k small in
-          let place = get_or_default (met walk) k e 0 h ∙ node_met walk k small in
-          let same = length-set w.objects x (option_map (with_respelled name n) (object_of w.objects x)) in
-          subst (λ y. y < length before) (sym place) (omega (arith, low, same))
+  -- other names along a walk rename all cells
+  pub along_renamed : (walk : List Step) → IsWalkDown w.inheritance x walk → changed_along (option_map (with_new_cell_name key (folded n))) before (met walk) ≡ after
+  along_renamed walk d =
+      all_along (option_map (with_new_cell_name key (folded n))) before w.inheritance x walk d
+      (walk_members w.objects w.inheritance f.parents x valid walk d before (length-set w.objects x (option_map (with_respelled name n) (object_of w.objects x)))) elsewhere ∙
+      same_lists (map (option_map (with_new_cell_name key (folded n))) before) after
+      (length-map before (option_map (with_new_cell_name key (folded n))) ∙ sym (length-map before (option_map (with_renamed_cell key (folded n)))))
+      (λ y e h.
+      let mapped = length-map before (option_map (with_new_cell_name key (folded n))) in
+      let renamed = length-map before (option_map (with_renamed_cell key (folded n))) in
+      let low : y < length before = omega (arith, mapped) in
+      get_or_default (map (option_map (with_new_cell_name key (folded n))) before) y e None h ∙ get_or-map (option_map (with_new_cell_name key (folded n))) before y None None low ∙
+      only_at y ∙ sym (get_or_default after y e None (omega (arith, mapped, renamed)) ∙ at y))
+    where
+      elsewhere : (y : ℕ) → is_within w.inheritance y x ≡ false → option_map (with_new_cell_name key (folded n)) (object_of before y) ≡ object_of before y
+      elsewhere y off =
+          let cells = cells_before y in
+          only_at y ∙ object_untouched key (folded n) (object_of before y)
+          (rw cells (key_within (λ j. is_that key j ≡ false) (thing_of w.objects y).cells (let keys = f.stocked.exact_cells y in rw keys (apart_at y off))))

@@ -3,7 +3,7 @@ use Rattle.std.specs.Prelude.{ℕ, ℤ, List, [], ◌∷◌, map, Option, Some, 
 use Rattle.moo_value.specs.Tree.{Tree, integer, object, error, string, list}
 use Rattle.moo_value.specs.Compare.{folded}
 use Rattle.moo_object.specs.Names.{same_name}
-use Rattle.moo_object.specs.Cells.{Cell, Key, at_key, emptied, with_info, renamed}
+use Rattle.moo_object.specs.Cells.{Key, at_key, emptied, with_info, renamed}
 use Rattle.moo_object.specs.Objects.{Object}
 use Rattle.moo_object.specs.declared.cell.PropPerms.{PropPerms}
 use Rattle.moo_object.specs.declared.flags.Flags.{Flags}
@@ -65,8 +65,5 @@ abbrev pub with_respelled : List ℕ → List ℕ → Object → Object
 with_respelled name spelling o = record o { defined = respelled name spelling o.defined }
 
 -- an object whose cell for a definition has another name, whose letters are folded
-abbrev pub renamed_cells : Key → List ℕ → Object → List Cell
-renamed_cells k name o = map (at_key k (renamed name)) o.cells
-
 abbrev pub with_renamed_cell : Key → List ℕ → Object → Object
-with_renamed_cell k name o = record o { cells = renamed_cells k name o }
+with_renamed_cell k name o = record o { cells = map (at_key k (renamed name)) o.cells }

@@ -12,8 +12,8 @@ use Rattle.moo_value.specs.Size.{IsString}
 use Rattle.moo_forest.specs.Forest.{Links}
 use Rattle.moo_forest.specs.Walk.{step_at, met}
 use Rattle.moo_forest.specs.declared.walk.Step.{Step}
-use Rattle.moo_object.specs.Cells.{Cell, is_named, key_of, cleared}
-use Rattle.moo_object.specs.Rows.{put_before, taken_before}
+use Rattle.moo_object.specs.Cells.{Cell, Key, is_named, key_of, cleared}
+use Rattle.moo_object.specs.Rows.{put_before, taken_before, with_new_name}
 use Rattle.moo_object.specs.Names.{same_name}
 use Rattle.moo_object.specs.Objects.{Object}
 use Rattle.moo_table.specs.World.{World, fitted_over, with_cells, object_of, thing_of, refitted, most, HasStored}
@@ -63,6 +63,10 @@ with_own_cell k name cell (Some o) = Some (record o { defined = o.defined ++ nam
 abbrev pub without_cell_before : ℕ → Option Object → Option Object
 without_cell_before k None = None
 without_cell_before k (Some o) = Some (record o { cells = taken_before k o.cells })
+
+-- an object with another name, whose letters are folded, in its first cell for a definition
+abbrev pub with_new_cell_name : Key → List ℕ → Object → Object
+with_new_cell_name k name o = record o { cells = with_new_name k name o.cells }
 
 -- the rows along a walk, put in place, fit the objects to a tree
 pub record AreReady (objects : List (Option Object)) (tree : List Links) (walk : List Step) (rows : List (List Cell)) : Type 0 where

@@ -1,49 +1,54 @@
 //! A definition of another name: on the object that has it, and in the cells for it.
 
-ghost use Rattle.std.specs.Prelude.{◌≡◌, ◌<◌, ℕ, length, map, IfOk};
-ghost use Rattle.std.specs.Option.{option_map, unwrap_or};
+ghost use Rattle.std.specs.Prelude.{◌≡◌, ◌<◌, ℕ, List, length, vec_len, map, IfOk};
+ghost use Rattle.std.specs.Option.{option_map};
 ghost use Rattle.moo_value.specs.Compare.{folded};
-ghost use Rattle.moo_forest.specs.Walk.{step_at};
+ghost use Rattle.moo_forest.specs.Walk.{met, step_at};
 ghost use Rattle.moo_forest.specs.declared.walk.Step.{Step as WalkStep};
-ghost use Rattle.moo_table.specs.World.{nothing, thing_of};
-ghost use Rattle.moo_table.specs.Edits.{renamed_cells, with_respelled};
+ghost use Rattle.moo_table.specs.Edits.{with_respelled};
+ghost use Rattle.moo_table.specs.Steps.{changed_along, with_new_cell_name};
 
 use moo_forest::Step;
-use moo_object::{Object, Row};
+use moo_object::Object;
 use moo_value::MooStr;
 use std::alloc::{AllocError, Global};
 
-/// The rows of the objects on a walk, with another name in the cells for a definition.
-pub fn renamed_rows(
-    objects: &[Option<Object>],
-    alloc: Global,
+/// A name once for each object on a walk. The copies share their bytes.
+pub fn names_along(alloc: Global, walk: &[Step], name: &MooStr) -> Result<Vec<MooStr>, AllocError>
+    ensures { IfOk result (λ names. names.items ≡ map (λ (s : WalkStep). name.now) walk.now) }
+{
+    let mut names = Vec::with_capacity(alloc, walk.len())?;
+    for _step in walk {
+        names.push(name.try_clone()?)?;
+    }
+    Ok(names)
+}
+
+/// Gives the cell for a definition another name in each object on a walk, which takes one of these names.
+pub fn rename_along(
+    objects: &mut Vec<Option<Object>>,
     walk: &[Step],
     definer: usize,
     name: &[u8],
-    new_name: &MooStr,
-) -> Result<Vec<Row>, AllocError>
-    requires { (k : ℕ) → k < length walk.now → (step_at walk.now k).node < length objects.now }
-    ensures { IfOk result (λ rows. rows.items ≡ map (λ (s : WalkStep). renamed_cells (definer, folded name.now) (folded new_name.now) (thing_of objects.now s.node)) walk.now) }
+    mut names: Vec<MooStr>,
+)
+    requires { (k : ℕ) → k < length walk.now → (step_at walk.now k).node < vec_len objects.old }
+    ensures { (n : List ℕ) → names.items ≡ map (λ (s : WalkStep). n) walk.now →
+        objects.new.items ≡ changed_along (option_map (with_new_cell_name (definer, folded name.now) (folded n))) objects.old.items (met walk.now) }
 {
-    let mut rows = Vec::new(alloc);
     for step in walk {
-        rows.push(renamed_row(&objects[step.node], alloc, definer, name, new_name)?)?;
+        let Some(new_name) = names.pop() else {
+            return;
+        };
+        rename_in(&mut objects[step.node], definer, name, new_name);
     }
-    Ok(rows)
 }
 
-fn renamed_row(
-    slot: &Option<Object>,
-    alloc: Global,
-    definer: usize,
-    name: &[u8],
-    new_name: &MooStr,
-) -> Result<Row, AllocError>
-    ensures { IfOk result (λ row. row ≡ renamed_cells (definer, folded name.now) (folded new_name.now) (unwrap_or slot.now nothing)) }
+fn rename_in(slot: &mut Option<Object>, definer: usize, name: &[u8], new_name: MooStr)
+    ensures { slot.new ≡ option_map (with_new_cell_name (definer, folded name.now) (folded new_name)) slot.old }
 {
-    match slot {
-        Some(object) => object.renamed_row(alloc, definer, name, new_name),
-        None => Ok(Row::new(alloc)),
+    if let Some(object) = slot {
+        object.rename_cell(definer, name, new_name);
     }
 }
 

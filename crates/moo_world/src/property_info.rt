@@ -17,9 +17,8 @@ use crate::fault::WorldFault;
 use moo_object::{PropPerms, built_in, same_name};
 use moo_table::defining::some_named;
 use moo_table::editing::set_info_in;
-use moo_table::fitting::put_rows;
 use moo_table::properties::definer_in;
-use moo_table::renaming::{renamed_rows, respell_in};
+use moo_table::renaming::{names_along, rename_along, respell_in};
 use moo_value::{ErrorCode, MooStr};
 use std::alloc::{AllocError, Global};
 
@@ -172,10 +171,10 @@ impl World {
         ensures err { OnErr result (self.new ≡ self.old) }
     {
         let walk = self.inheritance.walk_down(alloc, x)?;
-        let rows = renamed_rows(&self.objects, alloc, &walk, x, name, new_name)?;
+        let names = names_along(alloc, &walk, new_name)?;
         let spelling = new_name.try_clone()?;
         respell_in(&mut self.objects[x], name, spelling);
-        put_rows(&mut self.objects, &walk, rows);
+        rename_along(&mut self.objects, &walk, x, name, names);
         Ok(())
     }
 

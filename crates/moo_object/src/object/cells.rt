@@ -3,13 +3,13 @@ ghost use Rattle.std.specs.Prelude.{◌≡◌, ◌<◌, ◌==◌, IfOk, OnOk, On
 ghost use Rattle.std.specs.Option.{ForSome, option_and_then};
 ghost use Rattle.moo_value.specs.Compare.{folded};
 ghost use Rattle.moo_value.specs.View.{tree};
-ghost use Rattle.moo_object.specs.Cells.{AreDistinct, is_key, cell_at, cleared, key_of, with_value, at_key, emptied, with_info, renamed};
-ghost use Rattle.moo_object.specs.Rows.{put_before, taken_before};
+ghost use Rattle.moo_object.specs.Cells.{AreDistinct, is_key, cell_at, cleared, key_of, with_value, at_key, emptied, with_info};
+ghost use Rattle.moo_object.specs.Rows.{put_before, taken_before, with_new_name};
 ghost use Rattle.moo_object.specs.Objects.{fitted_cell, fitted_row};
 
 use crate::cell::{PropCell, PropPerms};
 use crate::object::Object;
-use crate::row::{Row, absent_definer, place_for, renamed_cell};
+use crate::row::{Row, absent_definer, place_for};
 use moo_value::{MooStr, Value};
 use std::alloc::{AllocError, Global};
 
@@ -134,21 +134,11 @@ impl Object {
         self.cells.remove(behind);
     }
 
-    /// The cells, with another name in the cell for a definition.
-    pub fn renamed_row(
-        &self,
-        alloc: Global,
-        definer: usize,
-        name: &[u8],
-        new_name: &MooStr,
-    ) -> Result<Row, AllocError>
-        ensures { IfOk result (λ row. row ≡ map (at_key (definer, folded name.now) (renamed (folded new_name.now))) self.now.cells) }
+    /// Gives the cell for a definition another name: the first such cell, if there are more.
+    pub fn rename_cell(&mut self, definer: usize, name: &[u8], new_name: MooStr)
+        ensures { self.new ≡ record self.old { cells = with_new_name (definer, folded name.now) (folded new_name) self.old.cells } }
     {
-        let mut row = Vec::with_capacity(alloc, self.cells.as_slice().len())?;
-        for cell in self.cells.as_slice() {
-            row.push(renamed_cell(cell, definer, name, new_name)?)?;
-        }
-        Ok(Row::from_cells(row))
+        self.cells.rename(definer, name, new_name);
     }
 
     /// Takes the object's cell for a definition away.

@@ -1,19 +1,27 @@
-use Rattle.std.proofs.Common.{sym, ◌∙◌, ap, subst, IsSome, map, set}
+use Rattle.std.proofs.Common.{ℕ, ◌<◌, sym, ◌∙◌, ap, subst, arith, length, IsSome, map, set}
 use Rattle.std.specs.Option.{option_map}
 use Rattle.moo_value.specs.Compare.{folded}
-use Rattle.moo_forest.specs.Walk.{met}
+use Rattle.moo_forest.specs.Walk.{met, step_at}
 use Rattle.moo_forest.specs.declared.walk.Step.{Step}
 use Rattle.moo_object.specs.Cells.{Key}
-use Rattle.moo_table.specs.World.{World, object_of, thing_of}
+use Rattle.moo_table.specs.World.{World, object_of}
 use Rattle.moo_table.specs.Changes.{changed_on}
-use Rattle.moo_table.specs.Steps.{with_rows, IsRenamable}
-use Rattle.moo_table.specs.Edits.{with_respelled, renamed_cells}
+use Rattle.moo_table.specs.Steps.{changed_along, with_new_cell_name, IsRenamable}
+use Rattle.moo_table.specs.Edits.{with_respelled}
 use Rattle.moo_table.specs.Renames.{after_rename}
 use Rattle.moo_table.proofs.Changing.{valid_within}
 use Rattle.moo_table.proofs.Counting.{programs_renamed}
+use Rattle.moo_table.proofs.Joining.{walk_low}
 use Rattle.moo_table.proofs.Single.{slot_changed}
-use Rattle.moo_table.proofs.Renamed.{rows_met, rows_renamed, renamed_well_formed, renamed_valid}
+use Rattle.moo_table.proofs.Renamed.{along_renamed, renamed_well_formed, renamed_valid}
 use Rattle.moo_world.proofs.World.rename.Goals as goal
+
+pub rename_along-requires : goal.rename_along-requires
+rename_along-requires c =
+    let w : World = record { objects = c.self.inside.objects.items; inheritance = c.self.inside.inheritance; containment = c.self.inside.containment; players = c.self.inside.players.items } in
+    let valid = subst (λ v. IsSome (object_of v.objects c.args.x)) (sym c.self.view_is) c.requires.object in
+    let each = subst (λ ys. (k : ℕ) → k < length ys → (step_at ys k).node < length w.objects) (sym c.deref-2.ensures.value) (walk_low w.objects w.inheritance c.self.invariant.formed.parents c.args.x valid c.in_ok-walk.walk.items c.in_ok-walk.ensures) in
+    λ k h. (let low = each k h in omega (arith, low, c.self.inside.objects.ok.0))
 
 pub invariant_of-self : goal.invariant_of-self
 invariant_of-self c =
@@ -26,11 +34,10 @@ invariant_of-self c =
     let allowed = subst (λ v. IsRenamable v c.args.x name n) (sym c.self.view_is) c.requires.allowed in
     let wrote = c.respell_in.ensures ∙ ap (λ s. option_map (with_respelled name s) c.index_mut.result.now) c.in_ok-spelling.ensures in
     let start = slot_changed w.objects c.args.x (with_respelled name n) c.index_mut.result.now c.respell_in.new.slot valid c.index_mut.ensures.value wrote in
-    let rows = c.in_ok-rows.ensures ∙ ap (λ ys. map (λ (s : Step). renamed_cells k (folded n) (thing_of c.deref.result.now s.node)) ys) c.deref-2.ensures.value ∙
-    ap (λ os. map (λ (s : Step). renamed_cells k (folded n) (thing_of os s.node)) walk) c.deref.ensures.value ∙ rows_met w.objects k (folded n) walk in
-    let fit = c.put_rows.ensures ∙ ap (λ ys. with_rows (set w.objects c.args.x c.respell_in.new.slot) (met ys) c.in_ok-rows.rows.items) c.deref-3.ensures.value ∙
-    ap (λ os. with_rows os (met walk) c.in_ok-rows.rows.items) start ∙ ap (with_rows (changed_on w.objects c.args.x (with_respelled name n)) (met walk)) rows ∙
-    rows_renamed w c.args.x name n c.self.invariant.formed valid walk c.in_ok-walk.ensures in
+    let names = c.in_ok-names.ensures ∙ ap (map (λ (s : Step). n)) (c.deref.ensures.value ∙ sym c.deref-2.ensures.value) in
+    let fit = c.rename_along.ensures n names ∙ ap (λ ys. changed_along (option_map (with_new_cell_name k (folded n))) (set w.objects c.args.x c.respell_in.new.slot) (met ys)) c.deref-2.ensures.value ∙
+    ap (λ os. changed_along (option_map (with_new_cell_name k (folded n))) os (met walk)) start ∙
+    along_renamed w c.args.x name n c.self.invariant.formed valid walk c.in_ok-walk.ensures in
     rw fit (record { formed = (renamed_well_formed w c.args.x name n c.self.invariant.formed valid allowed); counted = c.self.invariant.counted ∙ sym (programs_renamed w.objects c.args.x k name (folded n) n (valid_within w.objects c.args.x valid)) })
 
 pub returns-clause-ok : goal.returns-clause-ok
@@ -43,11 +50,10 @@ returns-clause-ok c =
     let walk = c.in_ok-walk.walk.items in
     let wrote = c.respell_in.ensures ∙ ap (λ s. option_map (with_respelled name s) c.index_mut.result.now) c.in_ok-spelling.ensures in
     let start = slot_changed w.objects c.args.x (with_respelled name n) c.index_mut.result.now c.respell_in.new.slot valid c.index_mut.ensures.value wrote in
-    let rows = c.in_ok-rows.ensures ∙ ap (λ ys. map (λ (s : Step). renamed_cells k (folded n) (thing_of c.deref.result.now s.node)) ys) c.deref-2.ensures.value ∙
-    ap (λ os. map (λ (s : Step). renamed_cells k (folded n) (thing_of os s.node)) walk) c.deref.ensures.value ∙ rows_met w.objects k (folded n) walk in
-    let fit = c.put_rows.ensures ∙ ap (λ ys. with_rows (set w.objects c.args.x c.respell_in.new.slot) (met ys) c.in_ok-rows.rows.items) c.deref-3.ensures.value ∙
-    ap (λ os. with_rows os (met walk) c.in_ok-rows.rows.items) start ∙ ap (with_rows (changed_on w.objects c.args.x (with_respelled name n)) (met walk)) rows ∙
-    rows_renamed w c.args.x name n c.self.invariant.formed valid walk c.in_ok-walk.ensures in
+    let names = c.in_ok-names.ensures ∙ ap (map (λ (s : Step). n)) (c.deref.ensures.value ∙ sym c.deref-2.ensures.value) in
+    let fit = c.rename_along.ensures n names ∙ ap (λ ys. changed_along (option_map (with_new_cell_name k (folded n))) (set w.objects c.args.x c.respell_in.new.slot) (met ys)) c.deref-2.ensures.value ∙
+    ap (λ os. changed_along (option_map (with_new_cell_name k (folded n))) os (met walk)) start ∙
+    along_renamed w c.args.x name n c.self.invariant.formed valid walk c.in_ok-walk.ensures in
     rw fit (ap (λ v. after_rename v c.args.x name n) c.self.view_is)
 
 pub returns-clause-valid : goal.returns-clause-valid
@@ -60,9 +66,8 @@ returns-clause-valid c =
     let walk = c.in_ok-walk.walk.items in
     let wrote = c.respell_in.ensures ∙ ap (λ s. option_map (with_respelled name s) c.index_mut.result.now) c.in_ok-spelling.ensures in
     let start = slot_changed w.objects c.args.x (with_respelled name n) c.index_mut.result.now c.respell_in.new.slot valid c.index_mut.ensures.value wrote in
-    let rows = c.in_ok-rows.ensures ∙ ap (λ ys. map (λ (s : Step). renamed_cells k (folded n) (thing_of c.deref.result.now s.node)) ys) c.deref-2.ensures.value ∙
-    ap (λ os. map (λ (s : Step). renamed_cells k (folded n) (thing_of os s.node)) walk) c.deref.ensures.value ∙ rows_met w.objects k (folded n) walk in
-    let fit = c.put_rows.ensures ∙ ap (λ ys. with_rows (set w.objects c.args.x c.respell_in.new.slot) (met ys) c.in_ok-rows.rows.items) c.deref-3.ensures.value ∙
-    ap (λ os. with_rows os (met walk) c.in_ok-rows.rows.items) start ∙ ap (with_rows (changed_on w.objects c.args.x (with_respelled name n)) (met walk)) rows ∙
-    rows_renamed w c.args.x name n c.self.invariant.formed valid walk c.in_ok-walk.ensures in
+    let names = c.in_ok-names.ensures ∙ ap (map (λ (s : Step). n)) (c.deref.ensures.value ∙ sym c.deref-2.ensures.value) in
+    let fit = c.rename_along.ensures n names ∙ ap (λ ys. changed_along (option_map (with_new_cell_name k (folded n))) (set w.objects c.args.x c.respell_in.new.slot) (met ys)) c.deref-2.ensures.value ∙
+    ap (λ os. changed_along (option_map (with_new_cell_name k (folded n))) os (met walk)) start ∙
+    along_renamed w c.args.x name n c.self.invariant.formed valid walk c.in_ok-walk.ensures in
     rw fit (renamed_valid w c.args.x name n c.self.invariant.formed valid)

@@ -1,5 +1,5 @@
 -- Reading an object line by line.
-use Rattle.std.specs.Prelude.{ℕ, ℤ, pos, negsuc, zero, suc, ◌/◌, ◌%◌, ◌==◌, ◌&&◌, not, nat_le, Bool, List, [], ◌∷◌, ◌++◌, map, length, codes, Option, Some, None, option_map, Result, Ok, Err, if◌then◌else◌}
+use Rattle.std.specs.Prelude.{ℕ, ℤ, pos, negsuc, zero, suc, ◌/◌, ◌%◌, ◌==◌, ◌&&◌, not, nat_le, Bool, true, false, List, [], ◌∷◌, ◌++◌, map, length, codes, Option, Some, None, option_map, Result, Ok, Err, if◌then◌else◌}
 use Rattle.std.specs.Str.{bytes_eq}
 use Rattle.moo_value.specs.Tree.{Tree}
 use Rattle.moo_value.specs.View.{tree}
@@ -121,6 +121,11 @@ named_object b name = record { name = name; body = b }
 abbrev pub after_cell : Draft → Body → ℕ → Draft × Option Object
 after_cell d b zero = (fresh_draft, option_map (named_object b) d.name)
 after_cell d b (suc n) = (record d { awaited = awaited.Value; body = b; left = n }, None)
+
+-- what a draft gives: the object, where it is whole, and then the next one begins
+abbrev pub given_by : Bool → Draft → Draft × Option Object
+given_by true d = (fresh_draft, option_map (named_object d.body) d.name)
+given_by false d = (d, None)
 
 -- the verb that was read, with its preposition
 abbrev pub verb_made : PartVerb → ℤ → Line → Verb

@@ -1,10 +1,10 @@
 //! An object, read a line at a time.
-ghost use Rattle.std.specs.Prelude.{◌≡◌, ◌++◌, map, option_map, None, OnOk};
+ghost use Rattle.std.specs.Prelude.{◌≡◌, ◌++◌, true, map, option_map, None, OnOk};
 ghost use Rattle.moo_value.specs.View.{tree};
 ghost use Rattle.moo_dbvalue.specs.Lines.{Gives, limited};
 ghost use Rattle.moo_dbobject.specs.Objects.{object_of, verb_of};
 ghost use Rattle.moo_object.specs.Numbers.{preposition_specifier_number};
-ghost use Rattle.moo_dbobject.specs.ObjectReading.{draft_of, body_of, part_verb_of, fresh_draft, empty_body, is_clear, object_line, after_verb, after_name, after_cell, verbs_made, value_line_step};
+ghost use Rattle.moo_dbobject.specs.ObjectReading.{draft_of, body_of, part_verb_of, fresh_draft, empty_body, is_clear, object_line, after_verb, after_name, after_cell, given_by, verbs_made, value_line_step};
 
 use crate::field::{VerbBits, flags, note, preposition, property_perms, verb_bits};
 use crate::object_record::{ObjectRecord, PropertyRecord, VerbRecord};
@@ -176,19 +176,27 @@ impl ObjectReader {
         self.awaited = Awaited::PropertyName;
     }
 
-    fn expect_cells(&mut self, alloc: Global, left: u32) -> Option<ObjectRecord>
-        ensures { (draft_of self.new, option_map object_of result) ≡ after_cell (draft_of self.old) (body_of self.old.body) left }
+    // Tells whether the object is whole.
+    fn expect_cells(&mut self, left: u32) -> bool
+        ensures { given_by result (draft_of self.new) ≡ after_cell (draft_of self.old) (body_of self.old.body) left }
     {
         if left == 0 {
-            let ObjectReader { name, body, .. } = mem::replace(self, ObjectReader::new(alloc));
-            return match name {
-                Some(name) => Some(named(name, body)),
-                None => None,
-            };
+            return true;
         }
         self.left = left - 1;
         self.awaited = Awaited::Value;
-        None
+        false
+    }
+
+    /// The object, once it is whole. The next one begins.
+    pub fn take_object(&mut self, alloc: Global) -> Option<ObjectRecord>
+        ensures { (draft_of self.new, option_map object_of result) ≡ given_by true (draft_of self.old) }
+    {
+        let ObjectReader { name, body, .. } = mem::replace(self, ObjectReader::new(alloc));
+        match name {
+            Some(name) => Some(named(name, body)),
+            None => None,
+        }
     }
 
     fn is_clear(&self, line: &[u8]) -> bool
@@ -231,112 +239,112 @@ impl ObjectReader {
         Ok(())
     }
 
-    /// Takes the next line of an object, and gives the object at its last.
+    /// Takes the next line of an object, and tells whether it was the last.
     #[tactic(auto, unfolding(crate::specs::ObjectReading::object_step))]
-    pub fn step(&mut self, alloc: Global, line: &[u8]) -> Result<Option<ObjectRecord>, Refusal>
-        ensures { Gives (λ o. (draft_of self.new, option_map object_of o)) result (object_line limited (draft_of self.old) line.now) }
+    pub fn step(&mut self, alloc: Global, line: &[u8]) -> Result<bool, Refusal>
+        ensures { Gives (λ whole. given_by whole (draft_of self.new)) result (object_line limited (draft_of self.old) line.now) }
     {
         match self.awaited {
             Awaited::Name => {
                 self.name = Some(text(alloc, line)?);
                 self.awaited = Awaited::Note;
-                Ok(None)
+                Ok(false)
             }
             Awaited::Note => {
                 note(line)?;
                 self.awaited = Awaited::Flags;
-                Ok(None)
+                Ok(false)
             }
             Awaited::Flags => {
                 self.body.flags = flags(line)?;
                 self.awaited = Awaited::Owner;
-                Ok(None)
+                Ok(false)
             }
             Awaited::Owner => {
                 self.body.owner = number(line)?;
                 self.awaited = Awaited::Location;
-                Ok(None)
+                Ok(false)
             }
             Awaited::Location => {
                 self.body.location = number(line)?;
                 self.awaited = Awaited::Contents;
-                Ok(None)
+                Ok(false)
             }
             Awaited::Contents => {
                 self.body.contents = number(line)?;
                 self.awaited = Awaited::Next;
-                Ok(None)
+                Ok(false)
             }
             Awaited::Next => {
                 self.body.next = number(line)?;
                 self.awaited = Awaited::Parent;
-                Ok(None)
+                Ok(false)
             }
             Awaited::Parent => {
                 self.body.parent = number(line)?;
                 self.awaited = Awaited::Child;
-                Ok(None)
+                Ok(false)
             }
             Awaited::Child => {
                 self.body.child = number(line)?;
                 self.awaited = Awaited::Sibling;
-                Ok(None)
+                Ok(false)
             }
             Awaited::Sibling => {
                 self.body.sibling = number(line)?;
                 self.awaited = Awaited::VerbCount;
-                Ok(None)
+                Ok(false)
             }
             Awaited::VerbCount => {
                 self.expect_verbs(bounded_count(line)?);
-                Ok(None)
+                Ok(false)
             }
             Awaited::VerbNames => {
                 self.verb.names = Some(text(alloc, line)?);
                 self.awaited = Awaited::VerbOwner;
-                Ok(None)
+                Ok(false)
             }
             Awaited::VerbOwner => {
                 self.verb.owner = number(line)?;
                 self.awaited = Awaited::VerbBits;
-                Ok(None)
+                Ok(false)
             }
             Awaited::VerbBits => {
                 self.verb.bits = verb_bits(line)?;
                 self.awaited = Awaited::VerbPreposition;
-                Ok(None)
+                Ok(false)
             }
             Awaited::VerbPreposition => {
                 self.push_verb(preposition(line)?)?;
                 self.expect_verbs(self.left);
-                Ok(None)
+                Ok(false)
             }
             Awaited::NameCount => {
                 self.expect_names(bounded_count(line)?);
-                Ok(None)
+                Ok(false)
             }
             Awaited::PropertyName => {
                 self.body.names.push(text(alloc, line)?)?;
                 self.expect_names(self.left);
-                Ok(None)
+                Ok(false)
             }
             Awaited::CellCount => {
                 let count = bounded_count(line)?;
-                Ok(self.expect_cells(alloc, count))
+                Ok(self.expect_cells(count))
             }
             Awaited::Value if self.is_clear(line) => {
                 self.cell = None;
                 self.awaited = Awaited::CellOwner;
-                Ok(None)
+                Ok(false)
             }
             Awaited::Value | Awaited::Inside => {
                 self.value_line(alloc, line)?;
-                Ok(None)
+                Ok(false)
             }
             Awaited::CellOwner => {
                 self.cell_owner = number(line)?;
                 self.awaited = Awaited::CellPerms;
-                Ok(None)
+                Ok(false)
             }
             Awaited::CellPerms => {
                 let perms = property_perms(line)?;
@@ -347,7 +355,7 @@ impl ObjectReader {
                     owner,
                     perms,
                 })?;
-                Ok(self.expect_cells(alloc, self.left))
+                Ok(self.expect_cells(self.left))
             }
         }
     }

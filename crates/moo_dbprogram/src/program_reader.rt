@@ -106,6 +106,7 @@ impl ProgramReader {
     }
 
     /// Parses and keeps the program of a verb, whose dot has come, and drops its lines.
+    #[inline(never)]
     fn keep(&mut self, alloc: Global, object: u32, verb: u32) -> Result<(), DbFault>
         ensures there { OnOk result ((source : List Line) → entry_at (sources_at self.old.records) object verb ≡ Some source → IsParsedAs (Some source) (entry_at (programs_of self.new.programs) object verb)) }
         ensures others { OnOk result ((o v : ℕ) → (o ≡ object → v ≡ verb → ⊥) → entry_at (programs_of self.new.programs) o v ≡ entry_at (programs_of self.old.programs) o v) }
@@ -136,6 +137,7 @@ impl ProgramReader {
     }
 
     /// Takes a line with its end.
+    #[inline(always)]
     fn line(&mut self, alloc: Global, line: &[u8]) -> Result<(), DbFault>
         requires { IsWholeLine line.now }
         ensures goes { (bytes : List ℕ) → IsBehind self.old bytes → OnOk result (IsBehind self.new (bytes ++ line.now)) }

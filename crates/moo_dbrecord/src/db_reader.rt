@@ -1,5 +1,6 @@
 //! A text that comes in pieces.
-ghost use Rattle.std.specs.Prelude.{◌≡◌, ◌<◌, ◌≤◌, ℕ, ◌++◌, List, [], Ok, Some, None, take, length, OnOk, IfErr, IfOk, IsErrOf, MatchOption};
+ghost use Rattle.std.specs.Prelude.{◌≡◌, ◌<◌, ◌≤◌, ℕ, ◌++◌, List, [], Ok, Some, None, take, length, OnOk, IfErr, IfOk, IfSome, IsErrOf, MatchOption};
+ghost use Rattle.memchr.specs.Find.{IsFirstByte, is_byte};
 ghost use Rattle.moo_dbvalue.specs.Lines.{Gives, limited};
 ghost use Rattle.moo_dbrecord.specs.Texts.{Text, Spells, SpellsWithin, text_of};
 ghost use Rattle.moo_dbrecord.specs.declared.db_reader.RecordFault.{RecordFault};
@@ -24,10 +25,28 @@ pub struct RecordFault {
     pub kind: Refusal,
 }
 
+/// How many bytes are looked at one by one: most lines are short numbers, and a search by words takes longer to begin.
+const NEARBY: usize = 8;
+
+// The place of the first line's end, if it is one of the first few.
+fn end_nearby(bytes: &[u8]) -> Option<usize>
+    ensures { IfSome result (λ at. IsFirstByte (is_byte 10) bytes.now (Some at)) }
+{
+    for at in 0..bytes.len().min(NEARBY) {
+        if bytes[at] == b'\n' {
+            return Some(at);
+        }
+    }
+    None
+}
+
 /// How many bytes the first line has, with its end.
 pub fn first_line(bytes: &[u8]) -> Option<usize>
     ensures { MatchOption result (HasNoEnd bytes.now) (λ n. (0 < n) × (n ≤ length bytes.now) × IsWholeLine (take n bytes.now)) }
 {
+    if let Some(at) = end_nearby(bytes) {
+        return Some(at + 1);
+    }
     let at = memchr(b'\n', bytes)?;
     Some(at + 1)
 }
@@ -135,6 +154,7 @@ impl DbReader {
     }
 
     /// Takes a line with its end.
+    #[inline(always)]
     fn whole(&mut self, alloc: Global, line: &[u8]) -> Result<(), RecordFault>
         requires { IsWholeLine line.now }
         ensures steps { Answers (λ _. taken_of self.new) result (taken_on limited (taken_of self.old) line.now) }

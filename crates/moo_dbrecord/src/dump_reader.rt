@@ -1,11 +1,12 @@
 //! A whole text, read a line at a time.
-ghost use Rattle.std.specs.Prelude.{◌≡◌, ◌∷◌, ◌++◌, [], List, map, length, codes, option_map, Ok, OnOk, Some, None, MatchOption};
+ghost use Rattle.std.specs.Prelude.{◌≡◌, ◌∷◌, ◌++◌, [], true, List, map, length, codes, option_map, Ok, OnOk, Some, None, MatchOption};
 ghost use Rattle.moo_dbvalue.specs.Lines.{Gives, limited};
 ghost use Rattle.moo_dbobject.specs.Objects.{object_of};
-ghost use Rattle.moo_dbobject.specs.ObjectReading.{draft_of};
+ghost use Rattle.moo_dbobject.specs.ObjectReading.{draft_of, given_by};
 ghost use Rattle.moo_dbrecord.specs.Programs.{table_of, entry_at, with_source};
 ghost use Rattle.moo_dbrecord.specs.Texts.{text_of, link_of};
-ghost use Rattle.moo_dbrecord.specs.DumpReading.{progress_of, verb_read, with_object, after_programs, after_objects, after_players, after_connections, after_source, dump_step, ended, start};
+ghost use Rattle.moo_dbrecord.specs.DumpReading.{progress_of, verb_read, with_object, after_programs, after_objects, after_players, after_connections, after_object_line, after_source, dump_step, ended, start};
+ghost use Rattle.moo_dbrecord.specs.declared.dump_reader.Section.TheVariants as section;
 ghost use Rattle.moo_dbrecord.specs.Answer.{unended};
 ghost use Rattle.moo_dbrecord.specs.Sparing.{AreAlike, has_objects};
 
@@ -201,6 +202,31 @@ impl DumpReader {
         Ok(())
     }
 
+    // Puts the object behind the others once its last line has come.
+    #[inline(never)]
+    fn end_object(&mut self, alloc: Global) -> Result<(), AllocError>
+        requires { self.old.section ≡ section.Object }
+        ensures { OnOk result (progress_of self.new ≡ after_object_line (progress_of self.old) (given_by true (draft_of self.old.object))) }
+    {
+        if let Some(object) = self.object.take_object(alloc) {
+            self.push_object(alloc, object)?;
+            self.expect_objects(self.objects_left);
+        }
+        Ok(())
+    }
+
+    // Takes a line of an object.
+    #[tactic(auto, unfolding(crate::specs::DumpReading::dump_step))]
+    fn object_line(&mut self, alloc: Global, line: &[u8]) -> Result<(), Refusal>
+        requires { self.old.section ≡ section.Object }
+        ensures { Gives (λ _. progress_of self.new) result (dump_step limited section.Object (progress_of self.old) line.now) }
+    {
+        if self.object.step(alloc, line)? {
+            self.end_object(alloc)?;
+        }
+        Ok(())
+    }
+
     fn push_recycled(&mut self, alloc: Global) -> Result<(), AllocError>
         ensures { OnOk result (progress_of self.new ≡ record (progress_of self.old) { text = with_object (text_of self.old.dump) None }) }
     {
@@ -263,13 +289,7 @@ impl DumpReader {
                 self.expect_objects(self.objects_left);
                 Ok(())
             }
-            Section::Object => {
-                if let Some(object) = self.object.step(alloc, line)? {
-                    self.push_object(alloc, object)?;
-                    self.expect_objects(self.objects_left);
-                }
-                Ok(())
-            }
+            Section::Object => self.object_line(alloc, line),
             Section::ProgramHead => {
                 let (object, verb) = program_head(&self.dump.programs, line)?;
                 self.program_object = object;

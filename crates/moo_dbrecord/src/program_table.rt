@@ -18,7 +18,7 @@ pub(crate) fn no_programs(
 ) -> Result<Vec<Option<Source>>, AllocError>
     ensures { IfOk result (λ row. row_of row ≡ blank_row (object_of object.now)) }
 {
-    let mut row = Vec::new(alloc);
+    let mut row = Vec::with_capacity(alloc, object.verbs.len())?;
     for verb in &object.verbs {
         row.push(None)?;
     }

@@ -62,7 +62,7 @@ begun bytes ps qs os us h k =
     let one = one_set_of_objects limited h.lines k.lines bytes h.stand k.stand h.all k.all in
     (sym k.players_come ∙ one.players ∙ h.players_come, sym k.objects_come ∙ one.objects ∙ h.objects_come)
 
-faultless_begun : (bytes : List ℕ) (ps : List ℤ) (os : List (Option recorded.Object)) → BeginsWithObjects bytes ps os → HasNoObjectFault bytes → AreFaultless os
+pub faultless_begun : (bytes : List ℕ) (ps : List ℤ) (os : List (Option recorded.Object)) → BeginsWithObjects bytes ps os → HasNoObjectFault bytes → AreFaultless os
 faultless_begun bytes ps os h none = subst AreFaultless h.objects_come (none h.lines h.stand h.all)
 
 -- where no object is at fault none is told

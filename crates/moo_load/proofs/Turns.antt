@@ -14,9 +14,10 @@ use Rattle.moo_dbrecord.specs.declared.dump_reader.Section.{Section}
 use Rattle.moo_dbrecord.specs.declared.dump_reader.Section.TheVariants as section
 use Rattle.moo_dbrecord.proofs.TakenLaws.{taken_on-append}
 use Rattle.moo_dbrecord.proofs.Standing.{stand_so, stands_on, stand_in, stand_ends, stopped_behind, ends, ends_append, clean_ends, taken_ends, fault_ends}
-use Rattle.moo_dbrecord.proofs.Placed.{bytes_past, objects_stand, one_set_of_objects}
+use Rattle.moo_dbrecord.proofs.Placed.{bytes_past, objects_stand, one_set_of_objects, whole_begins}
 use Rattle.moo_dbprogram.specs.Reading as programs
-use Rattle.moo_dbprogram.specs.Reading.{IsBehind, IsRecordFault, IsToldProgram, IsRefused, HasRead, IsWell, place_of}
+use Rattle.moo_dbprogram.specs.Reading.{IsBehind, IsRead, IsRecordFault, IsToldProgram, IsRefused, HasRead, IsWell, place_of}
+use Rattle.moo_dbprogram.specs.declared.database.Database.{Database}
 use Rattle.moo_dbprogram.specs.declared.program_reader.ProgramReader.{ProgramReader}
 use Rattle.moo_dbprogram.proofs.Behind.{taken_between, part_sources}
 use Rattle.moo_dbprogram.proofs.Refused.{refused_then, refused_whole, read_failed, read_well}
@@ -25,9 +26,10 @@ use Rattle.moo_restore.specs.First.{IsFirst}
 use Rattle.moo_restore.specs.Faults.{IsWellPlaced, HasItsCells}
 use Rattle.moo_restore.specs.Names.{with_objects}
 use Rattle.moo_load.specs.Objects.{AreFaultless, HasNoObjectFault}
-use Rattle.moo_load.specs.Loading.{IsRefusedFrom, HasToldLine}
+use Rattle.moo_load.specs.Loading.{records_kept, IsRefusedFrom, HasToldLine}
 use Rattle.moo_load.specs.Taking.{IsLoading}
 use Rattle.moo_load.specs.declared.world_reader.WorldReader.{WorldReader}
+use Rattle.moo_load.proofs.Order.{faultless_begun}
 
 -- ---- where the reader stands
 
@@ -163,18 +165,23 @@ piece_refused r p bytes part e h parts failed read = λ more. inl (record {
       | inr few ↦ few
     ]
 
+-- at the end no object of the bytes is at fault
+ended_faultless : (r : WorldReader) (bytes : List ℕ) → IsLoading r bytes → HasNoObjectFault bytes
+ended_faultless r bytes h = elim (either_way r.is_checked) [
+  | inl checked ↦ subst HasNoObjectFault (append-nil bytes) (looked_faultless r bytes [] h checked)
+  | inr early ↦ λ n k past. absurd (
+      let few = stand_ends limited n bytes k in
+      let count = taken_ends limited bytes begin (state_of r bytes h) (behind_of r bytes h).at.leads in
+      unlooked r bytes [] h early n (stand_in limited n bytes (bytes ++ []) (sym (append-nil bytes)) k) (omega arith) past
+      )
+]
+
 pub end_refused : (r : WorldReader) (bytes : List ℕ) (e : DbFault) → IsLoading r bytes → IsRefused bytes (answer_to limited bytes) e → HasToldLine bytes e
-end_refused r bytes e h refused = record {
-  refused = refused;
-  objects = λ known. elim (either_way r.is_checked) [
-    | inl checked ↦ subst HasNoObjectFault (append-nil bytes) (looked_faultless r bytes [] h checked)
-    | inr early ↦ λ n k past. absurd (
-        let few = stand_ends limited n bytes k in
-        let count = taken_ends limited bytes begin (state_of r bytes h) (behind_of r bytes h).at.leads in
-        unlooked r bytes [] h early n (stand_in limited n bytes (bytes ++ []) (sym (append-nil bytes)) k) (omega arith) past
-        )
-  ];
-}
+end_refused r bytes e h refused = record { refused = refused; objects = λ known. ended_faultless r bytes h }
+
+-- nor is one that is kept
+pub kept_faultless : (r : WorldReader) (bytes : List ℕ) (d : Database) → IsLoading r bytes → IsRead bytes d → AreFaultless (records_kept d).objects
+kept_faultless r bytes d h k = subst AreFaultless (sym k.says.objects) (faultless_begun bytes k.text.players k.text.objects (whole_begins bytes k.text k.records) (ended_faultless r bytes h))
 
 -- ---- a reader that goes on
 
@@ -220,6 +227,12 @@ pub loading_line : (u : WorldReader) (bytes : List ℕ) → HasRead u.programs b
 loading_line u bytes read well looked faultless = record { read = read; well = well; looked = looked; faultless = λ checked. faultless (sym looked ∙ checked) }
 
 -- ---- what a look at the objects says
+
+pub faultless_placed : (os : List (Option ObjectRecord)) → AreFaultless (map (option_map object_of) os) → IsFirst (IsWellPlaced (with_objects os)) (length os) None
+faultless_placed os h = let many = length-map os (option_map object_of) in λ x low. h.placed x (omega (arith, low, many))
+
+pub faultless_counted : (os : List (Option ObjectRecord)) → AreFaultless (map (option_map object_of) os) → IsFirst (HasItsCells (with_objects os)) (length os) None
+faultless_counted os h = let many = length-map os (option_map object_of) in λ x low. h.counted x (omega (arith, low, many))
 
 pub checked_faultless : (os : List (Option ObjectRecord)) → IsFirst (IsWellPlaced (with_objects os)) (length os) None → IsFirst (HasItsCells (with_objects os)) (length os) None → AreFaultless (map (option_map object_of) os)
 checked_faultless os placed counted =

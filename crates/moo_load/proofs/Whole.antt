@@ -15,7 +15,6 @@ use Rattle.moo_table.specs.World.{most}
 use Rattle.moo_dbobject.specs.Objects as recorded
 use Rattle.moo_dbrecord.specs.Texts.{Text, IsEntry, Spells, SpellsWithin}
 use Rattle.moo_dbrecord.specs.Placing.{BeginsWithObjects}
-use Rattle.moo_dbrecord.proofs.Placed.{whole_begins}
 use Rattle.moo_dbrecord.specs.Answer.{answer_to, front_lines, Stand, StandWithoutLimits}
 use Rattle.moo_dbrecord.specs.Faults.{kind_of, kind_of_refusal}
 use Rattle.moo_dbrecord.specs.declared.fault.DbFault.{DbFault}
@@ -38,9 +37,9 @@ use Rattle.moo_restore.specs.declared.fault.RestoreFault.TheVariants as restorin
 use Rattle.moo_restore.proofs.Worlds.{shaped, well_placed, has_its_cells}
 use Rattle.moo_saved.specs.Saved.{Saved, saved_of, IsTextOf, SpellsSaved, SpellsSavedWithin}
 use Rattle.moo_load.specs.Objects.{of_objects, HasObjectFault}
-use Rattle.moo_load.specs.Loading.{records_kept, who_of, IsTold, IsUntold, IsSavedFrom, IsLoaded, HasToldObject, IsRefusedSo, LoadAnswers}
+use Rattle.moo_load.specs.Loading.{records_kept, who_of, IsTold, IsSavedFrom, IsLoaded, HasToldObject, IsRefusedSo, LoadAnswers}
 use Rattle.moo_saved.specs.declared.saved.Saved as stored
-use Rattle.moo_load.proofs.Worlds.{placed_as, cells_as, fault_as, loose_text, one_spelled, spelled_within}
+use Rattle.moo_load.proofs.Worlds.{placed_as, cells_as, loose_text, one_spelled, spelled_within}
 
 -- ---- kinds of faults
 
@@ -176,17 +175,6 @@ told_begun bytes players objects e (restoring.Hierarchy x) begins fault told = i
 told_begun bytes players objects e (restoring.PropertyCount x) begins fault told = inr (record { object = x; is = inr (told.0, record { players = players; objects = objects; begins = begins; fault = fault; line = told.1 }) })
 told_begun bytes players objects e restoring.Memory begins fault told = without_memory bytes e told
 
-told_loaded : (bytes : List ℕ) (d : Database) (e : DbFault) (f : RestoreFault) → IsRead bytes d → IsFaultOf (records_kept d) f → IsTold (length (records_kept d).players) (records_kept d).objects f e → IsRefusedSo bytes e
-told_loaded bytes d e f h fault told =
-    let r = records_kept d in
-    told_begun bytes r.players r.objects e f
-    (subst (λ (os : List (Option recorded.Object)). BeginsWithObjects bytes r.players os) (sym h.says.objects) (subst (λ (ps : List ℤ). BeginsWithObjects bytes ps h.text.objects) (sym h.says.players) (whole_begins bytes h.text h.records)))
-    (fault_as r f fault) told
-
-pub untold_loaded : (bytes : List ℕ) (d : Database) (e : DbFault) → IsRead bytes d → IsUntold (records_kept d) e → IsRefusedSo bytes e
-untold_loaded bytes d e h (inl memory) = without_memory bytes e memory
-untold_loaded bytes d e h (inr told) = told_loaded bytes d e told.fault h told.is told.told
-
 -- ---- what is read
 
 pub is_found : (bytes : List ℕ) (r : Result stored.Saved DbFault) → LoadAnswers r bytes → IfOk r (λ s. SpellsSaved bytes (saved_of s))
@@ -275,6 +263,6 @@ is_loaded_past bytes (Err e) (inr told) = λ is. absurd (no_object_line e line.T
 
 -- ---- what is answered
 
-pub loaded_answer : (bytes : List ℕ) (d : Database) (r : Result stored.Saved DbFault) → IsRead bytes d → IfOk r (IsSavedFrom d) → IfErr r (IsUntold (records_kept d)) → LoadAnswers r bytes
+pub loaded_answer : (bytes : List ℕ) (d : Database) (r : Result stored.Saved DbFault) → IsRead bytes d → IfOk r (IsSavedFrom d) → IfErr r (λ e. e.kind ≡ kind.Memory) → LoadAnswers r bytes
 loaded_answer bytes d (Ok s) h saved fault = saved_loaded bytes d s h saved
-loaded_answer bytes d (Err e) h saved fault = untold_loaded bytes d e h fault
+loaded_answer bytes d (Err e) h saved fault = without_memory bytes e fault

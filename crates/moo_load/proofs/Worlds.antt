@@ -12,10 +12,7 @@ use Rattle.moo_restore.specs.Records.{Records}
 use Rattle.moo_restore.proofs.Worlds.{shaped}
 use Rattle.moo_saved.specs.Saved.{Saved, IsTextOf, SpellsSaved, SpellsSavedWithin}
 use Rattle.moo_saved.proofs.One.{one_saved}
-use Rattle.moo_restore.specs.Faults.{IsWellPlaced, HasItsCells, IsHierarchyFault, IsCountFault}
-use Rattle.moo_restore.specs.Restoring.{IsFaultOf}
-use Rattle.moo_restore.specs.declared.fault.RestoreFault.{RestoreFault}
-use Rattle.moo_restore.specs.declared.fault.RestoreFault.TheVariants as restoring
+use Rattle.moo_restore.specs.Faults.{IsWellPlaced, HasItsCells}
 use Rattle.moo_load.specs.Objects.{of_objects}
 
 -- ---- sources have one program
@@ -32,30 +29,13 @@ loose_source (Some s) (Some b) h = parsed_is s b h
 pub loose_text : (t : Text) (s : Saved) → IsTextOf (IsParsed Any) t s → IsTextOf (IsProgramOf Any) t s
 loose_text t s h = record { records = h.records; objects = h.objects; players = h.players; sources = λ o v. loose_source (entry_at t.programs o v) (entry_at h.records.programs o v) (h.sources o v); says = h.says; connected = h.connected }
 
--- ---- an object at fault is so among the objects alone
+-- ---- an object that isn't at fault isn't so among the objects alone
 
 pub placed_as : (r : Records) (x : ℕ) → IsWellPlaced r x → IsWellPlaced (of_objects r.objects) x
 placed_as r x h = record { trees = h.trees; names = record { once = h.names.once; apart = h.names.apart } }
 
-placed_back : (r : Records) (x : ℕ) → IsWellPlaced (of_objects r.objects) x → IsWellPlaced r x
-placed_back r x h = record { trees = h.trees; names = record { once = h.names.once; apart = h.names.apart } }
-
 pub cells_as : (r : Records) (x : ℕ) → HasItsCells r x → HasItsCells (of_objects r.objects) x
 cells_as r x h = record { lineage = h.lineage; is = h.is; count = h.count }
-
-cells_back : (r : Records) (x : ℕ) → HasItsCells (of_objects r.objects) x → HasItsCells r x
-cells_back r x h = record { lineage = h.lineage; is = h.is; count = h.count }
-
-pub hierarchy_as : (r : Records) (x : ℕ) → IsHierarchyFault r x → IsHierarchyFault (of_objects r.objects) x
-hierarchy_as r x h = (h.0, λ p. h.1 (placed_back r x p), λ y low. placed_as r y (h.2 y low))
-
-pub count_as : (r : Records) (x : ℕ) → IsCountFault r x → IsCountFault (of_objects r.objects) x
-count_as r x h = (λ y low. placed_as r y (h.0 y low), (h.1.0, λ p. h.1.1 (cells_back r x p), λ y low. cells_as r y (h.1.2 y low)))
-
-pub fault_as : (r : Records) (f : RestoreFault) → IsFaultOf r f → IsFaultOf (of_objects r.objects) f
-fault_as r (restoring.Hierarchy x) h = hierarchy_as r x h
-fault_as r (restoring.PropertyCount x) h = count_as r x h
-fault_as r restoring.Memory h = tt
 
 pub one_spelled : (bytes : List ℕ) (a b : Saved) → SpellsSaved bytes a → SpellsSaved bytes b → a ≡ b
 one_spelled bytes a b h k = one_saved k.text a b (subst (λ (t : Text). IsTextOf (IsProgramOf Any) t a) (one_text bytes h.text k.text h.spelled k.spelled) h.says) k.says

@@ -40,15 +40,6 @@ IsTold players objects (restoring.Hierarchy x) e = (e.kind ≡ kind.BadHierarchy
 IsTold players objects (restoring.PropertyCount x) e = (e.kind ≡ kind.PropertyCount x) × IsLineOf players objects x e.line
 IsTold players objects restoring.Memory e = e.kind ≡ kind.Memory
 
--- the records are at fault, and that is told, or there was no memory
-pub record IsObjectTold (r : Records) (e : DbFault) : Type 0 where
-  pub fault : RestoreFault
-  pub is : IsFaultOf r fault
-  pub told : IsTold (length r.players) r.objects fault e
-
-abbrev pub IsUntold : Records → DbFault → Type 0
-IsUntold r e = (e.kind ≡ kind.Memory) ⊎ IsObjectTold r e
-
 -- of a text that has these players and these objects, an object is at fault, and that is told
 pub record IsTextTold (players : List ℤ) (objects : List (Option Object)) (e : DbFault) : Type 0 where
   pub fault : RestoreFault

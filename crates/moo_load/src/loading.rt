@@ -5,14 +5,15 @@ ghost use Rattle.moo_dbrecord.specs.Texts.{link_of};
 ghost use Rattle.moo_table.specs.World.{IsWellFormed};
 ghost use Rattle.moo_restore.specs.Says.{Says};
 ghost use Rattle.moo_restore.specs.Restoring.{records_from, AreWithinLimits};
-ghost use Rattle.moo_load.specs.Loading.{records_kept, who_of, IsLineOf, IsTold, IsUntold, IsSavedFrom};
+ghost use Rattle.moo_load.specs.Loading.{records_kept, who_of, IsLineOf, IsTold, IsSavedFrom};
+ghost use Rattle.moo_load.specs.Objects.{AreFaultless};
 
 use crate::object_line::line_of_object;
 use moo_dbobject::ObjectRecord;
 use moo_dbprogram::Database;
 use moo_dbrecord::{Connection, DbFault, DbFaultKind};
 use moo_grammar::Program;
-use moo_restore::{RestoreFault, restore};
+use moo_restore::{RestoreFault, restore_checked};
 use moo_saved::Saved;
 use moo_world::World;
 use std::alloc::{AllocError, Global};
@@ -82,7 +83,7 @@ pub(crate) fn told(
     }
 }
 
-/// The world of these records.
+/// The world of these records, of which no object is at fault.
 fn world_of(
     alloc: Global,
     lines: u64,
@@ -90,26 +91,27 @@ fn world_of(
     programs: &[Vec<Option<Program>>],
     players: Vec<i32>,
 ) -> Result<World, DbFault>
-    requires { AreWithinLimits (records_from objects.now programs.now players.items) }
+    requires limits { AreWithinLimits (records_from objects.now programs.now players.items) }
+    requires faultless { AreFaultless (map (option_map object_of) objects.now) }
     ensures world { IfOk result (Says (records_from objects.now programs.now players.items)) }
     ensures sound { IfOk result IsWellFormed }
-    ensures fault { IfErr result (IsUntold (records_from objects.now programs.now players.items)) }
+    ensures fault { IfErr result (λ e. e.kind ≡ DbFaultKind.Memory) }
 {
-    let many = players.len();
-    match restore(alloc, objects, programs, players) {
+    match restore_checked(alloc, objects, programs, players) {
         Ok(world) => {
             world.is_well_formed();
             Ok(world)
         }
-        Err(fault) => Err(told(lines, many, objects, fault)),
+        Err(_) => Err(without_memory(lines)),
     }
 }
 
-/// The saved world of what is kept of a text of so many lines.
+/// The saved world of what is kept of a text of so many lines, of which no object is at fault.
 pub(crate) fn load(alloc: Global, lines: u64, database: Database) -> Result<Saved, DbFault>
-    requires { AreWithinLimits (records_kept database) }
+    requires limits { AreWithinLimits (records_kept database) }
+    requires faultless { AreFaultless (records_kept database).objects }
     ensures saved { IfOk result (IsSavedFrom database) }
-    ensures fault { IfErr result (IsUntold (records_kept database)) }
+    ensures fault { IfErr result (λ e. e.kind ≡ DbFaultKind.Memory) }
 {
     let Database {
         players,

@@ -28,7 +28,7 @@ fn nodes_along(
     requires clear { (y : ℕ) → slice_index_or taken.old y false ≡ false }
     ensures { IfOk result (λ nodes. AreNodesOf links.now nodes.items) }
 {
-    let mut nodes = Vec::new(alloc);
+    let mut nodes = Vec::with_capacity(alloc, links.len())?;
     for x in 0..links.len() {
         let below = list_below(alloc, links, taken, x)?;
         let node = Node::new(alloc, above_in(links, x), &below)?;

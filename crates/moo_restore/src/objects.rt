@@ -53,7 +53,7 @@ pub(crate) fn make_objects(
 fn no_objects(alloc: Global, many: usize) -> Result<Vec<Option<Object>>, AllocError>
     ensures { IfOk result (λ made. length made.items ≡ many) }
 {
-    let mut made = Vec::new(alloc);
+    let mut made = Vec::with_capacity(alloc, many)?;
     for _ in 0..many {
         made.push(None)?;
     }

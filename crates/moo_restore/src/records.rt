@@ -36,7 +36,7 @@ pub(crate) fn parent_links(
 ) -> Result<Vec<Option<Link>>, AllocError>
     ensures { IfOk result (λ links. links.items ≡ parent_links_of (map (option_map object_of) objects.now)) }
 {
-    let mut links = Vec::new(alloc);
+    let mut links = Vec::with_capacity(alloc, objects.len())?;
     for object in objects {
         links.push(match object {
             Some(object) => Some(parent_link(object)),
@@ -53,7 +53,7 @@ pub(crate) fn place_links(
 ) -> Result<Vec<Option<Link>>, AllocError>
     ensures { IfOk result (λ links. links.items ≡ place_links_of (map (option_map object_of) objects.now)) }
 {
-    let mut links = Vec::new(alloc);
+    let mut links = Vec::with_capacity(alloc, objects.len())?;
     for object in objects {
         links.push(match object {
             Some(object) => Some(place_link(object)),

@@ -1,6 +1,6 @@
 //! The world that records say.
 
-ghost use Rattle.std.specs.Prelude.{◌<◌, None, length, IfOk, IfErr, OnOk, FitsSigned};
+ghost use Rattle.std.specs.Prelude.{◌≡◌, ◌<◌, None, length, IfOk, IfErr, OnOk, FitsSigned};
 ghost use Rattle.std.specs.Int.{w32};
 ghost use Rattle.std.specs.List.{All};
 ghost use Rattle.moo_forest.specs.Forest.{IsForest};
@@ -44,8 +44,45 @@ pub fn restore(
     let parents = parent_links(alloc, objects)?;
     let tour = tour_of(alloc, &parents)?;
     check(alloc, objects, &tour)?;
-    let made = make_objects(alloc, objects, programs, &tour)?;
-    let inheritance = forest_in(alloc, &parents)?;
+    let world = made_world(alloc, objects, programs, players, &parents, &tour)?;
+    Ok(world)
+}
+
+/// The same, of objects that `check_objects` found to be without fault: they aren't looked at again.
+pub fn restore_checked(
+    alloc: Global,
+    objects: &[Option<ObjectRecord>],
+    programs: &[Vec<Option<Program>>],
+    players: Vec<i32>,
+) -> Result<World, AllocError>
+    requires limits { AreWithinLimits (records_from objects.now programs.now players.items) }
+    requires placed { IsFirst (IsWellPlaced (with_objects objects.now)) (length objects.now) None }
+    requires counted { IsFirst (HasItsCells (with_objects objects.now)) (length objects.now) None }
+    ensures { IfOk result (λ w. Says (records_from objects.now programs.now players.items) w) }
+{
+    let parents = parent_links(alloc, objects)?;
+    let tour = tour_of(alloc, &parents)?;
+    made_world(alloc, objects, programs, players, &parents, &tour)
+}
+
+// The world that records say which are without fault, along these links of parents and a tour of them.
+fn made_world(
+    alloc: Global,
+    objects: &[Option<ObjectRecord>],
+    programs: &[Vec<Option<Program>>],
+    players: Vec<i32>,
+    parents: &[Option<Link>],
+    tour: &[Visit],
+) -> Result<World, AllocError>
+    requires limits { AreWithinLimits (records_from objects.now programs.now players.items) }
+    requires placed { IsFirst (IsWellPlaced (with_objects objects.now)) (length objects.now) None }
+    requires counted { IsFirst (HasItsCells (with_objects objects.now)) (length objects.now) None }
+    requires links { parents.now ≡ parent_links (with_objects objects.now) }
+    requires tour { IsTour (parent_links (with_objects objects.now)) tour.now }
+    ensures { IfOk result (λ w. Says (records_from objects.now programs.now players.items) w) }
+{
+    let made = make_objects(alloc, objects, programs, tour)?;
+    let inheritance = forest_in(alloc, parents)?;
     let places = place_links(alloc, objects)?;
     let containment = forest_in(alloc, &places)?;
     players_fit(&players);

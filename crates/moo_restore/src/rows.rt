@@ -21,7 +21,7 @@ pub(crate) fn make_verbs(
 ) -> Result<Vec<Verb>, AllocError>
     ensures { IfOk result (λ made. made.items ≡ plain_verbs verbs.now programs.now) }
 {
-    let mut made = Vec::new(alloc);
+    let mut made = Vec::with_capacity(alloc, verbs.len())?;
     for i in 0..verbs.len() {
         made.push(make_verb(&verbs[i], program_at(programs, i)?)?)?;
     }
@@ -53,7 +53,7 @@ fn program_at(programs: &[Option<Program>], i: usize) -> Result<Option<Program>,
 pub(crate) fn share_names(alloc: Global, names: &[MooStr]) -> Result<Vec<MooStr>, AllocError>
     ensures { IfOk result (λ all. all.items ≡ names.now) }
 {
-    let mut all = Vec::new(alloc);
+    let mut all = Vec::with_capacity(alloc, names.len())?;
     for name in names {
         all.push(name.try_clone()?)?;
     }

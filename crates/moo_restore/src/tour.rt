@@ -55,7 +55,7 @@ fn nodes_alone(alloc: Global, many: usize) -> Result<Vec<Node>, AllocError>
     ensures len { IfOk result (λ nodes. length nodes.items ≡ many) }
     ensures alone { IfOk result (λ nodes. (x : ℕ) → below_of nodes.items x ≡ []) }
 {
-    let mut nodes = Vec::new(alloc);
+    let mut nodes = Vec::with_capacity(alloc, many)?;
     for _ in 0..many {
         nodes.push(Node::alone(alloc))?;
     }

@@ -3,6 +3,7 @@
 #![tactic(auto)]
 
 mod entering;
+mod fault;
 mod object;
 mod target;
 
@@ -10,6 +11,7 @@ pub use entering::{
     Call, Called, Found, MOST_FRAMES, called_verb, enter_verb, enter_verb_from, has_frame_left,
     program_of, verb_frame, verb_there,
 };
+pub use fault::failed;
 pub use object::{read_property, write_property};
 pub use target::{
     Path, Places, Root, Spot, Step, Target, as_property, push_step, rebuilt, root_alone,

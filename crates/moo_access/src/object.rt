@@ -2,14 +2,14 @@
 //! 'Expressions' of docs/LANGUAGE.md.
 ghost use Rattle.std.specs.Prelude.{◌≡◌, None, IfErr};
 ghost use Rattle.moo_value.specs.View.{tree};
-ghost use Rattle.moo_access.specs.Fault.{failed};
 ghost use Rattle.moo_access.specs.Calls.{read_raises, read_property, write_property};
 ghost use Rattle.moo_outcome.specs.Outcome.{answers};
 ghost use Rattle.moo_outcome.specs.Seen.{seen_answer, seen_by, IsKnownFailure, LacksOnlyIn};
 
-use moo_outcome::{Failure, Stop};
+use crate::fault::failed;
+use moo_outcome::Failure;
 use moo_value::{ErrorCode, Value};
-use moo_world::{Rights, World, WorldFault};
+use moo_world::{Rights, World};
 use std::alloc::Global;
 
 /// The value of a property, read with the rights of a programmer: E_TYPE where the base is no object or the name no
@@ -57,14 +57,4 @@ pub fn write_property(
         return Err(Failure::Fails(ErrorCode::Permission));
     }
     world.set(*o, name.as_bytes(), value).map_err(failed)
-}
-
-// What a refusal of the world is to a node.
-fn failed(fault: WorldFault) -> Failure
-    ensures { result ≡ failed fault }
-{
-    match fault {
-        WorldFault::Raise(code) => Failure::Fails(code),
-        WorldFault::Memory => Failure::Stops(Stop::Memory),
-    }
 }

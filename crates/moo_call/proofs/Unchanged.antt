@@ -23,7 +23,7 @@ use Rattle.moo_outcome.specs.State.{Context}
 use Rattle.moo_access.specs.State.{State, trace}
 use Rattle.moo_code_function.specs.Telling.{Telling, Faults}
 use Rattle.moo_builtin.proofs.Once.{raised}
-use Rattle.moo_call.specs.Tasks.{Reply, set_task_perms, told}
+use Rattle.moo_call.specs.Tasks.{Reply, set_task_perms, replied}
 use Rattle.moo_call.specs.Asking.{noticed, leaves, is_run_by_wizard, notify, boot_player, dump_database, shutdown, server_log, flagged, set_player_flag}
 use Rattle.moo_call.specs.Calls.{task_reply, unless_refused, caller, task_function, CallsAs}
 use Rattle.moo_call.specs.Laws.{RaisesChangeNothing}
@@ -91,7 +91,7 @@ keeps_unless None reply h = h
 keeps_unless (Some code) reply h = stays
 
 -- what fails was raised
-was_raised : (d : Bool) (entries : List TraceEntry) (reply : Result Tree Raised) (f : Failure) → told d entries reply ≡ Err f → (e : Raised) × (reply ≡ Err e)
+was_raised : (d : Bool) (entries : List TraceEntry) (reply : Result Tree Raised) (f : Failure) → replied d entries reply ≡ Err f → (e : Raised) × (reply ≡ Err e)
 was_raised d entries (Ok v) f is = absurd (cc)
 was_raised d entries (Err e) f is = (e, refl)
 

@@ -19,7 +19,7 @@ use Rattle.moo_code_function.specs.Telling.{Telling}
 use Rattle.moo_builtin.specs.declared.call.Caller.{Caller}
 use Rattle.moo_builtin.specs.Calls.{CallsPlain}
 use Rattle.moo_builtin.specs.Outcomes.{Replies}
-use Rattle.moo_call.specs.Tasks.{Reply, nearest_programmer, set_task_perms, told}
+use Rattle.moo_call.specs.Tasks.{Reply, nearest_programmer, set_task_perms, replied}
 use Rattle.moo_call.specs.Connections.{connected_players, elapsed_since, last_heard, last_login}
 use Rattle.moo_call.specs.Asking.{notify, boot_player, set_player_flag, dump_database, shutdown, server_log}
 
@@ -68,7 +68,7 @@ caller c s = record { programmer = s.programmer; moment = c.surroundings.moment 
 
 -- what a plain call comes to in a task: one of the replies, with the world after it
 abbrev pub ComesTo : Replies → Context → State → Result Tree Failure → State → Type 0
-ComesTo Such c s r s' = (reply : Result Tree Raised) × (w : World) × Such reply w × (r ≡ told c.frame.d (trace c s) reply) × (s' ≡ record s { world = w })
+ComesTo Such c s r s' = (reply : Result Tree Raised) × (w : World) × Such reply w × (r ≡ replied c.frame.d (trace c s) reply) × (s' ≡ record s { world = w })
 
 -- the function, where it is one of the task
 abbrev pub task_function : Option Function → Option Function

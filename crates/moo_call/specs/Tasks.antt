@@ -33,7 +33,7 @@ set_task_perms _ s = (Err (fails TypeMismatch), s)
 abbrev pub raised_here : Bool → List TraceEntry → Raised → Result Tree Failure
 raised_here d trace r = if d then Err (stops (raised (record { code = r.code; message = r.message; value = r.value; trace = trace }))) else Ok (error r.code)
 
--- what a call answers; an error is raised here
-abbrev pub told : Bool → List TraceEntry → Result Tree Raised → Result Tree Failure
-told d trace (Ok v) = Ok v
-told d trace (Err r) = raised_here d trace r
+-- the reply of a call where it stands: its answer, or its error, which is raised here
+abbrev pub replied : Bool → List TraceEntry → Result Tree Raised → Result Tree Failure
+replied d trace (Ok v) = Ok v
+replied d trace (Err r) = raised_here d trace r

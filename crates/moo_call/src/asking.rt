@@ -7,14 +7,14 @@ ghost use Rattle.moo_value.specs.View.{tree, trees};
 ghost use Rattle.moo_outcome.specs.Seen.{seen_answer, IsKnownFailure};
 ghost use Rattle.moo_outcome.specs.declared.frame.Activation.{Activation};
 ghost use Rattle.moo_table.specs.World.{World as Objects};
-ghost use Rattle.moo_access.specs.Fault.{failed};
 ghost use Rattle.moo_call.specs.Asking.{leaves, notify, boot_player, dump_database, shutdown, server_log, set_player_flag};
 ghost use Rattle.moo_call.specs.Seen.{state_at};
 
+use moo_access::failed;
 use moo_operation::is_true;
-use moo_outcome::{Activation, Failure, Notice, Stop};
+use moo_outcome::{Activation, Failure, Notice};
 use moo_value::{ErrorCode, Value};
-use moo_world::{Rights, World, WorldFault};
+use moo_world::{Rights, World};
 use std::alloc::AllocError;
 
 /// `notify(o, line)`: asks for a line to be sent to o, and answers 1. E_PERM for others than o itself and wizards.
@@ -115,11 +115,15 @@ pub(crate) fn set_player_flag(
         return Err(Failure::Fails(ErrorCode::TypeMismatch));
     };
     let on = is_true(value);
-    world.try_set_player(*o, on).map_err(failed)?;
+    if let Err(fault) = world.try_set_player(*o, on) {
+        return Err(failed(fault));
+    }
     if !Rights::is_wizard(world, active.programmer) {
         return Err(Failure::Fails(ErrorCode::Permission));
     }
-    world.set_player(*o, on).map_err(failed)?;
+    if let Err(fault) = world.set_player(*o, on) {
+        return Err(failed(fault));
+    }
     push_notice(notices, Notice::SetPlayerFlag(*o, on))?;
     Ok(Value::Int(0))
 }
@@ -145,14 +149,4 @@ fn push_notice(notices: &mut Vec<Notice>, notice: Notice) -> Result<(), AllocErr
 {
     notices.push(notice)?;
     Ok(())
-}
-
-// What a refusal of the world is to a call.
-fn failed(fault: WorldFault) -> Failure
-    ensures { result ≡ failed fault }
-{
-    match fault {
-        WorldFault::Raise(code) => Failure::Fails(code),
-        WorldFault::Memory => Failure::Stops(Stop::Memory),
-    }
 }

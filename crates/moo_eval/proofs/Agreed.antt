@@ -24,7 +24,7 @@ use Rattle.moo_code_function.specs.Calls.{Answers}
 use Rattle.moo_code_function.proofs.Once.{TellsOne, only_once, same_program}
 use Rattle.moo_builtin.specs.declared.call.Caller.{Caller}
 use Rattle.moo_builtin.specs.Calls.{Field, values, objects, code, field, raising, Leaves, IsOf, Follows, CallsPlain, unknown, refused, follows}
-use Rattle.moo_call.specs.Tasks.{told}
+use Rattle.moo_call.specs.Tasks.{replied}
 use Rattle.moo_call.specs.Calls.{task_function, caller, CallsAs, CallsFunction}
 
 -- where both tell a fault of a text it is the same, and neither tells one of a program
@@ -97,7 +97,7 @@ agreed_as : (T U : Telling) → Agree T U → (f : Option Function) (c : Context
 agreed_as T U agree (Some f) c name args s s' t r q h k = same_reply h k
 agreed_as T U agree None c name args s s' t r q h k =
     let same = plain_agreed T U agree name args s.world h.1 k.1 (caller c s) h.0 k.0 h.2 k.2 in
-    (h.3 ∙ ap (told c.frame.d (trace c s)) same.0 ∙ sym k.3, h.4 ∙ ap (λ (w : World). record s { world = w }) same.1 ∙ sym k.4)
+    (h.3 ∙ ap (replied c.frame.d (trace c s)) same.0 ∙ sym k.3, h.4 ∙ ap (λ (w : World). record s { world = w }) same.1 ∙ sym k.4)
 
 pub agreed_call : (T U : Telling) → Agree T U → (c : Context) (name : List ℕ) (args : List Tree) (s s' t : State) (r q : Result Tree Failure) → CallsFunction T c name args s r s' → CallsFunction U c name args s q t → (r ≡ q) × (s' ≡ t)
 agreed_call T U agree c name args s s' t r q h k = agreed_as T U agree (task_function (function_of name)) c name args s s' t r q h k

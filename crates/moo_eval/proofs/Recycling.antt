@@ -25,7 +25,7 @@ use Rattle.moo_hook.specs.declared.progress.Stage.{Stage}
 use Rattle.moo_hook.specs.declared.progress.Stage.TheVariants as stage
 use Rattle.moo_hook.specs.Progressing.{Calling, calling, Progress}
 use Rattle.moo_hook.specs.Objects.{first_inside}
-use Rattle.moo_hook.specs.Quota.{quota, unless_raised, set_if_there, with_quota}
+use Rattle.moo_hook.specs.Quota.{quota, where_allowed, set_if_there, with_quota}
 use Rattle.moo_hook.specs.Recycling.{recycle_calls, recycling, owner_of, taken_away, moved_out, emptied}
 use Rattle.moo_hook.specs.Stages.{resumed}
 use Rattle.moo_hook.specs.Calls.{Starts, refused, starts}
@@ -72,7 +72,7 @@ gone_with_object w None f o e = e
 gone_with_object w (Some x) f (negsuc n) e = refl
 gone_with_object w (Some x) f (pos n) e = numbers_nothing (world_with_object w (Some x) f).objects n (still_nothing w.objects x n f (nothing_there w.objects n e))
 
-gone_unless : (raises : Option ErrorCode) (after w : World) (o : ℤ) → number_of after.objects o ≡ None → number_of w.objects o ≡ None → number_of (unless_raised raises after w).objects o ≡ None
+gone_unless : (raises : Option ErrorCode) (after w : World) (o : ℤ) → number_of after.objects o ≡ None → number_of w.objects o ≡ None → number_of (where_allowed raises after w).objects o ≡ None
 gone_unless None after w o e h = e
 gone_unless (Some code) after w o e h = h
 

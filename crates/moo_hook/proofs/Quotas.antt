@@ -5,12 +5,12 @@ use Rattle.moo_table.specs.World.{World}
 use Rattle.moo_world.specs.declared.fault.WorldFault.{WorldFault}
 use Rattle.moo_world.specs.declared.fault.WorldFault.TheVariants as fault
 use Rattle.moo_world.specs.Calls.{Answers, Changes, TakesNoMemory}
-use Rattle.moo_hook.specs.Quota.{unless_raised, with_quota}
+use Rattle.moo_hook.specs.Quota.{where_allowed, with_quota}
 
 -- a call that takes no memory has changed the world, or raises and leaves it
-pub set_or_left : {T : Type 0} (r : Result T WorldFault) (w w' : World) (raises : Option ErrorCode) (after : World) → Changes r w w' raises after → TakesNoMemory r → w' ≡ unless_raised raises after w
-set_or_left (Ok v) w w' raises after c m = c.1 ∙ sym (ap (λ x. unless_raised x after w) c.0)
-set_or_left (Err (fault.Raise e)) w w' raises after c m = c.1 ∙ sym (ap (λ x. unless_raised x after w) c.0)
+pub set_or_left : {T : Type 0} (r : Result T WorldFault) (w w' : World) (raises : Option ErrorCode) (after : World) → Changes r w w' raises after → TakesNoMemory r → w' ≡ where_allowed raises after w
+set_or_left (Ok v) w w' raises after c m = c.1 ∙ sym (ap (λ x. where_allowed x after w) c.0)
+set_or_left (Err (fault.Raise e)) w w' raises after c m = c.1 ∙ sym (ap (λ x. where_allowed x after w) c.0)
 set_or_left (Err fault.Memory) w w' raises after c m = absurd m
 
 -- who has no quota is not counted

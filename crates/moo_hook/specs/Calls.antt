@@ -13,7 +13,7 @@ use Rattle.moo_outcome.specs.State.{Context}
 use Rattle.moo_access.specs.State.{State}
 use Rattle.moo_code_function.specs.Telling.{Telling}
 use Rattle.moo_hook.specs.Progressing.{Calling, calling, Progress, refuses}
-use Rattle.moo_hook.specs.Objects.{is_object}
+use Rattle.moo_world_function.specs.Objects.{is_valid}
 use Rattle.moo_hook.specs.Passing.{passing}
 use Rattle.moo_hook.specs.Evaluating.{EvalBegins}
 use Rattle.moo_hook.specs.Moving.{moving}
@@ -67,8 +67,8 @@ Begins T f k w vs step after = first_progress f k w vs ≡ (step, after)
 -- A call begins with the number of its arguments, then their types, then whether their objects are valid.
 pub data Starts (T : Telling) : Context → Function → List Tree → State → Progress → State → Type 0 where
   refused : {c : Context} {f : Function} {vs : List Tree} {s : State} {code : ErrorCode} →
-      refusal (is_object s.world) (row f) vs ≡ Some code →
+      refusal (is_valid s.world) (row f) vs ≡ Some code →
       Starts T c f vs s (refuses code) s
   starts : {c : Context} {f : Function} {vs : List Tree} {s s' : State} {step : Progress} {w : World} →
-      refusal (is_object s.world) (row f) vs ≡ None → Begins T f (calling c s) s.world vs step w → record s { world = w } ≡ s' →
+      refusal (is_valid s.world) (row f) vs ≡ None → Begins T f (calling c s) s.world vs step w → record s { world = w } ≡ s' →
       Starts T c f vs s step s'

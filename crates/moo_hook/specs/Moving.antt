@@ -9,7 +9,8 @@ use Rattle.moo_world.specs.Rights.{is_wizard, may_own}
 use Rattle.moo_hook.specs.declared.progress.Stage.{Stage}
 use Rattle.moo_hook.specs.declared.progress.Stage.TheVariants.{Accepting, Leaving, Entering}
 use Rattle.moo_hook.specs.Progressing.{Calling, Progress, gives, refuses, after_raise, hook}
-use Rattle.moo_hook.specs.Objects.{is_object, is_place, location}
+use Rattle.moo_world_function.specs.Objects.{is_valid}
+use Rattle.moo_hook.specs.Objects.{is_place, location}
 
 -- `move` calls a verb of an object, which is told what moves
 abbrev pub move_calls : Calling → World → ℤ → List ℕ → ℤ → Stage → Progress × World
@@ -17,7 +18,7 @@ move_calls k w o name what stage = (hook k w (codes "move") o name (object what 
 
 -- both are still there, and the object stands elsewhere
 abbrev pub is_to_move : World → ℤ → ℤ → Bool
-is_to_move w what to = is_object w what && is_place w to && not (int_eq (location w what) to)
+is_to_move w what to = is_valid w what && is_place w to && not (int_eq (location w what) to)
 
 -- The move itself, where there is one to make; then the place that it leaves is told.
 unfoldable pub moved : Calling → World → ℤ → ℤ → Progress × World
@@ -46,7 +47,7 @@ accepted k w what to answer = if may_enter w k.programmer answer then moved k w 
 
 -- it is still where it was moved to, which is still there
 abbrev pub has_come : World → ℤ → ℤ → Bool
-has_come w what to = is_object w what && is_object w to && int_eq (location w what) to
+has_come w what to = is_valid w what && is_valid w to && int_eq (location w what) to
 
 -- after the old place was told: the new one is told, where the object is still there
 unfoldable pub left_behind : Calling → World → ℤ → ℤ → Progress × World

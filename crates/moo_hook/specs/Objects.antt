@@ -1,18 +1,16 @@
 -- Where objects stand.
-use Rattle.std.specs.Prelude.{ℤ, pos, negsuc, Bool, ◌||◌, Option, is_some, slice_get}
+use Rattle.std.specs.Prelude.{ℤ, pos, negsuc, Bool, ◌||◌, Option, slice_get}
 use Rattle.std.specs.Option.{unwrap_or, option_map, option_and_then}
 use Rattle.std.specs.Ordering.{int_eq}
 use Rattle.moo_forest.specs.Forest.{above_of, below_of}
 use Rattle.moo_table.specs.World.{World}
 use Rattle.moo_world.specs.Calls.{number_of}
 use Rattle.moo_world.specs.NamedProperties.{number_of_place}
-
-abbrev pub is_object : World → ℤ → Bool
-is_object w o = is_some (number_of w.objects o)
+use Rattle.moo_world_function.specs.Objects.{is_valid}
 
 -- an object, or #-1 for nowhere
 abbrev pub is_place : World → ℤ → Bool
-is_place w o = int_eq o (negsuc 0) || is_object w o
+is_place w o = int_eq o (negsuc 0) || is_valid w o
 
 -- the parent of an object, #-1 for none
 abbrev pub parent : World → ℤ → ℤ

@@ -21,15 +21,16 @@ integer_in (Some (error e)) = None
 integer_in (Some (string s)) = None
 integer_in (Some (list es)) = None
 
-abbrev pub unless_raised : {A : Type 0} → Option ErrorCode → A → A → A
-unless_raised None next other = next
-unless_raised (Some code) next other = other
+-- what comes of something that may raise, or what there is where it raises
+abbrev pub where_allowed : {A : Type 0} → Option ErrorCode → A → A → A
+where_allowed None next other = next
+where_allowed (Some code) next other = other
 
 -- the quota of an owner: an integer in its property, looked up
 unfoldable pub quota : World → ℤ → Option ℤ
 quota w owner =
     let x = number_of w.objects owner in
-    unless_raised (get_raises w x (folded quota_name)) (integer_in (value_got w x (folded quota_name))) None
+    where_allowed (get_raises w x (folded quota_name)) (integer_in (value_got w x (folded quota_name))) None
 
 -- a quota of 0 or less allows no object more
 abbrev pub is_used_up : Option ℤ → Bool
@@ -40,7 +41,7 @@ is_used_up (Some n) = int_le n (pos 0)
 abbrev pub set_if_there : World → ℤ → List ℕ → Tree → World
 set_if_there w o name v =
     let x = number_of w.objects o in
-    unless_raised (set_raises w x name v) (world_set w x name v) w
+    where_allowed (set_raises w x name v) (world_set w x name v) w
 
 -- the world once a quota has become greater by so much; who has none is not counted
 unfoldable pub with_quota : World → ℤ → Option ℤ → ℤ → World

@@ -5,11 +5,9 @@ use Rattle.moo_value.specs.View.{tree}
 use Rattle.moo_outcome.specs.declared.frame.CallStack.{CallStack}
 use Rattle.moo_outcome.specs.declared.frame.Activation.{Activation}
 use Rattle.moo_outcome.specs.declared.outcome.Failure as code_failure
-use Rattle.moo_outcome.specs.declared.outcome.Failure.TheVariants as failure
-use Rattle.moo_outcome.specs.declared.outcome.Stop.TheVariants as stop
 use Rattle.moo_world.specs.declared.fault.WorldFault.{WorldFault}
-use Rattle.moo_world.specs.declared.fault.WorldFault.TheVariants as fault
 use Rattle.moo_outcome.specs.Seen.{context_of, variables_of, failure_of}
+use Rattle.moo_access.specs.Fault.{failed}
 use Rattle.moo_access.specs.SeenCalled.{entered_of}
 use Rattle.moo_hook.specs.declared.progress.Progress as code_progress
 use Rattle.moo_hook.specs.declared.progress.Progress.TheVariants as progress_case
@@ -32,8 +30,7 @@ abbrev pub arguments_of : Option ℤ → List Tree
 arguments_of None = []
 arguments_of (Some o) = object o ∷ []
 
--- For private clauses: an answer of the world, as one of a function.
-abbrev pub told : {T : Type 0} → Result T WorldFault → Result T code_failure.Failure
-told (Ok v) = Ok v
-told (Err (fault.Raise code)) = Err (failure.Fails code)
-told (Err fault.Memory) = Err (failure.Stops stop.Memory)
+-- For private clauses: an answer of the world, as the outcome of a function.
+abbrev pub as_outcome : {T : Type 0} → Result T WorldFault → Result T code_failure.Failure
+as_outcome (Ok v) = Ok v
+as_outcome (Err fault) = Err (failed fault)

@@ -6,7 +6,7 @@ ghost use Rattle.moo_hook.specs.Creating.{may_be_parent, owner_of_new, creating}
 ghost use Rattle.moo_hook.specs.Seen.{calling_of, seen_progress};
 
 use crate::hook::hook;
-use crate::progress::{Progress, Stage, told};
+use crate::progress::{Progress, Stage, as_outcome};
 use crate::quota::{change_quota, is_used_up, quota};
 use moo_outcome::{Activation, CallStack, Failure};
 use moo_value::ErrorCode;
@@ -33,12 +33,12 @@ pub(crate) fn create<'a>(
     if is_used_up(left) {
         return Err(Failure::Fails(ErrorCode::Quota));
     }
-    told(world.try_create(up))?;
+    as_outcome(world.try_create(up))?;
     if !Rights::controls(world, active.programmer, owner) {
         return Err(Failure::Fails(ErrorCode::Permission));
     }
     let owner_of_new = owner_of_new(world, owner);
-    let o = told(world.create(alloc, up, owner_of_new))?;
+    let o = as_outcome(world.create(alloc, up, owner_of_new))?;
     change_quota(world, owner, left, -1);
     hook(
         alloc,

@@ -7,7 +7,7 @@ ghost use Rattle.moo_hook.specs.Seen.{calling_of, seen_progress};
 
 use crate::hook::hook;
 use crate::objects::{is_nowhere, is_place, location};
-use crate::progress::{Progress, Stage, told};
+use crate::progress::{Progress, Stage, as_outcome};
 use moo_outcome::{Activation, CallStack, Failure};
 use moo_value::{ErrorCode, Value};
 use moo_world::{Rights, World};
@@ -80,7 +80,7 @@ fn move_object<'a>(
         return Ok(Progress::Done(Value::Int(0)));
     }
     let old = location(world, what);
-    told(world.move_bare(what, to))?;
+    as_outcome(world.move_bare(what, to))?;
     let stage = Stage::Leaving(what, to);
     call_verb(alloc, world, stack, active, old, "exitfunc", what, stage)
 }

@@ -1,9 +1,9 @@
 //! Steps and stages of a function.
 ghost use Rattle.std.specs.Prelude.{◌≡◌};
-ghost use Rattle.moo_hook.specs.Seen.{told};
+ghost use Rattle.moo_hook.specs.Seen.{as_outcome};
 
-use moo_access::Called;
-use moo_outcome::{Failure, Stop};
+use moo_access::{Called, failed};
+use moo_outcome::Failure;
 use moo_value::Value;
 use moo_world::WorldFault;
 
@@ -39,13 +39,12 @@ pub enum Progress<'a> {
     StageNext(Stage),
 }
 
-/// An answer of the world, as one of a function.
-pub(crate) fn told<T: Drop>(answer: Result<T, WorldFault>) -> Result<T, Failure>
-    ensures { result ≡ told answer }
+/// An answer of the world, as the outcome of a function.
+pub(crate) fn as_outcome<T: Drop>(answer: Result<T, WorldFault>) -> Result<T, Failure>
+    ensures { result ≡ as_outcome answer }
 {
     match answer {
         Ok(value) => Ok(value),
-        Err(WorldFault::Raise(code)) => Err(Failure::Fails(code)),
-        Err(WorldFault::Memory) => Err(Failure::Stops(Stop::Memory)),
+        Err(fault) => Err(failed(fault)),
     }
 }

@@ -9,7 +9,7 @@ ghost use Rattle.moo_hook.specs.Seen.{calling_of, seen_progress, arguments_of};
 
 use crate::hook::hook;
 use crate::objects::first_inside;
-use crate::progress::{Progress, Stage, told};
+use crate::progress::{Progress, Stage, as_outcome};
 use crate::quota::{change_quota, quota};
 use moo_outcome::{Activation, CallStack, Failure};
 use moo_value::ErrorCode;
@@ -59,7 +59,7 @@ fn move_out<'a>(
 ) -> Result<Progress<'a>, Failure>
     ensures { IsKnownFailure result → moved_out (calling_of stack.now active.now) world.old o inside ≡ (seen_progress result, world.new) }
 {
-    told(world.move_bare(inside, -1))?;
+    as_outcome(world.move_bare(inside, -1))?;
     call_verb(alloc, world, stack, active, o, "exitfunc", Some(inside))
 }
 
@@ -68,7 +68,7 @@ fn take_away<'a>(alloc: Global, world: &mut World, o: i32) -> Result<Progress<'a
     ensures { IsKnownFailure result → taken_away world.old o ≡ (seen_progress result, world.new) }
 {
     let owner = owner_of(world, o);
-    told(world.recycle_bare(alloc, o))?;
+    as_outcome(world.recycle_bare(alloc, o))?;
     let left = quota(alloc, world, owner)?;
     change_quota(world, owner, left, 1);
     Ok(Progress::StageNext(Stage::Recycled(o)))

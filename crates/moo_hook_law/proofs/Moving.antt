@@ -12,7 +12,8 @@ use Rattle.moo_access.specs.State.{State}
 use Rattle.moo_code_function.specs.Telling.{Telling}
 use Rattle.moo_hook.specs.declared.progress.Stage.TheVariants.{Accepting, Leaving, Entering}
 use Rattle.moo_hook.specs.Progressing.{calling, Progress, gives, refuses, after_raise}
-use Rattle.moo_hook.specs.Objects.{is_object, is_place, location}
+use Rattle.moo_world_function.specs.Objects.{is_valid}
+use Rattle.moo_hook.specs.Objects.{is_place, location}
 use Rattle.moo_hook.specs.Moving.{move_calls, is_to_move, moved, moving, may_enter, accepted, has_come, left_behind}
 use Rattle.moo_hook.specs.Calls.{Starts, refused, starts}
 use Rattle.moo_eval.specs.Meaning.{Proceeds, is_done}
@@ -51,7 +52,7 @@ module _ (T : Telling) (c : Context) (what to : ℤ) where
   unfolding moved
   departure s d = departure_by s (is_to_move s.world what to) refl d
 
-  module _ (s : State) (here : is_object s.world what ≡ true) (place : is_place s.world to ≡ true) (own : may_own s.world s.programmer what ≡ true) where
+  module _ (s : State) (here : is_valid s.world what ≡ true) (place : is_place s.world to ≡ true) (own : may_own s.world s.programmer what ≡ true) where
     accepted_by : (s1 : State) {s' : State} {v : Tree} {r : Result Tree Failure} → int_eq to (negsuc 0) ≡ false → law.CallsAccept T c what to s v s1 → (b : Bool) → may_enter s1.world s1.programmer (is_true v) ≡ b →
         GoesOn T c s1 (if b then moved (calling c s1) s1.world what to else (refuses NotAccepted, s1.world)) r s' → Moves T c what to s r s'
     accepted_by s1 n d true e g = law.accepted here place own n d e (departure s1 g)
@@ -71,16 +72,16 @@ module _ (T : Telling) (c : Context) (what to : ℤ) where
     leads_to true n d = law.to_nowhere here place own n (departure s d)
     leads_to false n d = asked n (hook_then_follows T c (codes "move") to (codes "accept") (object what ∷ []) (Accepting what to) {s = s} d)
 
-  move_by : (s : State) {s' : State} {r : Result Tree Failure} → is_object s.world what ≡ true → (place : Bool) → is_place s.world to ≡ place → (own : Bool) → may_own s.world s.programmer what ≡ own →
+  move_by : (s : State) {s' : State} {r : Result Tree Failure} → is_valid s.world what ≡ true → (place : Bool) → is_place s.world to ≡ place → (own : Bool) → may_own s.world s.programmer what ≡ own →
       GoesOn T c s (if not place then (refuses InvalidArgument, s.world) else if not own then (refuses Permission, s.world) else if int_eq to (negsuc 0) then moved (calling c s) s.world what to else move_calls (calling c s) s.world to (codes "accept") what (Accepting what to)) r s' → Moves T c what to s r s'
   move_by s here false p own o is_done = law.no_place here p
   move_by s here true p false o is_done = law.not_owned here p o
   move_by s here true p true o d = leads_to s here p o (int_eq to (negsuc 0)) refl d
 
-  whole_move : (s : State) {s' : State} {r : Result Tree Failure} → is_object s.world what ≡ true → GoesOn T c s (moving (calling c s) s.world what to) r s' → Moves T c what to s r s'
+  whole_move : (s : State) {s' : State} {r : Result Tree Failure} → is_valid s.world what ≡ true → GoesOn T c s (moving (calling c s) s.world what to) r s' → Moves T c what to s r s'
   unfolding moving
   whole_move s here d = move_by s here (is_place s.world to) refl (may_own s.world s.programmer what) refl d
 
   pub what_moves : {p : Progress} {s s' s'' : State} {r : Result Tree Failure} → Starts T c function.Move (object what ∷ object to ∷ []) s p s' → Proceeds T c p s' r s'' → Moves T c what to s r s''
-  what_moves {s = s} (refused q) is_done = refused_object (λ code. Moves T c what to s (Err (fails code)) s) (is_object s.world what) (λ h. law.no_object h) q
-  what_moves {s = s} (starts q b u) d = whole_move s (valid_object (is_object s.world what) q) (begun s b u d)
+  what_moves {s = s} (refused q) is_done = refused_object (λ code. Moves T c what to s (Err (fails code)) s) (is_valid s.world what) (λ h. law.no_object h) q
+  what_moves {s = s} (starts q b u) d = whole_move s (valid_object (is_valid s.world what) q) (begun s b u d)

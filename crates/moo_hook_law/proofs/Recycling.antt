@@ -17,7 +17,8 @@ use Rattle.moo_code_function.specs.Telling.{Telling}
 use Rattle.moo_hook.specs.declared.progress.Stage.{Stage}
 use Rattle.moo_hook.specs.declared.progress.Stage.TheVariants.{Emptying, Recycled}
 use Rattle.moo_hook.specs.Progressing.{calling, Progress, done, verb_next, stage_next, refuses, after_raise, is_missing, through, hooked, hook}
-use Rattle.moo_hook.specs.Objects.{is_object, first_inside}
+use Rattle.moo_world_function.specs.Objects.{is_valid}
+use Rattle.moo_hook.specs.Objects.{first_inside}
 use Rattle.moo_hook.specs.Recycling.{recycle_calls, recycling, taken_away, moved_out, emptied}
 use Rattle.moo_hook.specs.Stages.{resumed}
 use Rattle.moo_hook.specs.Calls.{Starts, refused, starts}
@@ -123,19 +124,19 @@ module _ (T : Telling) (c : Context) (o : ℤ) where
       let rest = from_step at (integer (pos 0)) s s' r f (outcome_of n) in
       (λ e. emptying at (integer (pos 0)) s e rest, λ e. ended at (integer (pos 0)) s e rest)
 
-  told_then : (s : State) {s' : State} {r : Result Tree Failure} → is_object s.world o ≡ true → may_own s.world s.programmer o ≡ true → Told T c o s (codes "recycle") [] r s' → Recycles T c o s r s'
+  told_then : (s : State) {s' : State} {r : Result Tree Failure} → is_valid s.world o ≡ true → may_own s.world s.programmer o ≡ true → Told T c o s (codes "recycle") [] r s' → Recycles T c o s r s'
   told_then s here own (fails_there d) = law.recycle_fails here own d
   told_then s here own (then_empties d n) = law.told_and_emptied here own d n
 
-  recycling_by : (s : State) {s' : State} {r : Result Tree Failure} → is_object s.world o ≡ true → (own : Bool) → may_own s.world s.programmer o ≡ own →
+  recycling_by : (s : State) {s' : State} {r : Result Tree Failure} → is_valid s.world o ≡ true → (own : Bool) → may_own s.world s.programmer o ≡ own →
       GoesOn T c s (if own then recycle_calls (calling c s) s.world o (codes "recycle") [] else (refuses Permission, s.world)) r s' → Recycles T c o s r s'
   recycling_by s here true own d = told_then s here own (telling s (codes "recycle") [] (outcome_of d))
   recycling_by s here false own is_done = law.not_owned here own
 
-  recycling_comes : (s : State) {s' : State} {r : Result Tree Failure} → is_object s.world o ≡ true → GoesOn T c s (recycling (calling c s) s.world o) r s' → Recycles T c o s r s'
+  recycling_comes : (s : State) {s' : State} {r : Result Tree Failure} → is_valid s.world o ≡ true → GoesOn T c s (recycling (calling c s) s.world o) r s' → Recycles T c o s r s'
   unfolding recycling
   recycling_comes s here d = recycling_by s here (may_own s.world s.programmer o) refl d
 
   pub what_recycles : {p : Progress} {s s' s'' : State} {r : Result Tree Failure} → Starts T c function.Recycle (object o ∷ []) s p s' → Proceeds T c p s' r s'' → Recycles T c o s r s''
-  what_recycles {s = s} (refused q) is_done = refused_object (λ code. Recycles T c o s (Err (fails code)) s) (is_object s.world o) (λ h. law.no_object h) q
-  what_recycles {s = s} (starts q b u) d = recycling_comes s (valid_object (is_object s.world o) q) (begun_call s b u d)
+  what_recycles {s = s} (refused q) is_done = refused_object (λ code. Recycles T c o s (Err (fails code)) s) (is_valid s.world o) (λ h. law.no_object h) q
+  what_recycles {s = s} (starts q b u) d = recycling_comes s (valid_object (is_valid s.world o) q) (begun_call s b u d)

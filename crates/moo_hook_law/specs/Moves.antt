@@ -11,7 +11,8 @@ use Rattle.moo_outcome.specs.Outcome.{Failure, fails}
 use Rattle.moo_outcome.specs.State.{Context}
 use Rattle.moo_access.specs.State.{State}
 use Rattle.moo_code_function.specs.Telling.{Telling}
-use Rattle.moo_hook.specs.Objects.{is_object, is_place, location}
+use Rattle.moo_world_function.specs.Objects.{is_valid}
+use Rattle.moo_hook.specs.Objects.{is_place, location}
 use Rattle.moo_hook.specs.Moving.{is_to_move, may_enter, has_come}
 use Rattle.moo_hook_law.specs.Verbs.{CallsVerb}
 
@@ -61,27 +62,27 @@ CallsAccept T c what to s v s' = CallsVerb T c (codes "move") to (codes "accept"
 -- #-1; wizards move what it doesn't accept. What verbs have done before a failure stays.
 pub data Moves (T : Telling) (c : Context) (what to : ℤ) : State → Result Tree Failure → State → Type 0 where
   no_object : {s : State} →
-      is_object s.world what ≡ false →
+      is_valid s.world what ≡ false →
       Moves T c what to s (Err (fails InvalidArgument)) s
   no_place : {s : State} →
-      is_object s.world what ≡ true → is_place s.world to ≡ false →
+      is_valid s.world what ≡ true → is_place s.world to ≡ false →
       Moves T c what to s (Err (fails InvalidArgument)) s
   not_owned : {s : State} →
-      is_object s.world what ≡ true → is_place s.world to ≡ true → may_own s.world s.programmer what ≡ false →
+      is_valid s.world what ≡ true → is_place s.world to ≡ true → may_own s.world s.programmer what ≡ false →
       Moves T c what to s (Err (fails Permission)) s
   to_nowhere : {s s' : State} {r : Result Tree Failure} →
-      is_object s.world what ≡ true → is_place s.world to ≡ true → may_own s.world s.programmer what ≡ true → int_eq to (negsuc 0) ≡ true →
+      is_valid s.world what ≡ true → is_place s.world to ≡ true → may_own s.world s.programmer what ≡ true → int_eq to (negsuc 0) ≡ true →
       Goes T c what to s r s' →
       Moves T c what to s r s'
   accepted : {s s' s'' : State} {v : Tree} {r : Result Tree Failure} →
-      is_object s.world what ≡ true → is_place s.world to ≡ true → may_own s.world s.programmer what ≡ true → int_eq to (negsuc 0) ≡ false →
+      is_valid s.world what ≡ true → is_place s.world to ≡ true → may_own s.world s.programmer what ≡ true → int_eq to (negsuc 0) ≡ false →
       CallsAccept T c what to s v s' → may_enter s'.world s'.programmer (is_true v) ≡ true → Goes T c what to s' r s'' →
       Moves T c what to s r s''
   not_accepted : {s s' : State} {v : Tree} →
-      is_object s.world what ≡ true → is_place s.world to ≡ true → may_own s.world s.programmer what ≡ true → int_eq to (negsuc 0) ≡ false →
+      is_valid s.world what ≡ true → is_place s.world to ≡ true → may_own s.world s.programmer what ≡ true → int_eq to (negsuc 0) ≡ false →
       CallsAccept T c what to s v s' → may_enter s'.world s'.programmer (is_true v) ≡ false →
       Moves T c what to s (Err (fails NotAccepted)) s'
   accept_fails : {s s' : State} {failure : Failure} →
-      is_object s.world what ≡ true → is_place s.world to ≡ true → may_own s.world s.programmer what ≡ true → int_eq to (negsuc 0) ≡ false →
+      is_valid s.world what ≡ true → is_place s.world to ≡ true → may_own s.world s.programmer what ≡ true → int_eq to (negsuc 0) ≡ false →
       CallsVerb T c (codes "move") to (codes "accept") (object what ∷ []) s (Err failure) s' →
       Moves T c what to s (Err failure) s'

@@ -11,7 +11,8 @@ use Rattle.moo_outcome.specs.Outcome.{Failure, fails}
 use Rattle.moo_outcome.specs.State.{Context}
 use Rattle.moo_access.specs.State.{State}
 use Rattle.moo_code_function.specs.Telling.{Telling}
-use Rattle.moo_hook.specs.Objects.{is_object, first_inside}
+use Rattle.moo_world_function.specs.Objects.{is_valid}
+use Rattle.moo_hook.specs.Objects.{first_inside}
 use Rattle.moo_hook.specs.Recycling.{owner_of, uncounted}
 use Rattle.moo_hook_law.specs.Verbs.{CallsVerb}
 
@@ -50,16 +51,16 @@ pub data Empties (T : Telling) (c : Context) (o : ℤ) : State → Result Tree F
 -- `recycle(o)`: the object has to be there and the programmer's. It is told by `recycle`.
 pub data Recycles (T : Telling) (c : Context) (o : ℤ) : State → Result Tree Failure → State → Type 0 where
   no_object : {s : State} →
-      is_object s.world o ≡ false →
+      is_valid s.world o ≡ false →
       Recycles T c o s (Err (fails InvalidArgument)) s
   not_owned : {s : State} →
-      is_object s.world o ≡ true → may_own s.world s.programmer o ≡ false →
+      is_valid s.world o ≡ true → may_own s.world s.programmer o ≡ false →
       Recycles T c o s (Err (fails Permission)) s
   told_and_emptied : {s s' s'' : State} {v : Tree} {r : Result Tree Failure} →
-      is_object s.world o ≡ true → may_own s.world s.programmer o ≡ true →
+      is_valid s.world o ≡ true → may_own s.world s.programmer o ≡ true →
       CallsVerb T c (codes "recycle") o (codes "recycle") [] s (Ok v) s' → Empties T c o s' r s'' →
       Recycles T c o s r s''
   recycle_fails : {s s' : State} {failure : Failure} →
-      is_object s.world o ≡ true → may_own s.world s.programmer o ≡ true →
+      is_valid s.world o ≡ true → may_own s.world s.programmer o ≡ true →
       CallsVerb T c (codes "recycle") o (codes "recycle") [] s (Err failure) s' →
       Recycles T c o s (Err failure) s'

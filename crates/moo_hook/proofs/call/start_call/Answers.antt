@@ -3,7 +3,7 @@ use Rattle.std.proofs.lemmas.Result.{err_from_is_err_and}
 use Rattle.moo_function.specs.Table.{row}
 use Rattle.moo_outcome.specs.Seen.{context_of, failure_of}
 use Rattle.moo_call.proofs.Counted.{refused_for_number}
-use Rattle.moo_hook.specs.Objects.{is_object}
+use Rattle.moo_world_function.specs.Objects.{is_valid}
 use Rattle.moo_hook.specs.Calls.{refused, starts}
 use Rattle.moo_hook.specs.Seen.{calling_of}
 use Rattle.moo_hook.proofs.Passed.{ends, takes_any}
@@ -11,14 +11,14 @@ use Rattle.moo_hook.proofs.call.start_call.Goals as goal
 
 pub returns-then-are_too_many : goal.returns-then-are_too_many
 returns-then-are_too_many c =
-    λ ticks notices k. refused (refused_for_number (is_object c.args.world.now) (row c.args.function) c.args.values (c.are_too_many.ensures c.if-are_too_many.true))
+    λ ticks notices k. refused (refused_for_number (is_valid c.args.world.now) (row c.args.function) c.args.values (c.are_too_many.ensures c.if-are_too_many.true))
 
 pub returns-in_err-args : goal.returns-in_err-args
 returns-in_err-args c =
     let p = err_from_is_err_and c.from_residual.result c.from_residual.ensures.1 in
     rw (p.1, p.2) (λ ticks notices k.
     let h = c.in_err-args.ensures.err k in
-    rw h.0 (starts (takes_any (is_object c.args.world.now) c.args.values) (ends (calling_of c.args.stack.now c.args.active.now) c.args.world.now c.args.values _ h.1) refl))
+    rw h.0 (starts (takes_any (is_valid c.args.world.now) c.args.values) (ends (calling_of c.args.stack.now c.args.active.now) c.args.world.now c.args.values _ h.1) refl))
 
 pub returns-in-Some : goal.returns-in-Some
 returns-in-Some c =

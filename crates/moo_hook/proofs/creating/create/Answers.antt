@@ -32,9 +32,9 @@ returns-then-is_used_up c =
     let used = rw left at (sym c.is_used_up.ensures ∙ c.if-is_used_up.true) in
     λ k. rw (parent, used) refl
 
-pub returns-in_err-told : goal.returns-in_err-told
+pub returns-in_err-as_outcome : goal.returns-in_err-as_outcome
 unfolding creating
-returns-in_err-told c =
+returns-in_err-as_outcome c =
     let f : SFits w32 c.args.active.now.programmer = search rules in
     let programmer = to_z-of_z w32 c.args.active.now.programmer f in
     let up = to_z-of_z w32 c.args.up c.ranges.up in
@@ -42,8 +42,8 @@ returns-in_err-told c =
     let parent = simp (programmer, up) at (sym c.may_be_parent.ensures ∙ c.if-not-may_be_parent.false) in
     let left = simp owner at c.in_ok-left.ensures in
     let used = rw left at (sym c.is_used_up.ensures ∙ c.if-is_used_up.false) in
-    let p = err_from_is_err_and c.from_residual-in_err-told.result c.from_residual-in_err-told.ensures.1 in
-    rw (p.1, p.2) (λ k. rw (parent, used) (test_refused c.try_create.result _ _ _ _ (simp up at c.try_create.ensures.raises) (sym c.in_err-told.ensures) k))
+    let p = err_from_is_err_and c.from_residual-in_err-as_outcome.result c.from_residual-in_err-as_outcome.ensures.1 in
+    rw (p.1, p.2) (λ k. rw (parent, used) (test_refused c.try_create.result _ _ _ _ (simp up at c.try_create.ensures.raises) (sym c.in_err-as_outcome.ensures) k))
 
 pub returns-then-not-controls : goal.returns-then-not-controls
 unfolding creating
@@ -55,7 +55,7 @@ returns-then-not-controls c =
     let parent = simp (programmer, up) at (sym c.may_be_parent.ensures ∙ c.if-not-may_be_parent.false) in
     let left = simp owner at c.in_ok-left.ensures in
     let used = rw left at (sym c.is_used_up.ensures ∙ c.if-is_used_up.false) in
-    let none = test_passed c.try_create.result c.in_ok-told.field-0 _ (simp up at c.try_create.ensures.raises) (sym c.in_ok-told.ensures) in
+    let none = test_passed c.try_create.result c.in_ok-as_outcome.field-0 _ (simp up at c.try_create.ensures.raises) (sym c.in_ok-as_outcome.ensures) in
     let control = simp (programmer, owner) at (sym c.controls.ensures ∙ c.if-not-controls.true) in
     λ k. rw (parent, used, none, control) refl
 
@@ -69,7 +69,7 @@ returns c =
     let parent = simp (programmer, up) at (sym c.may_be_parent.ensures ∙ c.if-not-may_be_parent.false) in
     let left = simp owner at c.in_ok-left.ensures in
     let used = rw left at (sym c.is_used_up.ensures ∙ c.if-is_used_up.false) in
-    let none = test_passed c.try_create.result c.in_ok-told.field-0 _ (simp up at c.try_create.ensures.raises) (sym c.in_ok-told.ensures) in
+    let none = test_passed c.try_create.result c.in_ok-as_outcome.field-0 _ (simp up at c.try_create.ensures.raises) (sym c.in_ok-as_outcome.ensures) in
     let control = simp (programmer, owner) at (sym c.controls.ensures ∙ c.if-not-controls.false) in
     let f : SFits w32 c.owner_of_new-owner_of_new.result = search rules in
     let new_owner = to_z-of_z w32 c.owner_of_new-owner_of_new.result f ∙ simp owner at c.owner_of_new-owner_of_new.ensures in

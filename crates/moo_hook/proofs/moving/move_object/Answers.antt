@@ -16,12 +16,12 @@ returns-then-not-is_to_move c =
     let to = to_z-of_z w32 c.args.to c.ranges.to in
     λ k. stays (calling_of c.args.stack.now c.args.active.now) c.args.world.now c.args.what c.args.to (simp (what, to) at (sym c.is_to_move.ensures ∙ c.if-not-is_to_move.true))
 
-pub returns-in_err-told : goal.returns-in_err-told
-returns-in_err-told c =
+pub returns-in_err-as_outcome : goal.returns-in_err-as_outcome
+returns-in_err-as_outcome c =
     let what = to_z-of_z w32 c.args.what c.ranges.what in
     let to = to_z-of_z w32 c.args.to c.ranges.to in
     let p = err_from_is_err_and c.from_residual.result c.from_residual.ensures.1 in
-    rw (p.1, p.2) (λ k. leaves (calling_of c.args.stack.now c.args.active.now) c.args.world.now c.args.what c.args.to _ (simp (what, to) at (sym c.is_to_move.ensures ∙ c.if-not-is_to_move.false)) (refused c.move_bare.result _ _ _ _ _ _ (simp (what, to) at c.move_bare.ensures.world) (sym c.in_err-told.ensures) k))
+    rw (p.1, p.2) (λ k. leaves (calling_of c.args.stack.now c.args.active.now) c.args.world.now c.args.what c.args.to _ (simp (what, to) at (sym c.is_to_move.ensures ∙ c.if-not-is_to_move.false)) (refused c.move_bare.result _ _ _ _ _ _ (simp (what, to) at c.move_bare.ensures.world) (sym c.in_err-as_outcome.ensures) k))
 
 pub returns : goal.returns
 returns c =
@@ -29,4 +29,4 @@ returns c =
     let to = to_z-of_z w32 c.args.to c.ranges.to in
     let fits : SFits w32 c.location-old.result = search rules in
     let old = to_z-of_z w32 c.location-old.result fits ∙ simp what at c.location-old.ensures in
-    λ k. leaves (calling_of c.args.stack.now c.args.active.now) c.args.world.now c.args.what c.args.to _ (simp (what, to) at (sym c.is_to_move.ensures ∙ c.if-not-is_to_move.false)) (changed c.move_bare.result c.in_ok-told.field-0 _ _ _ _ (λ x. move_calls (calling_of c.args.stack.now c.args.active.now) x (location c.args.world.now c.args.what) (codes "exitfunc") c.args.what (Leaving c.args.what c.args.to)) _ (simp (what, to) at c.move_bare.ensures.world) (sym c.in_ok-told.ensures) (rw old at (simp (what, to) at (c.call_verb.ensures k))))
+    λ k. leaves (calling_of c.args.stack.now c.args.active.now) c.args.world.now c.args.what c.args.to _ (simp (what, to) at (sym c.is_to_move.ensures ∙ c.if-not-is_to_move.false)) (changed c.move_bare.result c.in_ok-as_outcome.field-0 _ _ _ _ (λ x. move_calls (calling_of c.args.stack.now c.args.active.now) x (location c.args.world.now c.args.what) (codes "exitfunc") c.args.what (Leaving c.args.what c.args.to)) _ (simp (what, to) at c.move_bare.ensures.world) (sym c.in_ok-as_outcome.ensures) (rw old at (simp (what, to) at (c.call_verb.ensures k))))

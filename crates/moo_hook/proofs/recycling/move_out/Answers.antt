@@ -8,16 +8,16 @@ use Rattle.moo_hook.specs.Seen.{calling_of}
 use Rattle.moo_hook.proofs.Raised.{refused, changed}
 use Rattle.moo_hook.proofs.recycling.move_out.Goals as goal
 
-pub returns-in_err-told : goal.returns-in_err-told
+pub returns-in_err-as_outcome : goal.returns-in_err-as_outcome
 unfolding moved_out
-returns-in_err-told c =
+returns-in_err-as_outcome c =
     let inside = to_z-of_z w32 c.args.inside c.ranges.inside in
     let p = err_from_is_err_and c.from_residual.result c.from_residual.ensures.1 in
-    rw (p.1, p.2) (λ k. refused c.move_bare.result _ _ _ _ _ _ (simp inside at c.move_bare.ensures.world) (sym c.in_err-told.ensures) k)
+    rw (p.1, p.2) (λ k. refused c.move_bare.result _ _ _ _ _ _ (simp inside at c.move_bare.ensures.world) (sym c.in_err-as_outcome.ensures) k)
 
 pub returns : goal.returns
 unfolding moved_out
 returns c =
     let inside = to_z-of_z w32 c.args.inside c.ranges.inside in
     let o = to_z-of_z w32 c.args.o c.ranges.o in
-    λ k. changed c.move_bare.result c.in_ok-told.field-0 _ _ _ _ (λ x. recycle_calls (calling_of c.args.stack.now c.args.active.now) x c.args.o (codes "exitfunc") (object c.args.inside ∷ [])) _ (simp inside at c.move_bare.ensures.world) (sym c.in_ok-told.ensures) (simp (o, inside) at (c.call_verb.ensures k))
+    λ k. changed c.move_bare.result c.in_ok-as_outcome.field-0 _ _ _ _ (λ x. recycle_calls (calling_of c.args.stack.now c.args.active.now) x c.args.o (codes "exitfunc") (object c.args.inside ∷ [])) _ (simp inside at c.move_bare.ensures.world) (sym c.in_ok-as_outcome.ensures) (simp (o, inside) at (c.call_verb.ensures k))

@@ -15,18 +15,20 @@ use Rattle.moo_grammar.specs.Minuses.{minuses, negations}
 use Rattle.moo_grammar.specs.Depth.{Deep}
 use Rattle.moo_grammar.specs.Tokens.{is_sign, next_passes}
 use Rattle.moo_grammar.specs.Grammar.{Sort, Of, Kind, unary, members, sort}
-use Rattle.moo_grammar.specs.Machine.{Reading, refuse, peek, take, phrase, Reads, gives, takes, sees, misses, reads, Why, by_form, Fails, refuses, takes_fails, sees_fails, misses_fails, phrase_fails}
+use Rattle.moo_grammar.specs.Machine.{Reading, refuse, peek, take, Reads, gives, takes, sees, misses, reads, Why, by_form, Fails, refuses, takes_fails, sees_fails, misses_fails, phrase_fails}
 use Rattle.moo_grammar.specs.Predictive.{grammar, allowed, after_member, if_optional, behind_brace}
 use Rattle.moo_grammar.specs.Size.{size}
 use Rattle.moo_grammar.proofs.Complete.{allowed_reads}
 use Rattle.moo_grammar.proofs.Kept.{allowed_fails}
 use Rattle.moo_grammar.proofs.Heights.{item_in_front}
-use Rattle.moo_grammar.proofs.Depths.{Meets, deep_from, misses_deep, takes_deep, phrase_deep, read_deep}
+use Rattle.moo_grammar.proofs.Depths.{Meets}
 use Rattle.moo_expression.specs.declared.fault.Fault.{Fault}
 use Rattle.moo_expression.specs.declared.fault.Fault.TheVariants.{Unexpected, BadTarget, UnknownFunction, BadLoopName, TooDeep, Memory}
 use Rattle.moo_expression.specs.declared.cursor.Cursor.{Cursor}
 use Rattle.moo_expression.specs.declared.node.Node.{Node}
 use Rattle.moo_expression.specs.Cursor.{left, Takes, Stays, StaysUnless}
+use Rattle.moo_expression.specs.Outgrown.{Deepens}
+use Rattle.moo_expression.proofs.Deepening.{deepens_from, takes_deepens, misses_deepens, phrase_deepens}
 use Rattle.moo_expression.specs.Places.{IsCalled}
 use Rattle.moo_expression.specs.Height.{IsMade}
 use Rattle.moo_expression.specs.Outcome.{ReadsBy, IsReadBy, ToldBy, HasFailedBy, member_name, IsUnnamed, IsMember, GoesOn}
@@ -53,11 +55,11 @@ module _ {y : (k : Kind) → Reading (sort k)} {s : Sort} {old new : Cursor} whe
   stayed_fails {w} {q} {r} t d = misses_fails t.other (subst (λ v. Fails y w s q v r) t.rest d)
 
 module _ {g : Rules} {s : Sort} {n : ℕ} {old new : Cursor} where
-  pub took_deep : {x : Token} {f : Token → Bool} {p : Token → Reading s} {q : Reading s} → Takes x old new → f x ≡ true → Deep g s n (p x) (left new) → Deep g s n (peek f (take p) q) (left old)
-  took_deep t h w = deep_from t.token (takes_deep h w)
+  pub took_deepens : {b : Bool} {x : Token} {f : Token → Bool} {p : Token → Reading s} {q : Reading s} {r : List Token} → Takes x old new → f x ≡ true → Deepens g b s n (p x) (left new) r → Deepens g true s n (peek f (take p) q) (left old) r
+  took_deepens t h w = deepens_from t.token (takes_deepens h w)
 
-  pub stayed_deep : {f : Token → Bool} {p q : Reading s} → Stays f old new → Deep g s n q (left new) → Deep g s n (peek f p q) (left old)
-  stayed_deep {q} t w = misses_deep t.other (subst (λ v. Deep g s n q v) t.rest w)
+  pub stayed_deepens : {f : Token → Bool} {p q : Reading s} {r : List Token} → Stays f old new → Deepens g true s n q (left new) r → Deepens g true s n (peek f p q) (left old) r
+  stayed_deepens {q} {r} t w = misses_deepens t.other (subst (λ v. Deepens g true s n q v r) t.rest w)
 
 pub admits_itself : (names : Names) → Admits (strict names) (strict names)
 admits_itself names = record { targets = λ e. e; functions = λ s e. e; loops = λ e. e }
@@ -75,10 +77,10 @@ told_admits Memory names g b = absurd b
 pub passed : {A : Type 0} (P : Fault → Type 0) {result : Result A Fault} {f y : Fault} → result ≡ Err y → y ≡ f → P f → IfErr result P
 passed P is same h = subst (λ v. IfErr v P) (sym is) (subst P (sym same) h)
 
-module _ {names : Names} {s : Sort} {p : Rules → Reading s} {room before : ℕ} {old new : Cursor} where
+module _ {names : Names} {taken : Bool} {s : Sort} {p : Rules → Reading s} {room before : ℕ} {old new : Cursor} where
   -- no grammar goes on with the next token
-  pub refused : {f : Fault} → f ≡ Unexpected → ((g : Rules) → Admits g (strict names) → Fails (grammar g) by_form s (p g) (left old) (left new)) → HasFailedBy names s p room before old new f
-  refused is d = subst (λ v. HasFailedBy names s p room before old new v) (sym is) (record {
+  pub refused : {f : Fault} → f ≡ Unexpected → ((g : Rules) → Admits g (strict names) → Fails (grammar g) by_form s (p g) (left old) (left new)) → HasFailedBy names taken s p room before old new f
+  refused is d = subst (λ v. HasFailedBy names taken s p room before old new v) (sym is) (record {
     fails = d;
     stands = tt;
     deep = λ h. absurd cc;
@@ -86,19 +88,19 @@ module _ {names : Names} {s : Sort} {p : Rules → Reading s} {room before : ℕ
   })
 
   -- a fault under another name
-  pub same_fault : {f h : Fault} → f ≡ h → HasFailedBy names s p room before old new h → HasFailedBy names s p room before old new f
-  same_fault is w = subst (λ v. HasFailedBy names s p room before old new v) (sym is) w
+  pub same_fault : {f h : Fault} → f ≡ h → HasFailedBy names taken s p room before old new h → HasFailedBy names taken s p room before old new f
+  same_fault is w = subst (λ v. HasFailedBy names taken s p room before old new v) (sym is) w
 
-  pub no_memory : {f : Fault} → f ≡ Memory → HasFailedBy names s p room before old new f
-  no_memory is = subst (λ v. HasFailedBy names s p room before old new v) (sym is) (record {
+  pub no_memory : {f : Fault} → f ≡ Memory → HasFailedBy names taken s p room before old new f
+  no_memory is = subst (λ v. HasFailedBy names taken s p room before old new v) (sym is) (record {
     fails = λ g b. absurd b;
     stands = tt;
     deep = λ h. absurd cc;
     long = λ h. absurd cc;
   })
 
-  pub too_high : {f : Fault} → f ≡ TooDeep → Deep (strict names) s room (p (strict names)) (left old) → old.at + room < new.at + before → HasFailedBy names s p room before old new f
-  too_high is d l = subst (λ v. HasFailedBy names s p room before old new v) (sym is) (record {
+  pub too_high : {f : Fault} → f ≡ TooDeep → ((g : Rules) → Admits g (strict names) → Deepens g taken s room (p g) (left old) (left new)) → old.at + room < new.at + before → HasFailedBy names taken s p room before old new f
+  too_high is d l = subst (λ v. HasFailedBy names taken s p room before old new v) (sym is) (record {
     fails = λ g b. absurd b;
     stands = tt;
     deep = λ h. d;
@@ -120,14 +122,20 @@ module _ (names : Names) (p : Rules → Reading Sort.expr) (room before : ℕ) (
   made (Ok n) m d h = subst (λ v. IsReadBy names Sort.expr p room before old new v) (sym m.0) (record { reads = d; fits = omega (arith, m.1, m.2); tokens = h })
   made (Err f) m d h = tt
 
-  -- or it was too high, or there was no memory for it
-  pub unmade : (result : Result Node Fault) → IsMade e room result → ReadsBy names Sort.expr p (left old) e (left new) → old.at + height e ≤ new.at + before → IfErr result (λ f. HasFailedBy names Sort.expr p room before old new f)
-  unmade (Ok n) m d h = tt
-  unmade (Err f) m d h = ⊎_elim (λ is. no_memory is) (λ is. too_high is.0 (read_deep e (left new) (d (strict names) (admits_itself names)) is.1) (omega (arith, is.1, h))) m
+-- a tree that fits was not made
+pub not_made : {names : Names} {taken : Bool} {s : Sort} {p : Rules → Reading s} {room before : ℕ} {old new : Cursor} {f : Fault} (e : Expr) → ((f ≡ Memory) ⊎ ((f ≡ TooDeep) × (room < height e))) → height e ≤ room → HasFailedBy names taken s p room before old new f
+not_made e m h = ⊎_elim (λ is. no_memory is) (λ is. absurd (omega (arith, h, is.1))) m
 
--- a part of a tree was not made, where the reading goes on
-pub not_made : {names : Names} {p : Rules → Reading Sort.expr} {room before : ℕ} {old new : Cursor} {f : Fault} (e : Expr) → ((f ≡ Memory) ⊎ ((f ≡ TooDeep) × (room < height e))) → (room < height e → Deep (strict names) Sort.expr room (p (strict names)) (left old)) → (room < height e → old.at + room < new.at + before) → HasFailedBy names Sort.expr p room before old new f
-not_made e m d l = ⊎_elim (λ is. no_memory is) (λ is. too_high is.0 (d is.1) (l is.1)) m
+module _ (names : Names) (taken : Bool) (p : Rules → Reading Sort.expr) (room before : ℕ) (old new : Cursor) (e : Expr) where
+  -- the last tree of a reading was not made, though it fits
+  pub unmade : (result : Result Node Fault) → IsMade e room result → height e ≤ room → IfErr result (λ f. HasFailedBy names taken Sort.expr p room before old new f)
+  unmade (Ok n) m h = tt
+  unmade (Err f) m h = not_made e m h
+
+  -- a leaf was not made
+  pub no_leaf : (result : Result Node Fault) → IsMade e room result → (room < height e → (g : Rules) → Admits g (strict names) → Deepens g taken Sort.expr room (p g) (left old) (left new)) → (room < height e → old.at + room < new.at + before) → IfErr result (λ f. HasFailedBy names taken Sort.expr p room before old new f)
+  no_leaf (Ok n) m d l = tt
+  no_leaf (Err f) m d l = ⊎_elim (λ is. no_memory is) (λ is. too_high is.0 (d is.1) (l is.1)) m
 
 -- the call found nothing
 pub none_of : {A : Type 0} (P : Type 0) (Q : A → Type 0) (o : Option A) → ((x : A) → o ≡ Some x → ⊥) → MatchOption o P Q → P
@@ -165,17 +173,17 @@ unfolding grammar
 minuses_fail g i zero d = d
 minuses_fail g i (suc n) d = misses_fails refl (sees_fails refl (takes_fails (phrase_fails (minuses_fail g i n d))))
 
-module _ (names : Names) (i o : Bool) (front : List Item) (ts : List Token) (us old new : Cursor) (w : GoesOn names (members i o) (members i o) (in_front front) ts (left us)) where
+module _ (names : Names) (i o : Bool) {room : ℕ} (front : List Item) (ts : List Token) (us old new : Cursor) (w : GoesOn names (members i o) (members i o) (in_front front) ts (left us)) where
   -- the last member
-  pub ended : (x : Item) → IsMember names i o us old x → Stays (is_sign Comma) old new → ReadsBy names Sort.items (λ g. grammar g (members i o)) ts (in_front front (with_item x tree.no_items)) (left new)
+  pub ended : (x : Item) → IsMember names i o room us old x → Stays (is_sign Comma) old new → ReadsBy names Sort.items (λ g. grammar g (members i o)) ts (in_front front (with_item x tree.no_items)) (left new)
   ended x m st = λ g a. w.reads g a _ _ (m.leads.reads g a _ _ (stayed st gives))
 
   -- a member, and a comma behind it
-  pub goes_on_member : (x : Item) → IsMember names i o us old x → Takes (Sign Comma) old new → GoesOn names (members i o) (members i o) (in_front (front ++ x ∷ [])) ts (left new)
+  pub goes_on_member : (x : Item) → IsMember names i o room us old x → Takes (Sign Comma) old new → GoesOn names (members i o) (members i o) (in_front (front ++ x ∷ [])) ts (left new)
   goes_on_member x m tk = record {
     reads = λ g a xs r d. rw in_front_push (w.reads g a _ _ (m.leads.reads g a _ _ (took tk refl (reads d gives))));
     fails = λ g a r d. w.fails g a _ (m.leads.fails g a _ (took_fails tk refl (phrase_fails d)));
-    deep = λ n d. w.deep n (m.leads.deep n (took_deep tk refl (phrase_deep d (λ xs q. omega (arith, q, item_in_front x xs)))));
+    deep = λ g a n r d. w.deep g a n r (m.leads.deep g a n r (took_deepens tk refl (phrase_deepens d (λ xs q. omega (arith, q, item_in_front x xs)))));
   }
 
 module _ {y : (k : Kind) → Reading (sort k)} {old new : Cursor} where
@@ -197,14 +205,14 @@ module _ {y : (k : Kind) → Reading (sort k)} {old new : Cursor} where
   unasked_fails {w} true p q {r} t d = misses_fails (t.other refl) (subst (λ v. Fails y w Sort.items q v r) t.rest d)
   unasked_fails {w} false p q {r} t d = subst (λ v. Fails y w Sort.items q v r) t.rest d
 
-module _ {g : Rules} {n : ℕ} {old new : Cursor} where
-  pub asked_deep : (o : Bool) (p q : Reading Sort.items) → (o ≡ true) × Takes (Sign Question) old new → Deep g Sort.items n p (left new) → Deep g Sort.items n (if_optional o p q) (left old)
-  asked_deep true p q t d = took_deep t.1 refl d
-  asked_deep false p q t d = let e = t.0 in absurd cc
+module _ {g : Rules} {n : ℕ} {old new : Cursor} {r : List Token} where
+  pub asked_deepens : {b : Bool} (o : Bool) (p q : Reading Sort.items) → (o ≡ true) × Takes (Sign Question) old new → Deepens g b Sort.items n p (left new) r → Deepens g true Sort.items n (if_optional o p q) (left old) r
+  asked_deepens true p q t d = took_deepens t.1 refl d
+  asked_deepens false p q t d = let e = t.0 in absurd cc
 
-  pub unasked_deep : (o : Bool) (p q : Reading Sort.items) → StaysUnless o (is_sign Question) old new → Deep g Sort.items n q (left new) → Deep g Sort.items n (if_optional o p q) (left old)
-  unasked_deep true p q t d = misses_deep (t.other refl) (subst (λ v. Deep g Sort.items n q v) t.rest d)
-  unasked_deep false p q t d = subst (λ v. Deep g Sort.items n q v) t.rest d
+  pub unasked_deepens : (o : Bool) (p q : Reading Sort.items) → StaysUnless o (is_sign Question) old new → Deepens g true Sort.items n q (left new) r → Deepens g true Sort.items n (if_optional o p q) (left old) r
+  unasked_deepens true p q t d = misses_deepens (t.other refl) (subst (λ v. Deepens g true Sort.items n q v r) t.rest d)
+  unasked_deepens false p q t d = subst (λ v. Deepens g true Sort.items n q v r) t.rest d
 
 -- a token that was seen, and that may stand there
 module _ {y : (k : Kind) → Reading (sort k)} {s : Sort} {old new : Cursor} where
@@ -217,11 +225,8 @@ module _ {y : (k : Kind) → Reading (sort k)} {s : Sort} {old new : Cursor} whe
 allowed_same : {s : Sort} {f : Token → Bool} {b : Bool} (p q : Reading s) → b ≡ true → peek f (allowed b p) q ≡ peek f p q
 allowed_same p q is = rw is refl
 
-pub admitted_deep : {g : Rules} {s : Sort} {n : ℕ} {old new : Cursor} (p : Token → Reading s) {x : Token} {f : Token → Bool} {b : Bool} {q : Reading s} → Takes x old new → f x ≡ true → b ≡ true → Deep g s n (p x) (left new) → Deep g s n (peek f (allowed b (take p)) q) (left old)
-admitted_deep {g} {s} {n} {old} p {q = q} t h i w = subst (λ v. Deep g s n v (left old)) (sym (allowed_same (take p) q i)) (took_deep t h w)
-
-inside : {g : Rules} {s : Sort} {n j : ℕ} {k : Kind} {p : Of (sort k) → Reading s} {ts r : List Token} {e : Of s} → Deep g (sort k) j (grammar g k) ts → ((a : Of (sort k)) → j < size (sort k) a → (us : List Token) → Deep g s n (p a) us) → Reads (grammar g) s (phrase k p) ts e r → n < size s e
-inside {r = r} {e = e} w keeps (reads {m = m} {a = a} y z) = (keeps a (w.too_high a m y) m).too_high e r z
+pub admitted_deepens : {g : Rules} {a : Bool} {s : Sort} {n : ℕ} {old new : Cursor} {r : List Token} (p : Token → Reading s) {x : Token} {f : Token → Bool} {b : Bool} {q : Reading s} → Takes x old new → f x ≡ true → b ≡ true → Deepens g a s n (p x) (left new) r → Deepens g true s n (peek f (allowed b (take p)) q) (left old) r
+admitted_deepens {g} {s} {n} {old} {r} p {q = q} t h i w = subst (λ v. Deepens g true s n v (left old) r) (sym (allowed_same (take p) q i)) (took_deepens t h w)
 
 expected : {g : Rules} {s : Sort} {n : ℕ} {f : Token → Bool} {p : Reading s} {ts r : List Token} {e : Of s} → ((us : List Token) → Deep g s n p us) → Reads (grammar g) s (peek f (take (λ _. p)) refuse) ts e r → n < size s e
 expected {r = r} {e = e} keeps (sees h (takes {ts = us} d)) = (keeps us).too_high e r d
@@ -240,10 +245,6 @@ pub brace_keeps : (b : Bool) (e : Expr) (Q : Expr → Type 0) → Q e → Meets 
 brace_keeps true e Q m = (m, tt)
 brace_keeps false e Q m = m
 
--- a phrase that is too high, before what is then too high everywhere
-pub inner_deep : {g : Rules} {s : Sort} {n j : ℕ} {k : Kind} {p : Of (sort k) → Reading s} {ts : List Token} → Deep g (sort k) j (grammar g k) ts → ((a : Of (sort k)) → j < size (sort k) a → (us : List Token) → Deep g s n (p a) us) → Deep g s n (phrase k p) ts
-inner_deep w keeps = record { too_high = λ e r d. inside w keeps d }
-
 pub expect_deep : {g : Rules} {s : Sort} {n : ℕ} {f : Token → Bool} {p : Reading s} → ((us : List Token) → Deep g s n p us) → (ts : List Token) → Deep g s n (peek f (take (λ _. p)) refuse) ts
 expect_deep keeps ts = record { too_high = λ e r d. expected keeps d }
 
@@ -254,8 +255,8 @@ piece_reads {y} {i} {f = f} {ts} {r} {e} is d = subst (λ v. Reads y Sort.items 
 pub piece_fails : {w : Why} {y : (k : Kind) → Reading (sort k)} {i o : Bool} {f : Items → Items} {ts r : List Token} → o ≡ true → Fails y w Sort.items (after_member i o f) ts r → Fails y w Sort.items (after_member i true f) ts r
 piece_fails {w} {y} {i} {f = f} {ts} {r} is d = subst (λ v. Fails y w Sort.items (after_member i v f) ts r) is d
 
-pub piece_deep : {g : Rules} {n : ℕ} {i o : Bool} {f : Items → Items} {ts : List Token} → o ≡ true → Deep g Sort.items n (after_member i o f) ts → Deep g Sort.items n (after_member i true f) ts
-piece_deep {g} {n} {i} {f = f} {ts} is d = subst (λ v. Deep g Sort.items n (after_member i v f) ts) is d
+pub piece_deepens : {g : Rules} {n : ℕ} {i o : Bool} {f : Items → Items} {ts r : List Token} → o ≡ true → Deepens g true Sort.items n (after_member i o f) ts r → Deepens g true Sort.items n (after_member i true f) ts r
+piece_deepens {g} {n} {i} {f = f} {ts} {r} is d = subst (λ v. Deepens g true Sort.items n (after_member i v f) ts r) is d
 
 bool_cases : (b : Bool) → (b ≡ true → ⊥) → b ≡ false
 bool_cases true h = absurd (h refl)
@@ -270,7 +271,7 @@ module _ {names : Names} {i : Bool} {room : ℕ} {old new : Cursor} where
   unnamed_refused is d = subst (λ v. IsUnnamed names i room old new v) (sym is) (record {
     fails = d;
     stands = tt;
-    deep = λ n k keeps h. absurd cc;
+    deep = λ h. absurd cc;
     long = λ h. absurd cc;
   })
 
@@ -278,7 +279,7 @@ module _ {names : Names} {i : Bool} {room : ℕ} {old new : Cursor} where
   unnamed_memory is = subst (λ v. IsUnnamed names i room old new v) (sym is) (record {
     fails = λ k g b. absurd b;
     stands = tt;
-    deep = λ n k keeps h. absurd cc;
+    deep = λ h. absurd cc;
     long = λ h. absurd cc;
   })
 

@@ -1,5 +1,5 @@
 -- What a function of the parser says of its outcome.
-use Rattle.std.specs.Prelude.{ℕ, List, ◌≡◌, ◌≤◌, ◌<◌, ◌+◌, Bool, true, false}
+use Rattle.std.specs.Prelude.{ℕ, List, ◌≡◌, ◌≤◌, ◌<◌, ◌+◌, Bool, true, false, max}
 use Rattle.moo_token.specs.declared.token.Token.{Token}
 use Rattle.moo_token.specs.declared.sign.Sign.TheVariants.{Assign, LeftParen, RightParen}
 use Rattle.moo_program.specs.declared.tree.Item.{Item}
@@ -19,6 +19,7 @@ use Rattle.moo_expression.specs.declared.cursor.Cursor.{Cursor}
 use Rattle.moo_expression.specs.declared.fault.Fault.{Fault}
 use Rattle.moo_expression.specs.declared.fault.Fault.TheVariants.{Unexpected, BadTarget, UnknownFunction, BadLoopName, TooDeep, Memory}
 use Rattle.moo_expression.specs.Cursor.{left, Takes}
+use Rattle.moo_expression.specs.Outgrown.{Deepens}
 use Rattle.moo_expression.specs.Places.{IsCalled, IsJump}
 
 -- the cursor is over the same tokens, and never went back
@@ -68,21 +69,17 @@ Stands BadLoopName names c = IsJump c.spots.now c.at
 Stands TooDeep names c = Unit {0}
 Stands Memory names c = Unit {0}
 
--- The reading gives up where the cursor is left. It then does so on all tokens that agree with these up to there.
-pub record HasFailedBy (names : Names) (s : Sort) (p : Rules → Reading s) (room before : ℕ) (old new : Cursor) (f : Fault) : Type 0 where
+-- The reading gives up where the cursor is left, and then does so on all tokens that agree with these up to there; or the tokens that were
+-- taken make it certain that the tree is too high. The flag says whether one was taken then.
+pub record HasFailedBy (names : Names) (taken : Bool) (s : Sort) (p : Rules → Reading s) (room before : ℕ) (old new : Cursor) (f : Fault) : Type 0 where
   pub fails : (g : Rules) → ToldBy f names g → Fails (grammar g) (why f) s (p g) (left old) (left new)
   pub stands : Stands f names new
-  pub deep : f ≡ TooDeep → Deep (strict names) s room (p (strict names)) (left old)
+  pub deep : f ≡ TooDeep → (g : Rules) → Admits g (strict names) → Deepens g taken s room (p g) (left old) (left new)
   pub long : f ≡ TooDeep → old.at + room < new.at + before
 
 -- the phrase was not read
 abbrev pub HasFailed : Names → Kind → ℕ → Cursor → Cursor → Fault → Type 0
-HasFailed names k room old new f = HasFailedBy names (sort k) (λ g. grammar g k) room 0 old new f
-
--- the same of a part that needs no room of its own
-pub record IsPartRead (names : Names) (k : Kind) (old new : Cursor) (e : Of (sort k)) : Type 0 where
-  pub reads : ReadsBy names (sort k) (λ g. grammar g k) (left old) e (left new)
-  pub tokens : old.at + size (sort k) e ≤ new.at
+HasFailed names k room old new f = HasFailedBy names true (sort k) (λ g. grammar g k) room 0 old new f
 
 -- the token was the last to be taken
 abbrev pub IsBehind : Token → Cursor → Type 0
@@ -92,36 +89,39 @@ IsBehind x new = (old : Cursor) × Takes x old new
 pub record GoesOn (names : Names) (k j : Kind) (f : Of (sort j) → Of (sort k)) (ts us : List Token) : Type 0 where
   pub reads : (g : Rules) → Admits g (strict names) → (e : Of (sort j)) (r : List Token) → Reads (grammar g) (sort j) (grammar g j) us e r → Reads (grammar g) (sort k) (grammar g k) ts (f e) r
   pub fails : (g : Rules) → Admits g (strict names) → (r : List Token) {w : Why} → Fails (grammar g) w (sort j) (grammar g j) us r → Fails (grammar g) w (sort k) (grammar g k) ts r
-  pub deep : (n : ℕ) → Deep (strict names) (sort j) n (grammar (strict names) j) us → Deep (strict names) (sort k) n (grammar (strict names) k) ts
+  pub deep : (g : Rules) → Admits g (strict names) → (n : ℕ) (r : List Token) → Deepens g true (sort j) n (grammar g j) us r → Deepens g true (sort k) n (grammar g k) ts r
 
 -- the reading p at ts comes to the reading q at us
 pub record LeadsTo (names : Names) (s : Sort) (p q : Rules → Reading s) (ts us : List Token) : Type 0 where
   pub reads : (g : Rules) → Admits g (strict names) → (e : Of s) (r : List Token) → Reads (grammar g) s (q g) us e r → Reads (grammar g) s (p g) ts e r
   pub fails : (g : Rules) → Admits g (strict names) → (r : List Token) {w : Why} → Fails (grammar g) w s (q g) us r → Fails (grammar g) w s (p g) ts r
-  pub deep : (n : ℕ) → Deep (strict names) s n (q (strict names)) us → Deep (strict names) s n (p (strict names)) ts
+  pub deep : (g : Rules) → Admits g (strict names) → (n : ℕ) (r : List Token) → Deepens g true s n (q g) us r → Deepens g true s n (p g) ts r
 
 -- the name of a property or a verb, and what goes on behind it
 abbrev pub member_name : Bool → (Expr → Reading Sort.expr) → Reading Sort.expr
 member_name i k = if_name (λ s. k (text s)) (expect LeftParen (phrase (expression i) λ b. expect RightParen (k b)))
 
 -- such a name was read
-pub record IsNamed (names : Names) (i : Bool) (old new : Cursor) (b : Expr) : Type 0 where
+pub record IsNamed (names : Names) (i : Bool) (room : ℕ) (old new : Cursor) (b : Expr) : Type 0 where
   pub leads : (k : Expr → Reading Sort.expr) → LeadsTo names Sort.expr (λ g. member_name i k) (λ g. k b) (left old) (left new)
+  pub fits : height b ≤ max room 1
   pub tokens : old.at + height b ≤ new.at
 
 -- such a name was not read, whatever goes on behind it
 pub record IsUnnamed (names : Names) (i : Bool) (room : ℕ) (old new : Cursor) (f : Fault) : Type 0 where
   pub fails : (k : Expr → Reading Sort.expr) (g : Rules) → ToldBy f names g → Fails (grammar g) (why f) Sort.expr (member_name i k) (left old) (left new)
   pub stands : Stands f names new
-  pub deep : (n : ℕ) (k : Expr → Reading Sort.expr) → ((b : Expr) → room < height b → (us : List Token) → Deep (strict names) Sort.expr n (k b) us) → f ≡ TooDeep → Deep (strict names) Sort.expr n (member_name i k) (left old)
+  pub deep : f ≡ TooDeep → (g : Rules) → Admits g (strict names) → (n : ℕ) (k : Expr → Reading Sort.expr) → ((b : Expr) → room < height b → (us : List Token) → Deep g Sort.expr n (k b) us) → Deepens g true Sort.expr n (member_name i k) (left old) (left new)
   pub long : f ≡ TooDeep → old.at + room < new.at
 
 -- a member was read, of which the comma or the end is still to come
-pub record IsMember (names : Names) (i o : Bool) (old new : Cursor) (item : Item) : Type 0 where
+pub record IsMember (names : Names) (i o : Bool) (room : ℕ) (old new : Cursor) (item : Item) : Type 0 where
   pub leads : LeadsTo names Sort.items (λ g. grammar g (members i o)) (λ g. after_member i o (with_item item)) (left old) (left new)
+  pub fits : item_height item ≤ room
   pub tokens : old.at + item_height item ≤ new.at
 
 -- the same of a piece behind its `?`
-pub record IsPiece (names : Names) (i : Bool) (old new : Cursor) (item : Item) : Type 0 where
+pub record IsPiece (names : Names) (i : Bool) (room : ℕ) (old new : Cursor) (item : Item) : Type 0 where
   pub leads : LeadsTo names Sort.items (λ g. behind_question i) (λ g. after_member i true (with_item item)) (left old) (left new)
+  pub fits : item_height item ≤ room
   pub tokens : old.at + item_height item ≤ new.at

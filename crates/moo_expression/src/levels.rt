@@ -10,7 +10,7 @@ ghost use Rattle.moo_expression.specs.Outcome.{Moves, IsRead, HasFailed};
 
 use crate::cursor::Cursor;
 use crate::fault::Fault;
-use crate::make::{below, join, negate_times, node_over};
+use crate::make::{behind_minuses, below, beside, join, negate_times, node_over};
 use crate::node::Node;
 use crate::place::Place;
 use crate::postfix::postfix;
@@ -38,7 +38,8 @@ pub fn expression(
     }
     expect_target(&target.tree)?;
     tokens.expect(Sign::Assign)?;
-    let value = expression(alloc, tokens, place, below(room)?)?;
+    let room_beside = beside(target.height, room)?;
+    let value = expression(alloc, tokens, place, room_beside)?;
     let height = target.height.max(value.height);
     node_over(alloc, Expr::Assign(target.tree, value.tree), height, room)
 }
@@ -53,10 +54,10 @@ fn conditional(alloc: Global, tokens: &mut Cursor, place: Place, room: u32) -> R
     if !tokens.take(Sign::Question) {
         return Ok(test);
     }
-    let room_below = below(room)?;
-    let yes = expression(alloc, tokens, place, room_below)?;
+    let room_beside = beside(test.height, room)?;
+    let yes = expression(alloc, tokens, place, room_beside)?;
     tokens.expect(Sign::Pipe)?;
-    let no = conditional(alloc, tokens, place, room_below)?;
+    let no = conditional(alloc, tokens, place, room_beside)?;
     let height = test.height.max(yes.height).max(no.height);
     node_over(
         alloc,
@@ -80,7 +81,8 @@ fn chain(
 {
     let mut front = operand(alloc, tokens, level, place, room)?;
     while let Some(operator) = tokens.take_operator(level) {
-        let next = operand(alloc, tokens, level, place, room)?;
+        let room_beside = beside(front.height, room)?;
+        let next = operand(alloc, tokens, level, place, room_beside)?;
         front = join(alloc, operator, front, next, room)?;
     }
     Ok(front)
@@ -116,7 +118,8 @@ fn power(alloc: Global, tokens: &mut Cursor, place: Place, room: u32) -> Result<
     if !tokens.take(Sign::Caret) {
         return Ok(base);
     }
-    let exponent = power(alloc, tokens, place, below(room)?)?;
+    let room_beside = beside(base.height, room)?;
+    let exponent = power(alloc, tokens, place, room_beside)?;
     let height = base.height.max(exponent.height);
     node_over(
         alloc,
@@ -133,7 +136,7 @@ fn unary(alloc: Global, tokens: &mut Cursor, place: Place, room: u32) -> Result<
     ensures failed { IfErr result (λ f. HasFailed place.names (unary place.inside) room tokens.old tokens.new f) }
 {
     let minuses = tokens.take_minuses();
-    let operand = unsigned(alloc, tokens, place, room)?;
+    let operand = unsigned(alloc, tokens, place, behind_minuses(minuses, room))?;
     negate_times(alloc, minuses, operand, room)
 }
 

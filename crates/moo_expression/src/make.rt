@@ -1,5 +1,5 @@
 //! Nodes over nodes, within the room that there is.
-ghost use Rattle.std.specs.Prelude.{◌≡◌, ◌+◌, ◌≤◌, MatchResult};
+ghost use Rattle.std.specs.Prelude.{◌≡◌, ◌+◌, ◌-◌, ◌≤◌, ◌<◌, max, min, MatchResult};
 ghost use Rattle.moo_program.specs.Limits.{height as height_of};
 ghost use Rattle.moo_program.specs.Tree as tree;
 ghost use Rattle.moo_program.specs.View.{root, tree as tree_of};
@@ -20,6 +20,26 @@ pub fn below(room: u32) -> Result<u32, Fault>
     ensures { MatchResult result (λ r. r + 1 ≡ room) (λ f. (f ≡ TooDeep) × (room ≡ 0)) }
 {
     room.checked_sub(1).ok_or(Fault::TooDeep)
+}
+
+/// How many nodes may stand beside a part of this height, where so many may stand from the node over both on.
+pub fn beside(height: u32, room: u32) -> Result<u32, Fault>
+    ensures { MatchResult result (λ r. (r + 1 ≡ room) × (height < room)) (λ f. (f ≡ TooDeep) × (room ≤ height)) }
+{
+    if height < room {
+        Ok(room - 1)
+    } else {
+        Err(Fault::TooDeep)
+    }
+}
+
+/// How many nodes may stand behind so many minuses, where so many may stand from the first minus on. A number takes minuses in, so
+/// that it fits behind any of them.
+pub fn behind_minuses(minuses: usize, room: u32) -> u32
+    ensures { result ≡ max (room - minuses) (min room 1) }
+{
+    let minuses = u32::try_from(minuses).unwrap_or(room);
+    room.saturating_sub(minuses).max(room.min(1))
 }
 
 /// A node over others, of which the highest has this height.

@@ -1,14 +1,15 @@
 //! A parser of the items of lists, the arguments of calls and the pieces of scatters.
-ghost use Rattle.std.specs.Prelude.{IfOk, IfErr};
+ghost use Rattle.std.specs.Prelude.{true, IfOk, IfErr};
 ghost use Rattle.moo_program.specs.Limits.{height};
 ghost use Rattle.moo_program.specs.View.{items_of};
 ghost use Rattle.moo_grammar.specs.Grammar.{expression, arguments, members, items};
 ghost use Rattle.moo_grammar.specs.Predictive.{behind_question};
-ghost use Rattle.moo_expression.specs.Outcome.{Moves, IsPartRead, HasFailed, HasFailedBy, IsMember, IsPiece};
+ghost use Rattle.moo_expression.specs.Outcome.{Moves, IsRead, HasFailed, HasFailedBy, IsMember, IsPiece};
 
 use crate::cursor::Cursor;
 use crate::fault::Fault;
 use crate::levels::expression;
+use crate::make::below;
 use crate::node::{Member, Members, Node};
 use crate::place::Place;
 use moo_program::Item;
@@ -24,7 +25,7 @@ pub fn arguments(
     room: u32,
 ) -> Result<Members, Fault>
     ensures moves { Moves tokens.old tokens.new }
-    ensures read { IfOk result (λ v. IsPartRead place.names (arguments place.inside optional) tokens.old tokens.new (items_of v.items.items)) }
+    ensures read { IfOk result (λ v. IsRead place.names (arguments place.inside optional) room tokens.old tokens.new (items_of v.items.items)) }
     ensures failed { IfErr result (λ f. HasFailed place.names (arguments place.inside optional) room tokens.old tokens.new f) }
 {
     if tokens.is_at_closer() {
@@ -42,7 +43,7 @@ pub fn members(
     room: u32,
 ) -> Result<Members, Fault>
     ensures moves { Moves tokens.old tokens.new }
-    ensures read { IfOk result (λ v. IsPartRead place.names (members place.inside optional) tokens.old tokens.new (items_of v.items.items)) }
+    ensures read { IfOk result (λ v. IsRead place.names (members place.inside optional) room tokens.old tokens.new (items_of v.items.items)) }
     ensures failed { IfErr result (λ f. HasFailed place.names (members place.inside optional) room tokens.old tokens.new f) }
 {
     let mut found = Members::new(alloc);
@@ -64,7 +65,7 @@ fn member(
     room: u32,
 ) -> Result<Member, Fault>
     ensures moves { Moves tokens.old tokens.new }
-    ensures read { IfOk result (λ m. IsMember place.names place.inside optional tokens.old tokens.new m.item) }
+    ensures read { IfOk result (λ m. IsMember place.names place.inside optional room tokens.old tokens.new m.item) }
     ensures failed { IfErr result (λ f. HasFailed place.names (members place.inside optional) room tokens.old tokens.new f) }
 {
     if tokens.take(Sign::At) {
@@ -92,12 +93,13 @@ fn behind_question(
     room: u32,
 ) -> Result<Member, Fault>
     ensures moves { Moves tokens.old tokens.new }
-    ensures read { IfOk result (λ m. IsPiece place.names place.inside tokens.old tokens.new m.item) }
-    ensures failed { IfErr result (λ f. HasFailedBy place.names items (λ g. behind_question place.inside) room 0 tokens.old tokens.new f) }
+    ensures read { IfOk result (λ m. IsPiece place.names place.inside room tokens.old tokens.new m.item) }
+    ensures failed { IfErr result (λ f. HasFailedBy place.names true items (λ g. behind_question place.inside) room 0 tokens.old tokens.new f) }
 {
     let Some(name) = tokens.take_name()? else {
         return Err(Fault::Unexpected);
     };
+    below(room)?;
     if !tokens.take(Sign::Assign) {
         return Ok(Member {
             item: Item::Optional(name, None),

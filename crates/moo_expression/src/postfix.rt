@@ -1,5 +1,5 @@
 //! A parser of what stands behind a base: properties, verb calls and indices.
-ghost use Rattle.std.specs.Prelude.{◌≤◌, false, IfOk, IfErr};
+ghost use Rattle.std.specs.Prelude.{◌+◌, ◌≤◌, true, false, IfOk, IfErr};
 ghost use Rattle.moo_program.specs.Limits.{height};
 ghost use Rattle.moo_program.specs.View.{root};
 ghost use Rattle.moo_grammar.specs.Grammar.{expression, postfix, suffixes, primary, arguments, members, expr, items};
@@ -9,7 +9,7 @@ ghost use Rattle.moo_expression.specs.Outcome.{Moves, IsRead, IsReadBy, HasFaile
 use crate::cursor::Cursor;
 use crate::fault::Fault;
 use crate::levels::expression;
-use crate::make::{below, constant, node_over};
+use crate::make::{beside, constant, node_over};
 use crate::members::arguments;
 use crate::node::Node;
 use crate::place::Place;
@@ -39,7 +39,7 @@ fn suffixes(
     requires { base.height ≤ room }
     ensures moves { Moves tokens.old tokens.new }
     ensures read { IfOk result (λ n. IsReadBy place.names expr (λ g. grammar g (suffixes place.inside (root base.tree))) room (height (root base.tree)) tokens.old tokens.new (root n.tree)) }
-    ensures failed { IfErr result (λ f. HasFailedBy place.names expr (λ g. grammar g (suffixes place.inside (root base.tree))) room (height (root base.tree)) tokens.old tokens.new f) }
+    ensures failed { IfErr result (λ f. HasFailedBy place.names true expr (λ g. grammar g (suffixes place.inside (root base.tree))) room (height (root base.tree)) tokens.old tokens.new f) }
 {
     if tokens.take(Sign::Dot) {
         return behind_dot(alloc, tokens, base, place, room);
@@ -63,11 +63,11 @@ fn behind_dot(
 ) -> Result<Node, Fault>
     requires { base.height ≤ room }
     ensures moves { Moves tokens.old tokens.new }
-    ensures read { IfOk result (λ n. IsReadBy place.names expr (λ g. behind_dot place.inside (root base.tree)) room (height (root base.tree)) tokens.old tokens.new (root n.tree)) }
-    ensures failed { IfErr result (λ f. HasFailedBy place.names expr (λ g. behind_dot place.inside (root base.tree)) room (height (root base.tree)) tokens.old tokens.new f) }
+    ensures read { IfOk result (λ n. IsReadBy place.names expr (λ g. behind_dot place.inside (root base.tree)) room (height (root base.tree) + 1) tokens.old tokens.new (root n.tree)) }
+    ensures failed { IfErr result (λ f. HasFailedBy place.names false expr (λ g. behind_dot place.inside (root base.tree)) room (height (root base.tree) + 1) tokens.old tokens.new f) }
 {
-    let room_below = below(room)?;
-    let name = member_name(alloc, tokens, place, room_below)?;
+    let room_beside = beside(base.height, room)?;
+    let name = member_name(alloc, tokens, place, room_beside)?;
     let height = base.height.max(name.height);
     let base = node_over(alloc, Expr::Property(base.tree, name.tree), height, room)?;
     suffixes(alloc, tokens, base, place, room)
@@ -83,13 +83,13 @@ fn behind_colon(
 ) -> Result<Node, Fault>
     requires { base.height ≤ room }
     ensures moves { Moves tokens.old tokens.new }
-    ensures read { IfOk result (λ n. IsReadBy place.names expr (λ g. behind_colon place.inside (root base.tree)) room (height (root base.tree)) tokens.old tokens.new (root n.tree)) }
-    ensures failed { IfErr result (λ f. HasFailedBy place.names expr (λ g. behind_colon place.inside (root base.tree)) room (height (root base.tree)) tokens.old tokens.new f) }
+    ensures read { IfOk result (λ n. IsReadBy place.names expr (λ g. behind_colon place.inside (root base.tree)) room (height (root base.tree) + 1) tokens.old tokens.new (root n.tree)) }
+    ensures failed { IfErr result (λ f. HasFailedBy place.names false expr (λ g. behind_colon place.inside (root base.tree)) room (height (root base.tree) + 1) tokens.old tokens.new f) }
 {
-    let room_below = below(room)?;
-    let name = member_name(alloc, tokens, place, room_below)?;
+    let room_beside = beside(base.height, room)?;
+    let name = member_name(alloc, tokens, place, room_beside)?;
     tokens.expect(Sign::LeftParen)?;
-    let members = arguments(alloc, tokens, place, false, room_below)?;
+    let members = arguments(alloc, tokens, place, false, room_beside)?;
     tokens.expect(Sign::RightParen)?;
     let height = base.height.max(name.height).max(members.height);
     let base = node_over(
@@ -104,7 +104,7 @@ fn behind_colon(
 #[cycle(parser)]
 fn member_name(alloc: Global, tokens: &mut Cursor, place: Place, room: u32) -> Result<Node, Fault>
     ensures moves { Moves tokens.old tokens.new }
-    ensures read { IfOk result (λ n. IsNamed place.names place.inside tokens.old tokens.new (root n.tree)) }
+    ensures read { IfOk result (λ n. IsNamed place.names place.inside room tokens.old tokens.new (root n.tree)) }
     ensures failed { IfErr result (λ f. IsUnnamed place.names place.inside room tokens.old tokens.new f) }
 {
     if let Some(name) = tokens.take_name()? {
@@ -126,17 +126,17 @@ fn behind_bracket(
 ) -> Result<Node, Fault>
     requires { base.height ≤ room }
     ensures moves { Moves tokens.old tokens.new }
-    ensures read { IfOk result (λ n. IsReadBy place.names expr (λ g. behind_bracket place.inside (root base.tree)) room (height (root base.tree)) tokens.old tokens.new (root n.tree)) }
-    ensures failed { IfErr result (λ f. HasFailedBy place.names expr (λ g. behind_bracket place.inside (root base.tree)) room (height (root base.tree)) tokens.old tokens.new f) }
+    ensures read { IfOk result (λ n. IsReadBy place.names expr (λ g. behind_bracket place.inside (root base.tree)) room (height (root base.tree) + 1) tokens.old tokens.new (root n.tree)) }
+    ensures failed { IfErr result (λ f. HasFailedBy place.names false expr (λ g. behind_bracket place.inside (root base.tree)) room (height (root base.tree) + 1) tokens.old tokens.new f) }
 {
-    let room_below = below(room)?;
+    let room_beside = beside(base.height, room)?;
     let index = Place {
         inside: true,
         names: place.names,
     };
-    let low = expression(alloc, tokens, index, room_below)?;
+    let low = expression(alloc, tokens, index, room_beside)?;
     if tokens.take(Sign::DotDot) {
-        let high = expression(alloc, tokens, index, room_below)?;
+        let high = expression(alloc, tokens, index, room_beside)?;
         tokens.expect(Sign::RightBracket)?;
         let height = base.height.max(low.height).max(high.height);
         let base = node_over(

@@ -1,16 +1,16 @@
 //! A parser of what begins an operand: constants, names, calls, lists and catches.
-ghost use Rattle.std.specs.Prelude.{false, IfOk, IfErr};
+ghost use Rattle.std.specs.Prelude.{true, false, IfOk, IfErr};
 ghost use Rattle.moo_token.specs.declared.token.Token.TheVariants as token;
 ghost use Rattle.moo_program.specs.Limits.{height};
 ghost use Rattle.moo_program.specs.View.{root, codes_of};
 ghost use Rattle.moo_grammar.specs.Grammar.{expression, primary, arguments, members, codes, expr, items};
 ghost use Rattle.moo_grammar.specs.Predictive.{named, braced, dollar, behind_dollar, guarded};
-ghost use Rattle.moo_expression.specs.Outcome.{Moves, IsRead, IsReadBy, IsPartRead, HasFailed, HasFailedBy, IsBehind};
+ghost use Rattle.moo_expression.specs.Outcome.{Moves, IsRead, IsReadBy, HasFailed, HasFailedBy, IsBehind};
 
 use crate::cursor::Cursor;
 use crate::fault::Fault;
 use crate::levels::expression;
-use crate::make::{below, constant, node_over};
+use crate::make::{below, beside, constant, node_over};
 use crate::members::{arguments, members};
 use crate::node::{Caught, Node};
 use crate::place::Place;
@@ -51,7 +51,7 @@ fn named(
     requires { IsBehind (token.Name name) tokens.old }
     ensures moves { Moves tokens.old tokens.new }
     ensures read { IfOk result (λ n. IsReadBy place.names expr (λ g. named g place.inside name) room 1 tokens.old tokens.new (root n.tree)) }
-    ensures failed { IfErr result (λ f. HasFailedBy place.names expr (λ g. named g place.inside name) room 1 tokens.old tokens.new f) }
+    ensures failed { IfErr result (λ f. HasFailedBy place.names false expr (λ g. named g place.inside name) room 1 tokens.old tokens.new f) }
 {
     if !tokens.is_at(Sign::LeftParen) {
         return node_over(alloc, Expr::Variable(name), 0, room);
@@ -67,7 +67,7 @@ fn named(
 fn braced(alloc: Global, tokens: &mut Cursor, place: Place, room: u32) -> Result<Node, Fault>
     ensures moves { Moves tokens.old tokens.new }
     ensures read { IfOk result (λ n. IsReadBy place.names expr (λ g. braced place.inside) room 0 tokens.old tokens.new (root n.tree)) }
-    ensures failed { IfErr result (λ f. HasFailedBy place.names expr (λ g. braced place.inside) room 0 tokens.old tokens.new f) }
+    ensures failed { IfErr result (λ f. HasFailedBy place.names true expr (λ g. braced place.inside) room 0 tokens.old tokens.new f) }
 {
     if !tokens.take(Sign::LeftBrace) {
         return dollar(alloc, tokens, place, room);
@@ -82,7 +82,7 @@ fn braced(alloc: Global, tokens: &mut Cursor, place: Place, room: u32) -> Result
 fn dollar(alloc: Global, tokens: &mut Cursor, place: Place, room: u32) -> Result<Node, Fault>
     ensures moves { Moves tokens.old tokens.new }
     ensures read { IfOk result (λ n. IsReadBy place.names expr (λ g. dollar place.inside) room 0 tokens.old tokens.new (root n.tree)) }
-    ensures failed { IfErr result (λ f. HasFailedBy place.names expr (λ g. dollar place.inside) room 0 tokens.old tokens.new f) }
+    ensures failed { IfErr result (λ f. HasFailedBy place.names true expr (λ g. dollar place.inside) room 0 tokens.old tokens.new f) }
 {
     if tokens.take(Sign::Dollar) {
         return behind_dollar(alloc, tokens, place, room);
@@ -94,7 +94,7 @@ fn dollar(alloc: Global, tokens: &mut Cursor, place: Place, room: u32) -> Result
 fn behind_dollar(alloc: Global, tokens: &mut Cursor, place: Place, room: u32) -> Result<Node, Fault>
     ensures moves { Moves tokens.old tokens.new }
     ensures read { IfOk result (λ n. IsReadBy place.names expr (λ g. behind_dollar place.inside) room 1 tokens.old tokens.new (root n.tree)) }
-    ensures failed { IfErr result (λ f. HasFailedBy place.names expr (λ g. behind_dollar place.inside) room 1 tokens.old tokens.new f) }
+    ensures failed { IfErr result (λ f. HasFailedBy place.names false expr (λ g. behind_dollar place.inside) room 1 tokens.old tokens.new f) }
 {
     let Some(name) = tokens.take_name()? else {
         if !place.inside {
@@ -107,7 +107,7 @@ fn behind_dollar(alloc: Global, tokens: &mut Cursor, place: Place, room: u32) ->
     if !tokens.take(Sign::LeftParen) {
         return node_over(alloc, Expr::Property(object.tree, name.tree), 1, room);
     }
-    let members = arguments(alloc, tokens, place, false, below(room)?)?;
+    let members = arguments(alloc, tokens, place, false, beside(1, room)?)?;
     tokens.expect(Sign::RightParen)?;
     let height = members.height.max(1);
     node_over(
@@ -122,7 +122,7 @@ fn behind_dollar(alloc: Global, tokens: &mut Cursor, place: Place, room: u32) ->
 fn guarded(alloc: Global, tokens: &mut Cursor, place: Place, room: u32) -> Result<Node, Fault>
     ensures moves { Moves tokens.old tokens.new }
     ensures read { IfOk result (λ n. IsReadBy place.names expr (λ g. guarded place.inside) room 0 tokens.old tokens.new (root n.tree)) }
-    ensures failed { IfErr result (λ f. HasFailedBy place.names expr (λ g. guarded place.inside) room 0 tokens.old tokens.new f) }
+    ensures failed { IfErr result (λ f. HasFailedBy place.names true expr (λ g. guarded place.inside) room 0 tokens.old tokens.new f) }
 {
     tokens.expect(Sign::Backquote)?;
     let room_below = below(room)?;
@@ -153,7 +153,7 @@ fn guarded(alloc: Global, tokens: &mut Cursor, place: Place, room: u32) -> Resul
 #[cycle(parser)]
 pub fn codes(alloc: Global, tokens: &mut Cursor, place: Place, room: u32) -> Result<Caught, Fault>
     ensures moves { Moves tokens.old tokens.new }
-    ensures read { IfOk result (λ v. IsPartRead place.names (codes place.inside) tokens.old tokens.new (codes_of v.codes)) }
+    ensures read { IfOk result (λ v. IsRead place.names (codes place.inside) room tokens.old tokens.new (codes_of v.codes)) }
     ensures failed { IfErr result (λ f. HasFailed place.names (codes place.inside) room tokens.old tokens.new f) }
 {
     if tokens.take_keyword(Keyword::Any) {

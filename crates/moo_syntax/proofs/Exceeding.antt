@@ -75,6 +75,6 @@ pub long_or_wide : (names : Names) (lines : List (List ℕ)) (n : ℕ) (f : IsTo
 long_or_wide names lines n f =
     elim f.exceeds [
       | by_bracket b h ↦ inl (omega (arith, h, open_before (f.at + 1) f.spots, open_within 0 (words f.spots), words_length f.spots, tokens_within lines f.spots f.reading))
-      | by_nodes h ↦ inl (omega (arith, h, f.within, tokens_within lines f.spots f.reading))
+      | by_nodes h each some ↦ inl (omega (arith, h, f.within, tokens_within lines f.spots f.reading))
       | by_line e l ↦ inr l
     ]

@@ -1,5 +1,5 @@
 -- What a reading of statements needs of labels, and of the loops round a jump.
-use Rattle.std.proofs.Common.{ℕ, ◌+◌, ◌≤◌, List, [], ◌∷◌, ◌≡◌, refl, ap, sym, ◌∙◌, subst, Bool, true, false, not, ◌||◌, Option, Some, None, is_some, reverse, length, MatchOption, arith}
+use Rattle.std.proofs.Common.{ℕ, ◌≤◌, List, [], ◌∷◌, ◌≡◌, refl, ap, sym, ◌∙◌, subst, Bool, true, false, not, ◌||◌, Option, Some, None, is_some, reverse, length, MatchOption, arith}
 use Rattle.std.proofs.lemmas.List.{length-reverse}
 use Rattle.moo_token.specs.declared.keyword.Keyword.{Keyword}
 use Rattle.moo_token.specs.declared.keyword.Keyword.TheVariants.{Break, Continue}
@@ -22,7 +22,8 @@ use Rattle.moo_expression.specs.Cursor.{left, Takes, Stays}
 use Rattle.moo_expression.specs.Places.{is_jump, IsJump, at_name}
 use Rattle.moo_syntax.specs.Statements.{HasNotJumped}
 use Rattle.moo_syntax.proofs.Blocks.{statement_height_positive}
-use Rattle.moo_expression.proofs.Steps.{took, took_fails, stayed, stayed_fails}
+use Rattle.moo_expression.specs.Outgrown.{can_give, can_take, can_miss, at_once}
+use Rattle.moo_expression.proofs.Steps.{took, took_fails, stayed, stayed_fails, admitted_deepens}
 
 -- a label that was read, or none
 pub label_reads : (old new : Cursor) (found : Option (List ℕ)) → MatchOption found (Stays (λ x. is_some (name_at x)) old new) (λ s. Takes (Name s) old new) → (g : Rules) → Reads (grammar g) Sort.label_name (grammar g label) (left old) found (left new)
@@ -97,12 +98,13 @@ jump_memory {names} {k} {ls} {room} {old} {new} is = subst (λ v. HasNotJumped n
   long = λ h. absurd cc;
 })
 
-pub jump_too_deep : {names : Names} {k : Keyword} {ls : List (Option (List ℕ))} {room : ℕ} {old new : Cursor} {f : Fault} → f ≡ TooDeep → room ≡ 0 → new.at ≡ old.at + 1 → HasNotJumped names k ls room old new f
-jump_too_deep {names} {k} {ls} {room} {old} {new} is z a = subst (λ v. HasNotJumped names k ls room old new v) (sym is) (record {
+-- a jump that has no room
+pub jump_too_deep : {names : Names} {k : Keyword} {ls : List (Option (List ℕ))} {room : ℕ} {old new : Cursor} {f : Fault} → f ≡ TooDeep → room ≡ 0 → Takes (token.Keyword k) old new → is_keyword k (token.Keyword k) ≡ true → has_loop ls None ≡ true → HasNotJumped names k ls room old new f
+jump_too_deep {names} {k} {ls} {room} {old} {new} is z t same l = subst (λ v. HasNotJumped names k ls room old new v) (sym is) (record {
   fails = λ h q g b. absurd b;
   stands = tt;
-  deep = λ h. z;
-  long = λ h. omega (arith, z, a);
+  deep = λ e g ok h q. admitted_deepens (λ _. behind_jump g ls h) t same (loop_jumps g ls None l) (at_once (can_miss refl (can_miss refl (can_take (token.Sign Semicolon) refl can_give))) (λ us. no_statement_room z));
+  long = λ h. omega (arith, z, t.at);
 })
 
 module _ (g : Rules) (ls : List (Option (List ℕ))) (h : Option (List ℕ) → Stmt) (old mid new : Cursor) where

@@ -3,6 +3,10 @@ pub mod Jumps
 pub mod TextLengths
 pub mod Passing
 pub mod Words
+pub mod Examples
+pub mod Ends
+pub mod Continued
+pub mod Before
 pub mod Whole
 pub mod Exceeding
 pub mod Sound

@@ -19,7 +19,7 @@ use Rattle.moo_syntax.specs.Stops.{Passes, StopsBy}
 use Rattle.moo_grammar.specs.Tokens.{words, is_sign, is_bad, next_passes}
 use Rattle.moo_syntax.specs.Programs.{SameUpTo, NoProgram, BeginsProgram, with_targets, with_functions, with_loops, IsBadToken, by_nodes, line_of}
 use Rattle.moo_expression.specs.Places.{is_jump, IsJump, at_keyword, at_name, IsCalled}
-use Rattle.moo_grammar.specs.Depth.{Deep}
+use Rattle.moo_expression.specs.Outgrown.{Deepens}
 use Rattle.moo_token.specs.declared.sign.Sign.TheVariants as sign
 use Rattle.moo_grammar.specs.Grammar.{IsProgramBy, statements, block}
 use Rattle.moo_grammar.specs.Machine.{Reads, Why, by_rule, Fails}
@@ -28,9 +28,10 @@ use Rattle.moo_grammar.specs.Agree.{Agree, at_end, here, next}
 use Rattle.moo_grammar.proofs.MachineLemmas.{whole, reads_once, reads_again, fails_again}
 use Rattle.moo_grammar.proofs.Complete.{complete}
 use Rattle.moo_grammar.proofs.Begun.{program_begun}
-use Rattle.moo_grammar.proofs.Admitted.{loose_admits}
+use Rattle.moo_grammar.proofs.Admitted.{admitted, loose_admits}
 use Rattle.moo_syntax.proofs.Passing.{failure_passes}
 use Rattle.moo_syntax.proofs.Words.{words_drop, words_length}
+use Rattle.moo_syntax.proofs.Before.{here_at, next_at, each_before, begins_before}
 use Rattle.moo_syntax.proofs.Told.{told_target, told_call, told_jump}
 
 -- where the reading gives up, no tokens that agree up to the place are a program
@@ -46,12 +47,6 @@ no_program_before {g} {x} {r = r} d a c =
     let t = reads_again (grammar g) d whole a in
     let o = reads_once (grammar g) t.1 (complete c refl) in
     no_end (subst (λ v. Agree (x ∷ r) (x ∷ r) v) o.1 t.2)
-
-here_at : {x y : Token} (ts us : List Token) → y ≡ x → Agree (x ∷ ts) (x ∷ ts) (y ∷ us)
-here_at {x} ts us e = subst (λ v. Agree (x ∷ ts) (x ∷ ts) (v ∷ us)) (sym e) here
-
-next_at : {x y : Token} {at ts us : List Token} → y ≡ x → Agree at ts us → Agree at (x ∷ ts) (y ∷ us)
-next_at {x} {at} {ts} {us} e a = subst (λ v. Agree at (x ∷ ts) (v ∷ us)) (sym e) (next a)
 
 agree_of_take : (n : ℕ) (ts us : List Token) → n ≤ length ts → take (suc n) us ≡ take (suc n) ts → Agree (drop n ts) ts us
 agree_of_take zero [] [] h e = at_end
@@ -164,6 +159,11 @@ module _ (names : Names) (spots : List Spot) (old new : Cursor) (from : left old
       let within : new.at ≤ length spots = subst (λ v. new.at ≤ length v) same new.in_range in
       refused_at g new.at spots within (failed_at f g w b)
 
+  high_at : HasFailed names (statements []) most_nodes old new TooDeep → Deepens loose true block most_nodes (grammar loose (statements [])) (words spots) (words (drop new.at spots))
+  high_at w =
+      let p = grammar loose (statements []) in
+      subst (λ v. Deepens loose true block most_nodes p (words spots) v) to (subst (λ v. Deepens loose true block most_nodes p v (left new)) from (w.deep refl loose (loose_admits (strict names))))
+
   -- what the place where the statements' reading stopped says
   pub stop_of : (f : Fault) → old.at ≡ 0 → HasFailed names (statements []) most_nodes old new f → StopsBy names spots new.at f
   stop_of Unexpected z w = record {
@@ -189,11 +189,14 @@ module _ (names : Names) (spots : List Spot) (old new : Cursor) (from : left old
     begins = begins_at with_loops new.at spots (jump_next spots new.at (subst (λ v. IsJump v new.at) same w.stands)) (failed_at BadLoopName with_loops w (loops_admit names, refl));
   }
   stop_of TooDeep z w =
-      let high = subst (λ v. Deep (strict names) block most_nodes (grammar (strict names) (statements [])) v) from (w.deep refl) in
+      let within : new.at ≤ length (words spots) = omega (arith, reached, words_length spots) in
+      let behind = sym (words_drop new.at spots) in
+      let deep = high_at w in
+      let each = each_before loose new.at within behind deep in
       record {
         within = reached;
-        outside = λ b e l. let h = high.too_high b [] (complete e refl) in omega (arith, h, l.program.nodes);
-        exceeds = by_nodes (omega (arith, w.long refl, z));
+        outside = λ b e l. let h = each (words spots) b refl (admitted (loose_admits (strict names)) e) in omega (arith, h, l.program.nodes);
+        exceeds = by_nodes (omega (arith, w.long refl, z)) each (begins_before loose new.at within behind deep);
       }
   stop_of Memory z w = tt
 

@@ -8,7 +8,7 @@ use Rattle.moo_token.specs.declared.token.Spot.{Spot}
 use Rattle.moo_token.specs.Lexing.{IsReading, HasNoTokens}
 use Rattle.moo_program.specs.Tree.{Expr, Block}
 use Rattle.moo_program.specs.Target.{is_target}
-use Rattle.moo_program.specs.Limits.{AllFit, most_nodes, most_brackets}
+use Rattle.moo_program.specs.Limits.{AllFit, block_height, most_nodes, most_brackets}
 use Rattle.moo_program.specs.Listing.{listing}
 use Rattle.moo_grammar.specs.declared.names.Names.{Names}
 use Rattle.moo_grammar.specs.Tokens.{words, is_sign, is_bad, next_passes}
@@ -34,6 +34,21 @@ pub record BeginsProgram (g : Rules) (ts : List Token) (n : ℕ) : Type 0 where
   pub tokens : List Token
   pub tree : Block
   pub same : SameUpTo n ts tokens
+  pub program : IsProgramBy g tokens tree
+
+-- the lists begin with the same n tokens
+abbrev pub SameBefore : ℕ → List Token → List Token → Type 0
+SameBefore n ts us = take n us ≡ take n ts
+
+-- each program by the rules that begins with the first n of these tokens has more nodes on a path than may be
+abbrev pub EachIsTooHigh : Rules → List Token → ℕ → Type 0
+EachIsTooHigh g ts n = (us : List Token) (b : Block) → SameBefore n ts us → IsProgramBy g us b → most_nodes < block_height b
+
+-- some program by the rules begins with the first n of these tokens
+pub record BeginsSome (g : Rules) (ts : List Token) (n : ℕ) : Type 0 where
+  pub tokens : List Token
+  pub tree : Block
+  pub same : SameBefore n ts tokens
   pub program : IsProgramBy g tokens tree
 
 -- what asks for targets before `=`, and for nothing else
@@ -138,8 +153,9 @@ pub record HasLongLine (names : Names) (ts : List Token) : Type 0 where
 pub data Exceeds (names : Names) (spots : List Spot) (at : ℕ) : Type 0 where
   -- the first bracket stands there that opens where as many as may be are open
   by_bracket : most_open (words (take at spots)) ≤ most_brackets → most_brackets < most_open (words (take (at + 1) spots)) → Exceeds names spots at
-  -- more tokens stand before it than a path may have nodes
-  by_nodes : most_nodes < at → Exceeds names spots at
+  -- More tokens stand before it than a path may have nodes. Some program of which nothing is asked begins with them, and each
+  -- that does has more nodes on a path than may be.
+  by_nodes : most_nodes < at → EachIsTooHigh loose (words spots) at → BeginsSome loose (words spots) at → Exceeds names spots at
   -- the text ends there, and its program has a line in its full listing that no string holds
   by_line : at ≡ length spots → HasLongLine names (words spots) → Exceeds names spots at
 

@@ -1,5 +1,5 @@
 -- What the parser of statements says of its outcome.
-use Rattle.std.specs.Prelude.{ℕ, List, [], ◌∷◌, ◌≡◌, ◌≤◌, ◌<◌, ◌+◌, false, Option, Some}
+use Rattle.std.specs.Prelude.{ℕ, List, [], ◌∷◌, ◌≡◌, ◌≤◌, ◌<◌, ◌+◌, true, false, Option, Some}
 use Rattle.moo_token.specs.declared.token.Token.{Token}
 use Rattle.moo_token.specs.declared.token.Token.TheVariants.{Name}
 use Rattle.moo_token.specs.declared.sign.Sign.TheVariants.{RightBracket, DotDot, Semicolon}
@@ -22,6 +22,7 @@ use Rattle.moo_expression.specs.declared.cursor.Cursor.{Cursor}
 use Rattle.moo_expression.specs.declared.fault.Fault.{Fault}
 use Rattle.moo_expression.specs.declared.fault.Fault.TheVariants.{TooDeep}
 use Rattle.moo_expression.specs.Cursor.{left}
+use Rattle.moo_expression.specs.Outgrown.{Deepens}
 use Rattle.moo_expression.specs.Outcome.{ToldBy, why, Stands, LeadsTo}
 
 -- statements before others
@@ -74,5 +75,5 @@ pub record Jumps (names : Names) (k : Keyword) (ls : List (Option (List ℕ))) (
 pub record HasNotJumped (names : Names) (k : Keyword) (ls : List (Option (List ℕ))) (room : ℕ) (old new : Cursor) (f : Fault) : Type 0 where
   pub fails : (h : Option (List ℕ) → Tree.Stmt) (q : Reading Sort.stmt) (g : Rules) → ToldBy f names g → Fails (grammar g) (why f) Sort.stmt (jump g ls k h q) (left old) (left new)
   pub stands : Stands f names new
-  pub deep : f ≡ TooDeep → room ≡ 0
+  pub deep : f ≡ TooDeep → (g : Rules) → Admits g (strict names) → (h : Option (List ℕ) → Tree.Stmt) (q : Reading Sort.stmt) → Deepens g true Sort.stmt room (jump g ls k h q) (left old) (left new)
   pub long : f ≡ TooDeep → old.at + room < new.at

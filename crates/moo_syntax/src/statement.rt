@@ -1,6 +1,6 @@
 //! A parser of statements by recursive descent. The loops round a statement are handed down by their names, the innermost
 //! last; each function leaves them as they were.
-ghost use Rattle.std.specs.Prelude.{◌≡◌, ◌<◌, ◌+◌, ◌∷◌, reverse, IfOk, IfErr, OnOk};
+ghost use Rattle.std.specs.Prelude.{◌≡◌, ◌<◌, ◌+◌, ◌∷◌, true, false, reverse, IfOk, IfErr, OnOk};
 ghost use Rattle.moo_program.specs.View.{root, block, arms_of, handlers_of, statement as tree_of};
 ghost use Rattle.moo_grammar.specs.Grammar as grammar;
 ghost use Rattle.moo_grammar.specs.Grammar.{stmt};
@@ -90,7 +90,7 @@ fn branches(
     ensures moves { Moves tokens.old tokens.new }
     ensures loops { OnOk result (loops.new.items ≡ loops.old.items) }
     ensures read { IfOk result (λ s. IsReadBy names stmt (λ g. choices.behind_if (reverse loops.old.items)) room 1 tokens.old tokens.new (tree_of s)) }
-    ensures failed { IfErr result (λ f. HasFailedBy names stmt (λ g. choices.behind_if (reverse loops.old.items)) room 1 tokens.old tokens.new f) }
+    ensures failed { IfErr result (λ f. HasFailedBy names false stmt (λ g. choices.behind_if (reverse loops.old.items)) room 1 tokens.old tokens.new f) }
 {
     let room_below = below(room)?;
     let condition = in_parens(alloc, tokens, names, room_below)?;
@@ -140,7 +140,7 @@ fn for_loop(
     ensures moves { Moves tokens.old tokens.new }
     ensures loops { OnOk result (loops.new.items ≡ loops.old.items) }
     ensures read { IfOk result (λ s. IsReadBy names stmt (λ g. choices.behind_for (reverse loops.old.items)) room 1 tokens.old tokens.new (tree_of s)) }
-    ensures failed { IfErr result (λ f. HasFailedBy names stmt (λ g. choices.behind_for (reverse loops.old.items)) room 1 tokens.old tokens.new f) }
+    ensures failed { IfErr result (λ f. HasFailedBy names false stmt (λ g. choices.behind_for (reverse loops.old.items)) room 1 tokens.old tokens.new f) }
 {
     let room_below = below(room)?;
     let Some(name) = tokens.take_name()? else {
@@ -170,7 +170,7 @@ fn for_range(
     ensures moves { Moves tokens.old tokens.new }
     ensures loops { OnOk result (loops.new.items ≡ loops.old.items) }
     ensures read { IfOk result (λ s. IsReadBy names stmt (λ g. behind_range (reverse loops.old.items) name) (room + 1) 1 tokens.old tokens.new (tree_of s)) }
-    ensures failed { IfErr result (λ f. HasFailedBy names stmt (λ g. behind_range (reverse loops.old.items) name) (room + 1) 1 tokens.old tokens.new f) }
+    ensures failed { IfErr result (λ f. HasFailedBy names true stmt (λ g. behind_range (reverse loops.old.items) name) (room + 1) 1 tokens.old tokens.new f) }
 {
     let place = Place {
         inside: false,
@@ -198,7 +198,7 @@ fn while_loop(
     ensures moves { Moves tokens.old tokens.new }
     ensures loops { OnOk result (loops.new.items ≡ loops.old.items) }
     ensures read { IfOk result (λ s. IsReadBy names stmt (λ g. choices.behind_while (reverse loops.old.items)) room 1 tokens.old tokens.new (tree_of s)) }
-    ensures failed { IfErr result (λ f. HasFailedBy names stmt (λ g. choices.behind_while (reverse loops.old.items)) room 1 tokens.old tokens.new f) }
+    ensures failed { IfErr result (λ f. HasFailedBy names false stmt (λ g. choices.behind_while (reverse loops.old.items)) room 1 tokens.old tokens.new f) }
 {
     let room_below = below(room)?;
     let name = tokens.take_name()?;
@@ -242,7 +242,7 @@ fn attempt(
     ensures moves { Moves tokens.old tokens.new }
     ensures loops { OnOk result (loops.new.items ≡ loops.old.items) }
     ensures read { IfOk result (λ s. IsReadBy names stmt (λ g. choices.behind_try (reverse loops.old.items)) room 1 tokens.old tokens.new (tree_of s)) }
-    ensures failed { IfErr result (λ f. HasFailedBy names stmt (λ g. choices.behind_try (reverse loops.old.items)) room 1 tokens.old tokens.new f) }
+    ensures failed { IfErr result (λ f. HasFailedBy names false stmt (λ g. choices.behind_try (reverse loops.old.items)) room 1 tokens.old tokens.new f) }
 {
     let room_below = below(room)?;
     let body = statements(alloc, tokens, loops, names, room_below)?;
@@ -301,9 +301,6 @@ fn handler(
         names,
     };
     let caught = codes(alloc, tokens, place, room)?;
-    if caught.height > room {
-        return Err(Fault::TooDeep);
-    }
     tokens.expect(Sign::RightParen)?;
     let body = statements(alloc, tokens, loops, names, room)?;
     match name {
@@ -332,7 +329,7 @@ fn in_parens(alloc: Global, tokens: &mut Cursor, names: Names, room: u32) -> Res
 fn returned(alloc: Global, tokens: &mut Cursor, names: Names, room: u32) -> Result<Stmt, Fault>
     ensures moves { Moves tokens.old tokens.new }
     ensures read { IfOk result (λ s. IsReadBy names stmt (λ g. choices.behind_return) room 1 tokens.old tokens.new (tree_of s)) }
-    ensures failed { IfErr result (λ f. HasFailedBy names stmt (λ g. choices.behind_return) room 1 tokens.old tokens.new f) }
+    ensures failed { IfErr result (λ f. HasFailedBy names false stmt (λ g. choices.behind_return) room 1 tokens.old tokens.new f) }
 {
     let room_below = below(room)?;
     if tokens.take(Sign::Semicolon) {
@@ -352,7 +349,7 @@ fn returned(alloc: Global, tokens: &mut Cursor, names: Names, room: u32) -> Resu
 fn performed(alloc: Global, tokens: &mut Cursor, names: Names, room: u32) -> Result<Stmt, Fault>
     ensures moves { Moves tokens.old tokens.new }
     ensures read { IfOk result (λ s. IsReadBy names stmt (λ g. performing) room 0 tokens.old tokens.new (tree_of s)) }
-    ensures failed { IfErr result (λ f. HasFailedBy names stmt (λ g. performing) room 0 tokens.old tokens.new f) }
+    ensures failed { IfErr result (λ f. HasFailedBy names true stmt (λ g. performing) room 0 tokens.old tokens.new f) }
 {
     let place = Place {
         inside: false,

@@ -1,8 +1,8 @@
 -- Each return of the parser gives what its outcome says.
-use Rattle.std.proofs.Common.{rules, refl, sym, ◌∙◌, ap, is_some, arith, ◌≡◌, true, false, ⊎_elim}
+use Rattle.std.proofs.Common.{rules, ◌+◌, [], refl, sym, ◌∙◌, ap, subst, is_some, arith, ◌≡◌, true, false}
 use Rattle.std.proofs.lemmas.Result.{err_from_is_err_and}
-use Rattle.moo_token.specs.declared.sign.Sign.TheVariants.{LeftParen, RightParen, Minus}
-use Rattle.moo_token.specs.declared.token.Token.TheVariants.{Name}
+use Rattle.moo_token.specs.declared.sign.Sign.TheVariants.{LeftParen, RightParen, Minus, Assign}
+use Rattle.moo_token.specs.declared.token.Token.TheVariants.{Name, Sign}
 use Rattle.moo_program.specs.declared.operator.UnaryOperator.TheVariants.{Not}
 use Rattle.moo_program.specs.declared.operator.BinaryOperator.TheVariants.{Power}
 use Rattle.moo_program.specs.declared.tree.Literal.TheVariants as literal
@@ -13,7 +13,7 @@ use Rattle.moo_program.specs.Limits.{height, items_height}
 use Rattle.moo_program.specs.View.{root, items_of, codes_of}
 use Rattle.moo_program.proofs.Rows.{row_of, row_items}
 use Rattle.moo_grammar.specs.declared.level.Level.TheVariants.{Relation, Sum, Product}
-use Rattle.moo_grammar.specs.Rules.{strict, may_assign}
+use Rattle.moo_grammar.specs.Rules.{may_assign}
 use Rattle.moo_grammar.specs.Grammar.{Sort, joined, expression, conditional, operand, chain, power, unary, postfix, suffixes, primary, arguments, members, has_optional}
 use Rattle.moo_grammar.specs.Machine.{give, take, phrase, gives, sees, misses, reads, refuses, sees_fails, misses_fails, phrase_fails, then_fails}
 use Rattle.moo_grammar.specs.Tokens.{next_passes, is_sign, name_at, literal_at}
@@ -21,10 +21,13 @@ use Rattle.moo_grammar.specs.Predictive.{grammar, expect, after_member, behind_d
 use Rattle.moo_grammar.specs.Minuses.{negations}
 use Rattle.moo_grammar.proofs.Kept.{target_may_be_assigned, no_target, name_may_be_called, refused_fails}
 use Rattle.moo_grammar.proofs.Heights.{height_positive, joined_height, negations_lower}
-use Rattle.moo_grammar.proofs.Depths.{allowed_meets, deep_from, misses_deep, then_deep, phrase_deep, meets_deep, no_room, minuses_deep}
+use Rattle.moo_grammar.proofs.Depths.{allowed_meets, meets_deep}
 use Rattle.moo_expression.specs.Cursor.{left, Takes, TakesLiteral, Stays}
-use Rattle.moo_expression.specs.Outcome.{IsRead, IsReadBy, IsPartRead, HasFailed, HasFailedBy, IsNamed, IsMember, IsPiece}
-use Rattle.moo_expression.proofs.Steps.{reads_from, fails_from, took, took_fails, took_deep, stayed, stayed_fails, stayed_deep, admits_itself, told_admits, passed, refused, same_fault, no_memory, too_high, unnamed_memory, unnamed_refused, unmade_constant, if_constant, if_ok, if_err, made, unmade, not_made, none_of, called, not_called, in_front_push, minuses_read, minuses_fail, ended, goes_on_member, asked, asked_fails, asked_deep, unasked, unasked_fails, unasked_deep, piece_reads, piece_fails, piece_deep, admitted, admitted_fails, admitted_deep, brace_ends, brace_fails, brace_keeps, inner_deep, expect_deep}
+use Rattle.moo_expression.specs.Outgrown.{can_give, can_read, can_take, Deepens}
+use Rattle.moo_expression.specs.Outcome.{IsRead, IsReadBy, HasFailed, HasFailedBy, IsNamed, IsMember, IsPiece}
+use Rattle.moo_expression.proofs.Deepening.{can_rule, at_any, deepens_from, misses_deepens, then_deepens, phrase_deepens, inner_deepens, meets_at_once}
+use Rattle.moo_expression.proofs.Lone.{system_part, minuses_deepens, minuses_late}
+use Rattle.moo_expression.proofs.Steps.{reads_from, fails_from, took, took_fails, took_deepens, stayed, stayed_fails, stayed_deepens, told_admits, passed, refused, same_fault, no_memory, too_high, unnamed_memory, unnamed_refused, unmade_constant, if_constant, if_ok, if_err, made, unmade, no_leaf, not_made, none_of, called, not_called, in_front_push, minuses_read, minuses_fail, ended, goes_on_member, asked, asked_fails, asked_deepens, unasked, unasked_fails, unasked_deepens, piece_reads, piece_fails, piece_deepens, admitted, admitted_fails, admitted_deepens, brace_ends, brace_fails, brace_keeps, expect_deep}
 use Rattle.moo_expression.proofs.+parser.Goals as goal
 
 pub levels::expression-returns-in_err-target-clause-failed : goal.levels::expression-returns-in_err-target-clause-failed
@@ -34,7 +37,7 @@ levels::expression-returns-in_err-target-clause-failed t c =
     passed _ p.1 p.2 (record {
       fails = λ g b. phrase_fails (c.in_err-target.ensures.failed.fails g b);
       stands = c.in_err-target.ensures.failed.stands;
-      deep = λ h. phrase_deep (c.in_err-target.ensures.failed.deep h) (λ a q. (allowed_meets (may_assign (strict c.args.place.names) a) (take λ _. phrase (expression c.args.place.inside) λ b. give (assign a b)) _ (λ x b _. omega (arith, q)), q));
+      deep = λ h g ok. phrase_deepens (c.in_err-target.ensures.failed.deep h g ok) (λ a q. (allowed_meets (may_assign g a) (take λ _. phrase (expression c.args.place.inside) λ b. give (assign a b)) _ (λ x b _. omega (arith, q)), q));
       long = λ h. let l = c.in_err-target.ensures.failed.long h in omega (arith, l);
     })
 
@@ -68,12 +71,12 @@ levels::expression-returns-in_err-expect-clause-failed t c =
     let other = c.in_err-expect.ensures.1.other in
     passed _ p.1 p.2 (absurd cc)
 
-pub levels::expression-returns-in_err-below-clause-failed : goal.levels::expression-returns-in_err-below-clause-failed
+pub levels::expression-returns-in_err-room_beside-clause-failed : goal.levels::expression-returns-in_err-room_beside-clause-failed
 unfolding grammar
-levels::expression-returns-in_err-below-clause-failed t c =
-    let p = err_from_is_err_and c.from_residual-in_err-below.result c.from_residual-in_err-below.ensures.1 in
+levels::expression-returns-in_err-room_beside-clause-failed t c =
+    let p = err_from_is_err_and c.from_residual-in_err-room_beside.result c.from_residual-in_err-room_beside.ensures.1 in
     let target : is_target (root c.in_ok-target.target.tree) ≡ true = rw c.deref.ensures at c.in_ok-expect_target.ensures in
-    passed _ p.1 p.2 (too_high c.in_err-below.ensures.0 (no_room c.in_err-below.ensures.1) (omega (arith, c.in_err-below.ensures.1, c.in_ok-target.ensures.read.tokens, c.in_ok-expect.ensures.at)))
+    passed _ p.1 p.2 (too_high c.in_err-room_beside.ensures.0 (λ g ok. then_deepens (c.in_ok-target.ensures.read.reads g ok) (admitted_deepens (λ _. phrase (expression c.args.place.inside) λ b. give (assign (root c.in_ok-target.target.tree) b)) c.in_ok-expect.ensures refl (target_may_be_assigned g (root c.in_ok-target.target.tree) target) (meets_at_once can_read (λ b _. omega (arith, c.in_err-room_beside.ensures.1, c.in_ok-target.target.in_step))))) (omega (arith, c.in_ok-target.target.in_step, c.in_err-room_beside.ensures.1, c.in_ok-target.ensures.read.tokens, c.in_ok-expect.ensures.at)))
 
 pub levels::expression-returns-in_err-value-clause-failed : goal.levels::expression-returns-in_err-value-clause-failed
 unfolding grammar
@@ -83,8 +86,8 @@ levels::expression-returns-in_err-value-clause-failed t c =
     passed _ p.1 p.2 (record {
       fails = λ g b. then_fails (c.in_ok-target.ensures.read.reads g (told_admits _ c.args.place.names g b)) (admitted_fails (λ _. phrase (expression c.args.place.inside) λ b. give (assign (root c.in_ok-target.target.tree) b)) c.in_ok-expect.ensures refl (target_may_be_assigned g (root c.in_ok-target.target.tree) target) (phrase_fails (c.in_err-value.ensures.failed.fails g b)));
       stands = c.in_err-value.ensures.failed.stands;
-      deep = λ h. then_deep (c.in_ok-target.ensures.read.reads (strict c.args.place.names) (admits_itself c.args.place.names)) (admitted_deep (λ _. phrase (expression c.args.place.inside) λ b. give (assign (root c.in_ok-target.target.tree) b)) c.in_ok-expect.ensures refl (target_may_be_assigned (strict c.args.place.names) (root c.in_ok-target.target.tree) target) (phrase_deep (c.in_err-value.ensures.failed.deep h) (λ b q. omega (arith, q, c.in_ok-below.ensures))));
-      long = λ h. let l = c.in_err-value.ensures.failed.long h in omega (arith, l, c.in_ok-target.ensures.read.tokens, c.in_ok-expect.ensures.at, c.in_ok-below.ensures);
+      deep = λ h g ok. then_deepens (c.in_ok-target.ensures.read.reads g ok) (admitted_deepens (λ _. phrase (expression c.args.place.inside) λ b. give (assign (root c.in_ok-target.target.tree) b)) c.in_ok-expect.ensures refl (target_may_be_assigned g (root c.in_ok-target.target.tree) target) (phrase_deepens (c.in_err-value.ensures.failed.deep h g ok) (λ b q. omega (arith, q, c.in_ok-room_beside.ensures.0))));
+      long = λ h. let l = c.in_err-value.ensures.failed.long h in omega (arith, l, c.in_ok-target.ensures.read.tokens, c.in_ok-expect.ensures.at, c.in_ok-room_beside.ensures.0);
     })
 
 pub levels::expression-returns-clause-read : goal.levels::expression-returns-clause-read
@@ -97,7 +100,7 @@ pub levels::expression-returns-clause-failed : goal.levels::expression-returns-c
 unfolding grammar
 levels::expression-returns-clause-failed t c =
     let target : is_target (root c.in_ok-target.target.tree) ≡ true = rw c.deref.ensures at c.in_ok-expect_target.ensures in
-    unmade c.args.place.names (λ g. grammar g (expression c.args.place.inside)) c.args.room 0 c.args.tokens.now c.expression.new.tokens (tree.assign (root c.in_ok-target.target.tree) (root c.in_ok-value.value.tree)) c.node_over.result c.node_over.ensures (λ g a. reads (c.in_ok-target.ensures.read.reads g a) (admitted (λ _. phrase (expression c.args.place.inside) λ b. give (assign (root c.in_ok-target.target.tree) b)) c.in_ok-expect.ensures refl (target_may_be_assigned g (root c.in_ok-target.target.tree) target) (reads (c.in_ok-value.ensures.read.reads g a) gives))) (omega (arith, c.in_ok-target.ensures.read.tokens, c.in_ok-expect.ensures.at, c.in_ok-value.ensures.read.tokens))
+    unmade c.args.place.names true (λ g. grammar g (expression c.args.place.inside)) c.args.room 0 c.args.tokens.now c.expression.new.tokens (tree.assign (root c.in_ok-target.target.tree) (root c.in_ok-value.value.tree)) c.node_over.result c.node_over.ensures (omega (arith, c.in_ok-room_beside.ensures.0, c.in_ok-room_beside.ensures.1, c.in_ok-target.target.in_step, c.in_ok-value.ensures.read.fits))
 
 pub levels::conditional-returns-in_err-test-clause-failed : goal.levels::conditional-returns-in_err-test-clause-failed
 unfolding grammar
@@ -106,7 +109,7 @@ levels::conditional-returns-in_err-test-clause-failed t c =
     passed _ p.1 p.2 (record {
       fails = λ g b. phrase_fails (c.in_err-test.ensures.failed.fails g b);
       stands = c.in_err-test.ensures.failed.stands;
-      deep = λ h. phrase_deep (c.in_err-test.ensures.failed.deep h) (λ a g. ((λ x b _. ((λ y n _. omega (arith, g)), tt)), g));
+      deep = λ h g ok. phrase_deepens (c.in_err-test.ensures.failed.deep h g ok) (λ a g. ((λ x b _. ((λ y n _. omega (arith, g)), tt)), g));
       long = λ h. let l = c.in_err-test.ensures.failed.long h in omega (arith, l);
     })
 
@@ -119,11 +122,11 @@ levels::conditional-returns-then-not-take-clause-read t c =
       tokens = omega (arith, c.in_ok-test.ensures.read.tokens, c.if-not-take.ensures.at, c.in_ok-test.ensures.read.fits);
     })
 
-pub levels::conditional-returns-in_err-room_below-clause-failed : goal.levels::conditional-returns-in_err-room_below-clause-failed
+pub levels::conditional-returns-in_err-room_beside-clause-failed : goal.levels::conditional-returns-in_err-room_beside-clause-failed
 unfolding grammar
-levels::conditional-returns-in_err-room_below-clause-failed t c =
-    let p = err_from_is_err_and c.from_residual-in_err-room_below.result c.from_residual-in_err-room_below.ensures.1 in
-    passed _ p.1 p.2 (too_high c.in_err-room_below.ensures.0 (no_room c.in_err-room_below.ensures.1) (omega (arith, c.in_err-room_below.ensures.1, c.in_ok-test.ensures.read.tokens, c.if-not-take.ensures.at)))
+levels::conditional-returns-in_err-room_beside-clause-failed t c =
+    let p = err_from_is_err_and c.from_residual-in_err-room_beside.result c.from_residual-in_err-room_beside.ensures.1 in
+    passed _ p.1 p.2 (too_high c.in_err-room_beside.ensures.0 (λ g ok. then_deepens (c.in_ok-test.ensures.read.reads g ok) (took_deepens c.if-not-take.ensures refl (meets_at_once can_read (λ b _. ((λ y n _. omega (arith, c.in_err-room_beside.ensures.1, c.in_ok-test.test.in_step)), tt))))) (omega (arith, c.in_ok-test.test.in_step, c.in_err-room_beside.ensures.1, c.in_ok-test.ensures.read.tokens, c.if-not-take.ensures.at)))
 
 pub levels::conditional-returns-in_err-yes-clause-failed : goal.levels::conditional-returns-in_err-yes-clause-failed
 unfolding grammar
@@ -132,8 +135,8 @@ levels::conditional-returns-in_err-yes-clause-failed t c =
     passed _ p.1 p.2 (record {
       fails = λ g b. then_fails (c.in_ok-test.ensures.read.reads g (told_admits _ c.args.place.names g b)) (took_fails c.if-not-take.ensures refl (phrase_fails (c.in_err-yes.ensures.failed.fails g b)));
       stands = c.in_err-yes.ensures.failed.stands;
-      deep = λ h. then_deep (c.in_ok-test.ensures.read.reads (strict c.args.place.names) (admits_itself c.args.place.names)) (took_deep c.if-not-take.ensures refl (phrase_deep (c.in_err-yes.ensures.failed.deep h) (λ b g. ((λ y n _. omega (arith, g, c.in_ok-room_below.ensures)), tt))));
-      long = λ h. let l = c.in_err-yes.ensures.failed.long h in omega (arith, l, c.in_ok-test.ensures.read.tokens, c.if-not-take.ensures.at, c.in_ok-room_below.ensures);
+      deep = λ h g ok. then_deepens (c.in_ok-test.ensures.read.reads g ok) (took_deepens c.if-not-take.ensures refl (phrase_deepens (c.in_err-yes.ensures.failed.deep h g ok) (λ b g. ((λ y n _. omega (arith, g, c.in_ok-room_beside.ensures.0)), tt))));
+      long = λ h. let l = c.in_err-yes.ensures.failed.long h in omega (arith, l, c.in_ok-test.ensures.read.tokens, c.if-not-take.ensures.at, c.in_ok-room_beside.ensures.0);
     })
 
 pub levels::conditional-returns-in_err-expect-clause-failed : goal.levels::conditional-returns-in_err-expect-clause-failed
@@ -149,8 +152,8 @@ levels::conditional-returns-in_err-no-clause-failed t c =
     passed _ p.1 p.2 (record {
       fails = λ g b. then_fails (c.in_ok-test.ensures.read.reads g (told_admits _ c.args.place.names g b)) (took_fails c.if-not-take.ensures refl (then_fails (c.in_ok-yes.ensures.read.reads g (told_admits _ c.args.place.names g b)) (took_fails c.in_ok-expect.ensures refl (phrase_fails (c.in_err-no.ensures.failed.fails g b)))));
       stands = c.in_err-no.ensures.failed.stands;
-      deep = λ h. then_deep (c.in_ok-test.ensures.read.reads (strict c.args.place.names) (admits_itself c.args.place.names)) (took_deep c.if-not-take.ensures refl (then_deep (c.in_ok-yes.ensures.read.reads (strict c.args.place.names) (admits_itself c.args.place.names)) (took_deep c.in_ok-expect.ensures refl (phrase_deep (c.in_err-no.ensures.failed.deep h) (λ n g. omega (arith, g, c.in_ok-room_below.ensures))))));
-      long = λ h. let l = c.in_err-no.ensures.failed.long h in omega (arith, l, c.in_ok-test.ensures.read.tokens, c.if-not-take.ensures.at, c.in_ok-yes.ensures.read.tokens, c.in_ok-expect.ensures.at, c.in_ok-room_below.ensures);
+      deep = λ h g ok. then_deepens (c.in_ok-test.ensures.read.reads g ok) (took_deepens c.if-not-take.ensures refl (then_deepens (c.in_ok-yes.ensures.read.reads g ok) (took_deepens c.in_ok-expect.ensures refl (phrase_deepens (c.in_err-no.ensures.failed.deep h g ok) (λ n g. omega (arith, g, c.in_ok-room_beside.ensures.0))))));
+      long = λ h. let l = c.in_err-no.ensures.failed.long h in omega (arith, l, c.in_ok-test.ensures.read.tokens, c.if-not-take.ensures.at, c.in_ok-yes.ensures.read.tokens, c.in_ok-expect.ensures.at, c.in_ok-room_beside.ensures.0);
     })
 
 pub levels::conditional-returns-clause-read : goal.levels::conditional-returns-clause-read
@@ -161,7 +164,7 @@ levels::conditional-returns-clause-read t c =
 pub levels::conditional-returns-clause-failed : goal.levels::conditional-returns-clause-failed
 unfolding grammar
 levels::conditional-returns-clause-failed t c =
-    unmade c.args.place.names (λ g. grammar g (conditional c.args.place.inside)) c.args.room 0 c.args.tokens.now c.conditional.new.tokens (tree.conditional (root c.in_ok-test.test.tree) (root c.in_ok-yes.yes.tree) (root c.in_ok-no.no.tree)) c.node_over.result c.node_over.ensures (λ g a. reads (c.in_ok-test.ensures.read.reads g a) (took c.if-not-take.ensures refl (reads (c.in_ok-yes.ensures.read.reads g a) (took c.in_ok-expect.ensures refl (reads (c.in_ok-no.ensures.read.reads g a) gives))))) (omega (arith, c.in_ok-test.ensures.read.tokens, c.if-not-take.ensures.at, c.in_ok-yes.ensures.read.tokens, c.in_ok-expect.ensures.at, c.in_ok-no.ensures.read.tokens))
+    unmade c.args.place.names true (λ g. grammar g (conditional c.args.place.inside)) c.args.room 0 c.args.tokens.now c.conditional.new.tokens (tree.conditional (root c.in_ok-test.test.tree) (root c.in_ok-yes.yes.tree) (root c.in_ok-no.no.tree)) c.node_over.result c.node_over.ensures (omega (arith, c.in_ok-room_beside.ensures.0, c.in_ok-room_beside.ensures.1, c.in_ok-test.test.in_step, c.in_ok-yes.ensures.read.fits, c.in_ok-no.ensures.read.fits))
 
 pub levels::chain-returns-in_err-front-clause-failed : goal.levels::chain-returns-in_err-front-clause-failed
 unfolding grammar
@@ -170,7 +173,7 @@ levels::chain-returns-in_err-front-clause-failed t c =
     passed _ p.1 p.2 (record {
       fails = λ g b. phrase_fails (c.in_err-front.ensures.failed.fails g b);
       stands = c.in_err-front.ensures.failed.stands;
-      deep = λ h. phrase_deep (c.in_err-front.ensures.failed.deep h) (λ a g e h. omega (arith, g, h));
+      deep = λ h g ok. phrase_deepens (c.in_err-front.ensures.failed.deep h g ok) (λ a g e h. omega (arith, g, h));
       long = λ h. let l = c.in_err-front.ensures.failed.long h in omega (arith, l);
     })
 
@@ -183,11 +186,19 @@ levels::chain-loop-operator-init t c =
       goes_on = record {
         reads = λ g a e u d. reads (r.reads g a) (reads d gives);
         fails = λ g a u d. then_fails (r.reads g a) (phrase_fails d);
-        deep = λ n d. then_deep (r.reads (strict c.args.place.names) (admits_itself c.args.place.names)) (phrase_deep d (λ e g. g));
+        deep = λ g ok n u d. then_deepens (r.reads g ok) (phrase_deepens d (λ e g. g));
       };
       fits = omega (arith, r.fits, c.in_ok-front.front.in_step);
       tokens = omega (arith, r.tokens, c.in_ok-front.front.in_step);
     }
+
+pub levels::chain-returns-in_err-room_beside-clause-failed : goal.levels::chain-returns-in_err-room_beside-clause-failed
+unfolding grammar
+levels::chain-returns-in_err-room_beside-clause-failed t c =
+    let p = err_from_is_err_and c.from_residual-in_err-room_beside.result c.from_residual-in_err-room_beside.ensures.1 in
+    let o = c.in-Some.ensures in
+    let i = c.loop-operator.invariant in
+    passed _ p.1 p.2 (too_high c.in_err-room_beside.ensures.0 (λ g ok. i.goes_on.deep g ok _ _ (took_deepens {b = false} o.2 (ap is_some o.1) (rw o.1 (meets_at_once can_read (λ a _ e q. omega (arith, q, c.in_err-room_beside.ensures.1, c.loop-operator.front.in_step, joined_height c.in-Some.operator (root c.loop-operator.front.tree) a)))))) (omega (arith, c.in_err-room_beside.ensures.1, i.tokens, o.2.at)))
 
 pub levels::chain-returns-in_err-next-clause-failed : goal.levels::chain-returns-in_err-next-clause-failed
 unfolding grammar
@@ -199,21 +210,15 @@ levels::chain-returns-in_err-next-clause-failed t c =
     passed _ p.1 p.2 (record {
       fails = λ g b. i.goes_on.fails g (told_admits _ c.args.place.names g b) _ (took_fails o.2 (ap is_some o.1) (rw o.1 (phrase_fails (w.fails g b))));
       stands = w.stands;
-      deep = λ h. i.goes_on.deep _ (took_deep o.2 (ap is_some o.1) (rw o.1 (phrase_deep (w.deep h) (λ a g e q. omega (arith, g, q, joined_height c.in-Some.operator (root c.loop-operator.front.tree) a)))));
-      long = λ h. let l = w.long h in omega (arith, l, i.tokens, o.2.at);
+      deep = λ h g ok. i.goes_on.deep g ok _ _ (took_deepens {b = true} o.2 (ap is_some o.1) (rw o.1 (phrase_deepens (w.deep h g ok) (λ a g e q. omega (arith, g, q, c.in_ok-room_beside.ensures.0, joined_height c.in-Some.operator (root c.loop-operator.front.tree) a)))));
+      long = λ h. let l = w.long h in omega (arith, l, i.tokens, o.2.at, c.in_ok-room_beside.ensures.0);
     })
 
 pub levels::chain-returns-in_err-front-2-clause-failed : goal.levels::chain-returns-in_err-front-2-clause-failed
-unfolding grammar
 levels::chain-returns-in_err-front-2-clause-failed t c =
     let p = err_from_is_err_and c.from_residual-in_err-front-2.result c.from_residual-in_err-front-2.ensures.1 in
-    let o = c.in-Some.ensures in
-    let i = c.loop-operator.invariant in
-    let n = c.in_ok-next.ensures.read in
     let higher = joined_height c.in-Some.operator (root c.loop-operator.front.tree) (root c.in_ok-next.next.tree) in
-    passed _ p.1 p.2 (not_made (joined c.in-Some.operator (root c.loop-operator.front.tree) (root c.in_ok-next.next.tree)) c.in_err-front-2.ensures
-    (λ high. i.goes_on.deep c.args.room (took_deep o.2 (ap is_some o.1) (rw o.1 (then_deep (n.reads (strict c.args.place.names) (admits_itself c.args.place.names)) (meets_deep (λ e q. omega (arith, high, q)))))))
-    (λ high. omega (arith, high, higher, n.tokens, i.tokens, o.2.at, c.loop-operator.front.in_step, c.in_ok-next.next.in_step)))
+    passed _ p.1 p.2 (not_made (joined c.in-Some.operator (root c.loop-operator.front.tree) (root c.in_ok-next.next.tree)) c.in_err-front-2.ensures (omega (arith, higher, c.in_ok-room_beside.ensures.0, c.in_ok-room_beside.ensures.1, c.loop-operator.front.in_step, c.in_ok-next.ensures.read.fits)))
 
 pub levels::chain-loop-operator-preserved : goal.levels::chain-loop-operator-preserved
 unfolding grammar
@@ -227,7 +232,7 @@ levels::chain-loop-operator-preserved t c =
       goes_on = rw c.in_ok-front-2.ensures.0 (record {
         reads = λ g a e r d. i.goes_on.reads g a e r (took o.2 (ap is_some o.1) (rw o.1 (reads (n.reads g a) (reads d gives))));
         fails = λ g a r d. i.goes_on.fails g a r (took_fails o.2 (ap is_some o.1) (rw o.1 (then_fails (n.reads g a) (phrase_fails d))));
-        deep = λ m d. i.goes_on.deep m (took_deep o.2 (ap is_some o.1) (rw o.1 (then_deep (n.reads (strict c.args.place.names) (admits_itself c.args.place.names)) (phrase_deep d (λ e g. g)))));
+        deep = λ g ok m r d. i.goes_on.deep g ok m r (took_deepens {b = true} o.2 (ap is_some o.1) (rw o.1 (then_deepens (n.reads g ok) (phrase_deepens d (λ e g. g)))));
       });
       fits = c.in_ok-front-2.ensures.1;
       tokens = omega (arith, c.in_ok-front-2.ensures.2, higher, c.loop-operator.front.in_step, c.in_ok-next.next.in_step, n.tokens, i.tokens, o.2.at);
@@ -256,11 +261,11 @@ levels::operand-returns-in-Logic-clause-read t c =
 pub levels::operand-returns-in-Logic-clause-failed : goal.levels::operand-returns-in-Logic-clause-failed
 unfolding grammar
 levels::operand-returns-in-Logic-clause-failed t c =
-    if_err (λ f. HasFailed c.args.place.names (chain c.args.place.inside Relation) c.args.room c.args.tokens.now c.chain.new.tokens f) (λ f. HasFailedBy c.args.place.names Sort.expr (λ g. grammar g (operand c.args.place.inside c.args.level)) c.args.room 0 c.args.tokens.now c.chain.new.tokens f) c.chain.result c.chain.ensures.failed
+    if_err (λ f. HasFailed c.args.place.names (chain c.args.place.inside Relation) c.args.room c.args.tokens.now c.chain.new.tokens f) (λ f. HasFailedBy c.args.place.names true Sort.expr (λ g. grammar g (operand c.args.place.inside c.args.level)) c.args.room 0 c.args.tokens.now c.chain.new.tokens f) c.chain.result c.chain.ensures.failed
     (λ f w. record {
       fails = λ g b. rw c.in-Logic.is (phrase_fails (w.fails g b));
       stands = w.stands;
-      deep = λ h. rw c.in-Logic.is (phrase_deep (w.deep h) (λ a g. g));
+      deep = λ h g ok. rw c.in-Logic.is (phrase_deepens (w.deep h g ok) (λ a g. g));
       long = λ h. let l = w.long h in omega (arith, l);
     })
 
@@ -277,11 +282,11 @@ levels::operand-returns-in-Relation-clause-read t c =
 pub levels::operand-returns-in-Relation-clause-failed : goal.levels::operand-returns-in-Relation-clause-failed
 unfolding grammar
 levels::operand-returns-in-Relation-clause-failed t c =
-    if_err (λ f. HasFailed c.args.place.names (chain c.args.place.inside Sum) c.args.room c.args.tokens.now c.chain-in-Relation.new.tokens f) (λ f. HasFailedBy c.args.place.names Sort.expr (λ g. grammar g (operand c.args.place.inside c.args.level)) c.args.room 0 c.args.tokens.now c.chain-in-Relation.new.tokens f) c.chain-in-Relation.result c.chain-in-Relation.ensures.failed
+    if_err (λ f. HasFailed c.args.place.names (chain c.args.place.inside Sum) c.args.room c.args.tokens.now c.chain-in-Relation.new.tokens f) (λ f. HasFailedBy c.args.place.names true Sort.expr (λ g. grammar g (operand c.args.place.inside c.args.level)) c.args.room 0 c.args.tokens.now c.chain-in-Relation.new.tokens f) c.chain-in-Relation.result c.chain-in-Relation.ensures.failed
     (λ f w. record {
       fails = λ g b. rw c.in-Relation.is (phrase_fails (w.fails g b));
       stands = w.stands;
-      deep = λ h. rw c.in-Relation.is (phrase_deep (w.deep h) (λ a g. g));
+      deep = λ h g ok. rw c.in-Relation.is (phrase_deepens (w.deep h g ok) (λ a g. g));
       long = λ h. let l = w.long h in omega (arith, l);
     })
 
@@ -298,11 +303,11 @@ levels::operand-returns-in-Sum-clause-read t c =
 pub levels::operand-returns-in-Sum-clause-failed : goal.levels::operand-returns-in-Sum-clause-failed
 unfolding grammar
 levels::operand-returns-in-Sum-clause-failed t c =
-    if_err (λ f. HasFailed c.args.place.names (chain c.args.place.inside Product) c.args.room c.args.tokens.now c.chain-in-Sum.new.tokens f) (λ f. HasFailedBy c.args.place.names Sort.expr (λ g. grammar g (operand c.args.place.inside c.args.level)) c.args.room 0 c.args.tokens.now c.chain-in-Sum.new.tokens f) c.chain-in-Sum.result c.chain-in-Sum.ensures.failed
+    if_err (λ f. HasFailed c.args.place.names (chain c.args.place.inside Product) c.args.room c.args.tokens.now c.chain-in-Sum.new.tokens f) (λ f. HasFailedBy c.args.place.names true Sort.expr (λ g. grammar g (operand c.args.place.inside c.args.level)) c.args.room 0 c.args.tokens.now c.chain-in-Sum.new.tokens f) c.chain-in-Sum.result c.chain-in-Sum.ensures.failed
     (λ f w. record {
       fails = λ g b. rw c.in-Sum.is (phrase_fails (w.fails g b));
       stands = w.stands;
-      deep = λ h. rw c.in-Sum.is (phrase_deep (w.deep h) (λ a g. g));
+      deep = λ h g ok. rw c.in-Sum.is (phrase_deepens (w.deep h g ok) (λ a g. g));
       long = λ h. let l = w.long h in omega (arith, l);
     })
 
@@ -319,11 +324,11 @@ levels::operand-returns-in-Product-clause-read t c =
 pub levels::operand-returns-in-Product-clause-failed : goal.levels::operand-returns-in-Product-clause-failed
 unfolding grammar
 levels::operand-returns-in-Product-clause-failed t c =
-    if_err (λ f. HasFailed c.args.place.names (power c.args.place.inside) c.args.room c.args.tokens.now c.power.new.tokens f) (λ f. HasFailedBy c.args.place.names Sort.expr (λ g. grammar g (operand c.args.place.inside c.args.level)) c.args.room 0 c.args.tokens.now c.power.new.tokens f) c.power.result c.power.ensures.failed
+    if_err (λ f. HasFailed c.args.place.names (power c.args.place.inside) c.args.room c.args.tokens.now c.power.new.tokens f) (λ f. HasFailedBy c.args.place.names true Sort.expr (λ g. grammar g (operand c.args.place.inside c.args.level)) c.args.room 0 c.args.tokens.now c.power.new.tokens f) c.power.result c.power.ensures.failed
     (λ f w. record {
       fails = λ g b. rw c.in-Product.is (phrase_fails (w.fails g b));
       stands = w.stands;
-      deep = λ h. rw c.in-Product.is (phrase_deep (w.deep h) (λ a g. g));
+      deep = λ h g ok. rw c.in-Product.is (phrase_deepens (w.deep h g ok) (λ a g. g));
       long = λ h. let l = w.long h in omega (arith, l);
     })
 
@@ -334,7 +339,7 @@ levels::power-returns-in_err-base-clause-failed t c =
     passed _ p.1 p.2 (record {
       fails = λ g b. phrase_fails (c.in_err-base.ensures.failed.fails g b);
       stands = c.in_err-base.ensures.failed.stands;
-      deep = λ h. phrase_deep (c.in_err-base.ensures.failed.deep h) (λ a g. ((λ x b _. omega (arith, g)), g));
+      deep = λ h g ok. phrase_deepens (c.in_err-base.ensures.failed.deep h g ok) (λ a g. ((λ x b _. omega (arith, g)), g));
       long = λ h. let l = c.in_err-base.ensures.failed.long h in omega (arith, l);
     })
 
@@ -347,11 +352,11 @@ levels::power-returns-then-not-take-clause-read t c =
       tokens = omega (arith, c.in_ok-base.ensures.read.tokens, c.if-not-take.ensures.at, c.in_ok-base.ensures.read.fits);
     })
 
-pub levels::power-returns-in_err-below-clause-failed : goal.levels::power-returns-in_err-below-clause-failed
+pub levels::power-returns-in_err-room_beside-clause-failed : goal.levels::power-returns-in_err-room_beside-clause-failed
 unfolding grammar
-levels::power-returns-in_err-below-clause-failed t c =
-    let p = err_from_is_err_and c.from_residual-in_err-below.result c.from_residual-in_err-below.ensures.1 in
-    passed _ p.1 p.2 (too_high c.in_err-below.ensures.0 (no_room c.in_err-below.ensures.1) (omega (arith, c.in_err-below.ensures.1, c.in_ok-base.ensures.read.tokens, c.if-not-take.ensures.at)))
+levels::power-returns-in_err-room_beside-clause-failed t c =
+    let p = err_from_is_err_and c.from_residual-in_err-room_beside.result c.from_residual-in_err-room_beside.ensures.1 in
+    passed _ p.1 p.2 (too_high c.in_err-room_beside.ensures.0 (λ g ok. then_deepens (c.in_ok-base.ensures.read.reads g ok) (took_deepens c.if-not-take.ensures refl (meets_at_once can_read (λ b _. omega (arith, c.in_err-room_beside.ensures.1, c.in_ok-base.base.in_step))))) (omega (arith, c.in_ok-base.base.in_step, c.in_err-room_beside.ensures.1, c.in_ok-base.ensures.read.tokens, c.if-not-take.ensures.at)))
 
 pub levels::power-returns-in_err-exponent-clause-failed : goal.levels::power-returns-in_err-exponent-clause-failed
 unfolding grammar
@@ -360,8 +365,8 @@ levels::power-returns-in_err-exponent-clause-failed t c =
     passed _ p.1 p.2 (record {
       fails = λ g b. then_fails (c.in_ok-base.ensures.read.reads g (told_admits _ c.args.place.names g b)) (took_fails c.if-not-take.ensures refl (phrase_fails (c.in_err-exponent.ensures.failed.fails g b)));
       stands = c.in_err-exponent.ensures.failed.stands;
-      deep = λ h. then_deep (c.in_ok-base.ensures.read.reads (strict c.args.place.names) (admits_itself c.args.place.names)) (took_deep c.if-not-take.ensures refl (phrase_deep (c.in_err-exponent.ensures.failed.deep h) (λ b g. omega (arith, g, c.in_ok-below.ensures))));
-      long = λ h. let l = c.in_err-exponent.ensures.failed.long h in omega (arith, l, c.in_ok-base.ensures.read.tokens, c.if-not-take.ensures.at, c.in_ok-below.ensures);
+      deep = λ h g ok. then_deepens (c.in_ok-base.ensures.read.reads g ok) (took_deepens c.if-not-take.ensures refl (phrase_deepens (c.in_err-exponent.ensures.failed.deep h g ok) (λ b g. omega (arith, g, c.in_ok-room_beside.ensures.0))));
+      long = λ h. let l = c.in_err-exponent.ensures.failed.long h in omega (arith, l, c.in_ok-base.ensures.read.tokens, c.if-not-take.ensures.at, c.in_ok-room_beside.ensures.0);
     })
 
 pub levels::power-returns-clause-read : goal.levels::power-returns-clause-read
@@ -372,7 +377,7 @@ levels::power-returns-clause-read t c =
 pub levels::power-returns-clause-failed : goal.levels::power-returns-clause-failed
 unfolding grammar
 levels::power-returns-clause-failed t c =
-    unmade c.args.place.names (λ g. grammar g (power c.args.place.inside)) c.args.room 0 c.args.tokens.now c.power.new.tokens (tree.binary Power (root c.in_ok-base.base.tree) (root c.in_ok-exponent.exponent.tree)) c.node_over.result c.node_over.ensures (λ g a. reads (c.in_ok-base.ensures.read.reads g a) (took c.if-not-take.ensures refl (reads (c.in_ok-exponent.ensures.read.reads g a) gives))) (omega (arith, c.in_ok-base.ensures.read.tokens, c.if-not-take.ensures.at, c.in_ok-exponent.ensures.read.tokens))
+    unmade c.args.place.names true (λ g. grammar g (power c.args.place.inside)) c.args.room 0 c.args.tokens.now c.power.new.tokens (tree.binary Power (root c.in_ok-base.base.tree) (root c.in_ok-exponent.exponent.tree)) c.node_over.result c.node_over.ensures (omega (arith, c.in_ok-room_beside.ensures.0, c.in_ok-room_beside.ensures.1, c.in_ok-base.base.in_step, c.in_ok-exponent.ensures.read.fits))
 
 pub levels::unary-returns-in_err-operand-clause-failed : goal.levels::unary-returns-in_err-operand-clause-failed
 levels::unary-returns-in_err-operand-clause-failed t c =
@@ -382,8 +387,8 @@ levels::unary-returns-in_err-operand-clause-failed t c =
     passed _ p.1 p.2 (record {
       fails = λ g b. fails_from m.tokens (minuses_fail g c.args.place.inside c.take_minuses-minuses.result (w.fails g b));
       stands = w.stands;
-      deep = λ h. deep_from m.tokens (minuses_deep c.args.place.inside c.args.room c.take_minuses-minuses.result (left c.take_minuses-minuses.new.self) (w.deep h));
-      long = λ h. let l = w.long h in omega (arith, l, m.at);
+      deep = λ h g ok. deepens_from m.tokens (minuses_deepens c.args.place.inside c.take_minuses-minuses.result c.args.room (rw c.behind_minuses.ensures at (w.deep h g ok)));
+      long = λ h. let l = w.long h in omega (arith, l, m.at, c.behind_minuses.ensures);
     })
 
 pub levels::unary-returns-clause-read : goal.levels::unary-returns-clause-read
@@ -394,13 +399,15 @@ levels::unary-returns-clause-read t c =
 pub levels::unary-returns-clause-failed : goal.levels::unary-returns-clause-failed
 unfolding grammar
 levels::unary-returns-clause-failed t c =
-    unmade c.args.place.names (λ g. grammar g (unary c.args.place.inside)) c.args.room 0 c.args.tokens.now c.unsigned.new.tokens (negations c.take_minuses-minuses.result (root c.in_ok-operand.operand.tree)) c.negate_times.result c.negate_times.ensures (λ g a. reads_from c.take_minuses-minuses.ensures.tokens (minuses_read g c.args.place.inside c.take_minuses-minuses.result (c.in_ok-operand.ensures.read.reads g a))) (omega (arith, c.in_ok-operand.ensures.read.tokens, c.take_minuses-minuses.ensures.at, negations_lower c.take_minuses-minuses.result (root c.in_ok-operand.operand.tree)))
+    no_leaf c.args.place.names true (λ g. grammar g (unary c.args.place.inside)) c.args.room 0 c.args.tokens.now c.unsigned.new.tokens (negations c.take_minuses-minuses.result (root c.in_ok-operand.operand.tree)) c.negate_times.result c.negate_times.ensures
+    (λ high g ok. deepens_from c.take_minuses-minuses.ensures.tokens (minuses_late c.args.place.inside c.take_minuses-minuses.result c.args.room (root c.in_ok-operand.operand.tree) (c.in_ok-operand.ensures.read.reads g ok) (omega (arith, c.in_ok-operand.ensures.read.fits, c.behind_minuses.ensures)) high))
+    (λ high. omega (arith, high, c.in_ok-operand.ensures.read.tokens, c.take_minuses-minuses.ensures.at, negations_lower c.take_minuses-minuses.result (root c.in_ok-operand.operand.tree)))
 
 pub levels::unsigned-returns-in_err-below-clause-failed : goal.levels::unsigned-returns-in_err-below-clause-failed
 unfolding grammar
 levels::unsigned-returns-in_err-below-clause-failed t c =
     let p = err_from_is_err_and c.from_residual.result c.from_residual.ensures.1 in
-    passed _ p.1 p.2 (too_high c.in_err-below.ensures.0 (no_room c.in_err-below.ensures.1) (omega (arith, c.in_err-below.ensures.1, c.if-take.ensures.at)))
+    passed _ p.1 p.2 (too_high c.in_err-below.ensures.0 (λ g ok. took_deepens c.if-take.ensures refl (meets_at_once can_read (λ a _. omega (arith, c.in_err-below.ensures.1)))) (omega (arith, c.in_err-below.ensures.1, c.if-take.ensures.at)))
 
 pub levels::unsigned-returns-in_err-operand-clause-failed : goal.levels::unsigned-returns-in_err-operand-clause-failed
 unfolding grammar
@@ -409,7 +416,7 @@ levels::unsigned-returns-in_err-operand-clause-failed t c =
     passed _ p.1 p.2 (record {
       fails = λ g b. took_fails c.if-take.ensures refl (phrase_fails (c.in_err-operand.ensures.failed.fails g b));
       stands = c.in_err-operand.ensures.failed.stands;
-      deep = λ h. took_deep c.if-take.ensures refl (phrase_deep (c.in_err-operand.ensures.failed.deep h) (λ a g. omega (arith, g, c.in_ok-below.ensures)));
+      deep = λ h g ok. took_deepens c.if-take.ensures refl (phrase_deepens (c.in_err-operand.ensures.failed.deep h g ok) (λ a g. omega (arith, g, c.in_ok-below.ensures)));
       long = λ h. let l = c.in_err-operand.ensures.failed.long h in omega (arith, l, c.if-take.ensures.at, c.in_ok-below.ensures);
     })
 
@@ -421,7 +428,7 @@ levels::unsigned-returns-then-take-clause-read t c =
 pub levels::unsigned-returns-then-take-clause-failed : goal.levels::unsigned-returns-then-take-clause-failed
 unfolding grammar
 levels::unsigned-returns-then-take-clause-failed t c =
-    unmade c.args.place.names (λ g. grammar g (unary c.args.place.inside)) c.args.room 0 c.args.tokens.now c.unary.new.tokens (tree.unary Not (root c.in_ok-operand.operand.tree)) c.node_over.result c.node_over.ensures (λ g a. took c.if-take.ensures refl (reads (c.in_ok-operand.ensures.read.reads g a) gives)) (omega (arith, c.if-take.ensures.at, c.in_ok-operand.ensures.read.tokens))
+    unmade c.args.place.names true (λ g. grammar g (unary c.args.place.inside)) c.args.room 0 c.args.tokens.now c.unary.new.tokens (tree.unary Not (root c.in_ok-operand.operand.tree)) c.node_over.result c.node_over.ensures (omega (arith, c.in_ok-below.ensures, c.in_ok-operand.ensures.read.fits))
 
 pub levels::unsigned-returns-clause-read : goal.levels::unsigned-returns-clause-read
 unfolding grammar
@@ -436,11 +443,11 @@ levels::unsigned-returns-clause-read t c =
 pub levels::unsigned-returns-clause-failed : goal.levels::unsigned-returns-clause-failed
 unfolding grammar
 levels::unsigned-returns-clause-failed t c =
-    if_err (λ f. HasFailed c.args.place.names (postfix c.args.place.inside) c.args.room c.take.new.self c.postfix.new.tokens f) (λ f. HasFailedBy c.args.place.names Sort.expr (λ g. grammar g (unary c.args.place.inside)) c.args.room 0 c.args.tokens.now c.postfix.new.tokens f) c.postfix.result c.postfix.ensures.failed
+    if_err (λ f. HasFailed c.args.place.names (postfix c.args.place.inside) c.args.room c.take.new.self c.postfix.new.tokens f) (λ f. HasFailedBy c.args.place.names true Sort.expr (λ g. grammar g (unary c.args.place.inside)) c.args.room 0 c.args.tokens.now c.postfix.new.tokens f) c.postfix.result c.postfix.ensures.failed
     (λ f w. record {
       fails = λ g b. stayed_fails c.if-take.ensures (misses_fails (ap (next_passes (is_sign Minus)) c.if-take.ensures.rest ∙ c.requires) (phrase_fails (w.fails g b)));
       stands = w.stands;
-      deep = λ h. stayed_deep c.if-take.ensures (misses_deep (ap (next_passes (is_sign Minus)) c.if-take.ensures.rest ∙ c.requires) (phrase_deep (w.deep h) (λ a g. g)));
+      deep = λ h g ok. stayed_deepens c.if-take.ensures (misses_deepens (ap (next_passes (is_sign Minus)) c.if-take.ensures.rest ∙ c.requires) (phrase_deepens (w.deep h g ok) (λ a g. g)));
       long = λ h. let l = w.long h in omega (arith, l, c.if-take.ensures.at);
     })
 
@@ -451,7 +458,7 @@ postfix::postfix-returns-in_err-base-clause-failed t c =
     passed _ p.1 p.2 (record {
       fails = λ g b. phrase_fails (c.in_err-base.ensures.failed.fails g b);
       stands = c.in_err-base.ensures.failed.stands;
-      deep = λ h. phrase_deep (c.in_err-base.ensures.failed.deep h) (λ a g e h. omega (arith, g, h));
+      deep = λ h g ok. phrase_deepens (c.in_err-base.ensures.failed.deep h g ok) (λ a g e h. omega (arith, g, h));
       long = λ h. let l = c.in_err-base.ensures.failed.long h in omega (arith, l);
     })
 
@@ -468,18 +475,18 @@ postfix::postfix-returns-clause-read t c =
 pub postfix::postfix-returns-clause-failed : goal.postfix::postfix-returns-clause-failed
 unfolding grammar
 postfix::postfix-returns-clause-failed t c =
-    if_err (λ f. HasFailedBy c.args.place.names Sort.expr (λ g. grammar g (suffixes c.args.place.inside (root c.in_ok-base.base.tree))) c.args.room (height (root c.in_ok-base.base.tree)) c.primary.new.tokens c.suffixes.new.tokens f) (λ f. HasFailedBy c.args.place.names Sort.expr (λ g. grammar g (postfix c.args.place.inside)) c.args.room 0 c.args.tokens.now c.suffixes.new.tokens f) c.suffixes.result c.suffixes.ensures.failed
+    if_err (λ f. HasFailedBy c.args.place.names true Sort.expr (λ g. grammar g (suffixes c.args.place.inside (root c.in_ok-base.base.tree))) c.args.room (height (root c.in_ok-base.base.tree)) c.primary.new.tokens c.suffixes.new.tokens f) (λ f. HasFailedBy c.args.place.names true Sort.expr (λ g. grammar g (postfix c.args.place.inside)) c.args.room 0 c.args.tokens.now c.suffixes.new.tokens f) c.suffixes.result c.suffixes.ensures.failed
     (λ f w. record {
       fails = λ g b. then_fails (c.in_ok-base.ensures.read.reads g (told_admits _ c.args.place.names g b)) (phrase_fails (w.fails g b));
       stands = w.stands;
-      deep = λ h. then_deep (c.in_ok-base.ensures.read.reads (strict c.args.place.names) (admits_itself c.args.place.names)) (phrase_deep (w.deep h) (λ e g. g));
+      deep = λ h g ok. then_deepens (c.in_ok-base.ensures.read.reads g ok) (phrase_deepens (w.deep h g ok) (λ e g. g));
       long = λ h. let l = w.long h in omega (arith, l, c.in_ok-base.ensures.read.tokens);
     })
 
 pub postfix::suffixes-returns-then-take-clause-read : goal.postfix::suffixes-returns-then-take-clause-read
 unfolding grammar
 postfix::suffixes-returns-then-take-clause-read t c =
-    if_ok (λ n. IsReadBy c.args.place.names Sort.expr (λ g. behind_dot c.args.place.inside (root c.args.base.tree)) c.args.room (height (root c.args.base.tree)) c.take.new.self c.behind_dot.new.tokens (root n.tree)) (λ n. IsReadBy c.args.place.names Sort.expr (λ g. grammar g (suffixes c.args.place.inside (root c.args.base.tree))) c.args.room (height (root c.args.base.tree)) c.args.tokens.now c.behind_dot.new.tokens (root n.tree)) c.behind_dot.result c.behind_dot.ensures.read
+    if_ok (λ n. IsReadBy c.args.place.names Sort.expr (λ g. behind_dot c.args.place.inside (root c.args.base.tree)) c.args.room (height (root c.args.base.tree) + 1) c.take.new.self c.behind_dot.new.tokens (root n.tree)) (λ n. IsReadBy c.args.place.names Sort.expr (λ g. grammar g (suffixes c.args.place.inside (root c.args.base.tree))) c.args.room (height (root c.args.base.tree)) c.args.tokens.now c.behind_dot.new.tokens (root n.tree)) c.behind_dot.result c.behind_dot.ensures.read
     (λ n v. record {
       reads = λ g a. took c.if-take.ensures refl (v.reads g a);
       fits = omega (arith, v.fits);
@@ -489,18 +496,18 @@ postfix::suffixes-returns-then-take-clause-read t c =
 pub postfix::suffixes-returns-then-take-clause-failed : goal.postfix::suffixes-returns-then-take-clause-failed
 unfolding grammar
 postfix::suffixes-returns-then-take-clause-failed t c =
-    if_err (λ f. HasFailedBy c.args.place.names Sort.expr (λ g. behind_dot c.args.place.inside (root c.args.base.tree)) c.args.room (height (root c.args.base.tree)) c.take.new.self c.behind_dot.new.tokens f) (λ f. HasFailedBy c.args.place.names Sort.expr (λ g. grammar g (suffixes c.args.place.inside (root c.args.base.tree))) c.args.room (height (root c.args.base.tree)) c.args.tokens.now c.behind_dot.new.tokens f) c.behind_dot.result c.behind_dot.ensures.failed
+    if_err (λ f. HasFailedBy c.args.place.names false Sort.expr (λ g. behind_dot c.args.place.inside (root c.args.base.tree)) c.args.room (height (root c.args.base.tree) + 1) c.take.new.self c.behind_dot.new.tokens f) (λ f. HasFailedBy c.args.place.names true Sort.expr (λ g. grammar g (suffixes c.args.place.inside (root c.args.base.tree))) c.args.room (height (root c.args.base.tree)) c.args.tokens.now c.behind_dot.new.tokens f) c.behind_dot.result c.behind_dot.ensures.failed
     (λ f w. record {
       fails = λ g b. took_fails c.if-take.ensures refl (w.fails g b);
       stands = w.stands;
-      deep = λ h. took_deep c.if-take.ensures refl (w.deep h);
+      deep = λ h g ok. took_deepens c.if-take.ensures refl (w.deep h g ok);
       long = λ h. let l = w.long h in omega (arith, l, c.if-take.ensures.at);
     })
 
 pub postfix::suffixes-returns-then-take-2-clause-read : goal.postfix::suffixes-returns-then-take-2-clause-read
 unfolding grammar
 postfix::suffixes-returns-then-take-2-clause-read t c =
-    if_ok (λ n. IsReadBy c.args.place.names Sort.expr (λ g. behind_colon c.args.place.inside (root c.args.base.tree)) c.args.room (height (root c.args.base.tree)) c.take-2.new.self c.behind_colon.new.tokens (root n.tree)) (λ n. IsReadBy c.args.place.names Sort.expr (λ g. grammar g (suffixes c.args.place.inside (root c.args.base.tree))) c.args.room (height (root c.args.base.tree)) c.args.tokens.now c.behind_colon.new.tokens (root n.tree)) c.behind_colon.result c.behind_colon.ensures.read
+    if_ok (λ n. IsReadBy c.args.place.names Sort.expr (λ g. behind_colon c.args.place.inside (root c.args.base.tree)) c.args.room (height (root c.args.base.tree) + 1) c.take-2.new.self c.behind_colon.new.tokens (root n.tree)) (λ n. IsReadBy c.args.place.names Sort.expr (λ g. grammar g (suffixes c.args.place.inside (root c.args.base.tree))) c.args.room (height (root c.args.base.tree)) c.args.tokens.now c.behind_colon.new.tokens (root n.tree)) c.behind_colon.result c.behind_colon.ensures.read
     (λ n v. record {
       reads = λ g a. stayed c.if-take.ensures (took c.if-take-2.ensures refl (v.reads g a));
       fits = omega (arith, v.fits);
@@ -510,18 +517,18 @@ postfix::suffixes-returns-then-take-2-clause-read t c =
 pub postfix::suffixes-returns-then-take-2-clause-failed : goal.postfix::suffixes-returns-then-take-2-clause-failed
 unfolding grammar
 postfix::suffixes-returns-then-take-2-clause-failed t c =
-    if_err (λ f. HasFailedBy c.args.place.names Sort.expr (λ g. behind_colon c.args.place.inside (root c.args.base.tree)) c.args.room (height (root c.args.base.tree)) c.take-2.new.self c.behind_colon.new.tokens f) (λ f. HasFailedBy c.args.place.names Sort.expr (λ g. grammar g (suffixes c.args.place.inside (root c.args.base.tree))) c.args.room (height (root c.args.base.tree)) c.args.tokens.now c.behind_colon.new.tokens f) c.behind_colon.result c.behind_colon.ensures.failed
+    if_err (λ f. HasFailedBy c.args.place.names false Sort.expr (λ g. behind_colon c.args.place.inside (root c.args.base.tree)) c.args.room (height (root c.args.base.tree) + 1) c.take-2.new.self c.behind_colon.new.tokens f) (λ f. HasFailedBy c.args.place.names true Sort.expr (λ g. grammar g (suffixes c.args.place.inside (root c.args.base.tree))) c.args.room (height (root c.args.base.tree)) c.args.tokens.now c.behind_colon.new.tokens f) c.behind_colon.result c.behind_colon.ensures.failed
     (λ f w. record {
       fails = λ g b. stayed_fails c.if-take.ensures (took_fails c.if-take-2.ensures refl (w.fails g b));
       stands = w.stands;
-      deep = λ h. stayed_deep c.if-take.ensures (took_deep c.if-take-2.ensures refl (w.deep h));
+      deep = λ h g ok. stayed_deepens c.if-take.ensures (took_deepens c.if-take-2.ensures refl (w.deep h g ok));
       long = λ h. let l = w.long h in omega (arith, l, c.if-take.ensures.at, c.if-take-2.ensures.at);
     })
 
 pub postfix::suffixes-returns-then-take-3-clause-read : goal.postfix::suffixes-returns-then-take-3-clause-read
 unfolding grammar
 postfix::suffixes-returns-then-take-3-clause-read t c =
-    if_ok (λ n. IsReadBy c.args.place.names Sort.expr (λ g. behind_bracket c.args.place.inside (root c.args.base.tree)) c.args.room (height (root c.args.base.tree)) c.take-3.new.self c.behind_bracket.new.tokens (root n.tree)) (λ n. IsReadBy c.args.place.names Sort.expr (λ g. grammar g (suffixes c.args.place.inside (root c.args.base.tree))) c.args.room (height (root c.args.base.tree)) c.args.tokens.now c.behind_bracket.new.tokens (root n.tree)) c.behind_bracket.result c.behind_bracket.ensures.read
+    if_ok (λ n. IsReadBy c.args.place.names Sort.expr (λ g. behind_bracket c.args.place.inside (root c.args.base.tree)) c.args.room (height (root c.args.base.tree) + 1) c.take-3.new.self c.behind_bracket.new.tokens (root n.tree)) (λ n. IsReadBy c.args.place.names Sort.expr (λ g. grammar g (suffixes c.args.place.inside (root c.args.base.tree))) c.args.room (height (root c.args.base.tree)) c.args.tokens.now c.behind_bracket.new.tokens (root n.tree)) c.behind_bracket.result c.behind_bracket.ensures.read
     (λ n v. record {
       reads = λ g a. stayed c.if-take.ensures (stayed c.if-take-2.ensures (took c.if-take-3.ensures refl (v.reads g a)));
       fits = omega (arith, v.fits);
@@ -531,11 +538,11 @@ postfix::suffixes-returns-then-take-3-clause-read t c =
 pub postfix::suffixes-returns-then-take-3-clause-failed : goal.postfix::suffixes-returns-then-take-3-clause-failed
 unfolding grammar
 postfix::suffixes-returns-then-take-3-clause-failed t c =
-    if_err (λ f. HasFailedBy c.args.place.names Sort.expr (λ g. behind_bracket c.args.place.inside (root c.args.base.tree)) c.args.room (height (root c.args.base.tree)) c.take-3.new.self c.behind_bracket.new.tokens f) (λ f. HasFailedBy c.args.place.names Sort.expr (λ g. grammar g (suffixes c.args.place.inside (root c.args.base.tree))) c.args.room (height (root c.args.base.tree)) c.args.tokens.now c.behind_bracket.new.tokens f) c.behind_bracket.result c.behind_bracket.ensures.failed
+    if_err (λ f. HasFailedBy c.args.place.names false Sort.expr (λ g. behind_bracket c.args.place.inside (root c.args.base.tree)) c.args.room (height (root c.args.base.tree) + 1) c.take-3.new.self c.behind_bracket.new.tokens f) (λ f. HasFailedBy c.args.place.names true Sort.expr (λ g. grammar g (suffixes c.args.place.inside (root c.args.base.tree))) c.args.room (height (root c.args.base.tree)) c.args.tokens.now c.behind_bracket.new.tokens f) c.behind_bracket.result c.behind_bracket.ensures.failed
     (λ f w. record {
       fails = λ g b. stayed_fails c.if-take.ensures (stayed_fails c.if-take-2.ensures (took_fails c.if-take-3.ensures refl (w.fails g b)));
       stands = w.stands;
-      deep = λ h. stayed_deep c.if-take.ensures (stayed_deep c.if-take-2.ensures (took_deep c.if-take-3.ensures refl (w.deep h)));
+      deep = λ h g ok. stayed_deepens c.if-take.ensures (stayed_deepens c.if-take-2.ensures (took_deepens c.if-take-3.ensures refl (w.deep h g ok)));
       long = λ h. let l = w.long h in omega (arith, l, c.if-take.ensures.at, c.if-take-2.ensures.at, c.if-take-3.ensures.at);
     })
 
@@ -548,11 +555,11 @@ postfix::suffixes-returns-clause-read t c =
       tokens = omega (arith, c.if-take.ensures.at, c.if-take-2.ensures.at, c.if-take-3.ensures.at, c.args.base.in_step, c.requires);
     })
 
-pub postfix::behind_dot-returns-in_err-room_below-clause-failed : goal.postfix::behind_dot-returns-in_err-room_below-clause-failed
+pub postfix::behind_dot-returns-in_err-room_beside-clause-failed : goal.postfix::behind_dot-returns-in_err-room_beside-clause-failed
 unfolding grammar
-postfix::behind_dot-returns-in_err-room_below-clause-failed t c =
+postfix::behind_dot-returns-in_err-room_beside-clause-failed t c =
     let p = err_from_is_err_and c.from_residual.result c.from_residual.ensures.1 in
-    passed _ p.1 p.2 (too_high c.in_err-room_below.ensures.0 (no_room c.in_err-room_below.ensures.1) (omega (arith, c.in_err-room_below.ensures.1, c.args.base.in_step, height_positive (root c.args.base.tree), c.requires)))
+    passed _ p.1 p.2 (too_high c.in_err-room_beside.ensures.0 (λ g ok. meets_at_once (can_take (Name []) refl can_read) ((λ y e h. omega (arith, h, c.in_err-room_beside.ensures.1, c.args.base.in_step)), ((λ y b _. ((λ z e h. omega (arith, h, c.in_err-room_beside.ensures.1, c.args.base.in_step)), tt)), tt))) (omega (arith, c.in_err-room_beside.ensures.1, c.args.base.in_step, height_positive (root c.args.base.tree), c.requires)))
 
 pub postfix::behind_dot-returns-in_err-name-clause-failed : goal.postfix::behind_dot-returns-in_err-name-clause-failed
 unfolding grammar
@@ -561,20 +568,19 @@ postfix::behind_dot-returns-in_err-name-clause-failed t c =
     passed _ p.1 p.2 (record {
       fails = c.in_err-name.ensures.failed.fails (λ b. phrase (suffixes c.args.place.inside (property (root c.args.base.tree) b)) λ e. give e);
       stands = c.in_err-name.ensures.failed.stands;
-      deep = c.in_err-name.ensures.failed.deep _ (λ b. phrase (suffixes c.args.place.inside (property (root c.args.base.tree) b)) λ e. give e) (λ b q us. meets_deep (λ e h. omega (arith, q, h, c.in_ok-room_below.ensures)));
-      long = λ h. let l = c.in_err-name.ensures.failed.long h in omega (arith, l, c.in_ok-room_below.ensures, c.args.base.in_step, height_positive (root c.args.base.tree));
+      deep = λ h g ok. at_any (c.in_err-name.ensures.failed.deep h g ok _ (λ b. phrase (suffixes c.args.place.inside (property (root c.args.base.tree) b)) λ e. give e) (λ b q us. meets_deep (λ e h. omega (arith, q, h, c.in_ok-room_beside.ensures.0))));
+      long = λ h. let l = c.in_err-name.ensures.failed.long h in omega (arith, l, c.in_ok-room_beside.ensures.0, c.args.base.in_step, height_positive (root c.args.base.tree));
     })
 
 pub postfix::behind_dot-returns-in_err-base-clause-failed : goal.postfix::behind_dot-returns-in_err-base-clause-failed
-unfolding grammar
 postfix::behind_dot-returns-in_err-base-clause-failed t c =
     let p = err_from_is_err_and c.from_residual-in_err-base.result c.from_residual-in_err-base.ensures.1 in
-    passed _ p.1 p.2 (⊎_elim (λ is. no_memory is) (λ is. too_high is.0 ((c.in_ok-name.ensures.read.leads (λ b. phrase (suffixes c.args.place.inside (property (root c.args.base.tree) b)) λ e. give e)).deep _ (meets_deep (λ e h. omega (arith, is.1, h)))) (omega (arith, is.1, c.in_ok-name.ensures.read.tokens, height_positive (root c.in_ok-name.name.tree), c.args.base.in_step, height_positive (root c.args.base.tree)))) c.in_err-base.ensures)
+    passed _ p.1 p.2 (not_made (property (root c.args.base.tree) (root c.in_ok-name.name.tree)) c.in_err-base.ensures (omega (arith, c.in_ok-room_beside.ensures.0, c.in_ok-room_beside.ensures.1, c.args.base.in_step, height_positive (root c.args.base.tree), c.in_ok-name.ensures.read.fits)))
 
 pub postfix::behind_dot-returns-clause-read : goal.postfix::behind_dot-returns-clause-read
 unfolding grammar
 postfix::behind_dot-returns-clause-read t c =
-    if_ok (λ n. IsReadBy c.args.place.names Sort.expr (λ g. grammar g (suffixes c.args.place.inside (root c.in_ok-base.base.tree))) c.args.room (height (root c.in_ok-base.base.tree)) c.member_name.new.tokens c.suffixes.new.tokens (root n.tree)) (λ n. IsReadBy c.args.place.names Sort.expr (λ g. behind_dot c.args.place.inside (root c.args.base.tree)) c.args.room (height (root c.args.base.tree)) c.args.tokens.now c.suffixes.new.tokens (root n.tree)) c.suffixes.result c.suffixes.ensures.read
+    if_ok (λ n. IsReadBy c.args.place.names Sort.expr (λ g. grammar g (suffixes c.args.place.inside (root c.in_ok-base.base.tree))) c.args.room (height (root c.in_ok-base.base.tree)) c.member_name.new.tokens c.suffixes.new.tokens (root n.tree)) (λ n. IsReadBy c.args.place.names Sort.expr (λ g. behind_dot c.args.place.inside (root c.args.base.tree)) c.args.room (height (root c.args.base.tree) + 1) c.args.tokens.now c.suffixes.new.tokens (root n.tree)) c.suffixes.result c.suffixes.ensures.read
     (λ n v. record {
       reads = λ g a. (c.in_ok-name.ensures.read.leads (λ b. phrase (suffixes c.args.place.inside (property (root c.args.base.tree) b)) λ e. give e)).reads g a _ _ (reads (rw c.in_ok-base.ensures.0 at (v.reads g a)) gives);
       fits = v.fits;
@@ -584,19 +590,19 @@ postfix::behind_dot-returns-clause-read t c =
 pub postfix::behind_dot-returns-clause-failed : goal.postfix::behind_dot-returns-clause-failed
 unfolding grammar
 postfix::behind_dot-returns-clause-failed t c =
-    if_err (λ f. HasFailedBy c.args.place.names Sort.expr (λ g. grammar g (suffixes c.args.place.inside (root c.in_ok-base.base.tree))) c.args.room (height (root c.in_ok-base.base.tree)) c.member_name.new.tokens c.suffixes.new.tokens f) (λ f. HasFailedBy c.args.place.names Sort.expr (λ g. behind_dot c.args.place.inside (root c.args.base.tree)) c.args.room (height (root c.args.base.tree)) c.args.tokens.now c.suffixes.new.tokens f) c.suffixes.result c.suffixes.ensures.failed
+    if_err (λ f. HasFailedBy c.args.place.names true Sort.expr (λ g. grammar g (suffixes c.args.place.inside (root c.in_ok-base.base.tree))) c.args.room (height (root c.in_ok-base.base.tree)) c.member_name.new.tokens c.suffixes.new.tokens f) (λ f. HasFailedBy c.args.place.names false Sort.expr (λ g. behind_dot c.args.place.inside (root c.args.base.tree)) c.args.room (height (root c.args.base.tree) + 1) c.args.tokens.now c.suffixes.new.tokens f) c.suffixes.result c.suffixes.ensures.failed
     (λ f w. record {
       fails = λ g b. (c.in_ok-name.ensures.read.leads (λ b. phrase (suffixes c.args.place.inside (property (root c.args.base.tree) b)) λ e. give e)).fails g (told_admits _ c.args.place.names g b) _ (phrase_fails (rw c.in_ok-base.ensures.0 at (w.fails g b)));
       stands = w.stands;
-      deep = λ h. (c.in_ok-name.ensures.read.leads (λ b. phrase (suffixes c.args.place.inside (property (root c.args.base.tree) b)) λ e. give e)).deep _ (phrase_deep (rw c.in_ok-base.ensures.0 at (w.deep h)) (λ e g. g));
+      deep = λ h g ok. at_any ((c.in_ok-name.ensures.read.leads (λ b. phrase (suffixes c.args.place.inside (property (root c.args.base.tree) b)) λ e. give e)).deep g ok _ _ (phrase_deepens (rw c.in_ok-base.ensures.0 at (w.deep h g ok)) (λ e g. g)));
       long = λ h. let l = w.long h in omega (arith, l, c.in_ok-name.ensures.read.tokens, height_positive (root c.in_ok-name.name.tree), c.in_ok-base.ensures.2, c.in_ok-base.base.in_step, c.args.base.in_step, height_positive (root c.args.base.tree));
     })
 
-pub postfix::behind_colon-returns-in_err-room_below-clause-failed : goal.postfix::behind_colon-returns-in_err-room_below-clause-failed
+pub postfix::behind_colon-returns-in_err-room_beside-clause-failed : goal.postfix::behind_colon-returns-in_err-room_beside-clause-failed
 unfolding grammar
-postfix::behind_colon-returns-in_err-room_below-clause-failed t c =
+postfix::behind_colon-returns-in_err-room_beside-clause-failed t c =
     let p = err_from_is_err_and c.from_residual.result c.from_residual.ensures.1 in
-    passed _ p.1 p.2 (too_high c.in_err-room_below.ensures.0 (no_room c.in_err-room_below.ensures.1) (omega (arith, c.in_err-room_below.ensures.1, c.args.base.in_step, height_positive (root c.args.base.tree), c.requires)))
+    passed _ p.1 p.2 (too_high c.in_err-room_beside.ensures.0 (λ g ok. meets_at_once (can_take (Name []) refl (can_take (Sign LeftParen) refl can_read)) ((λ y. ((λ z xs _. ((λ w e h. omega (arith, h, c.in_err-room_beside.ensures.1, c.args.base.in_step)), tt)), tt)), ((λ y b _. ((λ z. ((λ w xs _. ((λ v e h. omega (arith, h, c.in_err-room_beside.ensures.1, c.args.base.in_step)), tt)), tt)), tt)), tt))) (omega (arith, c.in_err-room_beside.ensures.1, c.args.base.in_step, height_positive (root c.args.base.tree), c.requires)))
 
 pub postfix::behind_colon-returns-in_err-name-clause-failed : goal.postfix::behind_colon-returns-in_err-name-clause-failed
 unfolding grammar
@@ -605,8 +611,8 @@ postfix::behind_colon-returns-in_err-name-clause-failed t c =
     passed _ p.1 p.2 (record {
       fails = c.in_err-name.ensures.failed.fails (λ b. verb_arguments c.args.place.inside (root c.args.base.tree) b);
       stands = c.in_err-name.ensures.failed.stands;
-      deep = c.in_err-name.ensures.failed.deep _ (λ b. verb_arguments c.args.place.inside (root c.args.base.tree) b) (λ b q us. meets_deep (((λ x xs _. ((λ y e h. omega (arith, q, h, c.in_ok-room_below.ensures)), tt)), tt)));
-      long = λ h. let l = c.in_err-name.ensures.failed.long h in omega (arith, l, c.in_ok-room_below.ensures, c.args.base.in_step, height_positive (root c.args.base.tree));
+      deep = λ h g ok. at_any (c.in_err-name.ensures.failed.deep h g ok _ (λ b. verb_arguments c.args.place.inside (root c.args.base.tree) b) (λ b q us. meets_deep (((λ x xs _. ((λ y e h. omega (arith, q, h, c.in_ok-room_beside.ensures.0)), tt)), tt))));
+      long = λ h. let l = c.in_err-name.ensures.failed.long h in omega (arith, l, c.in_ok-room_beside.ensures.0, c.args.base.in_step, height_positive (root c.args.base.tree));
     })
 
 pub postfix::behind_colon-returns-in_err-expect-clause-failed : goal.postfix::behind_colon-returns-in_err-expect-clause-failed
@@ -622,8 +628,8 @@ postfix::behind_colon-returns-in_err-members-clause-failed t c =
     passed _ p.1 p.2 (record {
       fails = λ g b. (c.in_ok-name.ensures.read.leads (λ b. verb_arguments c.args.place.inside (root c.args.base.tree) b)).fails g (told_admits _ c.args.place.names g b) _ (took_fails c.in_ok-expect.ensures refl (phrase_fails (c.in_err-members.ensures.failed.fails g b)));
       stands = c.in_err-members.ensures.failed.stands;
-      deep = λ h. (c.in_ok-name.ensures.read.leads (λ b. verb_arguments c.args.place.inside (root c.args.base.tree) b)).deep _ (took_deep c.in_ok-expect.ensures refl (phrase_deep (c.in_err-members.ensures.failed.deep h) (λ xs q. ((λ y e h. omega (arith, q, h, c.in_ok-room_below.ensures)), tt))));
-      long = λ h. let l = c.in_err-members.ensures.failed.long h in omega (arith, l, c.in_ok-name.ensures.read.tokens, height_positive (root c.in_ok-name.name.tree), c.in_ok-expect.ensures.at, c.in_ok-room_below.ensures, c.args.base.in_step, height_positive (root c.args.base.tree));
+      deep = λ h g ok. at_any ((c.in_ok-name.ensures.read.leads (λ b. verb_arguments c.args.place.inside (root c.args.base.tree) b)).deep g ok _ _ (took_deepens c.in_ok-expect.ensures refl (phrase_deepens (c.in_err-members.ensures.failed.deep h g ok) (λ xs q. ((λ y e h. omega (arith, q, h, c.in_ok-room_beside.ensures.0)), tt)))));
+      long = λ h. let l = c.in_err-members.ensures.failed.long h in omega (arith, l, c.in_ok-name.ensures.read.tokens, height_positive (root c.in_ok-name.name.tree), c.in_ok-expect.ensures.at, c.in_ok-room_beside.ensures.0, c.args.base.in_step, height_positive (root c.args.base.tree));
     })
 
 pub postfix::behind_colon-returns-in_err-expect-2-clause-failed : goal.postfix::behind_colon-returns-in_err-expect-2-clause-failed
@@ -633,15 +639,14 @@ postfix::behind_colon-returns-in_err-expect-2-clause-failed t c =
     passed _ p.1 p.2 (refused c.in_err-expect-2.ensures.0 (λ g a. (c.in_ok-name.ensures.read.leads (λ b. verb_arguments c.args.place.inside (root c.args.base.tree) b)).fails g a _ (took_fails c.in_ok-expect.ensures refl (then_fails (c.in_ok-members.ensures.read.reads g a) (stayed_fails c.in_err-expect-2.ensures.1 refuses)))))
 
 pub postfix::behind_colon-returns-in_err-base-clause-failed : goal.postfix::behind_colon-returns-in_err-base-clause-failed
-unfolding grammar
 postfix::behind_colon-returns-in_err-base-clause-failed t c =
     let p = err_from_is_err_and c.from_residual-in_err-base.result c.from_residual-in_err-base.ensures.1 in
-    passed _ p.1 p.2 (⊎_elim (λ is. no_memory is) (λ is. too_high is.0 ((c.in_ok-name.ensures.read.leads (λ b. verb_arguments c.args.place.inside (root c.args.base.tree) b)).deep _ (took_deep c.in_ok-expect.ensures refl (then_deep (c.in_ok-members.ensures.read.reads (strict c.args.place.names) (admits_itself c.args.place.names)) (took_deep c.in_ok-expect-2.ensures refl (meets_deep (λ e h. omega (arith, is.1, h, ap items_height (row_items c.in_ok-members.members.items)))))))) (omega (arith, is.1, c.in_ok-name.ensures.read.tokens, height_positive (root c.in_ok-name.name.tree), c.in_ok-expect.ensures.at, c.in_ok-members.ensures.read.tokens, c.in_ok-expect-2.ensures.at, c.args.base.in_step, height_positive (root c.args.base.tree), ap items_height (row_items c.in_ok-members.members.items)))) c.in_err-base.ensures)
+    passed _ p.1 p.2 (not_made (tree.verb_call (root c.args.base.tree) (root c.in_ok-name.name.tree) (row_of c.in_ok-members.members.items)) c.in_err-base.ensures (omega (arith, c.in_ok-room_beside.ensures.0, c.in_ok-room_beside.ensures.1, c.args.base.in_step, height_positive (root c.args.base.tree), c.in_ok-name.ensures.read.fits, c.in_ok-members.ensures.read.fits, ap items_height (row_items c.in_ok-members.members.items))))
 
 pub postfix::behind_colon-returns-clause-read : goal.postfix::behind_colon-returns-clause-read
 unfolding grammar
 postfix::behind_colon-returns-clause-read t c =
-    if_ok (λ n. IsReadBy c.args.place.names Sort.expr (λ g. grammar g (suffixes c.args.place.inside (root c.in_ok-base.base.tree))) c.args.room (height (root c.in_ok-base.base.tree)) c.expect-2.new.self c.suffixes.new.tokens (root n.tree)) (λ n. IsReadBy c.args.place.names Sort.expr (λ g. behind_colon c.args.place.inside (root c.args.base.tree)) c.args.room (height (root c.args.base.tree)) c.args.tokens.now c.suffixes.new.tokens (root n.tree)) c.suffixes.result c.suffixes.ensures.read
+    if_ok (λ n. IsReadBy c.args.place.names Sort.expr (λ g. grammar g (suffixes c.args.place.inside (root c.in_ok-base.base.tree))) c.args.room (height (root c.in_ok-base.base.tree)) c.expect-2.new.self c.suffixes.new.tokens (root n.tree)) (λ n. IsReadBy c.args.place.names Sort.expr (λ g. behind_colon c.args.place.inside (root c.args.base.tree)) c.args.room (height (root c.args.base.tree) + 1) c.args.tokens.now c.suffixes.new.tokens (root n.tree)) c.suffixes.result c.suffixes.ensures.read
     (λ n v. record {
       reads = λ g a. (c.in_ok-name.ensures.read.leads (λ b. verb_arguments c.args.place.inside (root c.args.base.tree) b)).reads g a _ _ (took c.in_ok-expect.ensures refl (reads (c.in_ok-members.ensures.read.reads g a) (took c.in_ok-expect-2.ensures refl (reads (rw (c.in_ok-base.ensures.0, row_items c.in_ok-members.members.items) at (v.reads g a)) gives))));
       fits = v.fits;
@@ -651,11 +656,11 @@ postfix::behind_colon-returns-clause-read t c =
 pub postfix::behind_colon-returns-clause-failed : goal.postfix::behind_colon-returns-clause-failed
 unfolding grammar
 postfix::behind_colon-returns-clause-failed t c =
-    if_err (λ f. HasFailedBy c.args.place.names Sort.expr (λ g. grammar g (suffixes c.args.place.inside (root c.in_ok-base.base.tree))) c.args.room (height (root c.in_ok-base.base.tree)) c.expect-2.new.self c.suffixes.new.tokens f) (λ f. HasFailedBy c.args.place.names Sort.expr (λ g. behind_colon c.args.place.inside (root c.args.base.tree)) c.args.room (height (root c.args.base.tree)) c.args.tokens.now c.suffixes.new.tokens f) c.suffixes.result c.suffixes.ensures.failed
+    if_err (λ f. HasFailedBy c.args.place.names true Sort.expr (λ g. grammar g (suffixes c.args.place.inside (root c.in_ok-base.base.tree))) c.args.room (height (root c.in_ok-base.base.tree)) c.expect-2.new.self c.suffixes.new.tokens f) (λ f. HasFailedBy c.args.place.names false Sort.expr (λ g. behind_colon c.args.place.inside (root c.args.base.tree)) c.args.room (height (root c.args.base.tree) + 1) c.args.tokens.now c.suffixes.new.tokens f) c.suffixes.result c.suffixes.ensures.failed
     (λ f w. record {
       fails = λ g b. (c.in_ok-name.ensures.read.leads (λ b. verb_arguments c.args.place.inside (root c.args.base.tree) b)).fails g (told_admits _ c.args.place.names g b) _ (took_fails c.in_ok-expect.ensures refl (then_fails (c.in_ok-members.ensures.read.reads g (told_admits _ c.args.place.names g b)) (took_fails c.in_ok-expect-2.ensures refl (phrase_fails (rw (c.in_ok-base.ensures.0, row_items c.in_ok-members.members.items) at (w.fails g b))))));
       stands = w.stands;
-      deep = λ h. (c.in_ok-name.ensures.read.leads (λ b. verb_arguments c.args.place.inside (root c.args.base.tree) b)).deep _ (took_deep c.in_ok-expect.ensures refl (then_deep (c.in_ok-members.ensures.read.reads (strict c.args.place.names) (admits_itself c.args.place.names)) (took_deep c.in_ok-expect-2.ensures refl (phrase_deep (rw (c.in_ok-base.ensures.0, row_items c.in_ok-members.members.items) at (w.deep h)) (λ e g. g)))));
+      deep = λ h g ok. at_any ((c.in_ok-name.ensures.read.leads (λ b. verb_arguments c.args.place.inside (root c.args.base.tree) b)).deep g ok _ _ (took_deepens c.in_ok-expect.ensures refl (then_deepens (c.in_ok-members.ensures.read.reads g ok) (took_deepens c.in_ok-expect-2.ensures refl (phrase_deepens (rw (c.in_ok-base.ensures.0, row_items c.in_ok-members.members.items) at (w.deep h g ok)) (λ e g. g))))));
       long = λ h. let l = w.long h in omega (arith, l, c.in_ok-name.ensures.read.tokens, height_positive (root c.in_ok-name.name.tree), c.in_ok-expect.ensures.at, c.in_ok-members.ensures.read.tokens, c.in_ok-expect-2.ensures.at, c.in_ok-base.ensures.2, c.in_ok-base.base.in_step, c.args.base.in_step, height_positive (root c.args.base.tree), ap items_height (row_items c.in_ok-members.members.items));
     })
 
@@ -676,12 +681,13 @@ pub postfix::member_name-returns-in-Some-clause-read : goal.postfix::member_name
 unfolding grammar
 postfix::member_name-returns-in-Some-clause-read t c =
     let k = rw c.in-Some.is at c.in_ok-name.ensures in
-    if_constant (λ e. IsNamed c.args.place.names c.args.place.inside c.args.tokens.now c.take_name.new.self e) (literal.Str c.in-Some.name) c.constant.result c.constant.ensures (record {
+    if_constant (λ e. IsNamed c.args.place.names c.args.place.inside c.args.room c.args.tokens.now c.take_name.new.self e) (literal.Str c.in-Some.name) c.constant.result c.constant.ensures (record {
       leads = λ m. record {
         reads = λ g a e u d. took k refl d;
         fails = λ g a u d. took_fails k refl d;
-        deep = λ n d. took_deep k refl d;
+        deep = λ g ok n r d. took_deepens k refl d;
       };
+      fits = omega arith;
       tokens = omega (arith, k.at);
     })
 
@@ -700,7 +706,7 @@ postfix::member_name-returns-in_err-name-2-clause-failed t c =
     passed _ p.1 p.2 (record {
       fails = λ k g b. stayed_fails nn (took_fails c.in_ok-expect.ensures refl (phrase_fails (w.fails g b)));
       stands = w.stands;
-      deep = λ n k keeps h. stayed_deep nn (took_deep c.in_ok-expect.ensures refl (inner_deep (w.deep h) (λ b q us. expect_deep (keeps b q) us)));
+      deep = λ h g ok n k keeps. stayed_deepens nn (took_deepens c.in_ok-expect.ensures refl (inner_deepens (w.deep h g ok) (λ b q us. expect_deep (keeps b q) us)));
       long = λ h. let l = w.long h in omega (arith, l, nn.at, c.in_ok-expect.ensures.at);
     })
 
@@ -719,16 +725,17 @@ postfix::member_name-returns-clause-read t c =
       leads = λ k. record {
         reads = λ g a e u d. stayed nn (took c.in_ok-expect.ensures refl (reads (v.reads g a) (took c.in_ok-expect-2.ensures refl d)));
         fails = λ g a u d. stayed_fails nn (took_fails c.in_ok-expect.ensures refl (then_fails (v.reads g a) (took_fails c.in_ok-expect-2.ensures refl d)));
-        deep = λ n d. stayed_deep nn (took_deep c.in_ok-expect.ensures refl (then_deep (v.reads (strict c.args.place.names) (admits_itself c.args.place.names)) (took_deep c.in_ok-expect-2.ensures refl d)));
+        deep = λ g ok n r d. stayed_deepens nn (took_deepens c.in_ok-expect.ensures refl (then_deepens (v.reads g ok) (took_deepens c.in_ok-expect-2.ensures refl d)));
       };
+      fits = omega (arith, v.fits);
       tokens = omega (arith, v.tokens, nn.at, c.in_ok-expect.ensures.at, c.in_ok-expect-2.ensures.at);
     }
 
-pub postfix::behind_bracket-returns-in_err-room_below-clause-failed : goal.postfix::behind_bracket-returns-in_err-room_below-clause-failed
+pub postfix::behind_bracket-returns-in_err-room_beside-clause-failed : goal.postfix::behind_bracket-returns-in_err-room_beside-clause-failed
 unfolding grammar
-postfix::behind_bracket-returns-in_err-room_below-clause-failed t c =
+postfix::behind_bracket-returns-in_err-room_beside-clause-failed t c =
     let p = err_from_is_err_and c.from_residual.result c.from_residual.ensures.1 in
-    passed _ p.1 p.2 (too_high c.in_err-room_below.ensures.0 (no_room c.in_err-room_below.ensures.1) (omega (arith, c.in_err-room_below.ensures.1, c.args.base.in_step, height_positive (root c.args.base.tree), c.requires)))
+    passed _ p.1 p.2 (too_high c.in_err-room_beside.ensures.0 (λ g ok. meets_at_once can_read (λ b _. ((λ y d _. ((λ z e h. omega (arith, h, c.in_err-room_beside.ensures.1, c.args.base.in_step)), tt)), ((λ z e h. omega (arith, h, c.in_err-room_beside.ensures.1, c.args.base.in_step)), tt)))) (omega (arith, c.in_err-room_beside.ensures.1, c.args.base.in_step, height_positive (root c.args.base.tree), c.requires)))
 
 pub postfix::behind_bracket-returns-in_err-low-clause-failed : goal.postfix::behind_bracket-returns-in_err-low-clause-failed
 unfolding grammar
@@ -737,8 +744,8 @@ postfix::behind_bracket-returns-in_err-low-clause-failed t c =
     passed _ p.1 p.2 (record {
       fails = λ g b. phrase_fails (c.in_err-low.ensures.failed.fails g b);
       stands = c.in_err-low.ensures.failed.stands;
-      deep = λ h. phrase_deep (c.in_err-low.ensures.failed.deep h) (λ b g. ((λ x d _. ((λ y e h. omega (arith, g, h, c.in_ok-room_below.ensures)), tt)), ((λ y e h. omega (arith, g, h, c.in_ok-room_below.ensures)), tt)));
-      long = λ h. let l = c.in_err-low.ensures.failed.long h in omega (arith, l, c.in_ok-room_below.ensures, c.args.base.in_step, height_positive (root c.args.base.tree));
+      deep = λ h g ok. at_any (phrase_deepens (c.in_err-low.ensures.failed.deep h g ok) (λ b g. ((λ x d _. ((λ y e h. omega (arith, g, h, c.in_ok-room_beside.ensures.0)), tt)), ((λ y e h. omega (arith, g, h, c.in_ok-room_beside.ensures.0)), tt))));
+      long = λ h. let l = c.in_err-low.ensures.failed.long h in omega (arith, l, c.in_ok-room_beside.ensures.0, c.args.base.in_step, height_positive (root c.args.base.tree));
     })
 
 pub postfix::behind_bracket-returns-in_err-high-clause-failed : goal.postfix::behind_bracket-returns-in_err-high-clause-failed
@@ -748,8 +755,8 @@ postfix::behind_bracket-returns-in_err-high-clause-failed t c =
     passed _ p.1 p.2 (record {
       fails = λ g b. then_fails (c.in_ok-low.ensures.read.reads g (told_admits _ c.args.place.names g b)) (took_fails c.if-take.ensures refl (phrase_fails (c.in_err-high.ensures.failed.fails g b)));
       stands = c.in_err-high.ensures.failed.stands;
-      deep = λ h. then_deep (c.in_ok-low.ensures.read.reads (strict c.args.place.names) (admits_itself c.args.place.names)) (took_deep c.if-take.ensures refl (phrase_deep (c.in_err-high.ensures.failed.deep h) (λ d g. ((λ y e h. omega (arith, g, h, c.in_ok-room_below.ensures)), tt))));
-      long = λ h. let l = c.in_err-high.ensures.failed.long h in omega (arith, l, c.in_ok-low.ensures.read.tokens, c.if-take.ensures.at, c.in_ok-room_below.ensures, c.args.base.in_step, height_positive (root c.args.base.tree));
+      deep = λ h g ok. at_any (then_deepens (c.in_ok-low.ensures.read.reads g ok) (took_deepens c.if-take.ensures refl (phrase_deepens (c.in_err-high.ensures.failed.deep h g ok) (λ d g. ((λ y e h. omega (arith, g, h, c.in_ok-room_beside.ensures.0)), tt)))));
+      long = λ h. let l = c.in_err-high.ensures.failed.long h in omega (arith, l, c.in_ok-low.ensures.read.tokens, c.if-take.ensures.at, c.in_ok-room_beside.ensures.0, c.args.base.in_step, height_positive (root c.args.base.tree));
     })
 
 pub postfix::behind_bracket-returns-in_err-expect-clause-failed : goal.postfix::behind_bracket-returns-in_err-expect-clause-failed
@@ -759,15 +766,14 @@ postfix::behind_bracket-returns-in_err-expect-clause-failed t c =
     passed _ p.1 p.2 (refused c.in_err-expect.ensures.0 (λ g a. then_fails (c.in_ok-low.ensures.read.reads g a) (took_fails c.if-take.ensures refl (then_fails (c.in_ok-high.ensures.read.reads g a) (stayed_fails c.in_err-expect.ensures.1 refuses)))))
 
 pub postfix::behind_bracket-returns-in_err-base-clause-failed : goal.postfix::behind_bracket-returns-in_err-base-clause-failed
-unfolding grammar
 postfix::behind_bracket-returns-in_err-base-clause-failed t c =
     let p = err_from_is_err_and c.from_residual-in_err-base.result c.from_residual-in_err-base.ensures.1 in
-    passed _ p.1 p.2 (⊎_elim (λ is. no_memory is) (λ is. too_high is.0 (then_deep (c.in_ok-low.ensures.read.reads (strict c.args.place.names) (admits_itself c.args.place.names)) (took_deep c.if-take.ensures refl (then_deep (c.in_ok-high.ensures.read.reads (strict c.args.place.names) (admits_itself c.args.place.names)) (took_deep c.in_ok-expect.ensures refl (meets_deep (λ e h. omega (arith, is.1, h))))))) (omega (arith, is.1, c.in_ok-low.ensures.read.tokens, c.if-take.ensures.at, c.in_ok-high.ensures.read.tokens, c.in_ok-expect.ensures.at, c.args.base.in_step, height_positive (root c.args.base.tree)))) c.in_err-base.ensures)
+    passed _ p.1 p.2 (not_made (tree.range (root c.args.base.tree) (root c.in_ok-low.low.tree) (root c.in_ok-high.high.tree)) c.in_err-base.ensures (omega (arith, c.in_ok-room_beside.ensures.0, c.in_ok-room_beside.ensures.1, c.args.base.in_step, c.in_ok-low.ensures.read.fits, c.in_ok-high.ensures.read.fits)))
 
 pub postfix::behind_bracket-returns-then-take-clause-read : goal.postfix::behind_bracket-returns-then-take-clause-read
 unfolding grammar
 postfix::behind_bracket-returns-then-take-clause-read t c =
-    if_ok (λ n. IsReadBy c.args.place.names Sort.expr (λ g. grammar g (suffixes c.args.place.inside (root c.in_ok-base.base.tree))) c.args.room (height (root c.in_ok-base.base.tree)) c.expect.new.self c.suffixes.new.tokens (root n.tree)) (λ n. IsReadBy c.args.place.names Sort.expr (λ g. behind_bracket c.args.place.inside (root c.args.base.tree)) c.args.room (height (root c.args.base.tree)) c.args.tokens.now c.suffixes.new.tokens (root n.tree)) c.suffixes.result c.suffixes.ensures.read
+    if_ok (λ n. IsReadBy c.args.place.names Sort.expr (λ g. grammar g (suffixes c.args.place.inside (root c.in_ok-base.base.tree))) c.args.room (height (root c.in_ok-base.base.tree)) c.expect.new.self c.suffixes.new.tokens (root n.tree)) (λ n. IsReadBy c.args.place.names Sort.expr (λ g. behind_bracket c.args.place.inside (root c.args.base.tree)) c.args.room (height (root c.args.base.tree) + 1) c.args.tokens.now c.suffixes.new.tokens (root n.tree)) c.suffixes.result c.suffixes.ensures.read
     (λ n v. record {
       reads = λ g a. reads (c.in_ok-low.ensures.read.reads g a) (took c.if-take.ensures refl (reads (c.in_ok-high.ensures.read.reads g a) (took c.in_ok-expect.ensures refl (reads (rw c.in_ok-base.ensures.0 at (v.reads g a)) gives))));
       fits = v.fits;
@@ -777,11 +783,11 @@ postfix::behind_bracket-returns-then-take-clause-read t c =
 pub postfix::behind_bracket-returns-then-take-clause-failed : goal.postfix::behind_bracket-returns-then-take-clause-failed
 unfolding grammar
 postfix::behind_bracket-returns-then-take-clause-failed t c =
-    if_err (λ f. HasFailedBy c.args.place.names Sort.expr (λ g. grammar g (suffixes c.args.place.inside (root c.in_ok-base.base.tree))) c.args.room (height (root c.in_ok-base.base.tree)) c.expect.new.self c.suffixes.new.tokens f) (λ f. HasFailedBy c.args.place.names Sort.expr (λ g. behind_bracket c.args.place.inside (root c.args.base.tree)) c.args.room (height (root c.args.base.tree)) c.args.tokens.now c.suffixes.new.tokens f) c.suffixes.result c.suffixes.ensures.failed
+    if_err (λ f. HasFailedBy c.args.place.names true Sort.expr (λ g. grammar g (suffixes c.args.place.inside (root c.in_ok-base.base.tree))) c.args.room (height (root c.in_ok-base.base.tree)) c.expect.new.self c.suffixes.new.tokens f) (λ f. HasFailedBy c.args.place.names false Sort.expr (λ g. behind_bracket c.args.place.inside (root c.args.base.tree)) c.args.room (height (root c.args.base.tree) + 1) c.args.tokens.now c.suffixes.new.tokens f) c.suffixes.result c.suffixes.ensures.failed
     (λ f w. record {
       fails = λ g b. then_fails (c.in_ok-low.ensures.read.reads g (told_admits _ c.args.place.names g b)) (took_fails c.if-take.ensures refl (then_fails (c.in_ok-high.ensures.read.reads g (told_admits _ c.args.place.names g b)) (took_fails c.in_ok-expect.ensures refl (phrase_fails (rw c.in_ok-base.ensures.0 at (w.fails g b))))));
       stands = w.stands;
-      deep = λ h. then_deep (c.in_ok-low.ensures.read.reads (strict c.args.place.names) (admits_itself c.args.place.names)) (took_deep c.if-take.ensures refl (then_deep (c.in_ok-high.ensures.read.reads (strict c.args.place.names) (admits_itself c.args.place.names)) (took_deep c.in_ok-expect.ensures refl (phrase_deep (rw c.in_ok-base.ensures.0 at (w.deep h)) (λ e g. g)))));
+      deep = λ h g ok. at_any (then_deepens (c.in_ok-low.ensures.read.reads g ok) (took_deepens c.if-take.ensures refl (then_deepens (c.in_ok-high.ensures.read.reads g ok) (took_deepens c.in_ok-expect.ensures refl (phrase_deepens (rw c.in_ok-base.ensures.0 at (w.deep h g ok)) (λ e g. g))))));
       long = λ h. let l = w.long h in omega (arith, l, c.in_ok-low.ensures.read.tokens, c.if-take.ensures.at, c.in_ok-high.ensures.read.tokens, c.in_ok-expect.ensures.at, c.in_ok-base.ensures.2, c.in_ok-base.base.in_step, c.args.base.in_step, height_positive (root c.args.base.tree));
     })
 
@@ -792,15 +798,14 @@ postfix::behind_bracket-returns-in_err-expect-2-clause-failed t c =
     passed _ p.1 p.2 (refused c.in_err-expect-2.ensures.0 (λ g a. then_fails (c.in_ok-low.ensures.read.reads g a) (stayed_fails c.if-take.ensures (stayed_fails c.in_err-expect-2.ensures.1 refuses))))
 
 pub postfix::behind_bracket-returns-in_err-base-2-clause-failed : goal.postfix::behind_bracket-returns-in_err-base-2-clause-failed
-unfolding grammar
 postfix::behind_bracket-returns-in_err-base-2-clause-failed t c =
     let p = err_from_is_err_and c.from_residual-in_err-base-2.result c.from_residual-in_err-base-2.ensures.1 in
-    passed _ p.1 p.2 (⊎_elim (λ is. no_memory is) (λ is. too_high is.0 (then_deep (c.in_ok-low.ensures.read.reads (strict c.args.place.names) (admits_itself c.args.place.names)) (stayed_deep c.if-take.ensures (took_deep c.in_ok-expect-2.ensures refl (meets_deep (λ e h. omega (arith, is.1, h)))))) (omega (arith, is.1, c.in_ok-low.ensures.read.tokens, c.if-take.ensures.at, c.in_ok-expect-2.ensures.at, c.args.base.in_step, height_positive (root c.args.base.tree)))) c.in_err-base-2.ensures)
+    passed _ p.1 p.2 (not_made (tree.index (root c.args.base.tree) (root c.in_ok-low.low.tree)) c.in_err-base-2.ensures (omega (arith, c.in_ok-room_beside.ensures.0, c.in_ok-room_beside.ensures.1, c.args.base.in_step, c.in_ok-low.ensures.read.fits)))
 
 pub postfix::behind_bracket-returns-clause-read : goal.postfix::behind_bracket-returns-clause-read
 unfolding grammar
 postfix::behind_bracket-returns-clause-read t c =
-    if_ok (λ n. IsReadBy c.args.place.names Sort.expr (λ g. grammar g (suffixes c.args.place.inside (root c.in_ok-base-2.base.tree))) c.args.room (height (root c.in_ok-base-2.base.tree)) c.expect-2.new.self c.suffixes-2.new.tokens (root n.tree)) (λ n. IsReadBy c.args.place.names Sort.expr (λ g. behind_bracket c.args.place.inside (root c.args.base.tree)) c.args.room (height (root c.args.base.tree)) c.args.tokens.now c.suffixes-2.new.tokens (root n.tree)) c.suffixes-2.result c.suffixes-2.ensures.read
+    if_ok (λ n. IsReadBy c.args.place.names Sort.expr (λ g. grammar g (suffixes c.args.place.inside (root c.in_ok-base-2.base.tree))) c.args.room (height (root c.in_ok-base-2.base.tree)) c.expect-2.new.self c.suffixes-2.new.tokens (root n.tree)) (λ n. IsReadBy c.args.place.names Sort.expr (λ g. behind_bracket c.args.place.inside (root c.args.base.tree)) c.args.room (height (root c.args.base.tree) + 1) c.args.tokens.now c.suffixes-2.new.tokens (root n.tree)) c.suffixes-2.result c.suffixes-2.ensures.read
     (λ n v. record {
       reads = λ g a. reads (c.in_ok-low.ensures.read.reads g a) (stayed c.if-take.ensures (took c.in_ok-expect-2.ensures refl (reads (rw c.in_ok-base-2.ensures.0 at (v.reads g a)) gives)));
       fits = v.fits;
@@ -810,11 +815,11 @@ postfix::behind_bracket-returns-clause-read t c =
 pub postfix::behind_bracket-returns-clause-failed : goal.postfix::behind_bracket-returns-clause-failed
 unfolding grammar
 postfix::behind_bracket-returns-clause-failed t c =
-    if_err (λ f. HasFailedBy c.args.place.names Sort.expr (λ g. grammar g (suffixes c.args.place.inside (root c.in_ok-base-2.base.tree))) c.args.room (height (root c.in_ok-base-2.base.tree)) c.expect-2.new.self c.suffixes-2.new.tokens f) (λ f. HasFailedBy c.args.place.names Sort.expr (λ g. behind_bracket c.args.place.inside (root c.args.base.tree)) c.args.room (height (root c.args.base.tree)) c.args.tokens.now c.suffixes-2.new.tokens f) c.suffixes-2.result c.suffixes-2.ensures.failed
+    if_err (λ f. HasFailedBy c.args.place.names true Sort.expr (λ g. grammar g (suffixes c.args.place.inside (root c.in_ok-base-2.base.tree))) c.args.room (height (root c.in_ok-base-2.base.tree)) c.expect-2.new.self c.suffixes-2.new.tokens f) (λ f. HasFailedBy c.args.place.names false Sort.expr (λ g. behind_bracket c.args.place.inside (root c.args.base.tree)) c.args.room (height (root c.args.base.tree) + 1) c.args.tokens.now c.suffixes-2.new.tokens f) c.suffixes-2.result c.suffixes-2.ensures.failed
     (λ f w. record {
       fails = λ g b. then_fails (c.in_ok-low.ensures.read.reads g (told_admits _ c.args.place.names g b)) (stayed_fails c.if-take.ensures (took_fails c.in_ok-expect-2.ensures refl (phrase_fails (rw c.in_ok-base-2.ensures.0 at (w.fails g b)))));
       stands = w.stands;
-      deep = λ h. then_deep (c.in_ok-low.ensures.read.reads (strict c.args.place.names) (admits_itself c.args.place.names)) (stayed_deep c.if-take.ensures (took_deep c.in_ok-expect-2.ensures refl (phrase_deep (rw c.in_ok-base-2.ensures.0 at (w.deep h)) (λ e g. g))));
+      deep = λ h g ok. at_any (then_deepens (c.in_ok-low.ensures.read.reads g ok) (stayed_deepens c.if-take.ensures (took_deepens c.in_ok-expect-2.ensures refl (phrase_deepens (rw c.in_ok-base-2.ensures.0 at (w.deep h g ok)) (λ e g. g)))));
       long = λ h. let l = w.long h in omega (arith, l, c.in_ok-low.ensures.read.tokens, c.if-take.ensures.at, c.in_ok-expect-2.ensures.at, c.in_ok-base-2.ensures.2, c.in_ok-base-2.base.in_step, c.args.base.in_step, height_positive (root c.args.base.tree));
     })
 
@@ -834,7 +839,9 @@ pub primary::primary-returns-in-Some-clause-failed : goal.primary::primary-retur
 unfolding grammar
 primary::primary-returns-in-Some-clause-failed t c =
     let k = rw c.in-Some.is at c.in_ok-literal.ensures in
-    unmade c.args.place.names (λ g. grammar g (primary c.args.place.inside)) c.args.room 0 c.args.tokens.now c.take_literal.new.self (tree.literal c.in-Some.literal) c.node_over.result c.node_over.ensures (λ g a. took k.2 (ap is_some k.1) (rw k.1 gives)) (omega (arith, k.2.at))
+    no_leaf c.args.place.names true (λ g. grammar g (primary c.args.place.inside)) c.args.room 0 c.args.tokens.now c.take_literal.new.self (tree.literal c.in-Some.literal) c.node_over.result c.node_over.ensures
+    (λ high g ok. took_deepens {b = false} k.2 (ap is_some k.1) (rw k.1 (meets_at_once can_give high)))
+    (λ high. omega (arith, high, k.2.at))
 
 pub primary::primary-returns-in_err-name-clause-failed : goal.primary::primary-returns-in_err-name-clause-failed
 unfolding grammar
@@ -859,11 +866,11 @@ unfolding grammar
 primary::primary-returns-in-Some-2-clause-failed t c =
     let no_literal = none_of (Stays (λ x. is_some (literal_at x)) c.args.tokens.now c.take_literal.new.self) (λ l. TakesLiteral l c.args.tokens.now c.take_literal.new.self) _ c.in_default.not-Some c.in_ok-literal.ensures in
     let k = rw c.in-Some-2.is at c.in_ok-name.ensures in
-    if_err (λ f. HasFailedBy c.args.place.names Sort.expr (λ g. named g c.args.place.inside c.in-Some-2.name) c.args.room 1 c.take_name.new.self c.named.new.tokens f) (λ f. HasFailedBy c.args.place.names Sort.expr (λ g. grammar g (primary c.args.place.inside)) c.args.room 0 c.args.tokens.now c.named.new.tokens f) c.named.result c.named.ensures.failed
+    if_err (λ f. HasFailedBy c.args.place.names false Sort.expr (λ g. named g c.args.place.inside c.in-Some-2.name) c.args.room 1 c.take_name.new.self c.named.new.tokens f) (λ f. HasFailedBy c.args.place.names true Sort.expr (λ g. grammar g (primary c.args.place.inside)) c.args.room 0 c.args.tokens.now c.named.new.tokens f) c.named.result c.named.ensures.failed
     (λ f w. record {
       fails = λ g b. stayed_fails no_literal (took_fails k refl (w.fails g b));
       stands = w.stands;
-      deep = λ h. stayed_deep no_literal (took_deep k refl (w.deep h));
+      deep = λ h g ok. stayed_deepens no_literal (took_deepens k refl (w.deep h g ok));
       long = λ h. let l = w.long h in omega (arith, l, no_literal.at, k.at);
     })
 
@@ -880,7 +887,7 @@ primary::primary-returns-in_err-inner-clause-failed t c =
     passed _ p.1 p.2 (record {
       fails = λ g b. stayed_fails no_literal (stayed_fails no_name (took_fails c.if-take.ensures refl (phrase_fails (c.in_err-inner.ensures.failed.fails g b))));
       stands = c.in_err-inner.ensures.failed.stands;
-      deep = λ h. stayed_deep no_literal (stayed_deep no_name (took_deep c.if-take.ensures refl (phrase_deep (c.in_err-inner.ensures.failed.deep h) (λ a g. ((λ y. g), tt)))));
+      deep = λ h g ok. stayed_deepens no_literal (stayed_deepens no_name (took_deepens c.if-take.ensures refl (phrase_deepens (c.in_err-inner.ensures.failed.deep h g ok) (λ a g. ((λ y. g), tt)))));
       long = λ h. let l = c.in_err-inner.ensures.failed.long h in omega (arith, l, no_literal.at, no_name.at, c.if-take.ensures.at);
     })
 
@@ -920,11 +927,11 @@ unfolding grammar
 primary::primary-returns-clause-failed t c =
     let no_literal = none_of (Stays (λ x. is_some (literal_at x)) c.args.tokens.now c.take_literal.new.self) (λ l. TakesLiteral l c.args.tokens.now c.take_literal.new.self) _ c.in_default.not-Some c.in_ok-literal.ensures in
     let no_name = none_of (Stays (λ x. is_some (name_at x)) c.take_literal.new.self c.take_name.new.self) (λ s. Takes (Name s) c.take_literal.new.self c.take_name.new.self) _ c.in_default-2.not-Some c.in_ok-name.ensures in
-    if_err (λ f. HasFailedBy c.args.place.names Sort.expr (λ g. braced c.args.place.inside) c.args.room 0 c.take.new.self c.braced.new.tokens f) (λ f. HasFailedBy c.args.place.names Sort.expr (λ g. grammar g (primary c.args.place.inside)) c.args.room 0 c.args.tokens.now c.braced.new.tokens f) c.braced.result c.braced.ensures.failed
+    if_err (λ f. HasFailedBy c.args.place.names true Sort.expr (λ g. braced c.args.place.inside) c.args.room 0 c.take.new.self c.braced.new.tokens f) (λ f. HasFailedBy c.args.place.names true Sort.expr (λ g. grammar g (primary c.args.place.inside)) c.args.room 0 c.args.tokens.now c.braced.new.tokens f) c.braced.result c.braced.ensures.failed
     (λ f w. record {
       fails = λ g b. stayed_fails no_literal (stayed_fails no_name (stayed_fails c.if-take.ensures (w.fails g b)));
       stands = w.stands;
-      deep = λ h. stayed_deep no_literal (stayed_deep no_name (stayed_deep c.if-take.ensures (w.deep h)));
+      deep = λ h g ok. stayed_deepens no_literal (stayed_deepens no_name (stayed_deepens c.if-take.ensures (w.deep h g ok)));
       long = λ h. let l = w.long h in omega (arith, l, no_literal.at, no_name.at, c.if-take.ensures.at);
     })
 
@@ -936,7 +943,9 @@ primary::named-returns-then-not-is_at-clause-read t c =
 pub primary::named-returns-then-not-is_at-clause-failed : goal.primary::named-returns-then-not-is_at-clause-failed
 unfolding grammar
 primary::named-returns-then-not-is_at-clause-failed t c =
-    unmade c.args.place.names (λ g. named g c.args.place.inside c.args.name) c.args.room 1 c.args.tokens.now c.args.tokens.now (tree.variable c.args.name) c.node_over.result c.node_over.ensures (λ g a. misses (sym c.is_at.ensures ∙ c.if-not-is_at.true) gives) (omega arith)
+    no_leaf c.args.place.names false (λ g. named g c.args.place.inside c.args.name) c.args.room 1 c.args.tokens.now c.args.tokens.now (tree.variable c.args.name) c.node_over.result c.node_over.ensures
+    (λ high g ok. meets_at_once (can_rule (λ _. phrase (arguments c.args.place.inside false) λ xs. expect RightParen (give (call c.args.name xs))) (g.functions c.args.name) (Sign LeftParen) refl can_read) (allowed_meets (g.functions c.args.name) (take λ _. phrase (arguments c.args.place.inside false) λ xs. expect RightParen (give (call c.args.name xs))) _ (λ x xs _. ((λ y. omega (arith, high)), tt)), high))
+    (λ high. omega (arith, high))
 
 pub primary::named-returns-in_err-expect_callable-clause-failed : goal.primary::named-returns-in_err-expect_callable-clause-failed
 unfolding grammar
@@ -964,7 +973,7 @@ unfolding grammar
 primary::named-returns-in_err-below-clause-failed t c =
     let p = err_from_is_err_and c.from_residual-in_err-below.result c.from_residual-in_err-below.ensures.1 in
     let known = c.in_ok-expect_callable.ensures in
-    passed _ p.1 p.2 (too_high c.in_err-below.ensures.0 (no_room c.in_err-below.ensures.1) (omega (arith, c.in_err-below.ensures.1, c.in_ok-expect.ensures.at)))
+    passed _ p.1 p.2 (too_high c.in_err-below.ensures.0 (λ g ok. at_any (admitted_deepens (λ _. phrase (arguments c.args.place.inside false) λ xs. expect RightParen (give (call c.args.name xs))) c.in_ok-expect.ensures refl (name_may_be_called g c.args.place.names c.args.name ok known) (meets_at_once can_read (λ xs _. ((λ x. omega (arith, c.in_err-below.ensures.1)), tt))))) (omega (arith, c.in_err-below.ensures.1, c.in_ok-expect.ensures.at)))
 
 pub primary::named-returns-in_err-members-clause-failed : goal.primary::named-returns-in_err-members-clause-failed
 unfolding grammar
@@ -974,7 +983,7 @@ primary::named-returns-in_err-members-clause-failed t c =
     passed _ p.1 p.2 (record {
       fails = λ g b. admitted_fails (λ _. phrase (arguments c.args.place.inside false) λ xs. expect RightParen (give (call c.args.name xs))) c.in_ok-expect.ensures refl (name_may_be_called g c.args.place.names c.args.name (told_admits _ c.args.place.names g b) known) (phrase_fails (c.in_err-members.ensures.failed.fails g b));
       stands = c.in_err-members.ensures.failed.stands;
-      deep = λ h. admitted_deep (λ _. phrase (arguments c.args.place.inside false) λ xs. expect RightParen (give (call c.args.name xs))) c.in_ok-expect.ensures refl (known) (phrase_deep (c.in_err-members.ensures.failed.deep h) (λ xs q. ((λ x. omega (arith, q, c.in_ok-below.ensures)), tt)));
+      deep = λ h g ok. at_any (admitted_deepens (λ _. phrase (arguments c.args.place.inside false) λ xs. expect RightParen (give (call c.args.name xs))) c.in_ok-expect.ensures refl (name_may_be_called g c.args.place.names c.args.name ok known) (phrase_deepens (c.in_err-members.ensures.failed.deep h g ok) (λ xs q. ((λ x. omega (arith, q, c.in_ok-below.ensures)), tt))));
       long = λ h. let l = c.in_err-members.ensures.failed.long h in omega (arith, l, c.in_ok-expect.ensures.at, c.in_ok-below.ensures);
     })
 
@@ -995,7 +1004,7 @@ pub primary::named-returns-clause-failed : goal.primary::named-returns-clause-fa
 unfolding grammar
 primary::named-returns-clause-failed t c =
     let known = c.in_ok-expect_callable.ensures in
-    unmade c.args.place.names (λ g. named g c.args.place.inside c.args.name) c.args.room 1 c.args.tokens.now c.expect-2.new.self (tree.call c.args.name (row_of c.in_ok-members.members.items)) c.node_over-2.result c.node_over-2.ensures (λ g a. rw (row_items c.in_ok-members.members.items) (admitted (λ _. phrase (arguments c.args.place.inside false) λ xs. expect RightParen (give (call c.args.name xs))) c.in_ok-expect.ensures refl (name_may_be_called g c.args.place.names c.args.name a known) (reads (c.in_ok-members.ensures.read.reads g a) (took c.in_ok-expect-2.ensures refl gives)))) (omega (arith, c.in_ok-expect.ensures.at, c.in_ok-members.ensures.read.tokens, c.in_ok-expect-2.ensures.at, ap items_height (row_items c.in_ok-members.members.items)))
+    unmade c.args.place.names false (λ g. named g c.args.place.inside c.args.name) c.args.room 1 c.args.tokens.now c.expect-2.new.self (tree.call c.args.name (row_of c.in_ok-members.members.items)) c.node_over-2.result c.node_over-2.ensures (omega (arith, c.in_ok-below.ensures, c.in_ok-members.ensures.read.fits, ap items_height (row_items c.in_ok-members.members.items)))
 
 pub primary::named-node_over-requires-2 : goal.primary::named-node_over-requires-2
 primary::named-node_over-requires-2 t c =
@@ -1014,11 +1023,11 @@ primary::braced-returns-then-not-take-clause-read t c =
 pub primary::braced-returns-then-not-take-clause-failed : goal.primary::braced-returns-then-not-take-clause-failed
 unfolding grammar
 primary::braced-returns-then-not-take-clause-failed t c =
-    if_err (λ f. HasFailedBy c.args.place.names Sort.expr (λ g. dollar c.args.place.inside) c.args.room 0 c.take.new.self c.dollar.new.tokens f) (λ f. HasFailedBy c.args.place.names Sort.expr (λ g. braced c.args.place.inside) c.args.room 0 c.args.tokens.now c.dollar.new.tokens f) c.dollar.result c.dollar.ensures.failed
+    if_err (λ f. HasFailedBy c.args.place.names true Sort.expr (λ g. dollar c.args.place.inside) c.args.room 0 c.take.new.self c.dollar.new.tokens f) (λ f. HasFailedBy c.args.place.names true Sort.expr (λ g. braced c.args.place.inside) c.args.room 0 c.args.tokens.now c.dollar.new.tokens f) c.dollar.result c.dollar.ensures.failed
     (λ f w. record {
       fails = λ g b. stayed_fails c.if-not-take.ensures (w.fails g b);
       stands = w.stands;
-      deep = λ h. stayed_deep c.if-not-take.ensures (w.deep h);
+      deep = λ h g ok. stayed_deepens c.if-not-take.ensures (w.deep h g ok);
       long = λ h. let l = w.long h in omega (arith, l, c.if-not-take.ensures.at);
     })
 
@@ -1026,7 +1035,7 @@ pub primary::braced-returns-in_err-below-clause-failed : goal.primary::braced-re
 unfolding grammar
 primary::braced-returns-in_err-below-clause-failed t c =
     let p = err_from_is_err_and c.from_residual.result c.from_residual.ensures.1 in
-    passed _ p.1 p.2 (too_high c.in_err-below.ensures.0 (no_room c.in_err-below.ensures.1) (omega (arith, c.in_err-below.ensures.1, c.if-not-take.ensures.at)))
+    passed _ p.1 p.2 (too_high c.in_err-below.ensures.0 (λ g ok. took_deepens c.if-not-take.ensures refl (meets_at_once can_read (λ xs _. ((λ x. brace_keeps (has_optional xs) _ _ (omega (arith, c.in_err-below.ensures.1))), tt)))) (omega (arith, c.in_err-below.ensures.1, c.if-not-take.ensures.at)))
 
 pub primary::braced-returns-in_err-members-clause-failed : goal.primary::braced-returns-in_err-members-clause-failed
 unfolding grammar
@@ -1035,7 +1044,7 @@ primary::braced-returns-in_err-members-clause-failed t c =
     passed _ p.1 p.2 (record {
       fails = λ g b. took_fails c.if-not-take.ensures refl (phrase_fails (c.in_err-members.ensures.failed.fails g b));
       stands = c.in_err-members.ensures.failed.stands;
-      deep = λ h. took_deep c.if-not-take.ensures refl (phrase_deep (c.in_err-members.ensures.failed.deep h) (λ xs q. ((λ x. brace_keeps (has_optional xs) _ _ (omega (arith, q, c.in_ok-below.ensures))), tt)));
+      deep = λ h g ok. took_deepens c.if-not-take.ensures refl (phrase_deepens (c.in_err-members.ensures.failed.deep h g ok) (λ xs q. ((λ x. brace_keeps (has_optional xs) _ _ (omega (arith, q, c.in_ok-below.ensures))), tt)));
       long = λ h. let l = c.in_err-members.ensures.failed.long h in omega (arith, l, c.if-not-take.ensures.at, c.in_ok-below.ensures);
     })
 
@@ -1060,7 +1069,7 @@ primary::braced-returns-clause-read t c =
 pub primary::braced-returns-clause-failed : goal.primary::braced-returns-clause-failed
 unfolding grammar
 primary::braced-returns-clause-failed t c =
-    unmade c.args.place.names (λ g. braced c.args.place.inside) c.args.room 0 c.args.tokens.now c.expect.new.self (tree.list (row_of c.in_ok-members.members.items)) c.node_over.result c.node_over.ensures (λ g a. rw (row_items c.in_ok-members.members.items) (took c.if-not-take.ensures refl (reads (c.in_ok-members.ensures.read.reads g a) (took c.in_ok-expect.ensures refl (brace_ends _ (λ h. c.in_ok-require.ensures (c.in_ok-members.members.told ∙ h))))))) (omega (arith, c.if-not-take.ensures.at, c.in_ok-members.ensures.read.tokens, c.in_ok-expect.ensures.at, ap items_height (row_items c.in_ok-members.members.items)))
+    unmade c.args.place.names true (λ g. braced c.args.place.inside) c.args.room 0 c.args.tokens.now c.expect.new.self (tree.list (row_of c.in_ok-members.members.items)) c.node_over.result c.node_over.ensures (omega (arith, c.in_ok-below.ensures, c.in_ok-members.ensures.read.fits, ap items_height (row_items c.in_ok-members.members.items)))
 
 pub primary::braced-node_over-requires : goal.primary::braced-node_over-requires
 primary::braced-node_over-requires t c =
@@ -1079,11 +1088,11 @@ primary::dollar-returns-then-take-clause-read t c =
 pub primary::dollar-returns-then-take-clause-failed : goal.primary::dollar-returns-then-take-clause-failed
 unfolding grammar
 primary::dollar-returns-then-take-clause-failed t c =
-    if_err (λ f. HasFailedBy c.args.place.names Sort.expr (λ g. behind_dollar c.args.place.inside) c.args.room 1 c.take.new.self c.behind_dollar.new.tokens f) (λ f. HasFailedBy c.args.place.names Sort.expr (λ g. dollar c.args.place.inside) c.args.room 0 c.args.tokens.now c.behind_dollar.new.tokens f) c.behind_dollar.result c.behind_dollar.ensures.failed
+    if_err (λ f. HasFailedBy c.args.place.names false Sort.expr (λ g. behind_dollar c.args.place.inside) c.args.room 1 c.take.new.self c.behind_dollar.new.tokens f) (λ f. HasFailedBy c.args.place.names true Sort.expr (λ g. dollar c.args.place.inside) c.args.room 0 c.args.tokens.now c.behind_dollar.new.tokens f) c.behind_dollar.result c.behind_dollar.ensures.failed
     (λ f w. record {
       fails = λ g b. took_fails c.if-take.ensures refl (w.fails g b);
       stands = w.stands;
-      deep = λ h. took_deep c.if-take.ensures refl (w.deep h);
+      deep = λ h g ok. took_deepens c.if-take.ensures refl (w.deep h g ok);
       long = λ h. let l = w.long h in omega (arith, l, c.if-take.ensures.at);
     })
 
@@ -1100,11 +1109,11 @@ primary::dollar-returns-clause-read t c =
 pub primary::dollar-returns-clause-failed : goal.primary::dollar-returns-clause-failed
 unfolding grammar
 primary::dollar-returns-clause-failed t c =
-    if_err (λ f. HasFailedBy c.args.place.names Sort.expr (λ g. guarded c.args.place.inside) c.args.room 0 c.take.new.self c.guarded.new.tokens f) (λ f. HasFailedBy c.args.place.names Sort.expr (λ g. dollar c.args.place.inside) c.args.room 0 c.args.tokens.now c.guarded.new.tokens f) c.guarded.result c.guarded.ensures.failed
+    if_err (λ f. HasFailedBy c.args.place.names true Sort.expr (λ g. guarded c.args.place.inside) c.args.room 0 c.take.new.self c.guarded.new.tokens f) (λ f. HasFailedBy c.args.place.names true Sort.expr (λ g. dollar c.args.place.inside) c.args.room 0 c.args.tokens.now c.guarded.new.tokens f) c.guarded.result c.guarded.ensures.failed
     (λ f w. record {
       fails = λ g b. stayed_fails c.if-take.ensures (w.fails g b);
       stands = w.stands;
-      deep = λ h. stayed_deep c.if-take.ensures (w.deep h);
+      deep = λ h g ok. stayed_deepens c.if-take.ensures (w.deep h g ok);
       long = λ h. let l = w.long h in omega (arith, l, c.if-take.ensures.at);
     })
 
@@ -1118,19 +1127,24 @@ pub primary::behind_dollar-returns-then-not-place-clause-failed : goal.primary::
 unfolding grammar
 primary::behind_dollar-returns-then-not-place-clause-failed t c =
     let no_name = none_of (Stays (λ x. is_some (name_at x)) c.args.tokens.now c.take_name.new.self) (λ s. Takes (Name s) c.args.tokens.now c.take_name.new.self) _ c.in_default.not-Some c.in_ok-name.ensures in
-    refused refl (λ g a. rw c.if-not-place.true (stayed_fails no_name refuses))
+    let outside : c.args.place.inside ≡ false = c.if-not-place.true in
+    refused refl (λ g a. rw outside (stayed_fails no_name refuses))
 
 pub primary::behind_dollar-returns-in_default-clause-read : goal.primary::behind_dollar-returns-in_default-clause-read
 unfolding grammar
 primary::behind_dollar-returns-in_default-clause-read t c =
     let no_name = none_of (Stays (λ x. is_some (name_at x)) c.args.tokens.now c.take_name.new.self) (λ s. Takes (Name s) c.args.tokens.now c.take_name.new.self) _ c.in_default.not-Some c.in_ok-name.ensures in
-    made c.args.place.names (λ g. behind_dollar c.args.place.inside) c.args.room 1 c.args.tokens.now c.take_name.new.self (tree.length_mark) c.node_over.result c.node_over.ensures (λ g a. rw c.if-not-place.false (stayed no_name gives)) (omega (arith, no_name.at))
+    let inside : c.args.place.inside ≡ true = c.if-not-place.false in
+    made c.args.place.names (λ g. behind_dollar c.args.place.inside) c.args.room 1 c.args.tokens.now c.take_name.new.self (tree.length_mark) c.node_over.result c.node_over.ensures (λ g a. rw inside (stayed no_name gives)) (omega (arith, no_name.at))
 
 pub primary::behind_dollar-returns-in_default-clause-failed : goal.primary::behind_dollar-returns-in_default-clause-failed
 unfolding grammar
 primary::behind_dollar-returns-in_default-clause-failed t c =
     let no_name = none_of (Stays (λ x. is_some (name_at x)) c.args.tokens.now c.take_name.new.self) (λ s. Takes (Name s) c.args.tokens.now c.take_name.new.self) _ c.in_default.not-Some c.in_ok-name.ensures in
-    unmade c.args.place.names (λ g. behind_dollar c.args.place.inside) c.args.room 1 c.args.tokens.now c.take_name.new.self (tree.length_mark) c.node_over.result c.node_over.ensures (λ g a. rw c.if-not-place.false (stayed no_name gives)) (omega (arith, no_name.at))
+    let inside : c.args.place.inside ≡ true = c.if-not-place.false in
+    no_leaf c.args.place.names false (λ g. behind_dollar c.args.place.inside) c.args.room 1 c.args.tokens.now c.take_name.new.self (tree.length_mark) c.node_over.result c.node_over.ensures
+    (λ high g ok. subst (λ v. Deepens g false Sort.expr c.args.room (behind_dollar c.args.place.inside) (left c.args.tokens.now) v) (sym no_name.rest) (rw inside (meets_at_once (can_take (Name []) refl (can_take (Sign LeftParen) refl can_read)) ((λ x. ((λ y xs _. ((λ z. omega (arith, high)), tt)), omega (arith, high))), high))))
+    (λ high. omega (arith, high, no_name.at))
 
 pub primary::behind_dollar-returns-in_err-object-clause-failed : goal.primary::behind_dollar-returns-in_err-object-clause-failed
 unfolding grammar
@@ -1154,14 +1168,16 @@ pub primary::behind_dollar-returns-then-not-take-clause-failed : goal.primary::b
 unfolding grammar
 primary::behind_dollar-returns-then-not-take-clause-failed t c =
     let k = rw c.in-Some.is at c.in_ok-name.ensures in
-    unmade c.args.place.names (λ g. behind_dollar c.args.place.inside) c.args.room 1 c.args.tokens.now c.take.new.self (tree.property (root c.in_ok-object.object.tree) (root c.in_ok-name-2.name.tree)) c.node_over-then-not-take.result c.node_over-then-not-take.ensures (λ g a. rw (c.in_ok-object.ensures, c.in_ok-name-2.ensures) (took k refl (stayed c.if-not-take.ensures gives))) (omega (arith, k.at, c.if-not-take.ensures.at, ap height c.in_ok-object.ensures, ap height c.in_ok-name-2.ensures))
+    no_leaf c.args.place.names false (λ g. behind_dollar c.args.place.inside) c.args.room 1 c.args.tokens.now c.take.new.self (tree.property (root c.in_ok-object.object.tree) (root c.in_ok-name-2.name.tree)) c.node_over-then-not-take.result c.node_over-then-not-take.ensures
+    (λ high g ok. at_any (took_deepens k refl (subst (λ v. Deepens g false Sort.expr c.args.room (system_part c.args.place.inside c.in-Some.name) (left c.take_name.new.self) v) (sym c.if-not-take.ensures.rest) (meets_at_once (can_take (Sign LeftParen) refl can_read) ((λ y xs _. ((λ z. omega (arith, high, ap height c.in_ok-object.ensures, ap height c.in_ok-name-2.ensures)), tt)), omega (arith, high, ap height c.in_ok-object.ensures, ap height c.in_ok-name-2.ensures))))))
+    (λ high. omega (arith, high, k.at, c.if-not-take.ensures.at, ap height c.in_ok-object.ensures, ap height c.in_ok-name-2.ensures))
 
-pub primary::behind_dollar-returns-in_err-below-clause-failed : goal.primary::behind_dollar-returns-in_err-below-clause-failed
+pub primary::behind_dollar-returns-in_err-beside-clause-failed : goal.primary::behind_dollar-returns-in_err-beside-clause-failed
 unfolding grammar
-primary::behind_dollar-returns-in_err-below-clause-failed t c =
-    let p = err_from_is_err_and c.from_residual-in_err-below.result c.from_residual-in_err-below.ensures.1 in
+primary::behind_dollar-returns-in_err-beside-clause-failed t c =
+    let p = err_from_is_err_and c.from_residual-in_err-beside.result c.from_residual-in_err-beside.ensures.1 in
     let k = rw c.in-Some.is at c.in_ok-name.ensures in
-    passed _ p.1 p.2 (too_high c.in_err-below.ensures.0 (no_room c.in_err-below.ensures.1) (omega (arith, c.in_err-below.ensures.1, k.at, c.if-not-take.ensures.at)))
+    passed _ p.1 p.2 (too_high c.in_err-beside.ensures.0 (λ g ok. at_any (took_deepens k refl (took_deepens c.if-not-take.ensures refl (meets_at_once can_read (λ xs _. ((λ x. omega (arith, c.in_err-beside.ensures.1)), tt)))))) (omega (arith, c.in_err-beside.ensures.1, k.at, c.if-not-take.ensures.at)))
 
 pub primary::behind_dollar-returns-in_err-members-clause-failed : goal.primary::behind_dollar-returns-in_err-members-clause-failed
 unfolding grammar
@@ -1171,8 +1187,8 @@ primary::behind_dollar-returns-in_err-members-clause-failed t c =
     passed _ p.1 p.2 (record {
       fails = λ g b. took_fails k refl (took_fails c.if-not-take.ensures refl (phrase_fails (c.in_err-members.ensures.failed.fails g b)));
       stands = c.in_err-members.ensures.failed.stands;
-      deep = λ h. took_deep k refl (took_deep c.if-not-take.ensures refl (phrase_deep (c.in_err-members.ensures.failed.deep h) (λ xs q. ((λ x. omega (arith, q, c.in_ok-below.ensures)), tt))));
-      long = λ h. let l = c.in_err-members.ensures.failed.long h in omega (arith, l, k.at, c.if-not-take.ensures.at, c.in_ok-below.ensures);
+      deep = λ h g ok. at_any (took_deepens k refl (took_deepens c.if-not-take.ensures refl (phrase_deepens (c.in_err-members.ensures.failed.deep h g ok) (λ xs q. ((λ x. omega (arith, q, c.in_ok-beside.ensures.0)), tt)))));
+      long = λ h. let l = c.in_err-members.ensures.failed.long h in omega (arith, l, k.at, c.if-not-take.ensures.at, c.in_ok-beside.ensures.0);
     })
 
 pub primary::behind_dollar-returns-in_err-expect-clause-failed : goal.primary::behind_dollar-returns-in_err-expect-clause-failed
@@ -1192,7 +1208,7 @@ pub primary::behind_dollar-returns-clause-failed : goal.primary::behind_dollar-r
 unfolding grammar
 primary::behind_dollar-returns-clause-failed t c =
     let k = rw c.in-Some.is at c.in_ok-name.ensures in
-    unmade c.args.place.names (λ g. behind_dollar c.args.place.inside) c.args.room 1 c.args.tokens.now c.expect.new.self (tree.verb_call (root c.in_ok-object.object.tree) (root c.in_ok-name-2.name.tree) (row_of c.in_ok-members.members.items)) c.node_over-2.result c.node_over-2.ensures (λ g a. rw (c.in_ok-object.ensures, c.in_ok-name-2.ensures, row_items c.in_ok-members.members.items) (took k refl (took c.if-not-take.ensures refl (reads (c.in_ok-members.ensures.read.reads g a) (took c.in_ok-expect.ensures refl gives))))) (omega (arith, k.at, c.if-not-take.ensures.at, c.in_ok-members.ensures.read.tokens, c.in_ok-expect.ensures.at, ap height c.in_ok-object.ensures, ap height c.in_ok-name-2.ensures, ap items_height (row_items c.in_ok-members.members.items)))
+    unmade c.args.place.names false (λ g. behind_dollar c.args.place.inside) c.args.room 1 c.args.tokens.now c.expect.new.self (tree.verb_call (root c.in_ok-object.object.tree) (root c.in_ok-name-2.name.tree) (row_of c.in_ok-members.members.items)) c.node_over-2.result c.node_over-2.ensures (omega (arith, c.in_ok-beside.ensures.0, c.in_ok-beside.ensures.1, c.in_ok-members.ensures.read.fits, ap height c.in_ok-object.ensures, ap height c.in_ok-name-2.ensures, ap items_height (row_items c.in_ok-members.members.items)))
 
 pub primary::behind_dollar-node_over-requires-then-not-take : goal.primary::behind_dollar-node_over-requires-then-not-take
 primary::behind_dollar-node_over-requires-then-not-take t c =
@@ -1212,7 +1228,7 @@ pub primary::guarded-returns-in_err-room_below-clause-failed : goal.primary::gua
 unfolding grammar
 primary::guarded-returns-in_err-room_below-clause-failed t c =
     let p = err_from_is_err_and c.from_residual-in_err-room_below.result c.from_residual-in_err-room_below.ensures.1 in
-    passed _ p.1 p.2 (too_high c.in_err-room_below.ensures.0 (no_room c.in_err-room_below.ensures.1) (omega (arith, c.in_err-room_below.ensures.1, c.in_ok-expect.ensures.at)))
+    passed _ p.1 p.2 (too_high c.in_err-room_below.ensures.0 (λ g ok. took_deepens c.in_ok-expect.ensures refl (meets_at_once can_read (λ a _. ((λ x e _. ((λ y b _. ((λ z. omega (arith, c.in_err-room_below.ensures.1)), tt)), ((λ z. omega (arith, c.in_err-room_below.ensures.1)), tt))), tt)))) (omega (arith, c.in_err-room_below.ensures.1, c.in_ok-expect.ensures.at)))
 
 pub primary::guarded-returns-in_err-tried-clause-failed : goal.primary::guarded-returns-in_err-tried-clause-failed
 unfolding grammar
@@ -1221,7 +1237,7 @@ primary::guarded-returns-in_err-tried-clause-failed t c =
     passed _ p.1 p.2 (record {
       fails = λ g b. took_fails c.in_ok-expect.ensures refl (phrase_fails (c.in_err-tried.ensures.failed.fails g b));
       stands = c.in_err-tried.ensures.failed.stands;
-      deep = λ h. took_deep c.in_ok-expect.ensures refl (phrase_deep (c.in_err-tried.ensures.failed.deep h) (λ a q. ((λ x e _. ((λ y b _. ((λ z. omega (arith, q, c.in_ok-room_below.ensures)), tt)), ((λ z. omega (arith, q, c.in_ok-room_below.ensures)), tt))), tt)));
+      deep = λ h g ok. took_deepens c.in_ok-expect.ensures refl (phrase_deepens (c.in_err-tried.ensures.failed.deep h g ok) (λ a q. ((λ x e _. ((λ y b _. ((λ z. omega (arith, q, c.in_ok-room_below.ensures)), tt)), ((λ z. omega (arith, q, c.in_ok-room_below.ensures)), tt))), tt)));
       long = λ h. let l = c.in_err-tried.ensures.failed.long h in omega (arith, l, c.in_ok-expect.ensures.at, c.in_ok-room_below.ensures);
     })
 
@@ -1238,7 +1254,7 @@ primary::guarded-returns-in_err-caught-clause-failed t c =
     passed _ p.1 p.2 (record {
       fails = λ g b. took_fails c.in_ok-expect.ensures refl (then_fails (c.in_ok-tried.ensures.read.reads g (told_admits _ c.args.place.names g b)) (took_fails c.in_ok-expect-2.ensures refl (phrase_fails (c.in_err-caught.ensures.failed.fails g b))));
       stands = c.in_err-caught.ensures.failed.stands;
-      deep = λ h. took_deep c.in_ok-expect.ensures refl (then_deep (c.in_ok-tried.ensures.read.reads (strict c.args.place.names) (admits_itself c.args.place.names)) (took_deep c.in_ok-expect-2.ensures refl (phrase_deep (c.in_err-caught.ensures.failed.deep h) (λ e q. ((λ y b _. ((λ z. omega (arith, q, c.in_ok-room_below.ensures)), tt)), ((λ z. omega (arith, q, c.in_ok-room_below.ensures)), tt))))));
+      deep = λ h g ok. took_deepens c.in_ok-expect.ensures refl (then_deepens (c.in_ok-tried.ensures.read.reads g ok) (took_deepens c.in_ok-expect-2.ensures refl (phrase_deepens (c.in_err-caught.ensures.failed.deep h g ok) (λ e q. ((λ y b _. ((λ z. omega (arith, q, c.in_ok-room_below.ensures)), tt)), ((λ z. omega (arith, q, c.in_ok-room_below.ensures)), tt))))));
       long = λ h. let l = c.in_err-caught.ensures.failed.long h in omega (arith, l, c.in_ok-expect.ensures.at, c.in_ok-tried.ensures.read.tokens, c.in_ok-expect-2.ensures.at, c.in_ok-room_below.ensures);
     })
 
@@ -1256,7 +1272,7 @@ primary::guarded-returns-then-not-take-clause-read t c =
 pub primary::guarded-returns-then-not-take-clause-failed : goal.primary::guarded-returns-then-not-take-clause-failed
 unfolding grammar
 primary::guarded-returns-then-not-take-clause-failed t c =
-    unmade c.args.place.names (λ g. guarded c.args.place.inside) c.args.room 0 c.args.tokens.now c.expect-then-not-take.new.self (tree.catch (root c.in_ok-tried.tried.tree) (codes_of c.in_ok-caught.caught.codes)) c.node_over.result c.node_over.ensures (λ g a. took c.in_ok-expect.ensures refl (reads (c.in_ok-tried.ensures.read.reads g a) (took c.in_ok-expect-2.ensures refl (reads (c.in_ok-caught.ensures.read.reads g a) (stayed c.if-not-take.ensures (took c.in_ok-expect-3.ensures refl gives)))))) (omega (arith, c.in_ok-expect.ensures.at, c.in_ok-tried.ensures.read.tokens, c.in_ok-expect-2.ensures.at, c.in_ok-caught.ensures.read.tokens, c.if-not-take.ensures.at, c.in_ok-expect-3.ensures.at))
+    unmade c.args.place.names true (λ g. guarded c.args.place.inside) c.args.room 0 c.args.tokens.now c.expect-then-not-take.new.self (tree.catch (root c.in_ok-tried.tried.tree) (codes_of c.in_ok-caught.caught.codes)) c.node_over.result c.node_over.ensures (omega (arith, c.in_ok-room_below.ensures, c.in_ok-tried.ensures.read.fits, c.in_ok-caught.ensures.read.fits))
 
 pub primary::guarded-returns-in_err-instead-clause-failed : goal.primary::guarded-returns-in_err-instead-clause-failed
 unfolding grammar
@@ -1265,7 +1281,7 @@ primary::guarded-returns-in_err-instead-clause-failed t c =
     passed _ p.1 p.2 (record {
       fails = λ g b. took_fails c.in_ok-expect.ensures refl (then_fails (c.in_ok-tried.ensures.read.reads g (told_admits _ c.args.place.names g b)) (took_fails c.in_ok-expect-2.ensures refl (then_fails (c.in_ok-caught.ensures.read.reads g (told_admits _ c.args.place.names g b)) (took_fails c.if-not-take.ensures refl (phrase_fails (c.in_err-instead.ensures.failed.fails g b))))));
       stands = c.in_err-instead.ensures.failed.stands;
-      deep = λ h. took_deep c.in_ok-expect.ensures refl (then_deep (c.in_ok-tried.ensures.read.reads (strict c.args.place.names) (admits_itself c.args.place.names)) (took_deep c.in_ok-expect-2.ensures refl (then_deep (c.in_ok-caught.ensures.read.reads (strict c.args.place.names) (admits_itself c.args.place.names)) (took_deep c.if-not-take.ensures refl (phrase_deep (c.in_err-instead.ensures.failed.deep h) (λ b q. ((λ z. omega (arith, q, c.in_ok-room_below.ensures)), tt)))))));
+      deep = λ h g ok. took_deepens c.in_ok-expect.ensures refl (then_deepens (c.in_ok-tried.ensures.read.reads g ok) (took_deepens c.in_ok-expect-2.ensures refl (then_deepens (c.in_ok-caught.ensures.read.reads g ok) (took_deepens c.if-not-take.ensures refl (phrase_deepens (c.in_err-instead.ensures.failed.deep h g ok) (λ b q. ((λ z. omega (arith, q, c.in_ok-room_below.ensures)), tt)))))));
       long = λ h. let l = c.in_err-instead.ensures.failed.long h in omega (arith, l, c.in_ok-expect.ensures.at, c.in_ok-tried.ensures.read.tokens, c.in_ok-expect-2.ensures.at, c.in_ok-caught.ensures.read.tokens, c.if-not-take.ensures.at, c.in_ok-room_below.ensures);
     })
 
@@ -1283,13 +1299,14 @@ primary::guarded-returns-clause-read t c =
 pub primary::guarded-returns-clause-failed : goal.primary::guarded-returns-clause-failed
 unfolding grammar
 primary::guarded-returns-clause-failed t c =
-    unmade c.args.place.names (λ g. guarded c.args.place.inside) c.args.room 0 c.args.tokens.now c.expect-3.new.self (tree.catch_or (root c.in_ok-tried.tried.tree) (codes_of c.in_ok-caught.caught.codes) (root c.in_ok-instead.instead.tree)) c.node_over-2.result c.node_over-2.ensures (λ g a. took c.in_ok-expect.ensures refl (reads (c.in_ok-tried.ensures.read.reads g a) (took c.in_ok-expect-2.ensures refl (reads (c.in_ok-caught.ensures.read.reads g a) (took c.if-not-take.ensures refl (reads (c.in_ok-instead.ensures.read.reads g a) (took c.in_ok-expect-4.ensures refl gives))))))) (omega (arith, c.in_ok-expect.ensures.at, c.in_ok-tried.ensures.read.tokens, c.in_ok-expect-2.ensures.at, c.in_ok-caught.ensures.read.tokens, c.if-not-take.ensures.at, c.in_ok-instead.ensures.read.tokens, c.in_ok-expect-4.ensures.at))
+    unmade c.args.place.names true (λ g. guarded c.args.place.inside) c.args.room 0 c.args.tokens.now c.expect-3.new.self (tree.catch_or (root c.in_ok-tried.tried.tree) (codes_of c.in_ok-caught.caught.codes) (root c.in_ok-instead.instead.tree)) c.node_over-2.result c.node_over-2.ensures (omega (arith, c.in_ok-room_below.ensures, c.in_ok-tried.ensures.read.fits, c.in_ok-caught.ensures.read.fits, c.in_ok-instead.ensures.read.fits))
 
 pub primary::codes-returns-then-take_keyword-clause-read : goal.primary::codes-returns-then-take_keyword-clause-read
 unfolding grammar
 primary::codes-returns-then-take_keyword-clause-read t c =
     record {
       reads = λ g a. took c.if-take_keyword.ensures refl gives;
+      fits = omega arith;
       tokens = omega (arith, c.if-take_keyword.ensures.at);
     }
 
@@ -1300,7 +1317,7 @@ primary::codes-returns-in_err-members-clause-failed t c =
     passed _ p.1 p.2 (record {
       fails = λ g b. stayed_fails c.if-take_keyword.ensures (phrase_fails (c.in_err-members.ensures.failed.fails g b));
       stands = c.in_err-members.ensures.failed.stands;
-      deep = λ h. stayed_deep c.if-take_keyword.ensures (phrase_deep (c.in_err-members.ensures.failed.deep h) (λ xs q. q));
+      deep = λ h g ok. stayed_deepens c.if-take_keyword.ensures (phrase_deepens (c.in_err-members.ensures.failed.deep h g ok) (λ xs q. q));
       long = λ h. let l = c.in_err-members.ensures.failed.long h in omega (arith, l, c.if-take_keyword.ensures.at);
     })
 
@@ -1309,6 +1326,7 @@ unfolding grammar
 primary::codes-returns-clause-read t c =
     record {
       reads = λ g a. rw (row_items c.in_ok-members.members.items) (stayed c.if-take_keyword.ensures (reads (c.in_ok-members.ensures.read.reads g a) gives));
+      fits = omega (arith, c.in_ok-members.ensures.read.fits, ap items_height (row_items c.in_ok-members.members.items));
       tokens = omega (arith, c.in_ok-members.ensures.read.tokens, c.if-take_keyword.ensures.at, ap items_height (row_items c.in_ok-members.members.items));
     }
 
@@ -1321,23 +1339,24 @@ unfolding grammar
 members::arguments-returns-then-is_at_closer-clause-read t c =
     rw c.new.ensures (record {
       reads = λ g a. sees (sym c.is_at_closer.ensures ∙ c.if-is_at_closer.true) gives;
+      fits = omega arith;
       tokens = omega arith;
     })
 
 pub members::arguments-returns-clause-read : goal.members::arguments-returns-clause-read
 unfolding grammar
 members::arguments-returns-clause-read t c =
-    if_ok (λ v. IsPartRead c.args.place.names (members c.args.place.inside c.args.optional) c.args.tokens.now c.members.new.tokens (items_of v.items.items)) (λ v. IsPartRead c.args.place.names (arguments c.args.place.inside c.args.optional) c.args.tokens.now c.members.new.tokens (items_of v.items.items)) c.members.result c.members.ensures.read
-    (λ n v. record { reads = λ g a. misses (sym c.is_at_closer.ensures ∙ c.if-is_at_closer.false) (reads (v.reads g a) gives); tokens = v.tokens })
+    if_ok (λ v. IsRead c.args.place.names (members c.args.place.inside c.args.optional) c.args.room c.args.tokens.now c.members.new.tokens (items_of v.items.items)) (λ v. IsRead c.args.place.names (arguments c.args.place.inside c.args.optional) c.args.room c.args.tokens.now c.members.new.tokens (items_of v.items.items)) c.members.result c.members.ensures.read
+    (λ n v. record { reads = λ g a. misses (sym c.is_at_closer.ensures ∙ c.if-is_at_closer.false) (reads (v.reads g a) gives); fits = v.fits; tokens = v.tokens })
 
 pub members::arguments-returns-clause-failed : goal.members::arguments-returns-clause-failed
 unfolding grammar
 members::arguments-returns-clause-failed t c =
-    if_err (λ f. HasFailed c.args.place.names (members c.args.place.inside c.args.optional) c.args.room c.args.tokens.now c.members.new.tokens f) (λ f. HasFailedBy c.args.place.names Sort.items (λ g. grammar g (arguments c.args.place.inside c.args.optional)) c.args.room 0 c.args.tokens.now c.members.new.tokens f) c.members.result c.members.ensures.failed
+    if_err (λ f. HasFailed c.args.place.names (members c.args.place.inside c.args.optional) c.args.room c.args.tokens.now c.members.new.tokens f) (λ f. HasFailedBy c.args.place.names true Sort.items (λ g. grammar g (arguments c.args.place.inside c.args.optional)) c.args.room 0 c.args.tokens.now c.members.new.tokens f) c.members.result c.members.ensures.failed
     (λ f w. record {
       fails = λ g b. misses_fails (sym c.is_at_closer.ensures ∙ c.if-is_at_closer.false) (phrase_fails (w.fails g b));
       stands = w.stands;
-      deep = λ h. misses_deep (sym c.is_at_closer.ensures ∙ c.if-is_at_closer.false) (phrase_deep (w.deep h) (λ xs q. q));
+      deep = λ h g ok. misses_deepens (sym c.is_at_closer.ensures ∙ c.if-is_at_closer.false) (phrase_deepens (w.deep h g ok) (λ xs q. q));
       long = w.long;
     })
 
@@ -1349,7 +1368,7 @@ members::members-returns-in_err-next-clause-failed t c =
     passed _ p.1 p.2 (record {
       fails = λ g b. i.goes_on.fails g (told_admits _ c.args.place.names g b) _ (w.fails g b);
       stands = w.stands;
-      deep = λ h. i.goes_on.deep _ (w.deep h);
+      deep = λ h g ok. i.goes_on.deep g ok _ _ (w.deep h g ok);
       long = λ h. let l = w.long h in omega (arith, l, i.moves.at);
     })
 
@@ -1357,6 +1376,7 @@ pub members::members-returns-then-not-take-clause-read : goal.members::members-r
 members::members-returns-then-not-take-clause-read t c =
     record {
       reads = rw (c.in_ok-push.ensures.items, in_front_push) (ended _ _ _ _ _ _ _ _ c.loop-found.invariant.goes_on c.in_ok-next.next.item c.in_ok-next.ensures.read c.if-not-take.ensures);
+      fits = omega (arith, c.push.new.self.in_step, c.in_ok-push.ensures.height, c.in_ok-next.next.in_step, c.loop-found.invariant.fits, c.in_ok-next.ensures.read.fits);
       tokens = omega (arith, c.push.new.self.in_step, c.in_ok-push.ensures.height, c.in_ok-next.next.in_step, c.loop-found.invariant.tokens, c.in_ok-next.ensures.read.tokens, c.in_ok-next.ensures.moves.at, c.loop-found.invariant.moves.at, c.if-not-take.ensures.at);
     }
 
@@ -1365,6 +1385,7 @@ members::members-loop-found-preserved t c =
     record {
       moves = search rules;
       goes_on = rw c.in_ok-push.ensures.items (goes_on_member _ _ _ _ _ _ _ _ c.loop-found.invariant.goes_on c.in_ok-next.next.item c.in_ok-next.ensures.read c.if-not-take.ensures);
+      fits = omega (arith, c.in_ok-push.ensures.height, c.in_ok-next.next.in_step, c.loop-found.invariant.fits, c.in_ok-next.ensures.read.fits);
       tokens = omega (arith, c.in_ok-push.ensures.height, c.in_ok-next.next.in_step, c.loop-found.invariant.tokens, c.in_ok-next.ensures.read.tokens, c.in_ok-next.ensures.moves.at, c.loop-found.invariant.moves.at, c.if-not-take.ensures.at);
     }
 
@@ -1380,7 +1401,7 @@ members::member-returns-in_err-tree-clause-failed t c =
     passed _ p.1 p.2 (record {
       fails = λ g b. took_fails c.if-take.ensures refl (phrase_fails (c.in_err-tree.ensures.failed.fails g b));
       stands = c.in_err-tree.ensures.failed.stands;
-      deep = λ h. took_deep c.if-take.ensures refl (phrase_deep (c.in_err-tree.ensures.failed.deep h) (λ a q. ((λ x xs _. omega (arith, q)), omega (arith, q))));
+      deep = λ h g ok. took_deepens c.if-take.ensures refl (phrase_deepens (c.in_err-tree.ensures.failed.deep h g ok) (λ a q. ((λ x xs _. omega (arith, q)), omega (arith, q))));
       long = λ h. let l = c.in_err-tree.ensures.failed.long h in omega (arith, l, c.if-take.ensures.at);
     })
 
@@ -1391,8 +1412,9 @@ members::member-returns-then-take-clause-read t c =
       leads = record {
         reads = λ g a e u d. took c.if-take.ensures refl (reads (c.in_ok-tree.ensures.read.reads g a) (d));
         fails = λ g a u d. took_fails c.if-take.ensures refl (then_fails (c.in_ok-tree.ensures.read.reads g a) (d));
-        deep = λ n d. took_deep c.if-take.ensures refl (then_deep (c.in_ok-tree.ensures.read.reads (strict c.args.place.names) (admits_itself c.args.place.names)) (d));
+        deep = λ g ok n r d. took_deepens c.if-take.ensures refl (then_deepens (c.in_ok-tree.ensures.read.reads g ok) (d));
       };
+      fits = omega (arith, c.in_ok-tree.ensures.read.fits);
       tokens = omega (arith, c.in_ok-tree.ensures.read.tokens, c.if-take.ensures.at);
     }
 
@@ -1400,24 +1422,25 @@ pub members::member-returns-then-take_where-clause-read : goal.members::member-r
 unfolding grammar
 members::member-returns-then-take_where-clause-read t c =
     let asked_for = c.if-take_where.ensures in
-    if_ok (λ m. IsPiece c.args.place.names c.args.place.inside c.take_where.new.self c.behind_question.new.tokens m.item) (λ m. IsMember c.args.place.names c.args.place.inside c.args.optional c.args.tokens.now c.behind_question.new.tokens m.item) c.behind_question.result c.behind_question.ensures.read
+    if_ok (λ m. IsPiece c.args.place.names c.args.place.inside c.args.room c.take_where.new.self c.behind_question.new.tokens m.item) (λ m. IsMember c.args.place.names c.args.place.inside c.args.optional c.args.room c.args.tokens.now c.behind_question.new.tokens m.item) c.behind_question.result c.behind_question.ensures.read
     (λ m v. record {
       leads = record {
         reads = λ g a e u d. stayed c.if-take.ensures (asked c.args.optional (behind_question c.args.place.inside) (phrase (expression c.args.place.inside) λ a. after_member c.args.place.inside c.args.optional (element a)) c.if-take_where.ensures (v.leads.reads g a _ _ (piece_reads asked_for.0 d)));
         fails = λ g a u d. stayed_fails c.if-take.ensures (asked_fails c.args.optional (behind_question c.args.place.inside) (phrase (expression c.args.place.inside) λ a. after_member c.args.place.inside c.args.optional (element a)) c.if-take_where.ensures (v.leads.fails g a _ (piece_fails asked_for.0 d)));
-        deep = λ n d. stayed_deep c.if-take.ensures (asked_deep c.args.optional (behind_question c.args.place.inside) (phrase (expression c.args.place.inside) λ a. after_member c.args.place.inside c.args.optional (element a)) c.if-take_where.ensures (v.leads.deep n (piece_deep asked_for.0 d)));
+        deep = λ g ok n r d. stayed_deepens c.if-take.ensures (asked_deepens c.args.optional (behind_question c.args.place.inside) (phrase (expression c.args.place.inside) λ a. after_member c.args.place.inside c.args.optional (element a)) c.if-take_where.ensures (v.leads.deep g ok n r (piece_deepens asked_for.0 d)));
       };
+      fits = v.fits;
       tokens = omega (arith, v.tokens, c.if-take.ensures.at, c.if-take_where.ensures.1.at);
     })
 
 pub members::member-returns-then-take_where-clause-failed : goal.members::member-returns-then-take_where-clause-failed
 unfolding grammar
 members::member-returns-then-take_where-clause-failed t c =
-    if_err (λ f. HasFailedBy c.args.place.names Sort.items (λ g. behind_question c.args.place.inside) c.args.room 0 c.take_where.new.self c.behind_question.new.tokens f) (λ f. HasFailedBy c.args.place.names Sort.items (λ g. grammar g (members c.args.place.inside c.args.optional)) c.args.room 0 c.args.tokens.now c.behind_question.new.tokens f) c.behind_question.result c.behind_question.ensures.failed
+    if_err (λ f. HasFailedBy c.args.place.names true Sort.items (λ g. behind_question c.args.place.inside) c.args.room 0 c.take_where.new.self c.behind_question.new.tokens f) (λ f. HasFailedBy c.args.place.names true Sort.items (λ g. grammar g (members c.args.place.inside c.args.optional)) c.args.room 0 c.args.tokens.now c.behind_question.new.tokens f) c.behind_question.result c.behind_question.ensures.failed
     (λ f w. record {
       fails = λ g b. stayed_fails c.if-take.ensures (asked_fails c.args.optional (behind_question c.args.place.inside) (phrase (expression c.args.place.inside) λ a. after_member c.args.place.inside c.args.optional (element a)) c.if-take_where.ensures (w.fails g b));
       stands = w.stands;
-      deep = λ h. stayed_deep c.if-take.ensures (asked_deep c.args.optional (behind_question c.args.place.inside) (phrase (expression c.args.place.inside) λ a. after_member c.args.place.inside c.args.optional (element a)) c.if-take_where.ensures (w.deep h));
+      deep = λ h g ok. stayed_deepens c.if-take.ensures (asked_deepens c.args.optional (behind_question c.args.place.inside) (phrase (expression c.args.place.inside) λ a. after_member c.args.place.inside c.args.optional (element a)) c.if-take_where.ensures (w.deep h g ok));
       long = λ h. let l = w.long h in omega (arith, l, c.if-take.ensures.at, c.if-take_where.ensures.1.at);
     })
 
@@ -1428,7 +1451,7 @@ members::member-returns-in_err-tree-2-clause-failed t c =
     passed _ p.1 p.2 (record {
       fails = λ g b. stayed_fails c.if-take.ensures (unasked_fails c.args.optional (behind_question c.args.place.inside) (phrase (expression c.args.place.inside) λ a. after_member c.args.place.inside c.args.optional (element a)) c.if-take_where.ensures (phrase_fails (c.in_err-tree-2.ensures.failed.fails g b)));
       stands = c.in_err-tree-2.ensures.failed.stands;
-      deep = λ h. stayed_deep c.if-take.ensures (unasked_deep c.args.optional (behind_question c.args.place.inside) (phrase (expression c.args.place.inside) λ a. after_member c.args.place.inside c.args.optional (element a)) c.if-take_where.ensures (phrase_deep (c.in_err-tree-2.ensures.failed.deep h) (λ a q. ((λ x xs _. omega (arith, q)), omega (arith, q)))));
+      deep = λ h g ok. stayed_deepens c.if-take.ensures (unasked_deepens c.args.optional (behind_question c.args.place.inside) (phrase (expression c.args.place.inside) λ a. after_member c.args.place.inside c.args.optional (element a)) c.if-take_where.ensures (phrase_deepens (c.in_err-tree-2.ensures.failed.deep h g ok) (λ a q. ((λ x xs _. omega (arith, q)), omega (arith, q)))));
       long = λ h. let l = c.in_err-tree-2.ensures.failed.long h in omega (arith, l, c.if-take.ensures.at, c.if-take_where.ensures.at);
     })
 
@@ -1439,8 +1462,9 @@ members::member-returns-clause-read t c =
       leads = record {
         reads = λ g a e u d. stayed c.if-take.ensures (unasked c.args.optional (behind_question c.args.place.inside) (phrase (expression c.args.place.inside) λ a. after_member c.args.place.inside c.args.optional (element a)) c.if-take_where.ensures (reads (c.in_ok-tree-2.ensures.read.reads g a) (d)));
         fails = λ g a u d. stayed_fails c.if-take.ensures (unasked_fails c.args.optional (behind_question c.args.place.inside) (phrase (expression c.args.place.inside) λ a. after_member c.args.place.inside c.args.optional (element a)) c.if-take_where.ensures (then_fails (c.in_ok-tree-2.ensures.read.reads g a) (d)));
-        deep = λ n d. stayed_deep c.if-take.ensures (unasked_deep c.args.optional (behind_question c.args.place.inside) (phrase (expression c.args.place.inside) λ a. after_member c.args.place.inside c.args.optional (element a)) c.if-take_where.ensures (then_deep (c.in_ok-tree-2.ensures.read.reads (strict c.args.place.names) (admits_itself c.args.place.names)) (d)));
+        deep = λ g ok n r d. stayed_deepens c.if-take.ensures (unasked_deepens c.args.optional (behind_question c.args.place.inside) (phrase (expression c.args.place.inside) λ a. after_member c.args.place.inside c.args.optional (element a)) c.if-take_where.ensures (then_deepens (c.in_ok-tree-2.ensures.read.reads g ok) (d)));
       };
+      fits = omega (arith, c.in_ok-tree-2.ensures.read.fits);
       tokens = omega (arith, c.in_ok-tree-2.ensures.read.tokens, c.if-take.ensures.at, c.if-take_where.ensures.at);
     }
 
@@ -1456,6 +1480,14 @@ members::behind_question-returns-in_default-clause-failed t c =
     let no_name = none_of (Stays (λ x. is_some (name_at x)) c.args.tokens.now c.take_name.new.self) (λ s. Takes (Name s) c.args.tokens.now c.take_name.new.self) _ c.in_default.not-Some c.in_ok-name.ensures in
     refused refl (λ g a. stayed_fails no_name refuses)
 
+pub members::behind_question-returns-in_err-below-clause-failed : goal.members::behind_question-returns-in_err-below-clause-failed
+unfolding grammar
+members::behind_question-returns-in_err-below-clause-failed t c =
+    let p = err_from_is_err_and c.from_residual-in_err-below.result c.from_residual-in_err-below.ensures.1 in
+    let k = rw c.in-Some.is at c.in_ok-name.ensures in
+    let none = c.in_err-below.ensures.1 in
+    passed _ p.1 p.2 (too_high c.in_err-below.ensures.0 (λ g ok. took_deepens k refl (meets_at_once (can_take (Sign Assign) refl can_read) ((λ y a _. ((λ z xs _. omega (arith, none, height_positive a)), omega (arith, none, height_positive a))), ((λ z xs _. omega (arith, none)), omega (arith, none))))) (omega (arith, none, k.at)))
+
 pub members::behind_question-returns-then-not-take-clause-read : goal.members::behind_question-returns-then-not-take-clause-read
 unfolding grammar
 members::behind_question-returns-then-not-take-clause-read t c =
@@ -1464,8 +1496,9 @@ members::behind_question-returns-then-not-take-clause-read t c =
       leads = record {
         reads = λ g a e u d. took k refl (stayed c.if-not-take.ensures (d));
         fails = λ g a u d. took_fails k refl (stayed_fails c.if-not-take.ensures (d));
-        deep = λ n d. took_deep k refl (stayed_deep c.if-not-take.ensures (d));
+        deep = λ g ok n r d. took_deepens k refl (stayed_deepens c.if-not-take.ensures (d));
       };
+      fits = omega (arith, c.in_ok-below.ensures);
       tokens = omega (arith, k.at, c.if-not-take.ensures.at);
     }
 
@@ -1477,7 +1510,7 @@ members::behind_question-returns-in_err-tree-clause-failed t c =
     passed _ p.1 p.2 (record {
       fails = λ g b. took_fails k refl (took_fails c.if-not-take.ensures refl (phrase_fails (c.in_err-tree.ensures.failed.fails g b)));
       stands = c.in_err-tree.ensures.failed.stands;
-      deep = λ h. took_deep k refl (took_deep c.if-not-take.ensures refl (phrase_deep (c.in_err-tree.ensures.failed.deep h) (λ a q. ((λ x xs _. omega (arith, q)), omega (arith, q)))));
+      deep = λ h g ok. took_deepens k refl (took_deepens c.if-not-take.ensures refl (phrase_deepens (c.in_err-tree.ensures.failed.deep h g ok) (λ a q. ((λ x xs _. omega (arith, q)), omega (arith, q)))));
       long = λ h. let l = c.in_err-tree.ensures.failed.long h in omega (arith, l, k.at, c.if-not-take.ensures.at);
     })
 
@@ -1489,7 +1522,8 @@ members::behind_question-returns-clause-read t c =
       leads = record {
         reads = λ g a e u d. took k refl (took c.if-not-take.ensures refl (reads (c.in_ok-tree.ensures.read.reads g a) (d)));
         fails = λ g a u d. took_fails k refl (took_fails c.if-not-take.ensures refl (then_fails (c.in_ok-tree.ensures.read.reads g a) (d)));
-        deep = λ n d. took_deep k refl (took_deep c.if-not-take.ensures refl (then_deep (c.in_ok-tree.ensures.read.reads (strict c.args.place.names) (admits_itself c.args.place.names)) (d)));
+        deep = λ g ok n r d. took_deepens k refl (took_deepens c.if-not-take.ensures refl (then_deepens (c.in_ok-tree.ensures.read.reads g ok) (d)));
       };
+      fits = omega (arith, c.in_ok-tree.ensures.read.fits);
       tokens = omega (arith, k.at, c.in_ok-tree.ensures.read.tokens, c.if-not-take.ensures.at);
     }

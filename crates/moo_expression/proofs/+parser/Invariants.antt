@@ -101,6 +101,7 @@ abbrev pub invariant-members::members-loop-found : goal.invariant-members::membe
 invariant-members::members-loop-found l = record {
   moves : Moves l.fn.tokens l.tokens;
   goes_on : GoesOn l.place.names (members l.place.inside l.optional) (members l.place.inside l.optional) (in_front l.found.items.items) (left l.fn.tokens) (left l.tokens);
+  fits : l.found.height ≤ l.room;
   tokens : l.fn.tokens.at + l.found.height ≤ l.tokens.at;
 }
 

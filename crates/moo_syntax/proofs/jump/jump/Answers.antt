@@ -31,7 +31,10 @@ pub returns-in_err-below-clause-failed : goal.returns-in_err-below-clause-failed
 returns-in_err-below-clause-failed c =
     let p = err_from_is_err_and c.from_residual-in_err-below.result c.from_residual-in_err-below.ensures.1 in
     let e = c.in_err-below.ensures in
-    λ names. passed _ p.1 p.2 (jump_too_deep e.0 e.1 c.in_ok-expect_keyword.ensures.at)
+    let k = c.in_ok-expect_keyword.ensures in
+    let same = subst (λ v. next_passes (is_keyword c.args.keyword) v ≡ true) k.token c.requires.keyword in
+    let some : c.args.loops.now ≡ [] → ⊥ = search rules in
+    λ names. passed _ p.1 p.2 (jump_too_deep e.0 e.1 k same (some_loops c.args.loops.now some))
 
 pub returns-in_err-expect_loop-clause-failed : goal.returns-in_err-expect_loop-clause-failed
 returns-in_err-expect_loop-clause-failed c =

@@ -1,31 +1,33 @@
-use Rattle.std.proofs.Common.{rules, refl, sym, ◌∙◌, ap, ◌+◌, reverse, length, Some, None, is_some, arith}
+use Rattle.std.proofs.Common.{rules, refl, sym, ◌∙◌, ap, ◌+◌, reverse, length, true, false, [], Some, None, is_some, arith}
 use Rattle.std.proofs.lemmas.Result.{err_from_is_err_and}
 use Rattle.std.proofs.lemmas.List.{reverse-append}
-use Rattle.moo_token.specs.declared.token.Token.TheVariants.{Name}
+use Rattle.moo_token.specs.declared.sign.Sign.TheVariants.{LeftBracket}
+use Rattle.moo_token.specs.declared.keyword.Keyword.TheVariants.{In}
+use Rattle.moo_token.specs.declared.token.Token.TheVariants.{Name, Keyword, Sign}
 use Rattle.moo_program.specs.declared.tree.Arm.{ElseIf, Else}
 use Rattle.moo_program.specs.Tree.{breaks, continues}
 use Rattle.moo_program.specs.Limits.{block_height}
 use Rattle.moo_program.specs.View.{statement as tree_of}
 use Rattle.moo_program.proofs.Rows.{row_block, row_arms, row_handlers}
-use Rattle.moo_grammar.specs.Rules.{strict}
 use Rattle.moo_grammar.specs.Grammar.{Sort, statement}
 use Rattle.moo_grammar.specs.Machine.{gives, sees, misses, reads, refuses, sees_fails, misses_fails, phrase_fails, then_fails}
 use Rattle.moo_grammar.specs.Predictive.{grammar, behind_if, behind_for, behind_while, behind_return, behind_try}
 use Rattle.moo_grammar.specs.Tokens.{name_at}
-use Rattle.moo_grammar.proofs.Depths.{sees_deep, misses_deep, then_deep, phrase_deep, meets_deep}
 use Rattle.moo_expression.specs.Cursor.{left, Takes, Stays}
 use Rattle.moo_expression.specs.Outcome.{IsReadBy, HasFailedBy}
+use Rattle.moo_expression.specs.Outgrown.{can_read, can_take, at_once}
+use Rattle.moo_expression.proofs.Deepening.{at_any, sees_deepens, misses_deepens, then_deepens, phrase_deepens}
 use Rattle.moo_syntax.specs.Statements.{behind_range, performing}
 use Rattle.moo_syntax.proofs.Blocks.{before_nothing, before_push, block_height_push, statement_height_positive, arms_before_nothing, arms_before_push, arms_push, arms_height_push, handlers_before_push, handlers_push, with_handler_height, handlers_height_push}
 use Rattle.moo_syntax.proofs.Jumps.{label_reads, label_at, no_statement_room, break_jumps, continue_jumps}
-use Rattle.moo_expression.proofs.Steps.{took, took_fails, took_deep, stayed, stayed_fails, stayed_deep, admits_itself, told_admits, passed, refused, no_memory, too_high, if_ok, if_err, none_of}
+use Rattle.moo_expression.proofs.Steps.{took, took_fails, took_deepens, stayed, stayed_fails, stayed_deepens, told_admits, passed, refused, no_memory, too_high, if_ok, if_err, none_of}
 use Rattle.moo_syntax.proofs.statement.+statements.Goals as goal
 
 pub statements-loop-alloc-init : goal.statements-loop-alloc-init
 statements-loop-alloc-init t c = record {
   moves = search rules;
   loops = refl;
-  goes_on = rw c.new-found.ensures.items (record { reads = λ g a e r d. d; fails = λ g a r d. d; deep = λ n d. d });
+  goes_on = rw c.new-found.ensures.items (record { reads = λ g a e r d. d; fails = λ g a r d. d; deep = λ g ok n r d. d });
   fits = rw c.new-found.ensures.items (omega arith);
   tokens = rw c.new-found.ensures.items (omega arith);
 }
@@ -41,7 +43,7 @@ statements-loop-alloc-preserved-then-take t c =
       goes_on = record {
         reads = λ g a b r d. i.goes_on.reads g a _ _ (sees begins (took c.if-take.ensures refl (reads d gives)));
         fails = λ g a r d. i.goes_on.fails g a _ (sees_fails begins (took_fails c.if-take.ensures refl (phrase_fails d)));
-        deep = λ n d. i.goes_on.deep n (sees_deep begins (took_deep c.if-take.ensures refl (phrase_deep d (λ b q. q))));
+        deep = λ g ok n r d. i.goes_on.deep g ok n r (sees_deepens begins (took_deepens c.if-take.ensures refl (phrase_deepens d (λ b q. q))));
       };
       fits = i.fits;
       tokens = omega (arith, i.tokens, c.if-take.ensures.at);
@@ -60,7 +62,7 @@ statements-loop-alloc-preserved t c =
       goes_on = rw c.in_ok-push.ensures.items (record {
         reads = λ g a b r d. rw before_push (i.goes_on.reads g a _ _ (sees begins (stayed c.if-take.ensures (reads (s.reads g a) (reads d gives)))));
         fails = λ g a r d. i.goes_on.fails g a _ (sees_fails begins (stayed_fails c.if-take.ensures (then_fails (s.reads g a) (phrase_fails d))));
-        deep = λ n d. i.goes_on.deep n (sees_deep begins (stayed_deep c.if-take.ensures (then_deep (s.reads (strict c.args.names) (admits_itself c.args.names)) (phrase_deep d (λ b q. omega (arith, q))))));
+        deep = λ g ok n r d. i.goes_on.deep g ok n r (sees_deepens begins (stayed_deepens c.if-take.ensures (then_deepens (s.reads g ok) (phrase_deepens d (λ b q. omega (arith, q))))));
       });
       fits = rw c.in_ok-push.ensures.items (omega (arith, push, i.fits, c.in_ok-next.ensures.read.fits));
       tokens = rw c.in_ok-push.ensures.items (omega (arith, push, i.tokens, c.in_ok-next.ensures.read.tokens, c.if-take.ensures.at));
@@ -80,7 +82,7 @@ statements-returns-in_err-next-clause-failed t c =
     passed _ p.1 p.2 (record {
       fails = λ g b. i.goes_on.fails g (told_admits _ c.args.names g b) _ (sees_fails begins (stayed_fails c.if-take.ensures (phrase_fails (w.fails g b))));
       stands = w.stands;
-      deep = λ h. i.goes_on.deep _ (sees_deep begins (stayed_deep c.if-take.ensures (phrase_deep (w.deep h) (λ s q b _. omega (arith, q)))));
+      deep = λ h g ok. i.goes_on.deep g ok _ _ (sees_deepens begins (stayed_deepens c.if-take.ensures (phrase_deepens (w.deep h g ok) (λ s q b _. omega (arith, q)))));
       long = λ h. let l = w.long h in omega (arith, l, i.moves.at, c.if-take.ensures.at);
     })
 
@@ -113,11 +115,11 @@ statement-returns-then-take_keyword-clause-read t c =
 pub statement-returns-then-take_keyword-clause-failed : goal.statement-returns-then-take_keyword-clause-failed
 unfolding grammar
 statement-returns-then-take_keyword-clause-failed t c =
-    if_err (λ f. HasFailedBy c.args.names Sort.stmt (λ g. behind_if (reverse c.args.loops.now.items)) c.args.room 1 c.take_keyword.new.self c.branches.new.tokens f) (λ f. HasFailedBy c.args.names Sort.stmt (λ g. grammar g (statement (reverse c.args.loops.now.items))) c.args.room 0 c.args.tokens.now c.branches.new.tokens f) c.branches.result c.branches.ensures.failed
+    if_err (λ f. HasFailedBy c.args.names false Sort.stmt (λ g. behind_if (reverse c.args.loops.now.items)) c.args.room 1 c.take_keyword.new.self c.branches.new.tokens f) (λ f. HasFailedBy c.args.names true Sort.stmt (λ g. grammar g (statement (reverse c.args.loops.now.items))) c.args.room 0 c.args.tokens.now c.branches.new.tokens f) c.branches.result c.branches.ensures.failed
     (λ f w. record {
       fails = λ g b. took_fails c.if-take_keyword.ensures refl (w.fails g b);
       stands = w.stands;
-      deep = λ h. took_deep c.if-take_keyword.ensures refl (w.deep h);
+      deep = λ h g ok. took_deepens c.if-take_keyword.ensures refl (w.deep h g ok);
       long = λ h. let l = w.long h in omega (arith, l, c.if-take_keyword.ensures.at);
     })
 
@@ -134,11 +136,11 @@ statement-returns-then-take_keyword-2-clause-read t c =
 pub statement-returns-then-take_keyword-2-clause-failed : goal.statement-returns-then-take_keyword-2-clause-failed
 unfolding grammar
 statement-returns-then-take_keyword-2-clause-failed t c =
-    if_err (λ f. HasFailedBy c.args.names Sort.stmt (λ g. behind_for (reverse c.args.loops.now.items)) c.args.room 1 c.take_keyword-2.new.self c.for_loop.new.tokens f) (λ f. HasFailedBy c.args.names Sort.stmt (λ g. grammar g (statement (reverse c.args.loops.now.items))) c.args.room 0 c.args.tokens.now c.for_loop.new.tokens f) c.for_loop.result c.for_loop.ensures.failed
+    if_err (λ f. HasFailedBy c.args.names false Sort.stmt (λ g. behind_for (reverse c.args.loops.now.items)) c.args.room 1 c.take_keyword-2.new.self c.for_loop.new.tokens f) (λ f. HasFailedBy c.args.names true Sort.stmt (λ g. grammar g (statement (reverse c.args.loops.now.items))) c.args.room 0 c.args.tokens.now c.for_loop.new.tokens f) c.for_loop.result c.for_loop.ensures.failed
     (λ f w. record {
       fails = λ g b. stayed_fails c.if-take_keyword.ensures (took_fails c.if-take_keyword-2.ensures refl (w.fails g b));
       stands = w.stands;
-      deep = λ h. stayed_deep c.if-take_keyword.ensures (took_deep c.if-take_keyword-2.ensures refl (w.deep h));
+      deep = λ h g ok. stayed_deepens c.if-take_keyword.ensures (took_deepens c.if-take_keyword-2.ensures refl (w.deep h g ok));
       long = λ h. let l = w.long h in omega (arith, l, c.if-take_keyword.ensures.at, c.if-take_keyword-2.ensures.at);
     })
 
@@ -155,11 +157,11 @@ statement-returns-then-take_keyword-3-clause-read t c =
 pub statement-returns-then-take_keyword-3-clause-failed : goal.statement-returns-then-take_keyword-3-clause-failed
 unfolding grammar
 statement-returns-then-take_keyword-3-clause-failed t c =
-    if_err (λ f. HasFailedBy c.args.names Sort.stmt (λ g. behind_while (reverse c.args.loops.now.items)) c.args.room 1 c.take_keyword-3.new.self c.while_loop.new.tokens f) (λ f. HasFailedBy c.args.names Sort.stmt (λ g. grammar g (statement (reverse c.args.loops.now.items))) c.args.room 0 c.args.tokens.now c.while_loop.new.tokens f) c.while_loop.result c.while_loop.ensures.failed
+    if_err (λ f. HasFailedBy c.args.names false Sort.stmt (λ g. behind_while (reverse c.args.loops.now.items)) c.args.room 1 c.take_keyword-3.new.self c.while_loop.new.tokens f) (λ f. HasFailedBy c.args.names true Sort.stmt (λ g. grammar g (statement (reverse c.args.loops.now.items))) c.args.room 0 c.args.tokens.now c.while_loop.new.tokens f) c.while_loop.result c.while_loop.ensures.failed
     (λ f w. record {
       fails = λ g b. stayed_fails c.if-take_keyword.ensures (stayed_fails c.if-take_keyword-2.ensures (took_fails c.if-take_keyword-3.ensures refl (w.fails g b)));
       stands = w.stands;
-      deep = λ h. stayed_deep c.if-take_keyword.ensures (stayed_deep c.if-take_keyword-2.ensures (took_deep c.if-take_keyword-3.ensures refl (w.deep h)));
+      deep = λ h g ok. stayed_deepens c.if-take_keyword.ensures (stayed_deepens c.if-take_keyword-2.ensures (took_deepens c.if-take_keyword-3.ensures refl (w.deep h g ok)));
       long = λ h. let l = w.long h in omega (arith, l, c.if-take_keyword.ensures.at, c.if-take_keyword-2.ensures.at, c.if-take_keyword-3.ensures.at);
     })
 
@@ -171,7 +173,7 @@ statement-returns-in_err-jump-clause-failed t c =
     passed _ p.1 p.2 (record {
       fails = λ g b. stayed_fails c.if-take_keyword.ensures (stayed_fails c.if-take_keyword-2.ensures (stayed_fails c.if-take_keyword-3.ensures (w.fails breaks _ g b)));
       stands = w.stands;
-      deep = λ h. no_statement_room (w.deep h);
+      deep = λ h g ok. stayed_deepens c.if-take_keyword.ensures (stayed_deepens c.if-take_keyword-2.ensures (stayed_deepens c.if-take_keyword-3.ensures (w.deep h g ok breaks _)));
       long = λ h. let l = w.long h in omega (arith, l, c.if-take_keyword.ensures.at, c.if-take_keyword-2.ensures.at, c.if-take_keyword-3.ensures.at);
     })
 
@@ -199,7 +201,7 @@ statement-returns-in_err-jump-2-clause-failed t c =
     passed _ p.1 p.2 (record {
       fails = λ g b. stayed_fails c.if-take_keyword.ensures (stayed_fails c.if-take_keyword-2.ensures (stayed_fails c.if-take_keyword-3.ensures (misses_fails (sym c.is_at_keyword.ensures ∙ c.if-is_at_keyword.false) (w.fails continues _ g b))));
       stands = w.stands;
-      deep = λ h. no_statement_room (w.deep h);
+      deep = λ h g ok. stayed_deepens c.if-take_keyword.ensures (stayed_deepens c.if-take_keyword-2.ensures (stayed_deepens c.if-take_keyword-3.ensures (misses_deepens (sym c.is_at_keyword.ensures ∙ c.if-is_at_keyword.false) (w.deep h g ok continues _))));
       long = λ h. let l = w.long h in omega (arith, l, c.if-take_keyword.ensures.at, c.if-take_keyword-2.ensures.at, c.if-take_keyword-3.ensures.at);
     })
 
@@ -226,11 +228,11 @@ statement-returns-then-take_keyword-4-clause-read t c =
 pub statement-returns-then-take_keyword-4-clause-failed : goal.statement-returns-then-take_keyword-4-clause-failed
 unfolding grammar
 statement-returns-then-take_keyword-4-clause-failed t c =
-    if_err (λ f. HasFailedBy c.args.names Sort.stmt (λ g. behind_return) c.args.room 1 c.take_keyword-4.new.self c.returned.new.tokens f) (λ f. HasFailedBy c.args.names Sort.stmt (λ g. grammar g (statement (reverse c.args.loops.now.items))) c.args.room 0 c.args.tokens.now c.returned.new.tokens f) c.returned.result c.returned.ensures.failed
+    if_err (λ f. HasFailedBy c.args.names false Sort.stmt (λ g. behind_return) c.args.room 1 c.take_keyword-4.new.self c.returned.new.tokens f) (λ f. HasFailedBy c.args.names true Sort.stmt (λ g. grammar g (statement (reverse c.args.loops.now.items))) c.args.room 0 c.args.tokens.now c.returned.new.tokens f) c.returned.result c.returned.ensures.failed
     (λ f w. record {
       fails = λ g b. stayed_fails c.if-take_keyword.ensures (stayed_fails c.if-take_keyword-2.ensures (stayed_fails c.if-take_keyword-3.ensures (misses_fails (sym c.is_at_keyword.ensures ∙ c.if-is_at_keyword.false) (misses_fails (sym c.is_at_keyword-2.ensures ∙ c.if-is_at_keyword-2.false) (took_fails c.if-take_keyword-4.ensures refl (w.fails g b))))));
       stands = w.stands;
-      deep = λ h. stayed_deep c.if-take_keyword.ensures (stayed_deep c.if-take_keyword-2.ensures (stayed_deep c.if-take_keyword-3.ensures (misses_deep (sym c.is_at_keyword.ensures ∙ c.if-is_at_keyword.false) (misses_deep (sym c.is_at_keyword-2.ensures ∙ c.if-is_at_keyword-2.false) (took_deep c.if-take_keyword-4.ensures refl (w.deep h))))));
+      deep = λ h g ok. stayed_deepens c.if-take_keyword.ensures (stayed_deepens c.if-take_keyword-2.ensures (stayed_deepens c.if-take_keyword-3.ensures (misses_deepens (sym c.is_at_keyword.ensures ∙ c.if-is_at_keyword.false) (misses_deepens (sym c.is_at_keyword-2.ensures ∙ c.if-is_at_keyword-2.false) (took_deepens c.if-take_keyword-4.ensures refl (w.deep h g ok))))));
       long = λ h. let l = w.long h in omega (arith, l, c.if-take_keyword.ensures.at, c.if-take_keyword-2.ensures.at, c.if-take_keyword-3.ensures.at, c.if-take_keyword-4.ensures.at);
     })
 
@@ -247,11 +249,11 @@ statement-returns-then-take_keyword-5-clause-read t c =
 pub statement-returns-then-take_keyword-5-clause-failed : goal.statement-returns-then-take_keyword-5-clause-failed
 unfolding grammar
 statement-returns-then-take_keyword-5-clause-failed t c =
-    if_err (λ f. HasFailedBy c.args.names Sort.stmt (λ g. behind_try (reverse c.args.loops.now.items)) c.args.room 1 c.take_keyword-5.new.self c.attempt.new.tokens f) (λ f. HasFailedBy c.args.names Sort.stmt (λ g. grammar g (statement (reverse c.args.loops.now.items))) c.args.room 0 c.args.tokens.now c.attempt.new.tokens f) c.attempt.result c.attempt.ensures.failed
+    if_err (λ f. HasFailedBy c.args.names false Sort.stmt (λ g. behind_try (reverse c.args.loops.now.items)) c.args.room 1 c.take_keyword-5.new.self c.attempt.new.tokens f) (λ f. HasFailedBy c.args.names true Sort.stmt (λ g. grammar g (statement (reverse c.args.loops.now.items))) c.args.room 0 c.args.tokens.now c.attempt.new.tokens f) c.attempt.result c.attempt.ensures.failed
     (λ f w. record {
       fails = λ g b. stayed_fails c.if-take_keyword.ensures (stayed_fails c.if-take_keyword-2.ensures (stayed_fails c.if-take_keyword-3.ensures (misses_fails (sym c.is_at_keyword.ensures ∙ c.if-is_at_keyword.false) (misses_fails (sym c.is_at_keyword-2.ensures ∙ c.if-is_at_keyword-2.false) (stayed_fails c.if-take_keyword-4.ensures (took_fails c.if-take_keyword-5.ensures refl (w.fails g b)))))));
       stands = w.stands;
-      deep = λ h. stayed_deep c.if-take_keyword.ensures (stayed_deep c.if-take_keyword-2.ensures (stayed_deep c.if-take_keyword-3.ensures (misses_deep (sym c.is_at_keyword.ensures ∙ c.if-is_at_keyword.false) (misses_deep (sym c.is_at_keyword-2.ensures ∙ c.if-is_at_keyword-2.false) (stayed_deep c.if-take_keyword-4.ensures (took_deep c.if-take_keyword-5.ensures refl (w.deep h)))))));
+      deep = λ h g ok. stayed_deepens c.if-take_keyword.ensures (stayed_deepens c.if-take_keyword-2.ensures (stayed_deepens c.if-take_keyword-3.ensures (misses_deepens (sym c.is_at_keyword.ensures ∙ c.if-is_at_keyword.false) (misses_deepens (sym c.is_at_keyword-2.ensures ∙ c.if-is_at_keyword-2.false) (stayed_deepens c.if-take_keyword-4.ensures (took_deepens c.if-take_keyword-5.ensures refl (w.deep h g ok)))))));
       long = λ h. let l = w.long h in omega (arith, l, c.if-take_keyword.ensures.at, c.if-take_keyword-2.ensures.at, c.if-take_keyword-3.ensures.at, c.if-take_keyword-4.ensures.at, c.if-take_keyword-5.ensures.at);
     })
 
@@ -268,11 +270,11 @@ statement-returns-clause-read t c =
 pub statement-returns-clause-failed : goal.statement-returns-clause-failed
 unfolding grammar
 statement-returns-clause-failed t c =
-    if_err (λ f. HasFailedBy c.args.names Sort.stmt (λ g. performing) c.args.room 0 c.take_keyword-5.new.self c.performed.new.tokens f) (λ f. HasFailedBy c.args.names Sort.stmt (λ g. grammar g (statement (reverse c.args.loops.now.items))) c.args.room 0 c.args.tokens.now c.performed.new.tokens f) c.performed.result c.performed.ensures.failed
+    if_err (λ f. HasFailedBy c.args.names true Sort.stmt (λ g. performing) c.args.room 0 c.take_keyword-5.new.self c.performed.new.tokens f) (λ f. HasFailedBy c.args.names true Sort.stmt (λ g. grammar g (statement (reverse c.args.loops.now.items))) c.args.room 0 c.args.tokens.now c.performed.new.tokens f) c.performed.result c.performed.ensures.failed
     (λ f w. record {
       fails = λ g b. stayed_fails c.if-take_keyword.ensures (stayed_fails c.if-take_keyword-2.ensures (stayed_fails c.if-take_keyword-3.ensures (misses_fails (sym c.is_at_keyword.ensures ∙ c.if-is_at_keyword.false) (misses_fails (sym c.is_at_keyword-2.ensures ∙ c.if-is_at_keyword-2.false) (stayed_fails c.if-take_keyword-4.ensures (stayed_fails c.if-take_keyword-5.ensures (w.fails g b)))))));
       stands = w.stands;
-      deep = λ h. stayed_deep c.if-take_keyword.ensures (stayed_deep c.if-take_keyword-2.ensures (stayed_deep c.if-take_keyword-3.ensures (misses_deep (sym c.is_at_keyword.ensures ∙ c.if-is_at_keyword.false) (misses_deep (sym c.is_at_keyword-2.ensures ∙ c.if-is_at_keyword-2.false) (stayed_deep c.if-take_keyword-4.ensures (stayed_deep c.if-take_keyword-5.ensures (w.deep h)))))));
+      deep = λ h g ok. stayed_deepens c.if-take_keyword.ensures (stayed_deepens c.if-take_keyword-2.ensures (stayed_deepens c.if-take_keyword-3.ensures (misses_deepens (sym c.is_at_keyword.ensures ∙ c.if-is_at_keyword.false) (misses_deepens (sym c.is_at_keyword-2.ensures ∙ c.if-is_at_keyword-2.false) (stayed_deepens c.if-take_keyword-4.ensures (stayed_deepens c.if-take_keyword-5.ensures (w.deep h g ok)))))));
       long = λ h. let l = w.long h in omega (arith, l, c.if-take_keyword.ensures.at, c.if-take_keyword-2.ensures.at, c.if-take_keyword-3.ensures.at, c.if-take_keyword-4.ensures.at, c.if-take_keyword-5.ensures.at);
     })
 
@@ -280,7 +282,7 @@ pub branches-returns-in_err-room_below-clause-failed : goal.branches-returns-in_
 unfolding grammar
 branches-returns-in_err-room_below-clause-failed t c =
     let p = err_from_is_err_and c.from_residual.result c.from_residual.ensures.1 in
-    passed _ p.1 p.2 (too_high c.in_err-room_below.ensures.0 (no_statement_room c.in_err-room_below.ensures.1) (omega (arith, c.in_err-room_below.ensures.1)))
+    passed _ p.1 p.2 (too_high c.in_err-room_below.ensures.0 (λ g ok. at_once can_read (λ us. no_statement_room c.in_err-room_below.ensures.1)) (omega (arith, c.in_err-room_below.ensures.1)))
 
 pub branches-returns-in_err-condition-clause-failed : goal.branches-returns-in_err-condition-clause-failed
 unfolding grammar
@@ -290,7 +292,7 @@ branches-returns-in_err-condition-clause-failed t c =
     passed _ p.1 p.2 (record {
       fails = λ g b. phrase_fails (w.fails g b);
       stands = w.stands;
-      deep = λ h. phrase_deep (w.deep h) (λ a q b _ d _. ((λ x. omega (arith, q, c.in_ok-room_below.ensures)), tt));
+      deep = λ h g ok. at_any (phrase_deepens (w.deep h g ok) (λ a q b _ d _. ((λ x. omega (arith, q, c.in_ok-room_below.ensures)), tt)));
       long = λ h. let l = w.long h in omega (arith, l, c.in_ok-room_below.ensures);
     })
 
@@ -302,7 +304,7 @@ branches-returns-in_err-body-clause-failed t c =
     passed _ p.1 p.2 (record {
       fails = λ g b. then_fails (c.in_ok-condition.ensures.read.reads g (told_admits _ c.args.names g b)) (phrase_fails (w.fails g b));
       stands = w.stands;
-      deep = λ h. then_deep (c.in_ok-condition.ensures.read.reads (strict c.args.names) (admits_itself c.args.names)) (phrase_deep (w.deep h) (λ b q d _. ((λ x. omega (arith, q, c.in_ok-room_below.ensures)), tt)));
+      deep = λ h g ok. at_any (then_deepens (c.in_ok-condition.ensures.read.reads g ok) (phrase_deepens (w.deep h g ok) (λ b q d _. ((λ x. omega (arith, q, c.in_ok-room_below.ensures)), tt))));
       long = λ h. let l = w.long h in omega (arith, l, c.in_ok-condition.ensures.read.tokens, c.in_ok-room_below.ensures);
     })
 
@@ -314,7 +316,7 @@ branches-returns-in_err-further-clause-failed t c =
     passed _ p.1 p.2 (record {
       fails = λ g b. then_fails (c.in_ok-condition.ensures.read.reads g (told_admits _ c.args.names g b)) (then_fails (c.in_ok-body.ensures.read.reads g (told_admits _ c.args.names g b)) (phrase_fails (w.fails g b)));
       stands = w.stands;
-      deep = λ h. then_deep (c.in_ok-condition.ensures.read.reads (strict c.args.names) (admits_itself c.args.names)) (then_deep (c.in_ok-body.ensures.read.reads (strict c.args.names) (admits_itself c.args.names)) (phrase_deep (w.deep h) (λ d q. ((λ x. omega (arith, q, c.in_ok-room_below.ensures)), tt))));
+      deep = λ h g ok. at_any (then_deepens (c.in_ok-condition.ensures.read.reads g ok) (then_deepens (c.in_ok-body.ensures.read.reads g ok) (phrase_deepens (w.deep h g ok) (λ d q. ((λ x. omega (arith, q, c.in_ok-room_below.ensures)), tt)))));
       long = λ h. let l = w.long h in omega (arith, l, c.in_ok-condition.ensures.read.tokens, c.in_ok-body.ensures.read.tokens, c.in_ok-room_below.ensures);
     })
 
@@ -337,7 +339,7 @@ pub arms-loop-tokens-init : goal.arms-loop-tokens-init
 arms-loop-tokens-init t c = record {
   moves = search rules;
   loops = refl;
-  goes_on = rw c.new-found.ensures.items (record { reads = λ g a e r d. d; fails = λ g a r d. d; deep = λ n d. d });
+  goes_on = rw c.new-found.ensures.items (record { reads = λ g a e r d. d; fails = λ g a r d. d; deep = λ g ok n r d. d });
   fits = rw c.new-found.ensures.items (omega arith);
   tokens = rw c.new-found.ensures.items (omega arith);
 }
@@ -357,7 +359,7 @@ arms-loop-tokens-preserved t c =
       goes_on = rw c.in_ok-push.ensures.items (record {
         reads = λ g a b r d. rw (arms_before_push, rows) (i.goes_on.reads g a _ _ (took taken refl (reads (v.reads g a) (reads (s.reads g a) (reads d gives)))));
         fails = λ g a r d. i.goes_on.fails g a _ (took_fails taken refl (then_fails (v.reads g a) (then_fails (s.reads g a) (phrase_fails d))));
-        deep = λ n d. i.goes_on.deep n (took_deep taken refl (then_deep (v.reads (strict c.args.names) (admits_itself c.args.names)) (then_deep (s.reads (strict c.args.names) (admits_itself c.args.names)) (phrase_deep d (λ b q. omega (arith, q))))));
+        deep = λ g ok n r d. i.goes_on.deep g ok n r (took_deepens taken refl (then_deepens (v.reads g ok) (then_deepens (s.reads g ok) (phrase_deepens d (λ b q. omega (arith, q))))));
       });
       fits = rw c.in_ok-push.ensures.items (omega (arith, push, ap block_height rows, i.fits, v.fits, s.fits));
       tokens = rw c.in_ok-push.ensures.items (omega (arith, push, ap block_height rows, i.tokens, v.tokens, s.tokens, taken.at));
@@ -373,7 +375,7 @@ arms-returns-in_err-condition-clause-failed t c =
     passed _ p.1 p.2 (record {
       fails = λ g b. i.goes_on.fails g (told_admits _ c.args.names g b) _ (took_fails taken refl (phrase_fails (w.fails g b)));
       stands = w.stands;
-      deep = λ h. i.goes_on.deep _ (took_deep taken refl (phrase_deep (w.deep h) (λ a q b _ d _. omega (arith, q))));
+      deep = λ h g ok. i.goes_on.deep g ok _ _ (took_deepens taken refl (phrase_deepens (w.deep h g ok) (λ a q b _ d _. omega (arith, q))));
       long = λ h. let l = w.long h in omega (arith, l, i.moves.at, taken.at);
     })
 
@@ -387,7 +389,7 @@ arms-returns-in_err-body-clause-failed t c =
     passed _ p.1 p.2 (record {
       fails = λ g b. i.goes_on.fails g (told_admits _ c.args.names g b) _ (took_fails taken refl (then_fails (c.in_ok-condition.ensures.read.reads g (told_admits _ c.args.names g b)) (phrase_fails (w.fails g b))));
       stands = w.stands;
-      deep = λ h. i.goes_on.deep _ (took_deep taken refl (then_deep (c.in_ok-condition.ensures.read.reads (strict c.args.names) (admits_itself c.args.names)) (phrase_deep (w.deep h) (λ b q d _. omega (arith, q)))));
+      deep = λ h g ok. i.goes_on.deep g ok _ _ (took_deepens taken refl (then_deepens (c.in_ok-condition.ensures.read.reads g ok) (phrase_deepens (w.deep h g ok) (λ b q d _. omega (arith, q)))));
       long = λ h. let l = w.long h in omega (arith, l, i.moves.at, taken.at, c.in_ok-condition.ensures.read.tokens);
     })
 
@@ -418,7 +420,7 @@ arms-returns-in_err-last-clause-failed t c =
     passed _ p.1 p.2 (record {
       fails = λ g b. i.goes_on.fails g (told_admits _ c.args.names g b) _ (stayed_fails other (took_fails c.if-not-take_keyword.ensures refl (phrase_fails (w.fails g b))));
       stands = w.stands;
-      deep = λ h. i.goes_on.deep _ (stayed_deep other (took_deep c.if-not-take_keyword.ensures refl (phrase_deep (w.deep h) (λ b q. q))));
+      deep = λ h g ok. i.goes_on.deep g ok _ _ (stayed_deepens other (took_deepens c.if-not-take_keyword.ensures refl (phrase_deepens (w.deep h g ok) (λ b q. q))));
       long = λ h. let l = w.long h in omega (arith, l, i.moves.at, other.at, c.if-not-take_keyword.ensures.at);
     })
 
@@ -446,7 +448,7 @@ pub for_loop-returns-in_err-room_below-clause-failed : goal.for_loop-returns-in_
 unfolding grammar
 for_loop-returns-in_err-room_below-clause-failed t c =
     let p = err_from_is_err_and c.from_residual.result c.from_residual.ensures.1 in
-    passed _ p.1 p.2 (too_high c.in_err-room_below.ensures.0 (no_statement_room c.in_err-room_below.ensures.1) (omega (arith, c.in_err-room_below.ensures.1)))
+    passed _ p.1 p.2 (too_high c.in_err-room_below.ensures.0 (λ g ok. at_once (can_take (Name []) refl (can_take (Keyword In) refl (can_take (Sign LeftBracket) refl can_read))) (λ us. no_statement_room c.in_err-room_below.ensures.1)) (omega (arith, c.in_err-room_below.ensures.1)))
 
 pub for_loop-returns-in_err-name-clause-failed : goal.for_loop-returns-in_err-name-clause-failed
 unfolding grammar
@@ -482,11 +484,11 @@ pub for_loop-returns-then-take-clause-failed : goal.for_loop-returns-then-take-c
 unfolding grammar
 for_loop-returns-then-take-clause-failed t c =
     let k = rw c.in-Some.is at c.in_ok-name.ensures in
-    if_err (λ f. HasFailedBy c.args.names Sort.stmt (λ g. behind_range (reverse c.args.loops.now.items) c.in-Some.name) (c.in_ok-room_below.room_below + 1) 1 c.take.new.self c.for_range.new.tokens f) (λ f. HasFailedBy c.args.names Sort.stmt (λ g. behind_for (reverse c.args.loops.now.items)) c.args.room 1 c.args.tokens.now c.for_range.new.tokens f) c.for_range.result c.for_range.ensures.failed
+    if_err (λ f. HasFailedBy c.args.names true Sort.stmt (λ g. behind_range (reverse c.args.loops.now.items) c.in-Some.name) (c.in_ok-room_below.room_below + 1) 1 c.take.new.self c.for_range.new.tokens f) (λ f. HasFailedBy c.args.names false Sort.stmt (λ g. behind_for (reverse c.args.loops.now.items)) c.args.room 1 c.args.tokens.now c.for_range.new.tokens f) c.for_range.result c.for_range.ensures.failed
     (λ f w. record {
       fails = λ g b. took_fails k refl (took_fails c.in_ok-expect_keyword.ensures refl (took_fails c.if-take.ensures refl (w.fails g b)));
       stands = w.stands;
-      deep = λ h. took_deep k refl (took_deep c.in_ok-expect_keyword.ensures refl (took_deep c.if-take.ensures refl ((rw c.in_ok-room_below.ensures at (w.deep h)))));
+      deep = λ h g ok. at_any (took_deepens k refl (took_deepens c.in_ok-expect_keyword.ensures refl (took_deepens c.if-take.ensures refl ((rw c.in_ok-room_below.ensures at (w.deep h g ok))))));
       long = λ h. let l = w.long h in omega (arith, l, k.at, c.in_ok-expect_keyword.ensures.at, c.if-take.ensures.at, c.in_ok-room_below.ensures);
     })
 
@@ -499,7 +501,7 @@ for_loop-returns-in_err-list-clause-failed t c =
     passed _ p.1 p.2 (record {
       fails = λ g b. took_fails k refl (took_fails c.in_ok-expect_keyword.ensures refl (stayed_fails c.if-take.ensures (phrase_fails (w.fails g b))));
       stands = w.stands;
-      deep = λ h. took_deep k refl (took_deep c.in_ok-expect_keyword.ensures refl (stayed_deep c.if-take.ensures (phrase_deep (w.deep h) (λ a q b _. ((λ x. omega (arith, q, c.in_ok-room_below.ensures)), tt)))));
+      deep = λ h g ok. at_any (took_deepens k refl (took_deepens c.in_ok-expect_keyword.ensures refl (stayed_deepens c.if-take.ensures (phrase_deepens (w.deep h g ok) (λ a q b _. ((λ x. omega (arith, q, c.in_ok-room_below.ensures)), tt))))));
       long = λ h. let l = w.long h in omega (arith, l, k.at, c.in_ok-expect_keyword.ensures.at, c.if-take.ensures.at, c.in_ok-room_below.ensures);
     })
 
@@ -518,7 +520,7 @@ for_loop-returns-in_err-body-clause-failed t c =
     passed _ p.1 p.2 (record {
       fails = λ g b. took_fails k refl (took_fails c.in_ok-expect_keyword.ensures refl (stayed_fails c.if-take.ensures (then_fails (c.in_ok-list.ensures.read.reads g (told_admits _ c.args.names g b)) (phrase_fails (w.fails g b)))));
       stands = w.stands;
-      deep = λ h. took_deep k refl (took_deep c.in_ok-expect_keyword.ensures refl (stayed_deep c.if-take.ensures (then_deep (c.in_ok-list.ensures.read.reads (strict c.args.names) (admits_itself c.args.names)) (phrase_deep (w.deep h) (λ b q. ((λ x. omega (arith, q, c.in_ok-room_below.ensures)), tt))))));
+      deep = λ h g ok. at_any (took_deepens k refl (took_deepens c.in_ok-expect_keyword.ensures refl (stayed_deepens c.if-take.ensures (then_deepens (c.in_ok-list.ensures.read.reads g ok) (phrase_deepens (w.deep h g ok) (λ b q. ((λ x. omega (arith, q, c.in_ok-room_below.ensures)), tt)))))));
       long = λ h. let l = w.long h in omega (arith, l, k.at, c.in_ok-expect_keyword.ensures.at, c.if-take.ensures.at, c.in_ok-list.ensures.read.tokens, c.in_ok-room_below.ensures);
     })
 
@@ -547,7 +549,7 @@ for_range-returns-in_err-low-clause-failed t c =
     passed _ p.1 p.2 (record {
       fails = λ g b. phrase_fails (w.fails g b);
       stands = w.stands;
-      deep = λ h. phrase_deep (w.deep h) (λ a q. ((λ x b _. ((λ y d _. ((λ z. omega (arith, q)), tt)), tt)), tt));
+      deep = λ h g ok. phrase_deepens (w.deep h g ok) (λ a q. ((λ x b _. ((λ y d _. ((λ z. omega (arith, q)), tt)), tt)), tt));
       long = λ h. let l = w.long h in omega (arith, l);
     })
 
@@ -565,7 +567,7 @@ for_range-returns-in_err-high-clause-failed t c =
     passed _ p.1 p.2 (record {
       fails = λ g b. then_fails (c.in_ok-low.ensures.read.reads g (told_admits _ c.args.names g b)) (took_fails c.in_ok-expect.ensures refl (phrase_fails (w.fails g b)));
       stands = w.stands;
-      deep = λ h. then_deep (c.in_ok-low.ensures.read.reads (strict c.args.names) (admits_itself c.args.names)) (took_deep c.in_ok-expect.ensures refl (phrase_deep (w.deep h) (λ b q. ((λ y d _. ((λ z. omega (arith, q)), tt)), tt))));
+      deep = λ h g ok. then_deepens (c.in_ok-low.ensures.read.reads g ok) (took_deepens c.in_ok-expect.ensures refl (phrase_deepens (w.deep h g ok) (λ b q. ((λ y d _. ((λ z. omega (arith, q)), tt)), tt))));
       long = λ h. let l = w.long h in omega (arith, l, c.in_ok-low.ensures.read.tokens, c.in_ok-expect.ensures.at);
     })
 
@@ -589,7 +591,7 @@ for_range-returns-in_err-body-clause-failed t c =
     passed _ p.1 p.2 (record {
       fails = λ g b. then_fails (c.in_ok-low.ensures.read.reads g (told_admits _ c.args.names g b)) (took_fails c.in_ok-expect.ensures refl (then_fails (c.in_ok-high.ensures.read.reads g (told_admits _ c.args.names g b)) (took_fails c.in_ok-expect-2.ensures refl (phrase_fails (w.fails g b)))));
       stands = w.stands;
-      deep = λ h. then_deep (c.in_ok-low.ensures.read.reads (strict c.args.names) (admits_itself c.args.names)) (took_deep c.in_ok-expect.ensures refl (then_deep (c.in_ok-high.ensures.read.reads (strict c.args.names) (admits_itself c.args.names)) (took_deep c.in_ok-expect-2.ensures refl (phrase_deep (w.deep h) (λ b q. ((λ x. omega (arith, q)), tt))))));
+      deep = λ h g ok. then_deepens (c.in_ok-low.ensures.read.reads g ok) (took_deepens c.in_ok-expect.ensures refl (then_deepens (c.in_ok-high.ensures.read.reads g ok) (took_deepens c.in_ok-expect-2.ensures refl (phrase_deepens (w.deep h g ok) (λ b q. ((λ x. omega (arith, q)), tt))))));
       long = λ h. let l = w.long h in omega (arith, l, c.in_ok-low.ensures.read.tokens, c.in_ok-expect.ensures.at, c.in_ok-high.ensures.read.tokens, c.in_ok-expect-2.ensures.at);
     })
 
@@ -612,7 +614,7 @@ pub while_loop-returns-in_err-room_below-clause-failed : goal.while_loop-returns
 unfolding grammar
 while_loop-returns-in_err-room_below-clause-failed t c =
     let p = err_from_is_err_and c.from_residual.result c.from_residual.ensures.1 in
-    passed _ p.1 p.2 (too_high c.in_err-room_below.ensures.0 (no_statement_room c.in_err-room_below.ensures.1) (omega (arith, c.in_err-room_below.ensures.1)))
+    passed _ p.1 p.2 (too_high c.in_err-room_below.ensures.0 (λ g ok. at_once can_read (λ us. no_statement_room c.in_err-room_below.ensures.1)) (omega (arith, c.in_err-room_below.ensures.1)))
 
 pub while_loop-returns-in_err-name-clause-failed : goal.while_loop-returns-in_err-name-clause-failed
 unfolding grammar
@@ -628,7 +630,7 @@ while_loop-returns-in_err-condition-clause-failed t c =
     passed _ p.1 p.2 (record {
       fails = λ g b. then_fails (label_reads c.args.tokens.now c.take_name.new.self c.in_ok-name.name c.in_ok-name.ensures g) (phrase_fails (w.fails g b));
       stands = w.stands;
-      deep = λ h. then_deep (label_reads c.args.tokens.now c.take_name.new.self c.in_ok-name.name c.in_ok-name.ensures (strict c.args.names)) (phrase_deep (w.deep h) (λ a q b _. ((λ x. omega (arith, q, c.in_ok-room_below.ensures)), tt)));
+      deep = λ h g ok. at_any (then_deepens (label_reads c.args.tokens.now c.take_name.new.self c.in_ok-name.name c.in_ok-name.ensures g) (phrase_deepens (w.deep h g ok) (λ a q b _. ((λ x. omega (arith, q, c.in_ok-room_below.ensures)), tt))));
       long = λ h. let l = w.long h in omega (arith, l, label_at c.args.tokens.now c.take_name.new.self c.in_ok-name.name c.in_ok-name.ensures, c.in_ok-room_below.ensures);
     })
 
@@ -646,7 +648,7 @@ while_loop-returns-in_err-body-clause-failed t c =
     passed _ p.1 p.2 (record {
       fails = λ g b. then_fails (label_reads c.args.tokens.now c.take_name.new.self c.in_ok-name.name c.in_ok-name.ensures g) (then_fails (c.in_ok-condition.ensures.read.reads g (told_admits _ c.args.names g b)) (phrase_fails (w.fails g b)));
       stands = w.stands;
-      deep = λ h. then_deep (label_reads c.args.tokens.now c.take_name.new.self c.in_ok-name.name c.in_ok-name.ensures (strict c.args.names)) (then_deep (c.in_ok-condition.ensures.read.reads (strict c.args.names) (admits_itself c.args.names)) (phrase_deep (w.deep h) (λ b q. ((λ x. omega (arith, q, c.in_ok-room_below.ensures)), tt))));
+      deep = λ h g ok. at_any (then_deepens (label_reads c.args.tokens.now c.take_name.new.self c.in_ok-name.name c.in_ok-name.ensures g) (then_deepens (c.in_ok-condition.ensures.read.reads g ok) (phrase_deepens (w.deep h g ok) (λ b q. ((λ x. omega (arith, q, c.in_ok-room_below.ensures)), tt)))));
       long = λ h. let l = w.long h in omega (arith, l, label_at c.args.tokens.now c.take_name.new.self c.in_ok-name.name c.in_ok-name.ensures, c.in_ok-condition.ensures.read.tokens, c.in_ok-room_below.ensures);
     })
 
@@ -686,7 +688,7 @@ pub attempt-returns-in_err-room_below-clause-failed : goal.attempt-returns-in_er
 unfolding grammar
 attempt-returns-in_err-room_below-clause-failed t c =
     let p = err_from_is_err_and c.from_residual.result c.from_residual.ensures.1 in
-    passed _ p.1 p.2 (too_high c.in_err-room_below.ensures.0 (no_statement_room c.in_err-room_below.ensures.1) (omega (arith, c.in_err-room_below.ensures.1)))
+    passed _ p.1 p.2 (too_high c.in_err-room_below.ensures.0 (λ g ok. at_once can_read (λ us. no_statement_room c.in_err-room_below.ensures.1)) (omega (arith, c.in_err-room_below.ensures.1)))
 
 pub attempt-returns-in_err-body-clause-failed : goal.attempt-returns-in_err-body-clause-failed
 unfolding grammar
@@ -696,7 +698,7 @@ attempt-returns-in_err-body-clause-failed t c =
     passed _ p.1 p.2 (record {
       fails = λ g b. phrase_fails (w.fails g b);
       stands = w.stands;
-      deep = λ h. phrase_deep (w.deep h) (λ b q. ((λ x d _. ((λ y. omega (arith, q, c.in_ok-room_below.ensures)), tt)), λ h _. ((λ y. omega (arith, q, c.in_ok-room_below.ensures)), tt)));
+      deep = λ h g ok. at_any (phrase_deepens (w.deep h g ok) (λ b q. ((λ x d _. ((λ y. omega (arith, q, c.in_ok-room_below.ensures)), tt)), λ h _. ((λ y. omega (arith, q, c.in_ok-room_below.ensures)), tt))));
       long = λ h. let l = w.long h in omega (arith, l, c.in_ok-room_below.ensures);
     })
 
@@ -708,7 +710,7 @@ attempt-returns-in_err-cleanup-clause-failed t c =
     passed _ p.1 p.2 (record {
       fails = λ g b. then_fails (c.in_ok-body.ensures.read.reads g (told_admits _ c.args.names g b)) (took_fails c.if-take_keyword.ensures refl (phrase_fails (w.fails g b)));
       stands = w.stands;
-      deep = λ h. then_deep (c.in_ok-body.ensures.read.reads (strict c.args.names) (admits_itself c.args.names)) (took_deep c.if-take_keyword.ensures refl (phrase_deep (w.deep h) (λ d q. ((λ y. omega (arith, q, c.in_ok-room_below.ensures)), tt))));
+      deep = λ h g ok. at_any (then_deepens (c.in_ok-body.ensures.read.reads g ok) (took_deepens c.if-take_keyword.ensures refl (phrase_deepens (w.deep h g ok) (λ d q. ((λ y. omega (arith, q, c.in_ok-room_below.ensures)), tt)))));
       long = λ h. let l = w.long h in omega (arith, l, c.in_ok-body.ensures.read.tokens, c.if-take_keyword.ensures.at, c.in_ok-room_below.ensures);
     })
 
@@ -735,7 +737,7 @@ attempt-returns-in_err-handlers-clause-failed t c =
     passed _ p.1 p.2 (record {
       fails = λ g b. then_fails (c.in_ok-body.ensures.read.reads g (told_admits _ c.args.names g b)) (stayed_fails c.if-take_keyword.ensures (phrase_fails (w.fails g b)));
       stands = w.stands;
-      deep = λ h. then_deep (c.in_ok-body.ensures.read.reads (strict c.args.names) (admits_itself c.args.names)) (stayed_deep c.if-take_keyword.ensures (phrase_deep (w.deep h) (λ h q. ((λ y. omega (arith, q, c.in_ok-room_below.ensures)), tt))));
+      deep = λ h g ok. at_any (then_deepens (c.in_ok-body.ensures.read.reads g ok) (stayed_deepens c.if-take_keyword.ensures (phrase_deepens (w.deep h g ok) (λ h q. ((λ y. omega (arith, q, c.in_ok-room_below.ensures)), tt)))));
       long = λ h. let l = w.long h in omega (arith, l, c.in_ok-body.ensures.read.tokens, c.if-take_keyword.ensures.at, c.in_ok-room_below.ensures);
     })
 
@@ -758,7 +760,7 @@ pub handlers-loop-found-init : goal.handlers-loop-found-init
 handlers-loop-found-init t c = record {
   moves = search rules;
   loops = refl;
-  goes_on = rw c.new-found.ensures.items (record { reads = λ g a e r d. d; fails = λ g a r d. d; deep = λ n d. d });
+  goes_on = rw c.new-found.ensures.items (record { reads = λ g a e r d. d; fails = λ g a r d. d; deep = λ g ok n r d. d });
   fits = rw c.new-found.ensures.items (omega arith);
   tokens = rw c.new-found.ensures.items (omega arith);
 }
@@ -771,7 +773,7 @@ handlers-returns-in_err-next-clause-failed t c =
     passed _ p.1 p.2 (record {
       fails = λ g b. i.goes_on.fails g (told_admits _ c.args.names g b) _ (w.fails g b);
       stands = w.stands;
-      deep = λ h. i.goes_on.deep _ (w.deep h);
+      deep = λ h g ok. i.goes_on.deep g ok _ _ (w.deep h g ok);
       long = λ h. let l = w.long h in omega (arith, l, i.moves.at);
     })
 
@@ -793,7 +795,7 @@ handlers-loop-found-preserved t c =
       goes_on = rw c.in_ok-push.ensures.items (record {
         reads = λ g a b r d. rw handlers_before_push (i.goes_on.reads g a _ _ (h.leads.reads g a _ _ (sees at (reads d gives))));
         fails = λ g a r d. i.goes_on.fails g a _ (h.leads.fails g a _ (sees_fails at (phrase_fails d)));
-        deep = λ n d. i.goes_on.deep n (h.leads.deep n (sees_deep at (phrase_deep d (λ b q. omega (arith, q, with_handler_height c.in_ok-next.next b)))));
+        deep = λ g ok n r d. i.goes_on.deep g ok n r (h.leads.deep g ok n r (sees_deepens at (phrase_deepens d (λ b q. omega (arith, q, with_handler_height c.in_ok-next.next b)))));
       });
       fits = rw c.in_ok-push.ensures.items (omega (arith, push, i.fits, h.fits));
       tokens = rw c.in_ok-push.ensures.items (omega (arith, push, i.tokens, h.tokens));
@@ -838,15 +840,9 @@ handler-returns-in_err-caught-clause-failed t c =
     passed _ p.1 p.2 (record {
       fails = λ g b. took_fails c.in_ok-expect_keyword.ensures refl (then_fails (label_reads c.expect_keyword.new.self c.take_name.new.self c.in_ok-name.name c.in_ok-name.ensures g) (took_fails c.in_ok-expect.ensures refl (phrase_fails (w.fails g b))));
       stands = w.stands;
-      deep = λ h. took_deep c.in_ok-expect_keyword.ensures refl (then_deep (label_reads c.expect_keyword.new.self c.take_name.new.self c.in_ok-name.name c.in_ok-name.ensures (strict c.args.names)) (took_deep c.in_ok-expect.ensures refl (phrase_deep (w.deep h) (λ e q. ((λ x b _. ((λ h _. omega (arith, q)), omega (arith, q))), tt)))));
+      deep = λ h g ok. took_deepens c.in_ok-expect_keyword.ensures refl (then_deepens (label_reads c.expect_keyword.new.self c.take_name.new.self c.in_ok-name.name c.in_ok-name.ensures g) (took_deepens c.in_ok-expect.ensures refl (phrase_deepens (w.deep h g ok) (λ e q. ((λ x b _. ((λ h _. omega (arith, q)), omega (arith, q))), tt)))));
       long = λ h. let l = w.long h in omega (arith, l, c.in_ok-expect_keyword.ensures.at, label_at c.expect_keyword.new.self c.take_name.new.self c.in_ok-name.name c.in_ok-name.ensures, c.in_ok-expect.ensures.at);
     })
-
-pub handler-returns-then-caught-room-clause-failed : goal.handler-returns-then-caught-room-clause-failed
-unfolding grammar
-handler-returns-then-caught-room-clause-failed t c =
-    let high = c.if-caught-room.true in
-    too_high refl (took_deep c.in_ok-expect_keyword.ensures refl (then_deep (label_reads c.expect_keyword.new.self c.take_name.new.self c.in_ok-name.name c.in_ok-name.ensures (strict c.args.names)) (took_deep c.in_ok-expect.ensures refl (then_deep (c.in_ok-caught.ensures.read.reads (strict c.args.names) (admits_itself c.args.names)) (meets_deep ((λ x b _. ((λ h _. omega (arith, high, c.in_ok-caught.caught.in_step)), omega (arith, high, c.in_ok-caught.caught.in_step))), tt)))))) (omega (arith, c.in_ok-expect_keyword.ensures.at, label_at c.expect_keyword.new.self c.take_name.new.self c.in_ok-name.name c.in_ok-name.ensures, c.in_ok-expect.ensures.at, c.in_ok-caught.ensures.read.tokens, high, c.in_ok-caught.caught.in_step))
 
 pub handler-returns-in_err-expect-2-clause-failed : goal.handler-returns-in_err-expect-2-clause-failed
 unfolding grammar
@@ -862,7 +858,7 @@ handler-returns-in_err-body-clause-failed t c =
     passed _ p.1 p.2 (record {
       fails = λ g b. took_fails c.in_ok-expect_keyword.ensures refl (then_fails (label_reads c.expect_keyword.new.self c.take_name.new.self c.in_ok-name.name c.in_ok-name.ensures g) (took_fails c.in_ok-expect.ensures refl (then_fails (c.in_ok-caught.ensures.read.reads g (told_admits _ c.args.names g b)) (took_fails c.in_ok-expect-2.ensures refl (phrase_fails (w.fails g b))))));
       stands = w.stands;
-      deep = λ h. took_deep c.in_ok-expect_keyword.ensures refl (then_deep (label_reads c.expect_keyword.new.self c.take_name.new.self c.in_ok-name.name c.in_ok-name.ensures (strict c.args.names)) (took_deep c.in_ok-expect.ensures refl (then_deep (c.in_ok-caught.ensures.read.reads (strict c.args.names) (admits_itself c.args.names)) (took_deep c.in_ok-expect-2.ensures refl (phrase_deep (w.deep h) (λ b q. ((λ h _. omega (arith, q)), omega (arith, q))))))));
+      deep = λ h g ok. took_deepens c.in_ok-expect_keyword.ensures refl (then_deepens (label_reads c.expect_keyword.new.self c.take_name.new.self c.in_ok-name.name c.in_ok-name.ensures g) (took_deepens c.in_ok-expect.ensures refl (then_deepens (c.in_ok-caught.ensures.read.reads g ok) (took_deepens c.in_ok-expect-2.ensures refl (phrase_deepens (w.deep h g ok) (λ b q. ((λ h _. omega (arith, q)), omega (arith, q))))))));
       long = λ h. let l = w.long h in omega (arith, l, c.in_ok-expect_keyword.ensures.at, label_at c.expect_keyword.new.self c.take_name.new.self c.in_ok-name.name c.in_ok-name.ensures, c.in_ok-expect.ensures.at, c.in_ok-caught.ensures.read.tokens, c.in_ok-expect-2.ensures.at);
     })
 
@@ -874,9 +870,9 @@ handler-returns-in-Some-clause-read t c =
       leads = record {
         reads = λ g a e u d. took c.in_ok-expect_keyword.ensures refl (reads (label_reads c.expect_keyword.new.self c.take_name.new.self (Some c.in-Some.name) (rw c.in-Some.is at c.in_ok-name.ensures) g) (took c.in_ok-expect.ensures refl (reads (c.in_ok-caught.ensures.read.reads g a) (took c.in_ok-expect-2.ensures refl (reads (c.in_ok-body.ensures.read.reads g a) (rw rows at d))))));
         fails = λ g a u d. took_fails c.in_ok-expect_keyword.ensures refl (then_fails (label_reads c.expect_keyword.new.self c.take_name.new.self (Some c.in-Some.name) (rw c.in-Some.is at c.in_ok-name.ensures) g) (took_fails c.in_ok-expect.ensures refl (then_fails (c.in_ok-caught.ensures.read.reads g a) (took_fails c.in_ok-expect-2.ensures refl (then_fails (c.in_ok-body.ensures.read.reads g a) (rw rows at d))))));
-        deep = λ n d. took_deep c.in_ok-expect_keyword.ensures refl (then_deep (label_reads c.expect_keyword.new.self c.take_name.new.self (Some c.in-Some.name) (rw c.in-Some.is at c.in_ok-name.ensures) (strict c.args.names)) (took_deep c.in_ok-expect.ensures refl (then_deep (c.in_ok-caught.ensures.read.reads (strict c.args.names) (admits_itself c.args.names)) (took_deep c.in_ok-expect-2.ensures refl (then_deep (c.in_ok-body.ensures.read.reads (strict c.args.names) (admits_itself c.args.names)) (rw rows at d))))));
+        deep = λ g ok n r d. took_deepens c.in_ok-expect_keyword.ensures refl (then_deepens (label_reads c.expect_keyword.new.self c.take_name.new.self (Some c.in-Some.name) (rw c.in-Some.is at c.in_ok-name.ensures) g) (took_deepens c.in_ok-expect.ensures refl (then_deepens (c.in_ok-caught.ensures.read.reads g ok) (took_deepens c.in_ok-expect-2.ensures refl (then_deepens (c.in_ok-body.ensures.read.reads g ok) (rw rows at d))))));
       };
-      fits = omega (arith, c.in_ok-body.ensures.read.fits, c.if-caught-room.false, c.in_ok-caught.caught.in_step, ap block_height rows);
+      fits = omega (arith, c.in_ok-body.ensures.read.fits, c.in_ok-caught.ensures.read.fits, ap block_height rows);
       tokens = omega (arith, c.in_ok-expect_keyword.ensures.at, label_at c.expect_keyword.new.self c.take_name.new.self (Some c.in-Some.name) (rw c.in-Some.is at c.in_ok-name.ensures), c.in_ok-expect.ensures.at, c.in_ok-caught.ensures.read.tokens, c.in_ok-expect-2.ensures.at, c.in_ok-body.ensures.read.tokens, ap block_height rows);
     }
 
@@ -888,8 +884,8 @@ handler-returns-in-None-clause-read t c =
       leads = record {
         reads = λ g a e u d. took c.in_ok-expect_keyword.ensures refl (reads (label_reads c.expect_keyword.new.self c.take_name.new.self None (rw c.in-None.is at c.in_ok-name.ensures) g) (took c.in_ok-expect.ensures refl (reads (c.in_ok-caught.ensures.read.reads g a) (took c.in_ok-expect-2.ensures refl (reads (c.in_ok-body.ensures.read.reads g a) (rw rows at d))))));
         fails = λ g a u d. took_fails c.in_ok-expect_keyword.ensures refl (then_fails (label_reads c.expect_keyword.new.self c.take_name.new.self None (rw c.in-None.is at c.in_ok-name.ensures) g) (took_fails c.in_ok-expect.ensures refl (then_fails (c.in_ok-caught.ensures.read.reads g a) (took_fails c.in_ok-expect-2.ensures refl (then_fails (c.in_ok-body.ensures.read.reads g a) (rw rows at d))))));
-        deep = λ n d. took_deep c.in_ok-expect_keyword.ensures refl (then_deep (label_reads c.expect_keyword.new.self c.take_name.new.self None (rw c.in-None.is at c.in_ok-name.ensures) (strict c.args.names)) (took_deep c.in_ok-expect.ensures refl (then_deep (c.in_ok-caught.ensures.read.reads (strict c.args.names) (admits_itself c.args.names)) (took_deep c.in_ok-expect-2.ensures refl (then_deep (c.in_ok-body.ensures.read.reads (strict c.args.names) (admits_itself c.args.names)) (rw rows at d))))));
+        deep = λ g ok n r d. took_deepens c.in_ok-expect_keyword.ensures refl (then_deepens (label_reads c.expect_keyword.new.self c.take_name.new.self None (rw c.in-None.is at c.in_ok-name.ensures) g) (took_deepens c.in_ok-expect.ensures refl (then_deepens (c.in_ok-caught.ensures.read.reads g ok) (took_deepens c.in_ok-expect-2.ensures refl (then_deepens (c.in_ok-body.ensures.read.reads g ok) (rw rows at d))))));
       };
-      fits = omega (arith, c.in_ok-body.ensures.read.fits, c.if-caught-room.false, c.in_ok-caught.caught.in_step, ap block_height rows);
+      fits = omega (arith, c.in_ok-body.ensures.read.fits, c.in_ok-caught.ensures.read.fits, ap block_height rows);
       tokens = omega (arith, c.in_ok-expect_keyword.ensures.at, label_at c.expect_keyword.new.self c.take_name.new.self None (rw c.in-None.is at c.in_ok-name.ensures), c.in_ok-expect.ensures.at, c.in_ok-caught.ensures.read.tokens, c.in_ok-expect-2.ensures.at, c.in_ok-body.ensures.read.tokens, ap block_height rows);
     }

@@ -2,8 +2,8 @@ use Rattle.std.proofs.Common.{refl, arith}
 use Rattle.std.proofs.lemmas.Result.{err_from_is_err_and}
 use Rattle.moo_grammar.specs.Machine.{gives, reads, refuses, phrase_fails, then_fails}
 use Rattle.moo_grammar.specs.Predictive.{grammar}
-use Rattle.moo_grammar.proofs.Depths.{phrase_deep}
-use Rattle.moo_expression.proofs.Steps.{took, took_fails, took_deep, stayed_fails, passed, refused}
+use Rattle.moo_expression.proofs.Deepening.{phrase_deepens}
+use Rattle.moo_expression.proofs.Steps.{took, took_fails, took_deepens, stayed_fails, passed, refused}
 use Rattle.moo_syntax.proofs.statement.in_parens.Goals as goal
 
 pub returns-in_err-expect-clause-failed : goal.returns-in_err-expect-clause-failed
@@ -20,7 +20,7 @@ returns-in_err-inner-clause-failed c =
     passed _ p.1 p.2 (record {
       fails = λ g b. took_fails c.in_ok-expect.ensures refl (phrase_fails (w.fails g b));
       stands = w.stands;
-      deep = λ h. took_deep c.in_ok-expect.ensures refl (phrase_deep (w.deep h) (λ a q. ((λ x. q), tt)));
+      deep = λ h g ok. took_deepens c.in_ok-expect.ensures refl (phrase_deepens (w.deep h g ok) (λ a q. ((λ x. q), tt)));
       long = λ h. let l = w.long h in omega (arith, l, c.in_ok-expect.ensures.at);
     })
 

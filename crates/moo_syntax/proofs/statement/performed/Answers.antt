@@ -1,10 +1,10 @@
 use Rattle.std.proofs.Common.{refl, arith}
 use Rattle.std.proofs.lemmas.Result.{err_from_is_err_and}
-use Rattle.moo_grammar.specs.Rules.{strict}
 use Rattle.moo_grammar.specs.Machine.{gives, reads, refuses, phrase_fails, then_fails}
 use Rattle.moo_grammar.specs.Predictive.{grammar}
-use Rattle.moo_grammar.proofs.Depths.{then_deep, phrase_deep, meets_deep}
-use Rattle.moo_expression.proofs.Steps.{took, took_deep, stayed_fails, admits_itself, passed, refused, too_high}
+use Rattle.moo_expression.specs.Outgrown.{can_give}
+use Rattle.moo_expression.proofs.Deepening.{then_deepens, phrase_deepens, meets_at_once}
+use Rattle.moo_expression.proofs.Steps.{took, took_deepens, stayed_fails, passed, refused, too_high}
 use Rattle.moo_syntax.proofs.statement.performed.Goals as goal
 
 pub returns-in_err-value-clause-failed : goal.returns-in_err-value-clause-failed
@@ -15,7 +15,7 @@ returns-in_err-value-clause-failed c =
     passed _ p.1 p.2 (record {
       fails = λ g b. phrase_fails (w.fails g b);
       stands = w.stands;
-      deep = λ h. phrase_deep (w.deep h) (λ a q. ((λ x. omega (arith, q)), tt));
+      deep = λ h g ok. phrase_deepens (w.deep h g ok) (λ a q. ((λ x. omega (arith, q)), tt));
       long = λ h. let l = w.long h in omega (arith, l);
     })
 
@@ -28,7 +28,7 @@ returns-in_err-expect-clause-failed c =
 pub returns-then-value-room-clause-failed : goal.returns-then-value-room-clause-failed
 unfolding grammar
 returns-then-value-room-clause-failed c =
-    too_high refl (then_deep (c.in_ok-value.ensures.read.reads (strict c.args.names) (admits_itself c.args.names)) (took_deep c.in_ok-expect.ensures refl (meets_deep (omega (arith, c.if-value-room.true, c.in_ok-value.value.in_step))))) (omega (arith, c.in_ok-value.ensures.read.tokens, c.in_ok-expect.ensures.at, c.if-value-room.true, c.in_ok-value.value.in_step))
+    too_high refl (λ g ok. then_deepens (c.in_ok-value.ensures.read.reads g ok) (took_deepens c.in_ok-expect.ensures refl (meets_at_once can_give (omega (arith, c.if-value-room.true, c.in_ok-value.value.in_step))))) (omega (arith, c.in_ok-value.ensures.read.tokens, c.in_ok-expect.ensures.at, c.if-value-room.true, c.in_ok-value.value.in_step))
 
 pub returns-clause-read : goal.returns-clause-read
 unfolding grammar

@@ -1,6 +1,6 @@
-//! Readers and writers that fail, databases that are refused, what is shown and logged.
+//! Readers and writers that fail, and what is logged.
 
-use crate::scripts::playing::{LARGER, SMALL, play, run};
+use crate::scripts::playing::{LARGER, SMALL, play};
 use crate::scripts::streams::{Paper, Source};
 use log::sink::Memory;
 use std::io::ErrorKind;
@@ -54,29 +54,6 @@ fn a_writer_may_fail(rt: HostRuntime) -> Result<(), Fail> {
         );
         assert_eq!(rt; status, 3);
     }
-    Ok(())
-}
-
-#[test]
-fn a_database_is_shown_or_refused(rt: HostRuntime) -> Result<(), Fail> {
-    let (printed, status) = run(rt.alloc(), &SMALL[..311], b"open 1\n");
-    assert_eq!(rt;
-        str::from_utf8(&printed).unwrap_or(""),
-        "line 73: Truncated\n"
-    );
-    assert_eq!(rt; status, 1);
-    let (printed, status) = run(rt.alloc(), SMALL, b"show\n");
-    assert_eq!(rt; printed.as_slice(), SMALL);
-    assert_eq!(rt; status, 0);
-    let script = "open 1\nline 1 ;dump_database();\nflush\nflush\nflush\nflush\nflush\nshow\n";
-    let (printed, status) = run(rt.alloc(), LARGER, script.as_bytes());
-    let text = str::from_utf8(LARGER).unwrap_or("");
-    let (front, _) = text.split_once("0 active").unwrap_or(("", ""));
-    let shown = format!(in rt.alloc();
-        "1: *** Connected ***\n1: {{1, 0}}\n{front}1 active connections with listeners\n3 0\n"
-    )?;
-    assert_eq!(rt; str::from_utf8(&printed).unwrap_or(""), shown.as_str());
-    assert_eq!(rt; status, 0);
     Ok(())
 }
 

@@ -6,7 +6,6 @@ use log::sink::Memory;
 use moo_script::run_script;
 use moo_server::LiveWorld;
 use std::alloc::Global;
-use std::test::Fail;
 
 /// A wizard, #3, in a room, #2. Who opens a connection is #3.
 pub const SMALL: &[u8] =
@@ -15,43 +14,6 @@ pub const SMALL: &[u8] =
 /// The same with a verb of the wizard's that evaluates what is typed behind a semicolon.
 pub const LARGER: &[u8] =
     b"** LambdaMOO Database, Format Version 4 **\n4\n2\n0\n1\n3\n#0\nSystem Object\n\n16\n3\n-1\n-1\n-1\n1\n-1\n2\n1\ndo_login_command\n3\n173\n-1\n0\n0\n#1\nRoot Class\n\n16\n3\n-1\n-1\n-1\n-1\n0\n-1\n0\n0\n0\n#2\nThe First Room\n\n0\n3\n-1\n3\n-1\n1\n-1\n3\n0\n0\n0\n#3\nWizard\n\n7\n3\n2\n-1\n-1\n1\n-1\n-1\n1\neval\n3\n93\n-2\n0\n0\n#0:0\nreturn #3;\n.\n#3:0\nnotify(player, toliteral(eval(argstr)));\n.\n0 clocks\n0 queued tasks\n0 suspended tasks\n0 active connections with listeners\n";
-
-/// The scripts of the rows again, each with what it prints over this database.
-pub fn played(alloc: Global, database: &[u8], rows: &str) -> Result<Vec<u8>, Fail> {
-    let mut script = Vec::new(alloc);
-    let mut told = Vec::new(alloc);
-    for row in rows.lines() {
-        if row.starts_with(">> ") {
-            let (printed, status) = run(alloc, database, &script);
-            told.extend_from_slice(&printed)?;
-            add_line(&mut told, format!(in alloc; ">> {status}")?.as_bytes())?;
-            script = Vec::new(alloc);
-        } else if let Some(line) = row.strip_prefix("> ") {
-            add_line(&mut told, row.as_bytes())?;
-            add_line(&mut script, line.as_bytes())?;
-        }
-    }
-    Ok(told)
-}
-
-fn add_line(told: &mut Vec<u8>, line: &[u8]) -> Result<(), Fail> {
-    told.extend_from_slice(line)?;
-    told.push(b'\n')?;
-    Ok(())
-}
-
-/// Plays a script, and answers what it prints and its status.
-pub fn run(alloc: Global, database: &[u8], script: &[u8]) -> (Vec<u8>, u8) {
-    let mut printed = Paper::new(alloc, usize::MAX);
-    let status = play(
-        alloc,
-        &Memory::new(alloc),
-        Source::whole(database),
-        Source::whole(script),
-        &mut printed,
-    );
-    (printed.written, status)
-}
 
 /// Plays a script, and answers its status.
 pub fn play(

@@ -1,0 +1,179 @@
+#!/usr/bin/env python3
+"""What `moo serve` prints, logs and answers, and what its clients see, byte by byte: python3 test.py [MOO-COMMAND]. It says nothing where all is as
+wanted, else which row isn't, with what was seen, and ends with status 1. Each row is over a new database, `start.db` beside this file: everyone
+who connects is the wizard, whose verb `eval` runs what follows a semicolon."""
+
+import os
+import pathlib
+import re
+import shutil
+import subprocess
+import sys
+import tempfile
+
+from served import FILE, HERE, Server, Unlike, reset, rest, same, sees, sees_last, starting
+
+MOO = os.path.abspath(sys.argv[1] if len(sys.argv) > 1 else HERE.parent.parent / "moo")
+LISTENS = "listening on 127.0.0.1:PORT\n"
+BEGUN = "[INFO  moo] listening on 127.0.0.1:PORT over programs.db\n"
+GREETING = b"*** Connected ***\r\n"
+LOOKED = b"I couldn't understand that.\r\n"
+LAST = b"*** Shutting down ***\r\n"
+
+# Where the clock stands, one behind the other, and the time of the world then.
+CLOCKS = [(2_000_000_000, 2_000_000_000), (1_500_000_000, 2_000_000_000), (2_000_000_005, 2_000_000_005)]
+
+# Sends 200 lines of 65,536 letters to the one who types it, and tells the log.
+BIG = b';s = "x"; for i in [1..16] s = s + s; endfor for i in [1..200] notify(player, s); endfor server_log("told");'
+BIG_SIZE = 200 * 65_538
+
+
+def block(folder):
+    """A folder has the name of the file of a checkpoint that is being written."""
+    (folder / (FILE + ".new")).mkdir()
+
+
+# What the world runs as it is begun, what else stands there, the options; what is printed, what is logged, the status.
+PROGRAMS = [
+    ('server_log("up");', {}, ["--rounds", "1"], LISTENS, BEGUN + "[INFO  moo] up\n", 0),
+    ("dump_database();", {}, ["--rounds", "5"], LISTENS, BEGUN + "[INFO  moo] checkpoint done: 453 bytes\n", 0),
+    ("dump_database();", {"before": block}, ["--rounds", "1"], LISTENS,
+     BEGUN + "[WARN  moo] checkpoint failed: HERE/programs.db.new: Is a directory (os error 21)\n", 0),
+    ("shutdown();", {}, ["--rounds", "1000000000"], LISTENS, BEGUN + "[INFO  moo] checkpoint done: 448 bytes\n", 0),
+    ("return 0;", {"is_taken": True}, ["--rounds", "1"], "refused: Device\n",
+     "[WARN  moo] 127.0.0.1:PORT: Address already in use (os error 98)\n", 3),
+    ("return 2.5;", {}, ["--rounds", "1"], "line 78: Program #0:1 line 1 BadToken\n",
+     "[WARN  moo] programs.db: line 78: Program #0:1 line 1 BadToken\n", 1),
+]
+
+# The database's text, or no file; what is printed, what is logged, the status.
+DATABASES = [
+    ("** LambdaMOO Database, Format Version 4 **\n4\n", "line 3: Truncated\n", "[WARN  moo] programs.db: line 3: Truncated\n", 1),
+    (None, "refused: Device\n", "[WARN  moo] programs.db: No such file or directory (os error 2)\n", 3),
+]
+
+
+def a_world_is_served(program, found, options, *wanted):
+    with Server(MOO, starting(program), *options, **found) as server:
+        server.is_over(*wanted)
+
+
+def a_database_is_refused(text, *wanted):
+    with Server(MOO, text, "--rounds", "1") as server:
+        server.is_over(*wanted)
+
+
+def a_client_looks_and_is_redirected():
+    with Server(MOO, starting("return 0;")) as server:
+        client = server.connect()
+        client.sendall(b"look\r\n")
+        sees(client, GREETING + LOOKED)
+        other = server.connect()
+        sees_last(client, b"*** Redirecting connection to new port ***\r\n")
+        other.sendall(b"look\r\n;shutdown();\r\n")
+        sees_last(other, b"*** Redirecting old connection to this port ***\r\n" + LOOKED + LAST)
+        server.is_over(LISTENS, BEGUN + "[INFO  moo] checkpoint done: 446 bytes\n")
+
+
+def output_waits_until_it_is_read():
+    """All lines, then the one that tells that it is disconnected, and then the end: one who is leaving is closed behind the last byte."""
+    with Server(MOO, starting("return 0;")) as server:
+        client = server.connect()
+        client.sendall(BIG + b"boot_player(player);\n")
+        server.wait("logged", r"\[INFO  moo\] told")
+        sees_last(client, GREETING + 200 * (65_536 * b"x" + b"\r\n") + b"*** Disconnected ***\r\n")
+        same("logged", server.read("logged"), BEGUN + "[INFO  moo] told\n")
+
+
+def one_who_never_reads_is_hung_up():
+    with Server(MOO, starting("return 0;"), "--most-waiting", "1000000") as server:
+        client = server.connect()
+        client.sendall(BIG + b"boot_player(player);\n")
+        server.wait("logged", r"\[INFO  moo\] told")
+        logged = server.read("logged")
+        same("logged", re.sub(r"up: \d{7,8} bytes", "up: MANY bytes", logged),
+             BEGUN + "[WARN  moo] connection 0 is hung up: MANY bytes wait for it\n[INFO  moo] told\n")
+        # What the system had taken, and then the end.
+        waiting = int(re.search(r"up: (\d+) bytes", logged)[1])
+        same("bytes", len(rest(client)) + waiting, len(GREETING) + BIG_SIZE + len(b"*** Disconnected ***\r\n"))
+        other = server.connect()
+        other.sendall(b";shutdown();\n")
+        sees_last(other, GREETING + LAST)
+
+
+def the_next_one_under_a_number_starts_clean():
+    """The first one leaves behind half a line, and output that waits. The log tells the number of who comes."""
+    hooks = ('set_verb_code(#0, "do_login_command", {"server_log(tostr(player)); return #3;"});\n'
+             'add_verb(#0, {#3, "rxd", "user_client_disconnected"}, {"this", "none", "this"});\n'
+             'set_verb_code(#0, "user_client_disconnected", {"server_log(\\"left\\");"});')
+    with Server(MOO, starting(hooks)) as server:
+        first = server.connect()
+        first.sendall(b"look\nlook\n" + BIG + b"\nhalf a line")
+        server.wait("logged", r"\[INFO  moo\] told")
+        reset(first)
+        server.wait("logged", r"\[INFO  moo\] left")
+        client = server.connect()
+        client.sendall(b"\n;shutdown();\n")
+        sees_last(client, GREETING + LAST)
+        told = ["#-2", "told", "left", "#-2", "checkpoint done: 761 bytes"]
+        server.is_over(LISTENS, BEGUN + "".join(f"[INFO  moo] {line}\n" for line in told))
+
+
+def a_clock_that_is_set_back_is_not_told():
+    """What the world takes for the time: the last moment that was told stands until the clock has passed it. A clock is made by a C compiler; where
+    there is none, this row isn't shown."""
+    compiler = next(filter(None, map(shutil.which, ["cc", "gcc", "clang"])), None)
+    if compiler is None:
+        print("a_clock_that_is_set_back_is_not_told: not shown, for want of a C compiler")
+        return
+    with tempfile.TemporaryDirectory() as room:
+        clock, library = pathlib.Path(room, "clock"), pathlib.Path(room, "clock.so")
+        subprocess.run([compiler, "-shared", "-fPIC", "-o", library, HERE / "clock.c"], check=True)
+        clock.write_text("1900000000")
+        with Server(MOO, starting("return 0;"), environ={"LD_PRELOAD": str(library), "CLOCK": str(clock)}) as server:
+            client = server.connect()
+            sees(client, GREETING)
+            for stands, told in CLOCKS:
+                (clock.parent / "next").write_text(str(stands))
+                (clock.parent / "next").replace(clock)
+                # The round that answers this tells the new moment.
+                client.sendall(b"look\n")
+                sees(client, LOOKED)
+                client.sendall(b";return time();\n")
+                sees(client, b"{1, %d}\r\n" % told)
+
+
+def a_shutdown_is_written_and_the_server_closes():
+    with Server(MOO, starting("return 0;")) as server:
+        client = server.connect()
+        client.sendall(b';#2.name = "A Hall"; shutdown();\n')
+        sees_last(client, GREETING + LAST)
+        server.is_over(LISTENS, BEGUN + "[INFO  moo] checkpoint done: 438 bytes\n")
+        same("database", (server.folder / FILE).read_text(), starting("return 0;").replace("The First Room", "A Hall"))
+
+
+ROWS = [
+    *((a_world_is_served, row) for row in PROGRAMS),
+    *((a_database_is_refused, row) for row in DATABASES),
+    (a_client_looks_and_is_redirected, ()),
+    (output_waits_until_it_is_read, ()),
+    (one_who_never_reads_is_hung_up, ()),
+    (the_next_one_under_a_number_starts_clean, ()),
+    (a_clock_that_is_set_back_is_not_told, ()),
+    (a_shutdown_is_written_and_the_server_closes, ()),
+]
+
+
+def main():
+    failed = False
+    for show, row in ROWS:
+        try:
+            show(*row)
+        except (Unlike, OSError, subprocess.SubprocessError) as fault:
+            print(show.__name__, *map(repr, row[:1]), str(fault)[:3000], sep=": ")
+            failed = True
+    return failed
+
+
+if __name__ == "__main__":
+    sys.exit(main())

@@ -1,5 +1,5 @@
-//! Databases line by line, in pieces, cut and damaged, disks and checkpoints, and what is recovered from disks: tests
-//! alone, in a crate of their own, so that the crates that they are about are proved once.
+//! Databases in pieces and damaged, disks and checkpoints, and what is recovered from disks: tests alone, in a crate of their
+//! own, so that the crates that they are about are proved once.
 #![tactic(auto)]
 
 #[cfg(test)]
@@ -13,16 +13,8 @@ mod databases;
 #[cfg(test)]
 mod disks;
 #[cfg(test)]
-mod fields;
-#[cfg(test)]
-mod hierarchies;
-#[cfg(test)]
-mod lines;
-#[cfg(test)]
 mod pieces;
 #[cfg(test)]
 mod records;
 #[cfg(test)]
 mod recovering;
-#[cfg(test)]
-mod values;

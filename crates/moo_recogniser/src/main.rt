@@ -1,0 +1,22 @@
+//! What the parser makes of texts and lists of tokens: prints each row of its input, and behind it what it comes to.
+#![tactic(auto)]
+
+mod exploring;
+mod listings;
+mod recogniser;
+mod rows;
+mod rules;
+mod statement_rules;
+
+use rows::answer;
+use std::io::{self, Write};
+
+fn main(rt: HostRuntime) -> io::Result<()> {
+    for row in rt.lines(rt.alloc()) {
+        let row = row?;
+        let mut told = Vec::from_slice(rt.alloc(), b"> ")?;
+        answer(rt.alloc(), row.as_str(), &mut told)?;
+        io::writer(&rt).write_all(&told)?;
+    }
+    Ok(())
+}

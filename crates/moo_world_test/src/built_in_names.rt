@@ -1,12 +1,12 @@
 // A property of a built-in name: no call makes one, but a database may have it. Look-ups find the built-in one, calls on
 // properties find none, and its cells stand in rows and go where others go.
-use crate::script::first_wrong;
+use crate::script::stand_on;
 use moo_load::read_db;
 use std::test::Fail;
 
 // A thing that defines `R`, 7, and `size`, 8, and a child of it with 9 in its own cell of `R`.
-const NAMED_BUILT_IN: &[u8] =
-    b"** LambdaMOO Database, Format Version 4 **\n2\n0\n0\n0\n#0\nThing\n\n0\n0\n-1\n-1\n-1\n-1\n1\n-1\n0\n2\nR\nsize\n2\n0\n7\n0\n5\n0\n8\n0\n5\n#1\nChild\n\n0\n0\n-1\n-1\n-1\n0\n-1\n-1\n0\n0\n2\n0\n9\n0\n5\n5\n0\n5\n0 clocks\n0 queued tasks\n0 suspended tasks\n0 active connections with listeners\n";
+const NAMED_BUILT_IN: &str =
+    "** LambdaMOO Database, Format Version 4 **\n2\n0\n0\n0\n#0\nThing\n\n0\n0\n-1\n-1\n-1\n-1\n1\n-1\n0\n2\nR\nsize\n2\n0\n7\n0\n5\n0\n8\n0\n5\n#1\nChild\n\n0\n0\n-1\n-1\n-1\n0\n-1\n-1\n0\n0\n2\n0\n9\n0\n5\n5\n0\n5\n0 clocks\n0 queued tasks\n0 suspended tasks\n0 active connections with listeners\n";
 
 const ROWS: &str = r#"
 get #0 "r" = 0
@@ -36,9 +36,8 @@ get #1 "size" = E_PROPNF
 #[test]
 fn a_property_of_a_built_in_name(rt: HostRuntime) -> Result<(), Fail> {
     let alloc = rt.alloc();
-    let Ok(mut saved) = read_db(alloc, NAMED_BUILT_IN) else {
-        return Err("the database is refused".into());
+    let Ok(mut saved) = read_db(alloc, NAMED_BUILT_IN.as_bytes()) else {
+        return Err(Fail::from("the database is refused"));
     };
-    assert_eq!(rt; first_wrong(&mut saved.world, alloc, ROWS)?, None);
-    Ok(())
+    stand_on(&mut saved.world, alloc, ROWS)
 }

@@ -1,7 +1,7 @@
 // What is refused because there would be too many: the calls' last raise.
 use crate::args::{NO_VERB_PERMS, string};
 use crate::calls::{NO_COMMAND, no_statements};
-use crate::script::first_wrong;
+use crate::script::stand_on;
 use moo_grammar::Program;
 use moo_world::{MOST, World, WorldFault};
 use std::alloc::Global;
@@ -49,14 +49,15 @@ recycle #1 = 0
 try_set_program #0 999999 = 0
 "#;
 
+fn past_all_programs(world: &mut World, alloc: Global) -> Result<(), Fail> {
+    stand_on(world, alloc, TWO_OBJECTS)?;
+    add_all_programs(world, alloc, 0, &no_statements(alloc)?)?;
+    stand_on(world, alloc, VERBS_AND_PROGRAMS)
+}
+
 #[test]
 fn verbs_and_programs(rt: HostRuntime) -> Result<(), Fail> {
-    let alloc = rt.alloc();
-    let mut world = World::empty(alloc);
-    assert_eq!(rt; first_wrong(&mut world, alloc, TWO_OBJECTS)?, None);
-    add_all_programs(&mut world, alloc, 0, &no_statements(alloc)?)?;
-    assert_eq!(rt; first_wrong(&mut world, alloc, VERBS_AND_PROGRAMS)?, None);
-    Ok(())
+    past_all_programs(&mut World::empty(rt.alloc()), rt.alloc())
 }
 
 fn add_all_objects(world: &mut World, alloc: Global) -> Result<(), WorldFault> {
@@ -75,11 +76,12 @@ recycle #999999 = 0
 create #0 #3 = E_QUOTA
 "#;
 
+fn past_all_objects(world: &mut World, alloc: Global) -> Result<(), Fail> {
+    add_all_objects(world, alloc)?;
+    stand_on(world, alloc, NUMBERS)
+}
+
 #[test]
 fn numbers(rt: HostRuntime) -> Result<(), Fail> {
-    let alloc = rt.alloc();
-    let mut world = World::empty(alloc);
-    add_all_objects(&mut world, alloc)?;
-    assert_eq!(rt; first_wrong(&mut world, alloc, NUMBERS)?, None);
-    Ok(())
+    past_all_objects(&mut World::empty(rt.alloc()), rt.alloc())
 }

@@ -1,5 +1,5 @@
 // Names of verbs with stars, names of properties, and the texts of permissions and specifiers.
-use crate::script::first_wrong_of;
+use crate::script::each_stands;
 use crate::worlds::PROGRAMMERS;
 use std::test::Fail;
 
@@ -85,14 +85,13 @@ const SPECIFIERS: &str = r#"
 #3 verb_args #1 "look" = {"none", "in/inside/into", "this"}
 "#;
 
+static WORLDS: [[&str; 3]; 3] = [
+    [STARS, "", ""],
+    [PROGRAMMERS, PERMISSIONS, ""],
+    [PROGRAMMERS, SPECIFIERS, ""],
+];
+
 #[test]
 fn names_and_texts(rt: HostRuntime) -> Result<(), Fail> {
-    for rows in [
-        [STARS, ""],
-        [PROGRAMMERS, PERMISSIONS],
-        [PROGRAMMERS, SPECIFIERS],
-    ] {
-        assert_eq!(rt; first_wrong_of(rt.alloc(), &rows)?, None);
-    }
-    Ok(())
+    each_stands(rt.alloc(), &WORLDS)
 }

@@ -1,5 +1,5 @@
 // Each raise of each call, in the order in which a call looks for them.
-use crate::script::first_wrong_of;
+use crate::script::each_stands;
 use crate::worlds::{FOUR_OBJECTS, TWO_NAMES};
 use std::test::Fail;
 
@@ -83,18 +83,16 @@ find_call #3 "do_login_command" = E_VERBNF
 find_call #0 "do_login_command" = {#0, 0}
 "#;
 
+static WORLDS: [[&str; 3]; 6] = [
+    [FOUR_OBJECTS, "", OF_GET_AND_SET],
+    [FOUR_OBJECTS, TWO_NAMES, OF_PROPERTIES],
+    [FOUR_OBJECTS, TWO_NAMES, OF_INFO],
+    [FOUR_OBJECTS, "", OF_OBJECTS],
+    [FOUR_OBJECTS, "", OF_NAMES_THAT_CLASH],
+    [FOUR_OBJECTS, "", OF_VERBS],
+];
+
 #[test]
 fn raises(rt: HostRuntime) -> Result<(), Fail> {
-    let worlds = [
-        [FOUR_OBJECTS, "", OF_GET_AND_SET],
-        [FOUR_OBJECTS, TWO_NAMES, OF_PROPERTIES],
-        [FOUR_OBJECTS, TWO_NAMES, OF_INFO],
-        [FOUR_OBJECTS, "", OF_OBJECTS],
-        [FOUR_OBJECTS, "", OF_NAMES_THAT_CLASH],
-        [FOUR_OBJECTS, "", OF_VERBS],
-    ];
-    for rows in &worlds {
-        assert_eq!(rt; first_wrong_of(rt.alloc(), rows)?, None);
-    }
-    Ok(())
+    each_stands(rt.alloc(), &WORLDS)
 }

@@ -7,6 +7,7 @@ use crate::functions::function_answer;
 use moo_value::Value;
 use moo_world::{World, WorldFault};
 use std::alloc::Global;
+use std::test::Fail;
 
 /// The first row that isn't answered so. Each is run on the world that those before it left.
 pub fn first_wrong<'a>(
@@ -61,14 +62,26 @@ fn literal(alloc: Global, answer: Result<Value, WorldFault>) -> Result<Vec<u8>, 
     Ok(value.to_literal(alloc)?)
 }
 
-/// A world that these rows make; its first row that isn't answered so, if there is one.
-pub fn first_wrong_of<'a>(alloc: Global, parts: &[&'a str]) -> Result<Option<&'a str>, WorldFault> {
+/// Fails with the first row that isn't answered so.
+pub fn stand_on(world: &mut World, alloc: Global, rows: &'static str) -> Result<(), Fail> {
+    match first_wrong(world, alloc, rows)? {
+        Some(row) => Err(Fail::from(row)),
+        None => Ok(()),
+    }
+}
+
+fn stand(alloc: Global, parts: &[&'static str]) -> Result<(), Fail> {
     let mut world = World::empty(alloc);
     for rows in parts {
-        let wrong = first_wrong(&mut world, alloc, rows)?;
-        if wrong.is_some() {
-            return Ok(wrong);
-        }
+        stand_on(&mut world, alloc, rows)?;
     }
-    Ok(None)
+    Ok(())
+}
+
+/// Fails with the first row that isn't answered so, each part on the world that those before it made.
+pub fn each_stands(alloc: Global, worlds: &[[&'static str; 3]]) -> Result<(), Fail> {
+    for parts in worlds {
+        stand(alloc, parts)?;
+    }
+    Ok(())
 }

@@ -1,5 +1,5 @@
 // Worked rows: properties, trees, verbs, and what objects have from their ancestors.
-use crate::script::first_wrong_of;
+use crate::script::each_stands;
 use crate::worlds::{FAMILY, FOUR_OBJECTS, OWNED_ROOM, SIZED};
 use std::test::Fail;
 
@@ -283,28 +283,26 @@ verb #0 0 = {"do_login_command", #3, "rxd", "this", "none", "this", 1}
 verb #0 1 = E_VERBNF
 "#;
 
+static WORLDS: [[&str; 3]; 14] = [
+    [FOUR_OBJECTS, IN_ORDER, ""],
+    [FOUR_OBJECTS, SIZED, CLEARED],
+    [ROWS, "", ""],
+    [FOUR_OBJECTS, BUILT_IN, ""],
+    [FOUR_OBJECTS, SIZED, RENAMED],
+    [VERBS, "", ""],
+    [OWNERS, "", ""],
+    [KEPT, "", ""],
+    [FOUR_OBJECTS, VERBS_CHANGED, ""],
+    [FOUR_OBJECTS, PLAYERS, ""],
+    [FOUR_OBJECTS, SIZED, TRIED],
+    [FAMILY, TREES, ""],
+    [FAMILY, RECYCLED, ""],
+    [LOOPS, "", ""],
+];
+
 #[test]
 fn worked(rt: HostRuntime) -> Result<(), Fail> {
-    let worlds = [
-        [FOUR_OBJECTS, IN_ORDER, ""],
-        [FOUR_OBJECTS, SIZED, CLEARED],
-        [ROWS, "", ""],
-        [FOUR_OBJECTS, BUILT_IN, ""],
-        [FOUR_OBJECTS, SIZED, RENAMED],
-        [VERBS, "", ""],
-        [OWNERS, "", ""],
-        [KEPT, "", ""],
-        [FOUR_OBJECTS, VERBS_CHANGED, ""],
-        [FOUR_OBJECTS, PLAYERS, ""],
-        [FOUR_OBJECTS, SIZED, TRIED],
-        [FAMILY, TREES, ""],
-        [FAMILY, RECYCLED, ""],
-        [LOOPS, "", ""],
-    ];
-    for rows in &worlds {
-        assert_eq!(rt; first_wrong_of(rt.alloc(), rows)?, None);
-    }
-    Ok(())
+    each_stands(rt.alloc(), &WORLDS)
 }
 
 const OF_OBJECTS: &str = r#"
@@ -373,16 +371,14 @@ set_player #2 1 = 0
 may_write_property #2 "name" = {0, 1, 0, 0}
 "#;
 
+static RIGHTS: [[&str; 3]; 4] = [
+    [FOUR_OBJECTS, OWNED_ROOM, OF_OBJECTS],
+    [FOUR_OBJECTS, OWNED_ROOM, OF_NOBODY],
+    [FOUR_OBJECTS, OWNED_ROOM, OF_VERBS_AND_PROPERTIES],
+    [FOUR_OBJECTS, OWNED_ROOM, OF_BUILT_IN_PROPERTIES],
+];
+
 #[test]
 fn rights(rt: HostRuntime) -> Result<(), Fail> {
-    for rows in [
-        OF_OBJECTS,
-        OF_NOBODY,
-        OF_VERBS_AND_PROPERTIES,
-        OF_BUILT_IN_PROPERTIES,
-    ] {
-        let world = [FOUR_OBJECTS, OWNED_ROOM, rows];
-        assert_eq!(rt; first_wrong_of(rt.alloc(), &world)?, None);
-    }
-    Ok(())
+    each_stands(rt.alloc(), &RIGHTS)
 }

@@ -17,7 +17,7 @@ HERE = pathlib.Path(__file__).resolve().parent
 MOO = sys.argv[1] if len(sys.argv) > 1 else str(HERE.parent.parent / "moo")
 
 # The files of rows: one that is lost, or has another name, is told.
-FILES = ["checkpoints", "commands", "connections", "hooks", "lines", "logins", "programming", "shown", "tasks"]
+FILES = "checkpoints.rows commands.rows connections.rows hooks.rows lines.rows logins.rows programming.rows shown.rows tasks.rows".split()
 
 # Behind `flush`, each of these is a line of no form, the second of the script.
 BAD_LINES = """|open|open |open  1|open 1 |open 1\r|open 65536|open -1|open x|Open 1|line 1|line x look|line 65536 look|bytes 1|bytes 1 6|bytes 1 6g
@@ -117,11 +117,11 @@ def holds(place, database, rows, status):
 def main():
     held = [check("a bad line", "small.db", f"flush\n{line}\nshow\n", "bad line 2\n", 5) for line in BAD_LINES.replace("\n", "|").split("|")]
     held += [check("an end", "small.db", *end) for end in ENDS]
-    paths = sorted(path for path in HERE.iterdir() if path.suffix not in (".db", ".py"))
+    others = {path.name for path in HERE.iterdir() if path.suffix not in (".db", ".py")} ^ set(FILES)
     try:
-        need([path.name for path in paths] == [f"{name}.rows" for name in FILES], HERE.name, "other files than FILES says")
-        for path in paths:
-            held += [holds(*script) for script in scripts(path)]
+        need(not others, " ".join(sorted(others)), "not here, or not in FILES")
+        for name in FILES:
+            held += [holds(*script) for script in scripts(HERE / name)]
     except Broken as fault:
         print(fault)
         held.append(False)

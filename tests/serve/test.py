@@ -26,7 +26,9 @@ CLOCKS = [(2_000_000_000, 2_000_000_000), (1_500_000_000, 2_000_000_000), (2_000
 
 # Sends 200 lines of 65,536 letters to the one who types it, and tells the log.
 BIG = b';s = "x"; for i in [1..16] s = s + s; endfor for i in [1..200] notify(player, s); endfor server_log("told");'
-BIG_SIZE = 200 * 65_538
+
+# What lets fewer bytes wait than so many such lines: an option, or that 16,777,216 may wait where none is given.
+FEWER = [(["--most-waiting", "1000000"], 200), ([], 600)]
 
 
 def block(folder):
@@ -86,17 +88,17 @@ def output_waits_until_it_is_read():
         same("logged", server.read("logged"), BEGUN + "[INFO  moo] told\n")
 
 
-def one_who_never_reads_is_hung_up():
-    with Server(MOO, starting("return 0;"), "--most-waiting", "1000000") as server:
+def one_who_never_reads_is_hung_up(options, lines):
+    with Server(MOO, starting("return 0;"), *options) as server:
         client = server.connect()
-        client.sendall(BIG + b"boot_player(player);\n")
+        client.sendall(BIG.replace(b"200", b"%d" % lines) + b"boot_player(player);\n")
         server.wait("logged", r"\[INFO  moo\] told")
         logged = server.read("logged")
         same("logged", re.sub(r"up: \d{7,8} bytes", "up: MANY bytes", logged),
              BEGUN + "[WARN  moo] connection 0 is hung up: MANY bytes wait for it\n[INFO  moo] told\n")
         # What the system had taken, and then the end.
         waiting = int(re.search(r"up: (\d+) bytes", logged)[1])
-        same("bytes", len(rest(client)) + waiting, len(GREETING) + BIG_SIZE + len(b"*** Disconnected ***\r\n"))
+        same("bytes", len(rest(client)) + waiting, len(GREETING) + lines * 65_538 + len(b"*** Disconnected ***\r\n"))
         other = server.connect()
         other.sendall(b";shutdown();\n")
         sees_last(other, GREETING + LAST)
@@ -157,6 +159,7 @@ def a_shutdown_is_written_and_the_server_closes():
 ROWS = [
     *((a_world_is_served, row) for row in PROGRAMS),
     *((a_database_is_refused, row) for row in DATABASES),
+    *((one_who_never_reads_is_hung_up, row) for row in FEWER),
     *((show, ()) for show in list(vars().values()) if inspect.isfunction(show) and not inspect.signature(show).parameters),
 ]
 

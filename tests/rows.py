@@ -183,7 +183,7 @@ def wrong(name, play):
             if printed != wanted:
                 yield f"{name}: {row}\n  printed {printed[0]} {printed[1][:2000]}\n  wanted  {wanted[0]} {wanted[1][:2000]}"
     except Broken as fault:
-        yield f"{name}: no row: {str(fault)[:2000]!r}"
+        yield f"{name}: no row: {str(fault)[:300]!r}"
     except (OSError, UnicodeError) as fault:
         yield f"{name}: {fault}"
     if not count:

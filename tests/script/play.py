@@ -4,8 +4,8 @@ and else what isn't, or which rows are no script, and ends with status 1.
 
 A file `.rows` has scripts, each of them over the database that the last line `over FILE` names: `> ` before a line of the script,
 what is printed as it is printed, and `>> ` before the exit status. What stands between two lines of a script is printed behind
-the first of them: so the script up to there is played as well. Each line of a script is reached: one that ends it with a status
-other than 0 is its last. Between two scripts a line with `#` is a comment.
+the first of them: so the script up to there is played as well. Each line of a script is reached, but where the database is refused:
+one that ends it with a status other than 0 is its last. Between two scripts a line with `#` is a comment.
 """
 
 import pathlib

@@ -1,30 +1,6 @@
-//! Programs and what they end in: tests of evaluation alone. They stand in a crate of their own, so that the evaluator's
-//! own crate is proved once. Each row is a program, ` --> `, and the literal of its value or the text of its traceback.
+//! The notices that a task leaves, all of them in their order. What is met of them, and whatever else a program ends in, is
+//! shown by the rows of `tests/programs` and `tests/script`; of a player flag that is set nothing is.
 #![tactic(auto)]
 
 #[cfg(test)]
-mod expressions;
-#[cfg(test)]
-mod functions;
-#[cfg(test)]
-mod hooks;
-#[cfg(test)]
-mod hostile;
-#[cfg(test)]
-mod limits;
-#[cfg(test)]
-mod operations;
-#[cfg(test)]
-mod statements;
-#[cfg(test)]
-mod support;
-#[cfg(test)]
-mod table;
-#[cfg(test)]
-mod tasks;
-#[cfg(test)]
-mod values;
-#[cfg(test)]
-mod verbs;
-#[cfg(test)]
-mod wizard;
+mod notices;

@@ -1,6 +1,6 @@
 #!/usr/bin/env python3
 """Plays the rows of this folder by the program given: python3 play.py MOO. It says nothing where all of them hold, and else which row
-doesn't, what was printed and what is wanted, and ends with status 1.
+doesn't, what was printed and what is wanted, or what is no row, and ends with status 1.
 
 A row is a program, ` --> ` and what it ends in: the literal of its value, or a traceback with ` / ` between its lines. At the head of
 a file each row is a line of `moo expr`; behind ` >> ` stands the status where it isn't 0. Below a line `over DATABASE` the wizard types
@@ -17,10 +17,20 @@ import sys
 HERE = pathlib.Path(__file__).resolve().parent
 MOO = str(pathlib.Path(sys.argv[1]).resolve())
 
+# The files of rows: one that is lost, or has another name, is told.
+FILES = [f"{name}.rows" for name in "expressions functions hooks hostile limits operations statements table values verbs".split()]
+
+
+class Broken(Exception):
+    """What is no row."""
+
 
 def run(words, given):
-    """The status, and what is printed, that of standard error behind that of standard output."""
-    done = subprocess.run([MOO, *words], input=given.encode("ascii"), capture_output=True, timeout=60, check=False)
+    """The status, and what is printed, that of standard error behind that of standard output; no status where it takes a minute."""
+    try:
+        done = subprocess.run([MOO, *words], input=given.encode("ascii"), capture_output=True, timeout=60, check=False)
+    except subprocess.TimeoutExpired:
+        return None, ""
     return done.returncode, (done.stdout + done.stderr).decode("ascii", "backslashreplace")
 
 
@@ -28,7 +38,7 @@ def read(form, row):
     """The parts of a row of this form, with what it repeats."""
     found = re.fullmatch(form, re.sub(r"\\\[(\d+) ([^]]*)\]", lambda part: int(part[1]) * part[2], row))
     if not found:
-        sys.exit(f"this row can't be read: {row}")
+        raise Broken(row)
     return found.groups()
 
 
@@ -66,22 +76,35 @@ def play_typed(database, rows):
 
 
 def play(path):
-    rows = [row for row in path.read_text("ascii").split("\n") if not row.startswith("# ")]
-    alone, *worlds = re.split("^over ", "\n".join(rows), flags=re.M)
-    yield from play_alone(filter(None, alone.split("\n")))
+    rows = [row for row in path.read_text("ascii").split("\n") if row and not row.startswith("# ")]
+    alone, *worlds = re.split("^over ", "".join(row + "\n" for row in rows), flags=re.M)
+    yield from play_alone(alone.splitlines())
     for world in worlds:
-        database, *typed = filter(None, world.split("\n"))
+        database, *typed = world.splitlines()
+        if not typed:
+            raise Broken(f"over {database}")
         yield from play_typed(database, typed)
 
 
-def main():
-    bad = 0
-    for path in sorted(HERE.glob("*.rows")):
-        for row, printed, wanted in play(path):
+def wrong(name):
+    """What of the rows of a file isn't as wanted."""
+    row = None
+    try:
+        for row, printed, wanted in play(HERE / name):
             if printed != wanted:
-                print(f"{path.name}: {row}", f"printed {printed[0]} {printed[1][:2000]!r}", f"wanted  {wanted[0]} {wanted[1][:2000]!r}", sep="\n  ")
-                bad = 1
-    return bad
+                yield f"{name}: {row}\n  printed {printed[0]} {printed[1][:2000]!r}\n  wanted  {wanted[0]} {wanted[1][:2000]!r}"
+    except (Broken, OSError, UnicodeError) as fault:
+        yield f"{name}: {type(fault).__name__}: {fault}"
+    if row is None:
+        yield f"{name}: no row was played"
+
+
+def main():
+    others = {path.name for path in HERE.glob("*.rows")} - set(FILES)
+    faults = [f"{name}: not in FILES" for name in sorted(others)]
+    faults += [fault for name in FILES for fault in wrong(name)]
+    print(*faults, sep="\n", end="\n" if faults else "")
+    return 1 if faults else 0
 
 
 if __name__ == "__main__":

@@ -1,15 +1,19 @@
-//! Programs that a wizard runs, and the notices that they leave.
+//! Programs that a wizard runs, with what they end in and leave.
 
-use moo_eval::{run_task, typed_frame};
-use moo_outcome::{Notice, Surroundings, TaskEnv};
+use moo_eval::{Ended, run_task, typed_frame};
+use moo_outcome::{Connection, Login, Notice, Surroundings, TaskEnv};
 use moo_syntax::{Names, parse};
 use moo_value::{MooStr, Value};
 use moo_world::World;
 use std::alloc::Global;
 use std::test::Fail;
 
-// What a program of #3 leaves over a world of five objects.
-fn notices(alloc: Global, source: &str) -> Result<Vec<Notice>, Fail> {
+// What a program of #3 ends in and leaves, over a world of five objects at the moment 1000.
+fn run(
+    alloc: Global,
+    connections: &[Connection],
+    source: &str,
+) -> Result<(Ended, Vec<Notice>), Fail> {
     let mut world = World::empty(alloc);
     for _ in 0..5 {
         world.create(alloc, -1, 3).map_err(|_| "no object")?;
@@ -21,38 +25,36 @@ fn notices(alloc: Global, source: &str) -> Result<Vec<Notice>, Fail> {
     let program = parse(alloc, &lines, Names::Known).map_err(|_| "no program")?;
     let mut env = TaskEnv {
         surroundings: Surroundings {
-            moment: 0,
-            connections: &[],
+            moment: 1000,
+            connections,
         },
         notices: Vec::new(alloc),
     };
-    run_task(
-        alloc,
-        &mut world,
-        typed_frame(alloc, program, 3, 3, -1)?,
-        &mut env,
-    );
-    Ok(env.notices)
+    let start = typed_frame(alloc, program, 3, 3, -1)?;
+    let ended = run_task(alloc, &mut world, start, &mut env);
+    Ok((ended, env.notices))
 }
 
 #[test]
 fn flags_leave_notices(rt: HostRuntime) -> Result<(), Fail> {
     let alloc = rt.alloc();
-    let set = notices(alloc, "set_player_flag(#4, 1); set_player_flag(#3, \"\");")?;
+    let source = "set_player_flag(#4, 1); set_player_flag(#3, \"\");";
+    let (_, changed) = run(alloc, &[], source)?;
     let [
         Notice::SetPlayerFlag(4, true),
         Notice::SetPlayerFlag(3, false),
-    ] = set.as_slice()
+    ] = changed.as_slice()
     else {
-        return Err(Fail::from("a flag that is set and one that is cleared"));
+        return Err(Fail::from(source));
     };
-    let same = notices(alloc, "set_player_flag(#4, 0); set_player_flag(#3, 1);")?;
+    let source = "set_player_flag(#4, 0); set_player_flag(#4, 0);";
+    let (_, same) = run(alloc, &[], source)?;
     let [
         Notice::SetPlayerFlag(4, false),
-        Notice::SetPlayerFlag(3, true),
+        Notice::SetPlayerFlag(4, false),
     ] = same.as_slice()
     else {
-        return Err(Fail::from("flags that stay as they are"));
+        return Err(Fail::from(source));
     };
     Ok(())
 }
@@ -61,7 +63,7 @@ fn flags_leave_notices(rt: HostRuntime) -> Result<(), Fail> {
 fn notices_stand_in_their_order(rt: HostRuntime) -> Result<(), Fail> {
     let source =
         "notify(#4, \"a\"); set_player_flag(#4, 1); recycle(#2); boot_player(#4); server_log(\"b\"); dump_database(); set_player_flag(#4, 0); shutdown(\"c\");";
-    let all = notices(rt.alloc(), source)?;
+    let (_, all) = run(rt.alloc(), &[], source)?;
     let [
         Notice::Notify(4, a),
         Notice::SetPlayerFlag(4, true),
@@ -76,5 +78,25 @@ fn notices_stand_in_their_order(rt: HostRuntime) -> Result<(), Fail> {
         return Err(Fail::from("not these, or in another order"));
     };
     assert!(rt; a.as_bytes() == b"a" && b.as_bytes() == b"b" && c.as_bytes() == b"c");
+    Ok(())
+}
+
+#[test]
+fn who_sent_nothing_is_idle_since_the_opening(rt: HostRuntime) -> Result<(), Fail> {
+    let alloc = rt.alloc();
+    let connection = Connection {
+        number: 4,
+        login: Some(Login {
+            player: 4,
+            moment: 300,
+        }),
+        opened: 70,
+        heard: None,
+    };
+    let source = "return {idle_seconds(#4), connected_seconds(#4)};";
+    let (Ended::Value(value), _) = run(alloc, &[connection], source)? else {
+        return Err(Fail::from(source));
+    };
+    assert!(rt; value.to_literal(alloc)?.as_slice() == b"{930, 700}");
     Ok(())
 }

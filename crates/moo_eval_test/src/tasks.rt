@@ -77,7 +77,11 @@ fn notices_stand_in_their_order(rt: HostRuntime) -> Result<(), Fail> {
     else {
         return Err(Fail::from("not these, or in another order"));
     };
-    assert!(rt; a.as_bytes() == b"a" && b.as_bytes() == b"b" && c.as_bytes() == b"c");
+    assert!(rt;
+        a.as_bytes() == b"a".as_slice()
+            && b.as_bytes() == b"b".as_slice()
+            && c.as_bytes() == b"c".as_slice()
+    );
     Ok(())
 }
 
@@ -94,9 +98,11 @@ fn who_sent_nothing_is_idle_since_the_opening(rt: HostRuntime) -> Result<(), Fai
         heard: None,
     };
     let source = "return {idle_seconds(#4), connected_seconds(#4)};";
-    let (Ended::Value(value), _) = run(alloc, &[connection], source)? else {
+    let (ended, _) = run(alloc, &[connection], source)?;
+    let Ended::Value(value) = ended else {
         return Err(Fail::from(source));
     };
-    assert!(rt; value.to_literal(alloc)?.as_slice() == b"{930, 700}");
+    let told = value.to_literal(alloc)?;
+    assert!(rt; told.as_slice() == b"{930, 700}".as_slice());
     Ok(())
 }

@@ -23,9 +23,9 @@ class Broken(Exception):
 
 
 def run(words, given=b""):
-    """The status, and what is printed, that of standard error behind that of standard output; no status where it doesn't end in a minute."""
+    """The status, and what is printed, that of standard error behind that of standard output; no status where it doesn't end in ten minutes."""
     try:
-        done = subprocess.run(["moo", *words], executable=MOO, input=given, capture_output=True, timeout=60, check=False)
+        done = subprocess.run(["moo", *words], executable=MOO, input=given, capture_output=True, timeout=600, check=False)
     except subprocess.TimeoutExpired:
         return None, b""
     return done.returncode, done.stdout + done.stderr

@@ -26,9 +26,9 @@ class Broken(Exception):
 
 
 def run(words, given):
-    """The status, and what is printed, that of standard error behind that of standard output; no status where it takes a minute."""
+    """The status, and what is printed, that of standard error behind that of standard output; no status where it takes ten minutes."""
     try:
-        done = subprocess.run([MOO, *words], input=given.encode("ascii"), capture_output=True, timeout=60, check=False)
+        done = subprocess.run([MOO, *words], input=given.encode("ascii"), capture_output=True, timeout=600, check=False)
     except subprocess.TimeoutExpired:
         return None, ""
     return done.returncode, (done.stdout + done.stderr).decode("ascii", "backslashreplace")

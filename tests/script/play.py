@@ -44,10 +44,10 @@ def need(is_so, place, reason):
 
 
 def played(database, script):
-    """What the script prints over the database, and its status; no status where it doesn't end in a minute."""
+    """What the script prints over the database, and its status; no status where it doesn't end in ten minutes."""
     words = [MOO, "script", str(HERE / database)]
     try:
-        done = subprocess.run(words, input=script.encode(), stdout=subprocess.PIPE, stderr=subprocess.DEVNULL, timeout=60)
+        done = subprocess.run(words, input=script.encode(), stdout=subprocess.PIPE, stderr=subprocess.DEVNULL, timeout=600)
     except subprocess.TimeoutExpired:
         return "", None
     return done.stdout.decode(errors="replace"), done.returncode

@@ -1,4 +1,4 @@
-"""A server of `moo serve` in a folder of its own, and clients of it. Nothing waits longer than a minute, and no row hangs on how long it took."""
+"""A server of `moo serve` in a folder of its own, and clients of it. Nothing waits longer than ten minutes, and no row hangs on how long it took."""
 
 import os
 import pathlib
@@ -11,7 +11,7 @@ import time
 
 HERE = pathlib.Path(__file__).resolve().parent
 FILE = "programs.db"
-PATIENCE = 60
+PATIENCE = 600
 
 
 def starting(program):

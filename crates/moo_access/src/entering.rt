@@ -9,13 +9,14 @@ ghost use Rattle.moo_program.specs.Tree.{no_statement};
 ghost use Rattle.moo_operation.specs.Places.{made_list};
 ghost use Rattle.moo_access.specs.Entering.{entered_verb, entered_from, entered_found, found_verb, verb_there, called_verb, frames, has_frame_left, object_or, player_of_call, verb_frame, called_frame, is_frame, with_taken, called_variables, entered};
 ghost use Rattle.moo_access.specs.SeenCalled.{entered_of, found_of};
-ghost use Rattle.moo_outcome.specs.Given.{given_name};
+ghost use Rattle.moo_program.specs.Given.{given_name};
 ghost use Rattle.moo_outcome.specs.Outcome.{answers};
 ghost use Rattle.moo_outcome.specs.Seen.{context_of, variables_of, failure_of, seen_by, IsKnownFailure, HadMemoryIn};
 
 use moo_grammar::Program;
 use moo_object::{Need, Verb};
-use moo_outcome::{Activation, CallStack, Failure, Frame, Given, Stop, TraceEntry, Variables};
+use moo_outcome::{Activation, CallStack, Failure, Frame, Stop, TraceEntry, Variables};
+use moo_program::Given;
 use moo_value::{ErrorCode, ListFault, MooList, MooStr, Value};
 use moo_world::{Rights, VerbAt, World};
 use std::alloc::{AllocError, Global};
@@ -194,7 +195,7 @@ fn player_of_call(world: &World, caller: &Frame, active: &Activation) -> i32
     if !Rights::is_wizard(world, active.programmer) {
         return caller.player;
     }
-    match active.variables.get(b"player") {
+    match active.variables.get_given(Given::Player) {
         Some(Value::Obj(player)) => *player,
         _ => caller.player,
     }

@@ -17,8 +17,8 @@ use crate::object::read_property;
 use moo_operation as operation;
 use moo_operation::OperationFault;
 use moo_outcome::{Activation, Failure, Variables, read_variable};
-use moo_program::{Expr, Item};
-use moo_value::{ErrorCode, MooStr, Value};
+use moo_program::{Expr, Item, Name};
+use moo_value::{ErrorCode, Value};
 use moo_world::World;
 use std::alloc::{AllocError, Global};
 
@@ -39,7 +39,7 @@ pub enum Spot<'a> {
 /// What an assignment sets.
 #[derive(Drop)]
 pub enum Root<'a> {
-    Variable(&'a MooStr),
+    Variable(&'a Name),
     /// A property, by the values of its base and of its name.
     Property(Value, Value),
     Scatter(&'a [Item]),
@@ -192,7 +192,7 @@ pub fn push_step(path: &mut Path<'_>, step: Step) -> Result<(), AllocError>
 pub fn set_variable(
     alloc: Global,
     variables: &mut Variables,
-    name: &MooStr,
+    name: &Name,
     steps: Vec<Step>,
     value: Value,
 ) -> Result<(), Failure>
@@ -213,7 +213,7 @@ pub fn set_variable(
 fn set_part(
     alloc: Global,
     variables: &mut Variables,
-    name: &MooStr,
+    name: &Name,
     step: Step,
     value: Value,
 ) -> Result<(), Failure>
@@ -230,7 +230,7 @@ fn set_part(
 // Where the container takes the value, the variable lets go of it: so the step alone holds it, if nothing else does.
 fn let_go(
     variables: &mut Variables,
-    name: &MooStr,
+    name: &Name,
     step: &Step,
     value: &Value,
 ) -> Result<(), AllocError>

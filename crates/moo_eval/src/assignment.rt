@@ -21,8 +21,8 @@ use moo_access::{
 use moo_outcome::{
     Activation, CallStack, Failure, Flow, LeftOut, Stop, dealt, missing, set_shares, settle,
 };
-use moo_program::{Expr, Item};
-use moo_value::{ErrorCode, MooStr, Value};
+use moo_program::{Expr, Item, Name};
+use moo_value::{ErrorCode, Value};
 use moo_world::World;
 
 impl Task {
@@ -57,7 +57,7 @@ impl Task {
         active: &mut Activation,
         stack: &CallStack<'_>,
         indexed: Option<&Value>,
-        name: &MooStr,
+        name: &Name,
         value: &Expr,
     ) -> Result<Value, Failure>
         ensures meaning { IsKnownFailure result → Computes Faults (context_of stack.now indexed.entry) (assign (variable name.now) (tree value.now)) (state_of self.old world.old active.old) (seen_answer result) (state_of self.new world.new active.new) }
@@ -76,7 +76,7 @@ impl Task {
         world: &mut World,
         active: &mut Activation,
         stack: &CallStack<'_>,
-        name: &MooStr,
+        name: &Name,
         value: &Expr,
     ) -> Result<Flow, Stop>
         ensures meaning { IsKnown result → Does Faults (context_of stack.now None) (performs (assign (variable name.now) (tree value.now))) (state_of self.old world.old active.old) (seen_flow result) (state_of self.new world.new active.new) }
@@ -95,7 +95,7 @@ impl Task {
         world: &mut World,
         active: &mut Activation,
         stack: &CallStack<'_>,
-        name: &MooStr,
+        name: &Name,
         last: &Expr,
     ) -> Result<Flow, Stop>
         ensures meaning { IsKnown result → Does Faults (context_of stack.now None) (performs (assign (variable name.now) (list (splice (variable name.now) (element (tree last.now) no_items))))) (state_of self.old world.old active.old) (seen_flow result) (state_of self.new world.new active.new) }
@@ -120,7 +120,7 @@ impl Task {
         world: &mut World,
         active: &mut Activation,
         stack: &CallStack<'_>,
-        name: &MooStr,
+        name: &Name,
         last: &Expr,
     ) -> Result<(), Failure>
         ensures ok { OnOk result (IsLengthened Faults (context_of stack.now None) name.now (tree last.now) (state_of self.old world.old active.old) (state_of self.new world.new active.new)) }
@@ -287,7 +287,7 @@ impl Task {
 }
 
 /// The name and the value of an assignment to a variable alone.
-pub(crate) fn as_assignment(expr: &Expr) -> Option<(&MooStr, &Expr)>
+pub(crate) fn as_assignment(expr: &Expr) -> Option<(&Name, &Expr)>
     ensures { IfSome result (λ p. tree expr.now ≡ assign (variable p.0.now) (tree p.1.now)) }
 {
     let Expr::Assign(target, value) = expr else {
@@ -298,7 +298,7 @@ pub(crate) fn as_assignment(expr: &Expr) -> Option<(&MooStr, &Expr)>
 }
 
 /// The name of a variable.
-pub(crate) fn as_variable(expr: &Expr) -> Option<&MooStr>
+pub(crate) fn as_variable(expr: &Expr) -> Option<&Name>
     ensures { IfSome result (λ name. tree expr.now ≡ variable name.now) }
 {
     match expr {

@@ -12,8 +12,8 @@ ghost use Rattle.moo_outcome.specs.Seen.{variables_of, failure_of, HadMemoryIn};
 
 use crate::assignment::as_variable;
 use moo_outcome::{Failure, Variables};
-use moo_program::{Expr, Item};
-use moo_value::{DEPTH_LIMIT, ErrorCode, ListFault, MooList, MooStr, Value, WEIGHT_LIMIT};
+use moo_program::{Expr, Item, Name};
+use moo_value::{DEPTH_LIMIT, ErrorCode, ListFault, MooList, Value, WEIGHT_LIMIT};
 use std::alloc::{AllocError, Global};
 
 /// Sets a variable to the list with the value behind it: E_QUOTA past the limits, and then the variable stays as it was.
@@ -21,7 +21,7 @@ use std::alloc::{AllocError, Global};
 pub(crate) fn set_longer(
     alloc: Global,
     variables: &mut Variables,
-    name: &MooStr,
+    name: &Name,
     list: MooList,
     value: Value,
 ) -> Result<(), Failure>
@@ -63,7 +63,7 @@ fn pushed(alloc: Global, list: MooList, value: Value) -> Result<MooList, AllocEr
 }
 
 /// What stands behind all elements of the variable in a list of these alone, as in `{@name, last}`.
-pub(crate) fn as_longer<'a>(name: &MooStr, value: &'a Expr) -> Option<&'a Expr>
+pub(crate) fn as_longer<'a>(name: &Name, value: &'a Expr) -> Option<&'a Expr>
     ensures { IfSome result (λ last. tree value.now ≡ list (splice (variable name.now) (element (tree last.now) no_items))) }
 {
     let Expr::List(items) = value else {
@@ -79,7 +79,7 @@ pub(crate) fn as_longer<'a>(name: &MooStr, value: &'a Expr) -> Option<&'a Expr>
     }
 }
 
-fn is_same_name(own: &MooStr, name: &MooStr) -> bool
+fn is_same_name(own: &Name, name: &Name) -> bool
     ensures { IsTrue result → own.now ≡ name.now }
 {
     own.as_bytes() == name.as_bytes()

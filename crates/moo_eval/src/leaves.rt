@@ -15,8 +15,8 @@ ghost use Rattle.moo_eval.specs.Seen.{state_of};
 use crate::integers::of_integers;
 use crate::interpreter::Task;
 use moo_outcome::{Activation, CallStack, Stop, read_variable, settle};
-use moo_program::{Expr, Literal};
-use moo_value::{MooStr, Value};
+use moo_program::{Expr, Literal, Name};
+use moo_value::Value;
 
 impl Task {
     /// The value of a variable, which takes a tick.
@@ -25,7 +25,7 @@ impl Task {
         active: &Activation,
         stack: &CallStack<'_>,
         indexed: Option<&Value>,
-        name: &MooStr,
+        name: &Name,
     ) -> Result<Value, Stop>
         ensures meaning { (w : World) → IsKnown result → Evaluates Faults (context_of stack.now indexed.entry) (variable name.now) (state_of self.old w active.now) (seen_value result) (state_of self.new w active.now) }
         ensures ticks { self.new.ticks_left ≤ self.old.ticks_left }
@@ -62,7 +62,7 @@ fn integer_leaf(active: &Activation, expr: &Expr) -> Option<i32>
 {
     match expr {
         Expr::Literal(literal) => integer_literal(literal),
-        Expr::Variable(name) => integer_of(active.variables.get(name.as_bytes())),
+        Expr::Variable(name) => integer_of(active.variables.get(name)),
         _ => None,
     }
 }

@@ -12,7 +12,7 @@ ghost use Rattle.moo_eval.specs.Seen.{state_of};
 use crate::interpreter::Task;
 use moo_operation::{is_true, spliced};
 use moo_outcome::{Activation, CallStack, Flow, Span, Stop, after_turn, no_turn};
-use moo_program::{Expr, Stmt};
+use moo_program::{Expr, Name, Stmt};
 use moo_value::{MooStr, Value};
 use moo_world::World;
 
@@ -43,7 +43,7 @@ impl Task {
         world: &mut World,
         active: &mut Activation,
         stack: &CallStack<'_>,
-        name: &MooStr,
+        name: &Name,
         value: Value,
         body: &[Stmt],
     ) -> Result<Option<Flow>, Stop>
@@ -54,7 +54,7 @@ impl Task {
         self.take_tick(active, stack)?;
         active.variables.set(name, value)?;
         let flow = self.run_all(world, active, stack, body)?;
-        Ok(after_turn(Some(name), flow))
+        Ok(after_turn(Some(name.text()), flow))
     }
 
     // A `while`, from a test on.
@@ -88,7 +88,7 @@ impl Task {
         world: &mut World,
         active: &mut Activation,
         stack: &CallStack<'_>,
-        name: &MooStr,
+        name: &Name,
         list: &Expr,
         body: &[Stmt],
     ) -> Result<Flow, Stop>
@@ -108,7 +108,7 @@ impl Task {
         world: &mut World,
         active: &mut Activation,
         stack: &CallStack<'_>,
-        name: &MooStr,
+        name: &Name,
         values: &[Value],
         body: &[Stmt],
     ) -> Result<Flow, Stop>
@@ -130,7 +130,7 @@ impl Task {
         world: &mut World,
         active: &mut Activation,
         stack: &CallStack<'_>,
-        name: &MooStr,
+        name: &Name,
         low: &Expr,
         high: &Expr,
         body: &[Stmt],
@@ -153,7 +153,7 @@ impl Task {
         world: &mut World,
         active: &mut Activation,
         stack: &CallStack<'_>,
-        name: &MooStr,
+        name: &Name,
         span: Span,
         body: &[Stmt],
     ) -> Result<Flow, Stop>

@@ -12,7 +12,7 @@ use crate::levels::expression;
 use crate::make::below;
 use crate::node::{Member, Members, Node};
 use crate::place::Place;
-use moo_program::Item;
+use moo_program::{Item, Name};
 use moo_token::Sign;
 use std::alloc::Global;
 
@@ -100,15 +100,16 @@ fn behind_question(
         return Err(Fault::Unexpected);
     };
     below(room)?;
+    let variable = Name::new(name);
     if !tokens.take(Sign::Assign) {
         return Ok(Member {
-            item: Item::Optional(name, None),
+            item: Item::Optional(variable, None),
             height: 1,
         });
     }
     let Node { tree, height } = expression(alloc, tokens, place, room)?;
     Ok(Member {
-        item: Item::Optional(name, Some(tree)),
+        item: Item::Optional(variable, Some(tree)),
         height,
     })
 }

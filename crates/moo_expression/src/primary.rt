@@ -15,7 +15,7 @@ use crate::members::{arguments, members};
 use crate::node::{Caught, Node};
 use crate::place::Place;
 use crate::rules::expect_callable;
-use moo_program::{Codes, Expr, Literal};
+use moo_program::{Codes, Expr, Literal, Name};
 use moo_token::{Keyword, Sign};
 use moo_value::MooStr;
 use std::alloc::Global;
@@ -54,7 +54,8 @@ fn named(
     ensures failed { IfErr result (λ f. HasFailedBy place.names false expr (λ g. named g place.inside name) room 1 tokens.old tokens.new f) }
 {
     if !tokens.is_at(Sign::LeftParen) {
-        return node_over(alloc, Expr::Variable(name), 0, room);
+        let variable = Name::new(name);
+        return node_over(alloc, Expr::Variable(variable), 0, room);
     }
     expect_callable(place.names, &name)?;
     tokens.expect(Sign::LeftParen)?;

@@ -1,4 +1,3 @@
-pub mod Given
 pub mod Variables
 pub mod Surroundings
 pub mod State

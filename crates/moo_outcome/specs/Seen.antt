@@ -17,8 +17,8 @@ use Rattle.moo_outcome.specs.declared.frame.Activation.{Activation}
 use Rattle.moo_outcome.specs.declared.surroundings.Surroundings as code_surroundings
 use Rattle.moo_outcome.specs.declared.variables.Variables.{Variables}
 use Rattle.moo_outcome.specs.declared.variables.Variable.{Variable}
-use Rattle.moo_outcome.specs.declared.variables.Name.{Name}
-use Rattle.moo_outcome.specs.declared.variables.Name.TheVariants as name_case
+use Rattle.moo_outcome.specs.declared.variables.OtherName.{OtherName}
+use Rattle.moo_outcome.specs.declared.variables.OtherName.TheVariants as name_case
 use Rattle.moo_outcome.specs.declared.outcome.Raise as code_raise
 use Rattle.moo_outcome.specs.declared.outcome.Stop as code_stop
 use Rattle.moo_outcome.specs.declared.outcome.Stop.TheVariants as stop_case
@@ -26,14 +26,14 @@ use Rattle.moo_outcome.specs.declared.outcome.Failure as code_failure
 use Rattle.moo_outcome.specs.declared.outcome.Failure.TheVariants as failure_case
 use Rattle.moo_outcome.specs.declared.outcome.Flow as code_flow
 use Rattle.moo_outcome.specs.declared.outcome.Flow.TheVariants as flow_case
-use Rattle.moo_outcome.specs.Given.{given_names}
+use Rattle.moo_program.specs.Given.{given_names}
 use Rattle.moo_outcome.specs.Variables.{Binding, value_of_name}
 use Rattle.moo_outcome.specs.Surroundings.{Surroundings}
 use Rattle.moo_outcome.specs.State.{Context, entries}
 use Rattle.moo_outcome.specs.declared.frame.TraceEntry.{TraceEntry}
 use Rattle.moo_outcome.specs.Outcome.{Raise, Stop, raised, out_of_ticks, Failure, fails, stops, Flow, next, returned, broken, continued}
 
-abbrev pub own_name : Name → List ℕ
+abbrev pub own_name : OtherName → List ℕ
 own_name (name_case.Given name) = name.now
 own_name (name_case.Own name) = name
 

@@ -12,8 +12,8 @@ ghost use Rattle.moo_outcome.specs.Seen.{variables_of, indexed_of, failure_of, s
 use crate::frame::Activation;
 use crate::outcome::Failure;
 use moo_operation::length_of;
-use moo_program::Literal;
-use moo_value::{ErrorCode, MooStr, Value};
+use moo_program::{Literal, Name};
+use moo_value::{ErrorCode, Value};
 use std::alloc::AllocError;
 
 /// The value of a literal.
@@ -30,11 +30,11 @@ pub fn literal_value(literal: &Literal) -> Result<Value, AllocError>
 }
 
 /// The value of a variable.
-pub fn read_variable(active: &Activation, name: &MooStr) -> Result<Value, Failure>
+pub fn read_variable(active: &Activation, name: &Name) -> Result<Value, Failure>
     ensures value { IsKnownFailure result → answers (or_error (variables_of active.now.variables (folded name.now)) VariableNotFound) ≡ seen_answer result }
     ensures memory { IfErr result (LacksOnlyIn (IsSomeAnd (variables_of active.now.variables (folded name.now)) TakesMemory)) }
 {
-    match active.variables.get(name.as_bytes()) {
+    match active.variables.get(name) {
         Some(value) => Ok(value.try_clone()?),
         None => Err(Failure::Fails(ErrorCode::VariableNotFound)),
     }

@@ -17,14 +17,14 @@ use crate::catching::is_caught;
 use crate::frame::{Activation, CallStack, TraceEntry, TraceFrame};
 use crate::outcome::{Failure, Raise, Stop, raised};
 use moo_operation as operation;
-use moo_program::{Codes, Handler, Stmt};
-use moo_value::{ErrorCode, MooStr, Value};
+use moo_program::{Codes, Handler, Name, Stmt};
+use moo_value::{ErrorCode, Value};
 use std::alloc::{AllocError, Global};
 
 /// The variable that a handler sets, if it sets one, its codes and its statements.
 #[derive(Drop)]
 pub struct HandlerParts<'a> {
-    pub name: Option<&'a MooStr>,
+    pub name: Option<&'a Name>,
     pub codes: &'a Codes,
     pub body: &'a [Stmt],
 }
@@ -32,7 +32,7 @@ pub struct HandlerParts<'a> {
 /// A handler with the values of its codes.
 #[derive(Drop)]
 pub struct Guarded<'a> {
-    pub name: Option<&'a MooStr>,
+    pub name: Option<&'a Name>,
     pub codes: &'a Codes,
     pub body: &'a [Stmt],
     pub values: Vec<Value>,
@@ -160,7 +160,7 @@ pub fn set_caught(
     alloc: Global,
     stack: &CallStack<'_>,
     active: &mut Activation,
-    name: Option<&MooStr>,
+    name: Option<&Name>,
     raise: Raise,
 ) -> Result<(), Stop>
     ensures ok { OnOk result ((bs : List Binding) × (told_as stack.now.callers.items (option_copied name.entry) (raise_of raise) ≡ Ok bs) × (variables_of active.new.variables ≡ with_all (variables_of active.old.variables) bs)) }

@@ -7,7 +7,6 @@ mod access;
 mod catching;
 mod frame;
 mod gathered;
-mod given;
 mod handling;
 pub mod laws;
 mod leading;
@@ -22,7 +21,6 @@ pub use access::{literal_value, measure, push, read_variable};
 pub use catching::{caught, settle_codes};
 pub use frame::{Activation, CallStack, Frame, TraceEntry, TraceFrame};
 pub use gathered::{Gathered, Stretch};
-pub use given::Given;
 pub use handling::{
     Guarded, HandlerParts, chosen, frame_lists, handler_parts, push_guarded, set_caught,
 };

@@ -10,14 +10,14 @@ ghost use Rattle.moo_outcome.specs.Seen.{variables_of};
 ghost use Rattle.moo_outcome.specs.SeenScatter.{left_out_of, left_out_by, share_of};
 
 use crate::frame::Activation;
-use moo_program::{Expr, Item};
-use moo_value::{ErrorCode, MooList, MooStr, Value};
+use moo_program::{Expr, Item, Name};
+use moo_value::{ErrorCode, MooList, Value};
 use std::alloc::{AllocError, Global};
 
 /// A name that a list leaves out, and what gives its value.
 #[derive(Drop)]
 pub struct LeftOut<'a> {
-    pub name: &'a MooStr,
+    pub name: &'a Name,
     pub value: &'a Expr,
 }
 
@@ -134,7 +134,7 @@ pub fn set_shares(
     Ok(())
 }
 
-fn set_share(active: &mut Activation, share: Option<(&MooStr, Value)>) -> Result<(), AllocError>
+fn set_share(active: &mut Activation, share: Option<(&Name, Value)>) -> Result<(), AllocError>
     ensures variables { OnOk result (variables_of active.new.variables ≡ with_all (variables_of active.old.variables) (share_of share.entry)) }
     ensures programmer { OnOk result (active.new.programmer ≡ active.old.programmer) }
 {
@@ -150,7 +150,7 @@ impl<'a> Dealing<'a> {
         &mut self,
         alloc: Global,
         item: &'b Item,
-    ) -> Result<Option<(&'b MooStr, Value)>, AllocError>
+    ) -> Result<Option<(&'b Name, Value)>, AllocError>
         ensures share { IfOk result (λ share. (xs : Items) → shares (with_item item.now xs) self.old.spare self.old.rest (drop self.old.next self.old.list.now) ≡ share_of share ++ shares xs self.new.spare self.new.rest (drop self.new.next self.new.list.now)) }
     {
         match item {
@@ -161,7 +161,7 @@ impl<'a> Dealing<'a> {
     }
 
     // The next value, for a name that has to get one.
-    fn one<'b>(&mut self, target: &'b Expr) -> Result<Option<(&'b MooStr, Value)>, AllocError>
+    fn one<'b>(&mut self, target: &'b Expr) -> Result<Option<(&'b Name, Value)>, AllocError>
         ensures share { IfOk result (λ share. (xs : Items) → shares (element (view.tree target.now) xs) self.old.spare self.old.rest (drop self.old.next self.old.list.now) ≡ share_of share ++ shares xs self.new.spare self.new.rest (drop self.new.next self.new.list.now)) }
     {
         match self.next_value()? {
@@ -171,7 +171,7 @@ impl<'a> Dealing<'a> {
     }
 
     // The next value, for a name that may be left out.
-    fn spared<'b>(&mut self, name: &'b MooStr) -> Result<Option<(&'b MooStr, Value)>, AllocError>
+    fn spared<'b>(&mut self, name: &'b Name) -> Result<Option<(&'b Name, Value)>, AllocError>
         ensures share { IfOk result (λ share. (xs : Items) → shares (optional name.now xs) self.old.spare self.old.rest (drop self.old.next self.old.list.now) ≡ share_of share ++ shares xs self.new.spare self.new.rest (drop self.new.next self.new.list.now)) }
     {
         if self.spare == 0 {
@@ -189,7 +189,7 @@ impl<'a> Dealing<'a> {
         &mut self,
         alloc: Global,
         target: &'b Expr,
-    ) -> Result<Option<(&'b MooStr, Value)>, AllocError>
+    ) -> Result<Option<(&'b Name, Value)>, AllocError>
         ensures share { IfOk result (λ share. (xs : Items) → shares (splice (view.tree target.now) xs) self.old.spare self.old.rest (drop self.old.next self.old.list.now) ≡ share_of share ++ shares xs self.new.spare self.new.rest (drop self.new.next self.new.list.now)) }
     {
         let from = self.next.min(self.list.len());
@@ -217,7 +217,7 @@ impl<'a> Dealing<'a> {
 }
 
 // A value for a variable. Nothing else stands in a scatter of a program.
-fn named(target: &Expr, value: Value) -> Option<(&MooStr, Value)>
+fn named(target: &Expr, value: Value) -> Option<(&Name, Value)>
     ensures { share_of result ≡ binds (view.tree target.now) (tree value) }
 {
     match target {

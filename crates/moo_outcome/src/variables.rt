@@ -1,20 +1,22 @@
 //! The variables of a frame.
-ghost use Rattle.std.specs.Prelude.{◌≡◌, ℕ, ◌<◌, ◌≤◌, ◌++◌, Some, None, map, position, length, option_map, IfOk, IfSome, IfNone, OnOk};
+ghost use Rattle.std.specs.Prelude.{◌≡◌, ℕ, [], ◌<◌, ◌≤◌, ◌++◌, Some, None, map, position, length, get_or, option_map, IsTrue, IfOk, IfSome, IfNone, OnOk};
 ghost use Rattle.std.specs.Str.{bytes_eq};
 ghost use Rattle.moo_value.specs.View.{tree};
 ghost use Rattle.moo_value.specs.Compare.{folded};
-ghost use Rattle.moo_outcome.specs.Given.{given_name};
+ghost use Rattle.moo_program.specs.Given.{given_name};
+ghost use Rattle.moo_program.specs.Slots.{slots};
 ghost use Rattle.moo_outcome.specs.Variables.{bind, with_variable, first_bindings, value_of_name};
 ghost use Rattle.moo_outcome.specs.Seen.{own_name, value_among, variables_of, names_of, seen_values, bound_values};
 
 use crate::frame::Frame;
-use crate::given::Given;
 use moo_grammar::Program;
+use moo_program::{Given, Name};
 use moo_value::{MooStr, Value};
 use std::alloc::{AllocError, Global};
 
 /// The variables of a frame: the values of the names that every frame has, a value or none for each name of its program by
-/// the name's slot, and the values of other names. A name that every frame has needs no search.
+/// the name's slot, and the values of other names. A name that every frame has needs no search, nor does one that has been
+/// found and is spelled as the program's.
 #[derive(Drop)]
 pub struct Variables {
     program: Program,
@@ -27,13 +29,13 @@ pub struct Variables {
 /// A variable that no statement of the program reads or sets.
 #[derive(Drop)]
 struct Variable {
-    name: Name,
+    name: OtherName,
     value: Value,
 }
 
 /// A name that every frame has, or another.
 #[derive(Drop)]
-enum Name {
+enum OtherName {
     Given(&'static str),
     Own(MooStr),
 }
@@ -61,7 +63,7 @@ impl Variables {
         match self.place(given) {
             Some(slot) => self.values[slot] = Some(value),
             None => self.others.push(Variable {
-                name: Name::Given(given.name()),
+                name: OtherName::Given(given.name()),
                 value,
             })?,
         }
@@ -69,13 +71,13 @@ impl Variables {
     }
 
     /// Sets a variable.
-    pub fn set(&mut self, name: &MooStr, value: Value) -> Result<(), AllocError>
+    pub fn set(&mut self, name: &Name, value: Value) -> Result<(), AllocError>
         ensures { OnOk result (variables_of self.new ≡ with_variable (variables_of self.old) (bind name.now (tree value))) }
     {
-        match self.slot(name.as_bytes()) {
+        match self.slot(name) {
             Some(slot) => self.values[slot] = Some(value),
             None => self.others.push(Variable {
-                name: Name::Own(name.try_clone()?),
+                name: OtherName::Own(name.text().try_clone()?),
                 value,
             })?,
         }
@@ -93,12 +95,12 @@ impl Variables {
     }
 
     /// The value of a variable, or `None` where it isn't set.
-    pub fn get(&self, name: &[u8]) -> Option<&Value>
+    pub fn get(&self, name: &Name) -> Option<&Value>
         ensures { option_map (λ v. tree v.now) result ≡ variables_of self.now (folded name.now) }
     {
         match self.slot(name) {
             Some(slot) => self.values[slot].as_ref(),
-            None => self.other(name),
+            None => self.other(name.as_bytes()),
         }
     }
 
@@ -116,18 +118,50 @@ impl Variables {
     }
 
     // The slot of a name that every frame has, or of one of the program.
-    fn slot(&self, name: &[u8]) -> Option<usize>
+    fn slot(&self, name: &Name) -> Option<usize>
         ensures some { IfSome result (λ i. (position (λ own. bytes_eq (folded own) (folded name.now)) (names_of self.now) ≡ Some i) × (i < length self.now.values.items)) }
         ensures none { IfNone result ((i : ℕ) → position (λ own. bytes_eq (folded own) (folded name.now)) (names_of self.now) ≡ Some i → length self.now.values.items ≤ i) }
     {
-        let slot = match Given::from_name(name) {
-            Some(given) => given.slot(),
-            None => self.program.slot_of(name)?.checked_add(Given::COUNT)?,
+        let slot = match name.given() {
+            Some(known) => known.slot(),
+            None => self.own_slot(name)?.checked_add(Given::COUNT)?,
         };
         if slot < self.values.len() {
             Some(slot)
         } else {
             None
+        }
+    }
+
+    // The slot of a name among those of the program: the hint, if the name there is spelled so, and else what a search finds.
+    fn own_slot(&self, name: &Name) -> Option<usize>
+        ensures { result ≡ position (λ own. bytes_eq (folded own) (folded name.now)) (slots self.now.program) }
+    {
+        let hint = name.hint();
+        if self.is_spelled(hint, name.as_bytes()) {
+            Some(hint)
+        } else {
+            self.searched_slot(name)
+        }
+    }
+
+    // The same by a search: a function of its own, so that what is found without one pays nothing for it.
+    #[inline(never)]
+    fn searched_slot(&self, name: &Name) -> Option<usize>
+        ensures { result ≡ position (λ own. bytes_eq (folded own) (folded name.now)) (slots self.now.program) }
+    {
+        let slot = self.program.slot_of(name.as_bytes())?;
+        name.note(slot);
+        Some(slot)
+    }
+
+    // Whether the program's name in this slot is spelled so.
+    fn is_spelled(&self, slot: usize, name: &[u8]) -> bool
+        ensures { IsTrue result → (slot < length (slots self.now.program)) × (get_or (slots self.now.program) slot [] ≡ name.now) }
+    {
+        match self.program.slots().get(slot) {
+            Some(own) => own.as_bytes() == name,
+            None => false,
         }
     }
 
@@ -146,14 +180,14 @@ impl Variables {
     }
 }
 
-impl Name {
+impl OtherName {
     // Whether the name is this one but for the case of its letters.
     fn is(&self, name: &[u8]) -> bool
         ensures { result ≡ bytes_eq (folded (own_name self.now)) (folded name.now) }
     {
         match self {
-            Name::Given(own) => own.as_bytes().eq_ignore_ascii_case(name),
-            Name::Own(own) => is_named(own, name),
+            OtherName::Given(own) => own.as_bytes().eq_ignore_ascii_case(name),
+            OtherName::Own(own) => is_named(own, name),
         }
     }
 }

@@ -5,3 +5,4 @@ pub mod LineLengths
 pub mod Sizes
 pub mod VariableSteps
 pub mod EachOnce
+pub mod GivenNames

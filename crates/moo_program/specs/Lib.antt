@@ -6,3 +6,4 @@ pub mod Length
 pub mod Limits
 pub mod Code
 pub mod Slots
+pub mod Given

@@ -2,10 +2,12 @@
 //! A room behind `moo_syntax`.
 #![tactic(auto)]
 
+mod given;
 pub mod laws;
 mod length;
 mod limits;
 mod lines;
+mod name;
 pub mod operator;
 pub mod shape;
 mod slots;
@@ -13,8 +15,10 @@ mod target;
 mod tree;
 mod variables;
 
+pub use given::Given;
 pub use limits::{MOST_BRACKETS, MOST_NODES};
 pub use lines::fit_lines;
+pub use name::Name;
 pub use slots::variable_names;
 pub use target::is_target;
 pub use tree::{Arm, Codes, Expr, Handler, Item, Literal, Stmt};

@@ -6,6 +6,7 @@ ghost use Rattle.moo_program.specs.Length.{Leaves, codes_length, label_length, h
 ghost use Rattle.moo_program.specs.Limits.{AllFit};
 
 use crate::length::{codes_rest, expression};
+use crate::name::Name;
 use crate::tree::{Arm, Codes, Expr, Handler, Stmt};
 use moo_value::{MooStr, WEIGHT_LIMIT};
 
@@ -101,13 +102,13 @@ fn except_fits(codes: &Codes) -> bool
     codes_rest(codes, ROOM - 9).is_some()
 }
 
-fn except_as_fits(name: &MooStr, codes: &Codes) -> bool
+fn except_as_fits(name: &Name, codes: &Codes) -> bool
     ensures { result ≡ fits (except_head (Some name.now) (codes_of codes.now)) }
 {
     except_as_rest(name, codes, ROOM).is_some()
 }
 
-fn except_as_rest(name: &MooStr, codes: &Codes, room: usize) -> Option<usize>
+fn except_as_rest(name: &Name, codes: &Codes, room: usize) -> Option<usize>
     ensures { Leaves room (10 + length name.now + codes_length (codes_of codes.now)) result }
 {
     codes_rest(codes, room.checked_sub(10)?.checked_sub(name.len())?)

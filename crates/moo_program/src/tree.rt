@@ -1,4 +1,5 @@
 //! The tree of a program.
+use crate::name::Name;
 use crate::operator::{BinaryOperator, LogicOperator, UnaryOperator};
 use moo_value::{ErrorCode, MooStr};
 
@@ -16,8 +17,8 @@ pub enum Literal {
 #[derive(Drop)]
 pub enum Expr {
     Literal(Literal),
-    /// A variable by its name, as it is spelled.
-    Variable(MooStr),
+    /// A variable by its name.
+    Variable(Name),
     /// `$`, the length of what is indexed.
     Length,
     Unary(UnaryOperator, Box<Expr>),
@@ -50,8 +51,8 @@ pub enum Item {
     Element(Box<Expr>),
     /// `@a`
     Splice(Box<Expr>),
-    /// `?a` or `?a = b`, in the target of a scatter alone: a variable's name, as it is spelled, and its default.
-    Optional(MooStr, Option<Box<Expr>>),
+    /// `?a` or `?a = b`, in the target of a scatter alone: a variable's name and its default.
+    Optional(Name, Option<Box<Expr>>),
 }
 
 /// The errors that a catch answers for.
@@ -74,9 +75,9 @@ pub enum Stmt {
     /// `if (a) .. endif`: the condition, the statements, and the further arms.
     If(Box<Expr>, Vec<Stmt>, Vec<Arm>),
     /// `for x in (a) .. endfor`
-    ForList(MooStr, Box<Expr>, Vec<Stmt>),
+    ForList(Name, Box<Expr>, Vec<Stmt>),
     /// `for x in [a..b] .. endfor`
-    ForRange(MooStr, Box<Expr>, Box<Expr>, Vec<Stmt>),
+    ForRange(Name, Box<Expr>, Box<Expr>, Vec<Stmt>),
     /// `while (a) .. endwhile` or `while x (a) .. endwhile`
     While(Option<MooStr>, Box<Expr>, Vec<Stmt>),
     /// `break;` or `break x;`
@@ -106,5 +107,5 @@ pub enum Handler {
     /// `except (codes) ..`
     Except(Codes, Vec<Stmt>),
     /// `except x (codes) ..`, which sets the variable.
-    ExceptAs(MooStr, Codes, Vec<Stmt>),
+    ExceptAs(Name, Codes, Vec<Stmt>),
 }

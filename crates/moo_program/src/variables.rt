@@ -4,14 +4,15 @@ ghost use Rattle.moo_program.specs.Tree.{verb_call, catch, catch_or};
 ghost use Rattle.moo_program.specs.View.{tree, items_of, codes_of, statement as tree_of, block, arms_of, handlers_of};
 ghost use Rattle.moo_program.specs.Slots.{variables, items_variables, item_variables, codes_variables, statement_variables, arms_variables, handlers_variables, handler_variables, block_variables};
 
+use crate::name::Name;
 use crate::tree::{Arm, Codes, Expr, Handler, Item, Stmt};
 use moo_value::MooStr;
 use std::alloc::AllocError;
 
-fn add_name(name: &MooStr, names: &mut Vec<MooStr>) -> Result<(), AllocError>
+fn add_name(name: &Name, names: &mut Vec<MooStr>) -> Result<(), AllocError>
     ensures { OnOk result (names.new.items ≡ names.old.items ++ name.now ∷ []) }
 {
-    names.push(name.try_clone()?)?;
+    names.push(name.text().try_clone()?)?;
     Ok(())
 }
 

@@ -11,7 +11,7 @@ ghost use Rattle.moo_syntax.specs.Statements.{IsHandler, behind_range, performin
 use crate::jump::{jump, name_copy};
 use moo_expression::{Cursor, Fault, Node, Place, below, codes, expression};
 use moo_grammar::Names;
-use moo_program::{Arm, Handler, Stmt};
+use moo_program::{Arm, Handler, Name, Stmt};
 use moo_token::{Keyword, Sign};
 use moo_value::MooStr;
 use std::alloc::Global;
@@ -154,7 +154,8 @@ fn for_loop(
     let own = Some(name.try_clone()?);
     let body = within(alloc, tokens, loops, own, names, room_below)?;
     tokens.expect_keyword(Keyword::EndFor)?;
-    Ok(Stmt::ForList(name, list.tree, body))
+    let variable = Name::new(name);
+    Ok(Stmt::ForList(variable, list.tree, body))
 }
 
 /// A `for` over a range, behind the bracket.
@@ -183,7 +184,8 @@ fn for_range(
     let own = Some(name.try_clone()?);
     let body = within(alloc, tokens, loops, own, names, room)?;
     tokens.expect_keyword(Keyword::EndFor)?;
-    Ok(Stmt::ForRange(name, low.tree, high.tree, body))
+    let variable = Name::new(name);
+    Ok(Stmt::ForRange(variable, low.tree, high.tree, body))
 }
 
 /// A `while`, behind the keyword.
@@ -304,7 +306,10 @@ fn handler(
     tokens.expect(Sign::RightParen)?;
     let body = statements(alloc, tokens, loops, names, room)?;
     match name {
-        Some(name) => Ok(Handler::ExceptAs(name, caught.codes, body)),
+        Some(name) => {
+            let variable = Name::new(name);
+            Ok(Handler::ExceptAs(variable, caught.codes, body))
+        }
         None => Ok(Handler::Except(caught.codes, body)),
     }
 }

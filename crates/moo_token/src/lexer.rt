@@ -4,6 +4,7 @@ ghost use Rattle.moo_value.specs.Size.{IsString};
 ghost use Rattle.moo_token.specs.Lexing.{begins_blank, begins_comment, ends_comment, IsReading};
 ghost use Rattle.moo_token.specs.Passing.{place, Passes, Stops};
 
+use crate::known::Known;
 use crate::scan::token_at;
 use crate::token::{Spot, Token};
 use moo_value::MooStr;
@@ -48,6 +49,7 @@ const FIRST_ROOM: usize = 64;
 /// `None` where no token stands there, which ends the spots with `Bad`.
 fn pass(
     alloc: Global,
+    known: &mut Known,
     number: usize,
     rest: &[u8],
     opened: &mut Option<usize>,
@@ -72,7 +74,7 @@ fn pass(
         *opened = Some(number);
         return Ok(Some(2));
     }
-    let Some((token, length)) = token_at(alloc, rest)? else {
+    let Some((token, length)) = token_at(alloc, known, rest)? else {
         keep(spots, Token::Bad, number)?;
         return Ok(None);
     };
@@ -92,6 +94,7 @@ fn keep(spots: &mut Vec<Spot>, token: Token, line: usize) -> Result<(), AllocErr
 /// Passes a line, and tells whether it could be passed whole. If not, the spots end with `Bad`.
 fn pass_line(
     alloc: Global,
+    known: &mut Known,
     number: usize,
     line: &[u8],
     opened: &mut Option<usize>,
@@ -102,7 +105,7 @@ fn pass_line(
 {
     let mut rest = line;
     while !rest.is_empty() {
-        let Some(length) = pass(alloc, number, rest, opened, spots)? else {
+        let Some(length) = pass(alloc, known, number, rest, opened, spots)? else {
             return Ok(false);
         };
         rest = &rest[length..];
@@ -116,11 +119,19 @@ pub fn tokens(alloc: Global, lines: &[MooStr]) -> Result<Vec<Spot>, AllocError>
     ensures { IfOk result (λ spots. IsReading lines.now spots.items) }
 {
     let mut spots = Vec::with_capacity(alloc, FIRST_ROOM)?;
+    let mut known = Known::new(alloc);
     let mut opened = None;
     let mut number = 0;
     for line in lines {
         number += 1;
-        if !pass_line(alloc, number, line.as_bytes(), &mut opened, &mut spots)? {
+        if !pass_line(
+            alloc,
+            &mut known,
+            number,
+            line.as_bytes(),
+            &mut opened,
+            &mut spots,
+        )? {
             return Ok(spots);
         }
     }

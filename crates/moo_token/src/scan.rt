@@ -6,6 +6,7 @@ ghost use Rattle.moo_token.specs.Spelling.{is_word, is_name};
 ghost use Rattle.moo_token.specs.Tokens.{begins_name, is_digit, continues_name, word, wrapped, begins_fraction, integer_at, number_at, object_at, unquoted, token_at};
 
 use crate::keyword::Keyword;
+use crate::known::Known;
 use crate::sign::sign_at;
 use crate::token::Token;
 use moo_value::{ErrorCode, MooStr, ValueFault};
@@ -128,7 +129,7 @@ fn number_at(bytes: &[u8]) -> Option<(i32, usize)>
 }
 
 /// The string of bytes that are part of a string.
-fn copied(alloc: Global, bytes: &[u8]) -> Result<MooStr, AllocError>
+pub(crate) fn copied(alloc: Global, bytes: &[u8]) -> Result<MooStr, AllocError>
     requires { IsString bytes.now }
     ensures { IfOk result (λ s. s ≡ bytes.now) }
 {
@@ -152,7 +153,7 @@ fn owned(alloc: Global, bytes: Vec<u8>) -> Result<MooStr, AllocError>
 }
 
 /// The token that a word is.
-fn word(alloc: Global, bytes: &[u8]) -> Result<Token, AllocError>
+fn word(alloc: Global, known: &mut Known, bytes: &[u8]) -> Result<Token, AllocError>
     requires { IsString bytes.now }
     ensures { IfOk result (λ t. t ≡ word bytes.now) }
 {
@@ -162,7 +163,7 @@ fn word(alloc: Global, bytes: &[u8]) -> Result<Token, AllocError>
     if let Some(error) = ErrorCode::from_name(bytes) {
         return Ok(Token::Error(error));
     }
-    Ok(Token::Name(copied(alloc, bytes)?))
+    Ok(Token::Name(known.string(alloc, bytes)?))
 }
 
 /// How many bytes stand before the closing quote, where no backslash does.
@@ -223,7 +224,11 @@ fn unescaped(alloc: Global, bytes: &[u8]) -> Result<Option<(MooStr, usize)>, All
 
 /// The token at the front, and its length.
 #[tactic(auto, unfolding(crate::specs::Tokens::token_at))]
-pub fn token_at(alloc: Global, bytes: &[u8]) -> Result<Option<(Token, usize)>, AllocError>
+pub(crate) fn token_at(
+    alloc: Global,
+    known: &mut Known,
+    bytes: &[u8],
+) -> Result<Option<(Token, usize)>, AllocError>
     requires { IsString bytes.now }
     ensures is { IfOk result (λ found. found ≡ token_at bytes.now) }
     ensures fits { IfOk result (λ found. IfSome found (λ t. (0 < t.1) × (t.1 ≤ length bytes.now))) }
@@ -233,7 +238,7 @@ pub fn token_at(alloc: Global, bytes: &[u8]) -> Result<Option<(Token, usize)>, A
     };
     if begins_name(*first) {
         let length = name_length(bytes);
-        return Ok(Some((word(alloc, &bytes[..length])?, length)));
+        return Ok(Some((word(alloc, known, &bytes[..length])?, length)));
     }
     if first.is_ascii_digit() {
         return Ok(integer_at(bytes));

@@ -14,7 +14,7 @@ use crate::literal::write_literal;
 use crate::operator::{write_binary_operator, write_logic_operator, write_unary_operator};
 use moo_program::operator::{BinaryOperator, LogicOperator};
 use moo_program::shape::{constant_name, is_compound, is_compound_base, is_system_object};
-use moo_program::{Codes, Expr, Item};
+use moo_program::{Codes, Expr, Item, Name};
 use moo_token::Sign;
 use moo_value::MooStr;
 use std::alloc::AllocError;
@@ -386,7 +386,7 @@ fn write_item(parentheses: Parentheses, item: &Item, line: &mut Line) -> Result<
     }
 }
 
-fn write_optional(name: &MooStr, line: &mut Line) -> Result<(), AllocError>
+fn write_optional(name: &Name, line: &mut Line) -> Result<(), AllocError>
     ensures { OnOk result (line.new ≡ line.old ++ codes "?" ++ name.now) }
 {
     line.sign(Sign::Question)?;

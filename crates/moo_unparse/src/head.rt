@@ -8,7 +8,7 @@ ghost use Rattle.moo_unparse.specs.Listings.{listed, listed_codes, head, elseif_
 use crate::expression::{write_codes, write_expression};
 use crate::form::Parentheses;
 use crate::line::Line;
-use moo_program::{Codes, Expr, Stmt};
+use moo_program::{Codes, Expr, Name, Stmt};
 use moo_token::{Keyword, Sign};
 use moo_value::MooStr;
 use std::alloc::{AllocError, Global};
@@ -71,7 +71,7 @@ pub(crate) fn except_as_line(
     alloc: Global,
     parentheses: Parentheses,
     margin: &Line,
-    name: &MooStr,
+    name: &Name,
     errors: &Codes,
 ) -> Result<Line, AllocError>
     ensures { IfOk result (λ line. line ≡ margin.now ++ except_head parentheses (Some name.now) (codes_of errors.now)) }
@@ -117,7 +117,7 @@ fn write_label(label: &Option<MooStr>, line: &mut Line) -> Result<(), AllocError
 }
 
 // `for x in`
-fn write_for(name: &MooStr, line: &mut Line) -> Result<(), AllocError>
+fn write_for(name: &Name, line: &mut Line) -> Result<(), AllocError>
     ensures { OnOk result (line.new ≡ line.old ++ codes "for " ++ name.now ++ codes " in") }
 {
     line.keyword(Keyword::For)?;

@@ -938,12 +938,12 @@ primary::primary-returns-clause-failed t c =
 pub primary::named-returns-then-not-is_at-clause-read : goal.primary::named-returns-then-not-is_at-clause-read
 unfolding grammar
 primary::named-returns-then-not-is_at-clause-read t c =
-    made c.args.place.names (λ g. named g c.args.place.inside c.args.name) c.args.room 1 c.args.tokens.now c.args.tokens.now (tree.variable c.args.name) c.node_over.result c.node_over.ensures (λ g a. misses (sym c.is_at.ensures ∙ c.if-not-is_at.true) gives) (omega arith)
+    made c.args.place.names (λ g. named g c.args.place.inside c.args.name) c.args.room 1 c.args.tokens.now c.args.tokens.now (tree.variable c.args.name) c.node_over.result (rw c.new-variable.ensures at c.node_over.ensures) (λ g a. misses (sym c.is_at.ensures ∙ c.if-not-is_at.true) gives) (omega arith)
 
 pub primary::named-returns-then-not-is_at-clause-failed : goal.primary::named-returns-then-not-is_at-clause-failed
 unfolding grammar
 primary::named-returns-then-not-is_at-clause-failed t c =
-    no_leaf c.args.place.names false (λ g. named g c.args.place.inside c.args.name) c.args.room 1 c.args.tokens.now c.args.tokens.now (tree.variable c.args.name) c.node_over.result c.node_over.ensures
+    no_leaf c.args.place.names false (λ g. named g c.args.place.inside c.args.name) c.args.room 1 c.args.tokens.now c.args.tokens.now (tree.variable c.args.name) c.node_over.result (rw c.new-variable.ensures at c.node_over.ensures)
     (λ high g ok. meets_at_once (can_rule (λ _. phrase (arguments c.args.place.inside false) λ xs. expect RightParen (give (call c.args.name xs))) (g.functions c.args.name) (Sign LeftParen) refl can_read) (allowed_meets (g.functions c.args.name) (take λ _. phrase (arguments c.args.place.inside false) λ xs. expect RightParen (give (call c.args.name xs))) _ (λ x xs _. ((λ y. omega (arith, high)), tt)), high))
     (λ high. omega (arith, high))
 
@@ -1492,7 +1492,7 @@ pub members::behind_question-returns-then-not-take-clause-read : goal.members::b
 unfolding grammar
 members::behind_question-returns-then-not-take-clause-read t c =
     let k = rw c.in-Some.is at c.in_ok-name.ensures in
-    record {
+    rw c.new-variable.ensures (record {
       leads = record {
         reads = λ g a e u d. took k refl (stayed c.if-not-take.ensures (d));
         fails = λ g a u d. took_fails k refl (stayed_fails c.if-not-take.ensures (d));
@@ -1500,7 +1500,7 @@ members::behind_question-returns-then-not-take-clause-read t c =
       };
       fits = omega (arith, c.in_ok-below.ensures);
       tokens = omega (arith, k.at, c.if-not-take.ensures.at);
-    }
+    })
 
 pub members::behind_question-returns-in_err-tree-clause-failed : goal.members::behind_question-returns-in_err-tree-clause-failed
 unfolding grammar
@@ -1518,7 +1518,7 @@ pub members::behind_question-returns-clause-read : goal.members::behind_question
 unfolding grammar
 members::behind_question-returns-clause-read t c =
     let k = rw c.in-Some.is at c.in_ok-name.ensures in
-    record {
+    rw c.new-variable.ensures (record {
       leads = record {
         reads = λ g a e u d. took k refl (took c.if-not-take.ensures refl (reads (c.in_ok-tree.ensures.read.reads g a) (d)));
         fails = λ g a u d. took_fails k refl (took_fails c.if-not-take.ensures refl (then_fails (c.in_ok-tree.ensures.read.reads g a) (d)));
@@ -1526,4 +1526,4 @@ members::behind_question-returns-clause-read t c =
       };
       fits = omega (arith, c.in_ok-tree.ensures.read.fits);
       tokens = omega (arith, k.at, c.in_ok-tree.ensures.read.tokens, c.if-not-take.ensures.at);
-    }
+    })

@@ -6,4 +6,4 @@ pub returns-in-Literal : goal.returns-in-Literal
 returns-in-Literal c = rw c.in-Literal.is (number_leaf (variables_of c.args.active.now.variables) _ _ c.integer_literal.ensures)
 
 pub returns-in-Variable : goal.returns-in-Variable
-returns-in-Variable c = rw c.in-Variable.is (held_leaf (variables_of c.args.active.now.variables) c.in-Variable.name _ _ (rw c.as_bytes.ensures.value at c.get.ensures) c.integer_of.ensures)
+returns-in-Variable c = rw c.in-Variable.is (held_leaf (variables_of c.args.active.now.variables) c.in-Variable.name _ _ c.get.ensures c.integer_of.ensures)

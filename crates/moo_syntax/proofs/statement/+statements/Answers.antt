@@ -535,7 +535,7 @@ pub for_loop-returns-clause-read : goal.for_loop-returns-clause-read
 unfolding grammar
 for_loop-returns-clause-read t c =
     let k = rw c.in-Some.is at c.in_ok-name.ensures in
-    rw (row_block c.in_ok-body.body) (record {
+    rw (row_block c.in_ok-body.body, c.new-variable.ensures) (record {
       reads = λ g a. took k refl (took c.in_ok-expect_keyword.ensures refl (stayed c.if-take.ensures (reads (c.in_ok-list.ensures.read.reads g a) (reads ((rw c.in_ok-try_clone.ensures at c.in_ok-body.ensures.read).reads g a) (took c.in_ok-expect_keyword-2.ensures refl gives)))));
       fits = omega (arith, c.in_ok-room_below.ensures, c.in_ok-list.ensures.read.fits, c.in_ok-body.ensures.read.fits);
       tokens = omega (arith, k.at, c.in_ok-expect_keyword.ensures.at, c.if-take.ensures.at, c.in_ok-list.ensures.read.tokens, c.in_ok-body.ensures.read.tokens, c.in_ok-expect_keyword-2.ensures.at, c.in_ok-room_below.ensures);
@@ -604,7 +604,7 @@ for_range-returns-in_err-expect_keyword-clause-failed t c =
 pub for_range-returns-clause-read : goal.for_range-returns-clause-read
 unfolding grammar
 for_range-returns-clause-read t c =
-    rw (row_block c.in_ok-body.body) (record {
+    rw (row_block c.in_ok-body.body, c.new-variable.ensures) (record {
       reads = λ g a. reads (c.in_ok-low.ensures.read.reads g a) (took c.in_ok-expect.ensures refl (reads (c.in_ok-high.ensures.read.reads g a) (took c.in_ok-expect-2.ensures refl (reads ((rw c.in_ok-try_clone.ensures at c.in_ok-body.ensures.read).reads g a) (took c.in_ok-expect_keyword.ensures refl gives)))));
       fits = omega (arith, c.in_ok-low.ensures.read.fits, c.in_ok-high.ensures.read.fits, c.in_ok-body.ensures.read.fits);
       tokens = omega (arith, c.in_ok-low.ensures.read.tokens, c.in_ok-expect.ensures.at, c.in_ok-high.ensures.read.tokens, c.in_ok-expect-2.ensures.at, c.in_ok-body.ensures.read.tokens, c.in_ok-expect_keyword.ensures.at);
@@ -866,7 +866,7 @@ pub handler-returns-in-Some-clause-read : goal.handler-returns-in-Some-clause-re
 unfolding grammar
 handler-returns-in-Some-clause-read t c =
     let rows = row_block c.in_ok-body.body in
-    record {
+    rw c.new-variable.ensures (record {
       leads = record {
         reads = λ g a e u d. took c.in_ok-expect_keyword.ensures refl (reads (label_reads c.expect_keyword.new.self c.take_name.new.self (Some c.in-Some.name) (rw c.in-Some.is at c.in_ok-name.ensures) g) (took c.in_ok-expect.ensures refl (reads (c.in_ok-caught.ensures.read.reads g a) (took c.in_ok-expect-2.ensures refl (reads (c.in_ok-body.ensures.read.reads g a) (rw rows at d))))));
         fails = λ g a u d. took_fails c.in_ok-expect_keyword.ensures refl (then_fails (label_reads c.expect_keyword.new.self c.take_name.new.self (Some c.in-Some.name) (rw c.in-Some.is at c.in_ok-name.ensures) g) (took_fails c.in_ok-expect.ensures refl (then_fails (c.in_ok-caught.ensures.read.reads g a) (took_fails c.in_ok-expect-2.ensures refl (then_fails (c.in_ok-body.ensures.read.reads g a) (rw rows at d))))));
@@ -874,7 +874,7 @@ handler-returns-in-Some-clause-read t c =
       };
       fits = omega (arith, c.in_ok-body.ensures.read.fits, c.in_ok-caught.ensures.read.fits, ap block_height rows);
       tokens = omega (arith, c.in_ok-expect_keyword.ensures.at, label_at c.expect_keyword.new.self c.take_name.new.self (Some c.in-Some.name) (rw c.in-Some.is at c.in_ok-name.ensures), c.in_ok-expect.ensures.at, c.in_ok-caught.ensures.read.tokens, c.in_ok-expect-2.ensures.at, c.in_ok-body.ensures.read.tokens, ap block_height rows);
-    }
+    })
 
 pub handler-returns-in-None-clause-read : goal.handler-returns-in-None-clause-read
 unfolding grammar

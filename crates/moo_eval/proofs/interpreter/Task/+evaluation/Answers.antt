@@ -518,7 +518,7 @@ turn-returns-in_err-flow-clause-meaning t c =
 
 pub visit-returns-clause-meaning : goal.visit-returns-clause-meaning
 visit-returns-clause-meaning t c =
-    λ k. turns c.in_ok-take_tick.ensures.taken (let left = sym c.in_ok-take_tick.ensures.left in state_at (ap (λ (x : Task). x.ticks_left) left) (ap (λ (x : Task). x.notices.items) left) (sym c.in_ok-set.ensures)) (c.in_ok-flow.ensures.meaning tt) (sym c.after_turn.ensures)
+    λ k. turns c.in_ok-take_tick.ensures.taken (let left = sym c.in_ok-take_tick.ensures.left in state_at (ap (λ (x : Task). x.ticks_left) left) (ap (λ (x : Task). x.notices.items) left) (sym c.in_ok-set.ensures)) (c.in_ok-flow.ensures.meaning tt) (sym (c.after_turn.ensures ∙ ap (λ x. after_turn (Some x) (Ok (flow_of c.in_ok-flow.flow))) c.text.ensures))
 
 pub visit-returns-in_err-take_tick-clause-meaning : goal.visit-returns-in_err-take_tick-clause-meaning
 visit-returns-in_err-take_tick-clause-meaning t c =

@@ -1,5 +1,6 @@
 use Rattle.std.proofs.Common.{sym, ap, ◌∙◌}
 use Rattle.std.specs.Option.{option_map}
+use Rattle.moo_value.specs.Compare.{folded}
 use Rattle.moo_value.specs.View.{tree}
 use Rattle.moo_outcome.specs.Seen.{value_among, variables_of, names_of}
 use Rattle.moo_outcome.proofs.Names.{lent, slot_at, no_slot}
@@ -17,4 +18,5 @@ pub returns-in-None : goal.returns-in-None
 unfolding variables_of
 returns-in-None c =
     c.other.ensures
+    ∙ ap (λ n. value_among c.args.self.now.others.items (folded n)) c.as_bytes.ensures.value
     ∙ sym (no_slot c.args.name.now (names_of c.args.self.now) c.args.self.now.values.items (value_among c.args.self.now.others.items) c.in-None.ensures.none)

@@ -2,7 +2,7 @@ use Rattle.std.proofs.Common.{sym, ap, ◌∙◌}
 use Rattle.std.specs.Option.{option_map}
 use Rattle.moo_value.specs.Compare.{folded}
 use Rattle.moo_value.specs.View.{tree}
-use Rattle.moo_outcome.specs.Given.{given_name}
+use Rattle.moo_program.specs.Given.{given_name}
 use Rattle.moo_outcome.specs.Seen.{value_among, variables_of, names_of}
 use Rattle.moo_outcome.proofs.Names.{lent, slot_at, no_slot}
 use Rattle.moo_outcome.proofs.variables.Variables.get_given.Goals as goal

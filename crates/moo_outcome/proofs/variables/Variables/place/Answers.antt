@@ -1,6 +1,6 @@
 use Rattle.std.proofs.Common.{◌≡◌, ◌<◌, ◌≤◌, Some, position, length, sym, ap, subst, ◌∙◌, rules}
 use Rattle.moo_program.specs.Slots.{slots}
-use Rattle.moo_outcome.specs.Given.{given_name}
+use Rattle.moo_program.specs.Given.{given_name}
 use Rattle.moo_outcome.specs.Seen.{names_of}
 use Rattle.moo_outcome.proofs.Names.{is_own}
 use Rattle.moo_outcome.proofs.GivenNames.{own_place, same_place}

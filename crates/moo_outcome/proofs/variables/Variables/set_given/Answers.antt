@@ -1,4 +1,4 @@
-use Rattle.moo_outcome.specs.Given.{given_name}
+use Rattle.moo_program.specs.Given.{given_name}
 use Rattle.moo_outcome.specs.Seen.{value_among, variables_of, names_of}
 use Rattle.moo_outcome.proofs.Stored.{set_slot, set_elsewhere}
 use Rattle.moo_outcome.proofs.variables.Variables.set_given.Goals as goal

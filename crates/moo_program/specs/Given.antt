@@ -2,8 +2,8 @@
 use Rattle.std.specs.Prelude.{ℕ, List, [], ◌∷◌, Bool, ◌==◌, ◌&&◌, Option, codes, length, map, find, get_or}
 use Rattle.std.specs.Str.{bytes_eq}
 use Rattle.moo_value.specs.Compare.{folded}
-use Rattle.moo_outcome.specs.declared.given.Given.{Given}
-use Rattle.moo_outcome.specs.declared.given.Given.TheVariants as given
+use Rattle.moo_program.specs.declared.given.Given.{Given}
+use Rattle.moo_program.specs.declared.given.Given.TheVariants as given
 
 abbrev pub given_name : Given → List ℕ
 given_name given.Num = codes "NUM"

@@ -1,6 +1,6 @@
 use Rattle.std.proofs.Common.{sym, ◌∙◌}
-use Rattle.moo_outcome.proofs.GivenNames.{none_is, other_is}
-use Rattle.moo_outcome.proofs.given.Given.from_name.Goals as goal
+use Rattle.moo_program.proofs.GivenNames.{none_is, other_is}
+use Rattle.moo_program.proofs.given.Given.from_name.Goals as goal
 
 pub returns-in_err-given : goal.returns-in_err-given
 returns-in_err-given c =

@@ -1,6 +1,6 @@
 //! The names of the variables that every frame has.
 ghost use Rattle.std.specs.Prelude.{◌≡◌, find};
-ghost use Rattle.moo_outcome.specs.Given.{given_name, given_slot, given_of, is_given, likely};
+ghost use Rattle.moo_program.specs.Given.{given_name, given_slot, given_of, is_given, likely};
 
 /// A variable that every frame has ('Naming Values Within a Verb' of the LambdaMOO
 /// Programmer's Manual).
@@ -28,17 +28,17 @@ pub enum Given {
 
 impl Given {
     /// How many there are.
-    pub(crate) const COUNT: usize = 18;
+    pub const COUNT: usize = 18;
 
     /// Its number, from 0 on.
-    pub(crate) fn slot(self) -> usize
+    pub fn slot(self) -> usize
         ensures { result ≡ given_slot self }
     {
         self as usize
     }
 
     /// The one of this name, in any case, or `None` where none has it.
-    pub(crate) fn from_name(name: &[u8]) -> Option<Given>
+    pub fn from_name(name: &[u8]) -> Option<Given>
         ensures { result ≡ given_of name.now }
     {
         let letter = name.first()?.to_ascii_lowercase();
@@ -54,7 +54,7 @@ impl Given {
     }
 
     /// How it is spelled.
-    pub(crate) fn name(self) -> &'static str
+    pub fn name(self) -> &'static str
         ensures { result.now ≡ given_name self }
     {
         match self {

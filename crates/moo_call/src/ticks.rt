@@ -1,5 +1,5 @@
 //! The ticks of a task.
-ghost use Rattle.std.specs.Prelude.{◌≡◌, ◌-◌, ◌<◌, ℕ, pos, IsTrue, IsFalse};
+ghost use Rattle.std.specs.Prelude.{◌≡◌, ◌-◌, ◌<◌, ◌≤◌, ℕ, pos, IsTrue, IsFalse};
 ghost use Rattle.moo_call.specs.Tasks.{most_ticks};
 
 use std::marker::Model;
@@ -42,6 +42,14 @@ impl Ticks {
         }
         self.left -= 1;
         true
+    }
+
+    /// Takes ticks until so many are left.
+    pub fn leave(&mut self, left: u32)
+        requires { left ≤ self.old }
+        ensures { self.new ≡ left }
+    {
+        self.left = left;
     }
 
     /// How many are left, as an integer of the language.

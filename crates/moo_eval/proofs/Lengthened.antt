@@ -26,7 +26,7 @@ use Rattle.moo_eval.specs.Meaning.{Evaluates, Computes, Does, begins, applies, o
 use Rattle.moo_eval.proofs.Direct.{assigned, unassigned, performed, unperformed}
 
 -- the elements of a list with one more behind them
-pub lengthened : {T : Telling} {c : Context} {x : List ℕ} {e : Expr} {s s1 s2 t : State} {v w : Tree} (vs : List Tree) → Evaluates T c (variable x) s (Ok (list_of vs)) s1 → Evaluates T c e s1 (Ok v) s2 → made_list (vs ++ v ∷ []) ≡ Ok w → bound (bind x w ∷ []) s2 ≡ t → IsLengthened T c x e s t
+pub lengthened : {T : Telling} {c : Context} {x : List ℕ} {e : Expr} {s s1 s2 t : State} {v w : Tree} (vs : List Tree) → Evaluates T c (variable x) s (Ok (list_of vs)) s1 → Evaluates T c e s1 (Ok v) s2 → made_list (vs ++ v ∷ []) ≡ Ok w → bound (bind x w ∷ []) s2 ≡ t → IsLengthened T c x (program.list (splice (variable x) (element e no_items))) s t
 lengthened {s2 = s2} {w = w} vs d g made sets = record {
   value = w;
   between = s2;
@@ -57,14 +57,14 @@ first_fails d f = operands_end (splice_fails d f)
 pub second_stops : {T : Telling} {c : Context} {x : List ℕ} {e : Expr} {s s1 s' : State} {stop : Stop} (vs : List Tree) → Evaluates T c (variable x) s (Ok (list_of vs)) s1 → Evaluates T c e s1 (Err stop) s' → Computes T c (program.list (splice (variable x) (element e no_items))) s (Err (stops stop)) s'
 second_stops vs d g = operands_end (splice_then d (ap Ok (trees_of-elements_of vs)) (element_stops g) refl)
 
--- as a statement, after a tick for the assignment and one for the list
-pub set_longer : {T : Telling} {c : Context} {x : List ℕ} {e : Expr} {s t : State} → 0 < s.ticks → 0 < (ticked s).ticks → IsLengthened T c x e (ticked (ticked s)) t → Does T c (performs (assign (variable x) (program.list (splice (variable x) (element e no_items))))) s (Ok next) t
+-- as a statement, after a tick for the assignment and one for the list or the call
+pub set_longer : {T : Telling} {c : Context} {x : List ℕ} {e : Expr} {s t : State} → 0 < s.ticks → 0 < (ticked s).ticks → IsLengthened T c x e (ticked (ticked s)) t → Does T c (performs (assign (variable x) e)) s (Ok next) t
 set_longer z z' h = performed z (assigned (begins z' h.computes refl) h.sets)
 
-pub set_error : {T : Telling} {c : Context} {x : List ℕ} {e : Expr} {s s' t : State} {failure : Failure} {v : Tree} → 0 < s.ticks → 0 < (ticked s).ticks → Computes T c e (ticked (ticked s)) (Err failure) s' → settled c.frame.d (trace c s') (Err failure) ≡ Ok v → bound (bind x v ∷ []) s' ≡ t → Does T c (performs (assign (variable x) e)) s (Ok next) t
+pub set_error : {T : Telling} {c : Context} {x : List ℕ} {e : Expr} {s s' t : State} {o : Result Tree Failure} {v : Tree} → 0 < s.ticks → 0 < (ticked s).ticks → Computes T c e (ticked (ticked s)) o s' → settled c.frame.d (trace c s') o ≡ Ok v → bound (bind x v ∷ []) s' ≡ t → Does T c (performs (assign (variable x) e)) s (Ok next) t
 set_error z z' d f b = performed z (assigned (begins z' d f) b)
 
-pub not_set : {T : Telling} {c : Context} {x : List ℕ} {e : Expr} {s s' : State} {failure : Failure} {stop : Stop} → 0 < s.ticks → 0 < (ticked s).ticks → Computes T c e (ticked (ticked s)) (Err failure) s' → settled c.frame.d (trace c s') (Err failure) ≡ Err stop → Does T c (performs (assign (variable x) e)) s (Err stop) s'
+pub not_set : {T : Telling} {c : Context} {x : List ℕ} {e : Expr} {s s' : State} {o : Result Tree Failure} {stop : Stop} → 0 < s.ticks → 0 < (ticked s).ticks → Computes T c e (ticked (ticked s)) o s' → settled c.frame.d (trace c s') o ≡ Err stop → Does T c (performs (assign (variable x) e)) s (Err stop) s'
 not_set z z' d f = unperformed z (unassigned (begins z' d f))
 
 -- what a list may hold

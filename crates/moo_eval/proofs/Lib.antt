@@ -21,3 +21,6 @@ mod Entering
 mod Functions
 mod Direct
 mod Lengthened
+mod AtOnce
+mod Appended
+mod Placed

@@ -1,17 +1,31 @@
 -- Lists that grow in the variable that they stand in.
-use Rattle.std.specs.Prelude.{◌≡◌, ℕ, List, [], ◌∷◌, Ok}
+use Rattle.std.specs.Prelude.{◌≡◌, ℕ, List, [], ◌∷◌, Some, Result, Ok, Err}
 use Rattle.moo_value.specs.Tree.{Tree}
-use Rattle.moo_program.specs.Tree as program
-use Rattle.moo_program.specs.Tree.{Expr, variable, splice, element, no_items}
+use Rattle.moo_program.specs.Tree.{Expr, variable, call, element, no_items}
+use Rattle.moo_function.specs.declared.function.Function.TheVariants.{ListAppend}
+use Rattle.moo_function.specs.Names.{function_of}
 use Rattle.moo_outcome.specs.Variables.{bind}
+use Rattle.moo_outcome.specs.Outcome.{Failure, settled}
 use Rattle.moo_outcome.specs.State.{Context}
-use Rattle.moo_access.specs.State.{State, bound}
+use Rattle.moo_access.specs.State.{State, bound, trace}
 use Rattle.moo_code_function.specs.Telling.{Telling}
 use Rattle.moo_eval.specs.Meaning.{Computes}
 
--- the list of a variable's elements and one more has a value, and then the variable is set to it
-pub record IsLengthened (T : Telling) (c : Context) (name : List ℕ) (last : Expr) (s t : State) : Type 0 where
+-- a call of `listappend`, in any case of its letters, with a variable and one expression more
+pub data Appends (name : List ℕ) (last : Expr) : Expr → Type 0 where
+  appends : {function : List ℕ} →
+      function_of function ≡ Some ListAppend →
+      Appends name last (call function (element (variable name) (element last no_items)))
+
+-- an expression that makes a variable's list longer has a value, and then the variable is set to it
+pub record IsLengthened (T : Telling) (c : Context) (name : List ℕ) (longer : Expr) (s t : State) : Type 0 where
   pub value : Tree
   pub between : State
-  pub computes : Computes T c (program.list (splice (variable name) (element last no_items))) s (Ok value) between
+  pub computes : Computes T c longer s (Ok value) between
   pub sets : bound (bind name value ∷ []) between ≡ t
+
+-- what becomes of an expression's outcome is what becomes of this failure
+pub record SettlesAs (T : Telling) (c : Context) (e : Expr) (s : State) (failure : Failure) (s' : State) : Type 0 where
+  pub outcome : Result Tree Failure
+  pub computes : Computes T c e s outcome s'
+  pub settles : settled c.frame.d (trace c s') outcome ≡ settled c.frame.d (trace c s') (Err failure)

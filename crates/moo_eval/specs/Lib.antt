@@ -11,4 +11,6 @@ pub mod Laws
 pub mod HookLaws
 pub mod Functions
 pub mod Leaves
+pub mod Worth
 pub mod Growth
+pub mod Element

@@ -83,6 +83,10 @@ impl Task {
         ensures ticks { self.new.ticks_left ≤ self.old.ticks_left }
     {
         self.take_tick(active, stack)?;
+        if let Some(number) = self.integer_at_once(world, active, value) {
+            active.variables.set(name, Value::Int(number))?;
+            return Ok(Flow::Next);
+        }
         let value = self.evaluate(world, active, stack, None, value)?;
         active.variables.set(name, value)?;
         Ok(Flow::Next)
@@ -123,11 +127,11 @@ impl Task {
         name: &Name,
         last: &Expr,
     ) -> Result<(), Failure>
-        ensures ok { OnOk result (IsLengthened Faults (context_of stack.now None) name.now (tree last.now) (state_of self.old world.old active.old) (state_of self.new world.new active.new)) }
+        ensures ok { OnOk result (IsLengthened Faults (context_of stack.now None) name.now (list (splice (variable name.now) (element (tree last.now) no_items))) (state_of self.old world.old active.old) (state_of self.new world.new active.new)) }
         ensures err { IfErr result (λ failure. HadMemoryIn failure → Computes Faults (context_of stack.now None) (list (splice (variable name.now) (element (tree last.now) no_items))) (state_of self.old world.old active.old) (Err (failure_of failure)) (state_of self.new world.new active.new)) }
         ensures ticks { self.new.ticks_left ≤ self.old.ticks_left }
     {
-        let found = self.variable(active, stack, None, name)?;
+        let found = self.variable(active, stack, name)?;
         let Value::List(list) = found else {
             return Err(Failure::Fails(ErrorCode::TypeMismatch));
         };
@@ -287,6 +291,7 @@ impl Task {
 }
 
 /// The name and the value of an assignment to a variable alone.
+#[inline]
 pub(crate) fn as_assignment(expr: &Expr) -> Option<(&Name, &Expr)>
     ensures { IfSome result (λ p. tree expr.now ≡ assign (variable p.0.now) (tree p.1.now)) }
 {
@@ -298,6 +303,7 @@ pub(crate) fn as_assignment(expr: &Expr) -> Option<(&Name, &Expr)>
 }
 
 /// The name of a variable.
+#[inline]
 pub(crate) fn as_variable(expr: &Expr) -> Option<&Name>
     ensures { IfSome result (λ name. tree expr.now ≡ variable name.now) }
 {

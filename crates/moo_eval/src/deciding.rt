@@ -8,7 +8,7 @@ ghost use Rattle.moo_eval.specs.Meaning.{Computes};
 ghost use Rattle.moo_eval.specs.Seen.{state_of};
 
 use crate::interpreter::Task;
-use moo_operation::{is_decided, is_true};
+use moo_operation::is_decided;
 use moo_outcome::{Activation, CallStack, Failure};
 use moo_program::Expr;
 use moo_program::operator::LogicOperator;
@@ -53,8 +53,8 @@ impl Task {
         ensures meaning { IsKnownFailure result → Computes Faults (context_of stack.now indexed.entry) (conditional (tree test.now) (tree first.now) (tree second.now)) (state_of self.old world.old active.old) (seen_answer result) (state_of self.new world.new active.new) }
         ensures ticks { self.new.ticks_left ≤ self.old.ticks_left }
     {
-        let test = self.evaluate(world, active, stack, indexed, test)?;
-        if is_true(&test) {
+        let passes = self.passes(world, active, stack, indexed, test)?;
+        if passes {
             return Ok(self.evaluate(world, active, stack, indexed, first)?);
         }
         Ok(self.evaluate(world, active, stack, indexed, second)?)

@@ -63,6 +63,7 @@ fn pushed(alloc: Global, list: MooList, value: Value) -> Result<MooList, AllocEr
 }
 
 /// What stands behind all elements of the variable in a list of these alone, as in `{@name, last}`.
+#[inline]
 pub(crate) fn as_longer<'a>(name: &Name, value: &'a Expr) -> Option<&'a Expr>
     ensures { IfSome result (λ last. tree value.now ≡ list (splice (variable name.now) (element (tree last.now) no_items))) }
 {
@@ -79,13 +80,15 @@ pub(crate) fn as_longer<'a>(name: &Name, value: &'a Expr) -> Option<&'a Expr>
     }
 }
 
-fn is_same_name(own: &Name, name: &Name) -> bool
+#[inline]
+pub(crate) fn is_same_name(own: &Name, name: &Name) -> bool
     ensures { IsTrue result → own.now ≡ name.now }
 {
     own.as_bytes() == name.as_bytes()
 }
 
-fn two_items(items: &[Item]) -> Option<(&Item, &Item)>
+#[inline]
+pub(crate) fn two_items(items: &[Item]) -> Option<(&Item, &Item)>
     ensures { IfSome result (λ p. items.now ≡ p.0.now ∷ p.1.now ∷ []) }
 {
     let (first, rest) = items.split_first()?;
@@ -97,6 +100,7 @@ fn two_items(items: &[Item]) -> Option<(&Item, &Item)>
     }
 }
 
+#[inline]
 fn as_splice(item: &Item) -> Option<&Expr>
     ensures { IfSome result (λ e. (rest : Items) → with_item item.now rest ≡ splice (tree e.now) rest) }
 {
@@ -106,7 +110,8 @@ fn as_splice(item: &Item) -> Option<&Expr>
     }
 }
 
-fn as_element(item: &Item) -> Option<&Expr>
+#[inline]
+pub(crate) fn as_element(item: &Item) -> Option<&Expr>
     ensures { IfSome result (λ e. (rest : Items) → with_item item.now rest ≡ element (tree e.now) rest) }
 {
     match item {

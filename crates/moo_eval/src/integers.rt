@@ -1,9 +1,10 @@
 //! Operators between two integers that can't fail.
-ghost use Rattle.std.specs.Prelude.{◌≡◌, ◌+ℤ◌, ◌-ℤ◌, ◌*ℤ◌, Ok, IfSome};
-ghost use Rattle.std.specs.Int.{int_wrap, w32};
+ghost use Rattle.std.specs.Prelude.{◌≡◌, ◌+ℤ◌, ◌-ℤ◌, ◌*ℤ◌, int_div, Ok, IfSome};
+ghost use Rattle.std.specs.Int.{int_wrap, w32, IsNonZero};
 ghost use Rattle.moo_value.specs.Tree.{integer};
 ghost use Rattle.moo_value.specs.View.{tree};
 ghost use Rattle.moo_operation.specs.Answer.{Gives};
+ghost use Rattle.moo_operation.specs.Arithmetic.{quotient, remainder};
 ghost use Rattle.moo_operation.specs.Operators.{binary_of};
 ghost use Rattle.moo_operation.specs.Truth.{truth_value};
 
@@ -40,24 +41,17 @@ fn integers(operator: BinaryOperator, a: &Value, b: &Value) -> Option<i32>
     }
 }
 
-/// What an operator gives for two integers, or `None` where it may fail.
+/// The number that an operator gives for two integers, or `None` where it may fail.
 #[inline]
-pub(crate) fn of_integers(operator: BinaryOperator, a: i32, b: i32) -> Option<Value>
-    ensures { IfSome result (λ v. binary_of operator (integer a) (integer b) ≡ Ok (tree v)) }
-{
-    let number = number_of(operator, a, b)?;
-    Some(Value::Int(number))
-}
-
-// The number that an operator gives for two integers, or `None` where it may fail.
-#[inline]
-fn number_of(operator: BinaryOperator, a: i32, b: i32) -> Option<i32>
+pub(crate) fn number_of(operator: BinaryOperator, a: i32, b: i32) -> Option<i32>
     ensures { IfSome result (λ n. binary_of operator (integer a) (integer b) ≡ Ok (integer n)) }
 {
     match operator {
         BinaryOperator::Add => Some(sum(a, b)),
         BinaryOperator::Subtract => Some(difference(a, b)),
         BinaryOperator::Multiply => Some(product(a, b)),
+        BinaryOperator::Divide => quotient(a, b),
+        BinaryOperator::Remainder => remainder(a, b),
         BinaryOperator::Equal => Some(truth(a == b)),
         BinaryOperator::NotEqual => Some(truth(a != b)),
         BinaryOperator::Less => Some(truth(a.cmp(&b).is_lt())),
@@ -87,6 +81,34 @@ fn product(a: i32, b: i32) -> i32
     ensures { result ≡ int_wrap w32 (a *ℤ b) }
 {
     a.wrapping_mul(b)
+}
+
+#[inline]
+fn quotient(a: i32, b: i32) -> Option<i32>
+    ensures { IfSome result (λ n. quotient a b ≡ Ok (integer n)) }
+{
+    if b == 0 {
+        return None;
+    }
+    Some(wrapped_quotient(a, b))
+}
+
+#[inline]
+fn wrapped_quotient(a: i32, b: i32) -> i32
+    requires { IsNonZero w32 b }
+    ensures { result ≡ int_wrap w32 (int_div a b) }
+{
+    a.wrapping_div(b)
+}
+
+#[inline]
+fn remainder(a: i32, b: i32) -> Option<i32>
+    ensures { IfSome result (λ n. remainder a b ≡ Ok (integer n)) }
+{
+    if b == 0 {
+        return None;
+    }
+    Some(a.wrapping_rem(b))
 }
 
 // 1 or 0.

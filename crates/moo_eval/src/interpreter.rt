@@ -1,11 +1,14 @@
 //! Expressions.
-ghost use Rattle.std.specs.Prelude.{◌≡◌, ◌-◌, ◌<◌, ◌≤◌, ℕ, List, [], ◌++◌, None, IsTrue, IsFalse, IfOk, IfErr, OnOk, OnErr};
+ghost use Rattle.std.specs.Prelude.{◌≡◌, ◌-◌, ◌<◌, ◌≤◌, ℕ, List, [], ◌++◌, None, Ok, Err, IfSome, IfNone, IfOk, IfErr, OnOk, OnErr, IsTrue, IsFalse};
 ghost use Rattle.moo_program.specs.Tree.{unary, binary, index, range, list};
 ghost use Rattle.moo_program.specs.View.{tree, items_of};
+ghost use Rattle.moo_value.specs.Tree.{Tree, integer};
 ghost use Rattle.moo_value.specs.View.{tree as tree_of};
-ghost use Rattle.moo_outcome.specs.Outcome.{out_of_ticks};
+ghost use Rattle.moo_operation.specs.Truth.{is_true};
+ghost use Rattle.moo_outcome.specs.Outcome.{out_of_ticks, settled};
+ghost use Rattle.moo_outcome.specs.State.{Context};
 ghost use Rattle.moo_eval.specs.Meaning.{Evaluates, Computes, EvaluatesAll};
-ghost use Rattle.moo_outcome.specs.Seen.{context_of, trace_of, stop_of, seen_value, seen_answer, seen_by, HadMemory, IsKnown, IsKnownFailure};
+ghost use Rattle.moo_outcome.specs.Seen.{context_of, trace_of, stop_of, failure_of, seen_value, seen_answer, seen_by, HadMemory, HadMemoryIn, IsKnown, IsKnownFailure};
 ghost use Rattle.moo_function.specs.Names.{function_of};
 ghost use Rattle.moo_call.specs.Tasks.{most_ticks};
 ghost use Rattle.moo_call.specs.Calls.{CallsFunction};
@@ -16,6 +19,8 @@ ghost use Rattle.moo_hook.specs.Turns.{stage_turns, progress_turns};
 ghost use Rattle.moo_eval.specs.Seen.{state_of};
 
 use crate::integers;
+use crate::leaves::is_leaf;
+use crate::worth::{DEEPEST, Sight, integer_worth, worth};
 use moo_call::{Ticks, call_function};
 use moo_function::Function;
 use moo_hook::{Progress, Stage, resume_call};
@@ -60,6 +65,7 @@ impl Task {
     }
 
     /// Takes a tick, where one is left.
+    #[inline]
     pub(crate) fn take_tick(
         &mut self,
         active: &Activation,
@@ -71,10 +77,21 @@ impl Task {
         ensures kept { IfErr result (λ _. self.new ≡ self.old) }
     {
         if !self.ticks_left.take() {
-            let trace = stack.trace(self.alloc, active)?;
-            return Err(Stop::OutOfTicks(trace));
+            return Err(self.spent(active, stack));
         }
         Ok(())
+    }
+
+    // The end of a task that has no tick left. Not inlined, so that what takes a tick needs no room for it.
+    #[cold]
+    #[inline(never)]
+    fn spent(&self, active: &Activation, stack: &CallStack<'_>) -> Stop
+        ensures { HadMemory result → stop_of result ≡ out_of_ticks (trace_of stack.now active.now) }
+    {
+        match stack.trace(self.alloc, active) {
+            Ok(trace) => Stop::OutOfTicks(trace),
+            Err(_) => Stop::Memory,
+        }
     }
 
     /// Takes three ticks, where three are left.
@@ -93,6 +110,88 @@ impl Task {
         true
     }
 
+    /// The value of an element or of a property that is known at once, where all its ticks are left. Else nothing has begun. Not
+    /// inlined: nested expressions would each hold its room on the stack.
+    #[inline(never)]
+    fn at_once(&mut self, world: &World, active: &Activation, expr: &Expr) -> Option<Value>
+        ensures some { IfSome result (λ v. (c : Context) → Evaluates Faults c (tree expr.now) (state_of self.old world.now active.now) (Ok (tree_of v)) (state_of self.new world.now active.now)) }
+        ensures none { IfNone result (self.new ≡ self.old) }
+        ensures ticks { self.new.ticks_left ≤ self.old.ticks_left }
+    {
+        let mut left = self.ticks_left.left() as u32;
+        let sight = Sight {
+            world,
+            active,
+            alloc: self.alloc,
+        };
+        let value = worth(&sight, &mut left, expr)?;
+        self.ticks_left.leave(left);
+        Some(value)
+    }
+
+    /// The integer of an operator that is known at once, likewise.
+    pub(crate) fn integer_at_once(
+        &mut self,
+        world: &World,
+        active: &Activation,
+        expr: &Expr,
+    ) -> Option<i32>
+        ensures some { IfSome result (λ n. (c : Context) → Evaluates Faults c (tree expr.now) (state_of self.old world.now active.now) (Ok (integer n)) (state_of self.new world.now active.now)) }
+        ensures none { IfNone result (self.new ≡ self.old) }
+        ensures ticks { self.new.ticks_left ≤ self.old.ticks_left }
+    {
+        let Expr::Binary(operator, left, right) = expr else {
+            return None;
+        };
+        if is_leaf(left) && is_leaf(right) {
+            return self.of_leaves(active, *operator, left, right);
+        }
+        self.of_parts(world, active, expr)
+    }
+
+    // The same where an operand has parts itself.
+    #[inline(never)]
+    fn of_parts(&mut self, world: &World, active: &Activation, expr: &Expr) -> Option<i32>
+        ensures some { IfSome result (λ n. (c : Context) → Evaluates Faults c (tree expr.now) (state_of self.old world.now active.now) (Ok (integer n)) (state_of self.new world.now active.now)) }
+        ensures none { IfNone result (self.new ≡ self.old) }
+        ensures ticks { self.new.ticks_left ≤ self.old.ticks_left }
+    {
+        let mut left = self.ticks_left.left() as u32;
+        let sight = Sight {
+            world,
+            active,
+            alloc: self.alloc,
+        };
+        let number = integer_worth(&sight, &mut left, expr, DEEPEST)?;
+        self.ticks_left.leave(left);
+        Some(number)
+    }
+
+    /// Whether the value of a test is true.
+    #[cycle(evaluation)]
+    pub(crate) fn passes(
+        &mut self,
+        world: &mut World,
+        active: &mut Activation,
+        stack: &CallStack<'_>,
+        indexed: Option<&Value>,
+        test: &Expr,
+    ) -> Result<bool, Stop>
+        ensures ok { IfOk result (λ b. (v : Tree) × Evaluates Faults (context_of stack.now indexed.entry) (tree test.now) (state_of self.old world.old active.old) (Ok v) (state_of self.new world.new active.new) × (is_true v ≡ b)) }
+        ensures err { IfErr result (λ stop. HadMemory stop → Evaluates Faults (context_of stack.now indexed.entry) (tree test.now) (state_of self.old world.old active.old) (Err (stop_of stop)) (state_of self.new world.new active.new)) }
+        ensures ticks { self.new.ticks_left ≤ self.old.ticks_left }
+    {
+        if let Expr::Binary(..) = test {
+            if let Some(number) = self.integer_at_once(world, active, test) {
+                return Ok(is_other_than_0(number));
+            }
+            let value = self.evaluate_node(world, active, stack, indexed, test)?;
+            return Ok(operation::is_true(&value));
+        }
+        let value = self.evaluate(world, active, stack, indexed, test)?;
+        Ok(operation::is_true(&value))
+    }
+
     /// The value of an expression, which takes a tick as it begins. `indexed` is what `$` measures.
     #[cycle(evaluation)]
     pub fn evaluate(
@@ -106,19 +205,28 @@ impl Task {
         ensures meaning { IsKnown result → Evaluates Faults (context_of stack.now indexed.entry) (tree expr.now) (state_of self.old world.old active.old) (seen_value result) (state_of self.new world.new active.new) }
         ensures ticks { self.new.ticks_left ≤ self.old.ticks_left }
     {
-        if let Expr::Variable(name) = expr {
-            return self.variable(active, stack, indexed, name);
+        match expr {
+            Expr::Variable(name) => return self.variable(active, stack, name),
+            Expr::Literal(literal) => return self.literal(active, stack, literal),
+            Expr::Binary(..) => {
+                if let Some(number) = self.integer_at_once(world, active, expr) {
+                    return Ok(Value::Int(number));
+                }
+            }
+            Expr::Index(..) | Expr::Property(..) => {
+                if let Some(value) = self.at_once(world, active, expr) {
+                    return Ok(value);
+                }
+            }
+            _ => {}
         }
-        match self.at_once(active, expr) {
-            Some(value) => Ok(value),
-            None => self.evaluate_node(world, active, stack, indexed, expr),
-        }
+        self.evaluate_node(world, active, stack, indexed, expr)
     }
 
     // An expression of any kind.
     #[cycle(evaluation)]
     #[inline(never)]
-    fn evaluate_node(
+    pub(crate) fn evaluate_node(
         &mut self,
         world: &mut World,
         active: &mut Activation,
@@ -130,8 +238,24 @@ impl Task {
         ensures ticks { self.new.ticks_left ≤ self.old.ticks_left }
     {
         self.take_tick(active, stack)?;
-        let outcome = self.compute(world, active, stack, indexed, expr);
-        settle(self.alloc, stack, active, outcome)
+        match self.compute(world, active, stack, indexed, expr) {
+            Ok(value) => Ok(value),
+            Err(failure) => self.settled(active, stack, failure),
+        }
+    }
+
+    // What a failure comes to. Not inlined, so that nested expressions hold no room for it.
+    #[inline(never)]
+    fn settled(
+        &self,
+        active: &Activation,
+        stack: &CallStack<'_>,
+        failure: Failure,
+    ) -> Result<Value, Stop>
+        ensures outcome { IsKnown result → settled stack.now.running.d (trace_of stack.now active.now) (Err (failure_of failure)) ≡ seen_value result }
+        ensures known { IsKnown result → HadMemoryIn failure }
+    {
+        settle(self.alloc, stack, active, Err(failure))
     }
 
     /// Where values are made.
@@ -356,4 +480,12 @@ impl Task {
         let list = values.into_list(self.alloc)?;
         Ok(Value::List(list))
     }
+}
+
+// Whether an integer counts as true.
+#[inline]
+fn is_other_than_0(number: i32) -> bool
+    ensures { result ≡ is_true (integer number) }
+{
+    number != 0
 }

@@ -1,9 +1,11 @@
 //! Runs programs: their expressions and statements, and their budget of ticks.
 #![tactic(auto)]
 
+mod appending;
 mod assignment;
 mod calls;
 mod deciding;
+mod element;
 mod growth;
 mod hooks;
 mod integers;
@@ -16,6 +18,7 @@ mod statement;
 mod task;
 mod trying;
 mod typed;
+mod worth;
 
 pub use line::{EvalLine, eval_line};
 pub use moo_hook::typed_frame;

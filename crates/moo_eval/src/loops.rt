@@ -10,7 +10,7 @@ ghost use Rattle.moo_code_function.specs.Telling.{Faults};
 ghost use Rattle.moo_eval.specs.Seen.{state_of};
 
 use crate::interpreter::Task;
-use moo_operation::{is_true, spliced};
+use moo_operation::spliced;
 use moo_outcome::{Activation, CallStack, Flow, Span, Stop, after_turn, no_turn};
 use moo_program::{Expr, Name, Stmt};
 use moo_value::{MooStr, Value};
@@ -33,6 +33,9 @@ impl Task {
     {
         self.take_tick(active, stack)?;
         let flow = self.run_all(world, active, stack, body)?;
+        if let Flow::Next = flow {
+            return Ok(None);
+        }
         Ok(after_turn(own.as_ref(), flow))
     }
 
@@ -54,6 +57,9 @@ impl Task {
         self.take_tick(active, stack)?;
         active.variables.set(name, value)?;
         let flow = self.run_all(world, active, stack, body)?;
+        if let Flow::Next = flow {
+            return Ok(None);
+        }
         Ok(after_turn(Some(name.text()), flow))
     }
 
@@ -72,8 +78,8 @@ impl Task {
         ensures ticks { self.new.ticks_left ≤ self.old.ticks_left }
     {
         'turns: loop {
-            let value = self.evaluate(world, active, stack, None, test)?;
-            if !is_true(&value) {
+            let passes = self.passes(world, active, stack, None, test)?;
+            if !passes {
                 return Ok(Flow::Next);
             }
             if let Some(flow) = self.turn(world, active, stack, own, body)? {

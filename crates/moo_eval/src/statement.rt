@@ -8,10 +8,11 @@ ghost use Rattle.moo_outcome.specs.Seen.{context_of, seen_flow, IsKnown};
 ghost use Rattle.moo_code_function.specs.Telling.{Faults};
 ghost use Rattle.moo_eval.specs.Seen.{state_of};
 
+use crate::appending::as_appended;
 use crate::assignment::as_assignment;
+use crate::element::as_place_assignment;
 use crate::growth::as_longer;
 use crate::interpreter::Task;
-use moo_operation::is_true;
 use moo_outcome::{Activation, CallStack, Flow, Stop, copied_name};
 use moo_program::{Arm, Expr, Stmt};
 use moo_value::Value;
@@ -102,7 +103,13 @@ impl Task {
             if let Some(last) = as_longer(name, value) {
                 return self.lengthen(world, active, stack, name, last);
             }
+            if let Some(last) = as_appended(name, value) {
+                return self.append(world, active, stack, name, last);
+            }
             return self.assign_alone(world, active, stack, name, value);
+        }
+        if let Some((name, place, value)) = as_place_assignment(expr) {
+            return self.set_place(world, active, stack, name, place, value);
         }
         let _value = self.evaluate(world, active, stack, None, expr)?;
         Ok(Flow::Next)
@@ -144,8 +151,8 @@ impl Task {
         ensures meaning { IsKnown result → Does Faults (context_of stack.now None) (branches (tree test.now) (block body.now) (arms_of arms.now)) (state_of self.old world.old active.old) (seen_flow result) (state_of self.new world.new active.new) }
         ensures ticks { self.new.ticks_left ≤ self.old.ticks_left }
     {
-        let value = self.evaluate(world, active, stack, None, test)?;
-        if is_true(&value) {
+        let passes = self.passes(world, active, stack, None, test)?;
+        if passes {
             return self.run_all(world, active, stack, body);
         }
         self.select(world, active, stack, arms)
@@ -165,8 +172,8 @@ impl Task {
         for arm in arms {
             match arm {
                 Arm::ElseIf(test, body) => {
-                    let value = self.evaluate(world, active, stack, None, test)?;
-                    if is_true(&value) {
+                    let passes = self.passes(world, active, stack, None, test)?;
+                    if passes {
                         return self.run_all(world, active, stack, body);
                     }
                 }

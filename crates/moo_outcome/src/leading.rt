@@ -71,6 +71,7 @@ fn is_meant(own: Option<&MooStr>, meant: &Option<MooStr>) -> bool
 }
 
 /// How a loop of this name ends after a turn that led there, or `None` where it goes on.
+#[inline]
 pub fn after_turn(own: Option<&MooStr>, flow: Flow) -> Option<Flow>
     ensures { seen_turn (Ok result) ≡ after_turn (option_copied own.entry) (Ok (flow_of flow)) }
 {

@@ -4,7 +4,7 @@ use Rattle.std.proofs.lemmas.List.{append-nil}
 use Rattle.std.proofs.lemmas.Int.{to_z-of_z}
 use Rattle.std.proofs.Math.ListN.{drop_of_length-le}
 use Rattle.moo_outcome.specs.Outcome.{fails, stops, answers, passes, next}
-use Rattle.moo_value.specs.Tree.{list_of}
+use Rattle.moo_value.specs.Tree.{list_of, integer}
 use Rattle.moo_value.specs.View.{tree, trees}
 use Rattle.moo_program.specs.View.{tree as expression, items_of, codes_of, block, handlers_of}
 use Rattle.moo_eval.specs.declared.interpreter.Task.{Task}
@@ -21,6 +21,10 @@ use Rattle.moo_eval.proofs.Caught.{guards_end, passes_on, none_left, known_caugh
 use Rattle.moo_program.specs.Tree as program
 use Rattle.moo_program.specs.Tree.{variable, splice, element, no_items}
 use Rattle.moo_eval.proofs.Lengthened.{lengthened, too_long, first_stops, first_fails, unspliced, second_stops, set_longer, set_error, not_set}
+use Rattle.moo_eval.specs.Growth.{SettlesAs}
+use Rattle.moo_eval.proofs.Appended.{appended, past_limits, no_list, variable_stops, last_stops}
+use Rattle.moo_eval.specs.Element.{sets_place}
+use Rattle.moo_eval.proofs.Placed.{put, not_put, unheld, place_ends, value_ends, put_alone, passed_over, stopped}
 use Rattle.moo_eval.proofs.Direct.{assigned, unassigned, performed, unperformed}
 use Rattle.moo_eval.proofs.Exits.{refused, gathered, unlisted, same_state, optional_ends, goes_on-not, state_at, no_flow, guarded_on, property_put, runs_at}
 use Rattle.moo_outcome.proofs.Rest.{drop_next, next_tree}
@@ -37,9 +41,13 @@ use Rattle.moo_eval.specs.Operands.{before}
 use Rattle.moo_eval.proofs.interpreter.Task.+evaluation.Goals as goal
 use Rattle.moo_eval.proofs.interpreter.Task.+evaluation.Goals.{evaluate_all-in-Element+in_ok-value-in-Element+in_ok-push-in-Element, evaluate_all-in-Splice+in_ok-value-in-Splice+in_ok-splice-in-Splice}
 
-pub evaluate_node-returns-clause-meaning : goal.evaluate_node-returns-clause-meaning
-evaluate_node-returns-clause-meaning t c =
-    λ k. begins c.in_ok-take_tick.ensures.taken (rw c.in_ok-take_tick.ensures.left at (c.compute-outcome.ensures.meaning (c.settle.ensures.known k))) (c.settle.ensures.outcome k)
+pub evaluate_node-returns-in-Ok-clause-meaning : goal.evaluate_node-returns-in-Ok-clause-meaning
+evaluate_node-returns-in-Ok-clause-meaning t c =
+    λ k. begins c.in_ok-take_tick.ensures.taken (rw (c.in_ok-take_tick.ensures.left, c.in-Ok.is) at (c.compute.ensures.meaning (rw c.in-Ok.is tt))) refl
+
+pub evaluate_node-returns-in-Err-clause-meaning : goal.evaluate_node-returns-in-Err-clause-meaning
+evaluate_node-returns-in-Err-clause-meaning t c =
+    λ k. begins c.in_ok-take_tick.ensures.taken (rw (c.in_ok-take_tick.ensures.left, c.in-Err.is) at (c.compute.ensures.meaning (rw c.in-Err.is (c.settled.ensures.known k)))) (c.settled.ensures.outcome k)
 
 pub evaluate_node-returns-in_err-take_tick-clause-meaning : goal.evaluate_node-returns-in_err-take_tick-clause-meaning
 evaluate_node-returns-in_err-take_tick-clause-meaning t c =
@@ -47,15 +55,16 @@ evaluate_node-returns-in_err-take_tick-clause-meaning t c =
 
 pub evaluate-returns-in-Variable-clause-meaning : goal.evaluate-returns-in-Variable-clause-meaning
 evaluate-returns-in-Variable-clause-meaning t c =
-    λ k. rw c.in-Variable.is (c.variable.ensures.meaning c.args.world.now k)
+    λ k. rw c.in-Variable.is (c.variable.ensures.meaning c.args.indexed c.args.world.now k)
 
-pub evaluate-returns-in-Some-clause-meaning : goal.evaluate-returns-in-Some-clause-meaning
-evaluate-returns-in-Some-clause-meaning t c =
-    λ k. c.in-Some.ensures.some (context_of c.args.stack.now c.args.indexed) c.args.world.now
+pub evaluate-returns-in-Literal-clause-meaning : goal.evaluate-returns-in-Literal-clause-meaning
+evaluate-returns-in-Literal-clause-meaning t c =
+    λ k. rw c.in-Literal.is (c.literal.ensures.meaning c.args.indexed c.args.world.now k)
 
-pub evaluate-returns-in-None-clause-meaning : goal.evaluate-returns-in-None-clause-meaning
-evaluate-returns-in-None-clause-meaning t c =
-    λ k. rw c.in-None.ensures.none at (c.evaluate_node.ensures.meaning k)
+pub passes-returns-in-Some-clause-ok : goal.passes-returns-in-Some-clause-ok
+passes-returns-in-Some-clause-ok t c =
+    let number : SFits w32 c.in-Some.number = search rules in
+    (integer c.in-Some.number, c.in-Some.ensures.some (context_of c.args.stack.now c.args.indexed), sym (rw (to_z-of_z w32 c.in-Some.number number) at c.is_other_than_0.ensures))
 
 pub compute-returns-in-Variable-clause-meaning : goal.compute-returns-in-Variable-clause-meaning
 compute-returns-in-Variable-clause-meaning t c =
@@ -119,15 +128,15 @@ logic-returns-in_err-evaluate-clause-meaning t c =
 
 pub conditional-returns-clause-meaning : goal.conditional-returns-clause-meaning
 conditional-returns-clause-meaning t c =
-    λ k. applies (element_then (c.in_ok-test.ensures.meaning tt) no_more refl) no_more (conditional_false (sym c.is_true.ensures ∙ c.if-is_true.false) (c.in_ok-evaluate-2.ensures.meaning tt) refl)
+    λ k. applies (element_then c.in_ok-passes.ensures.ok.1 no_more refl) no_more (conditional_false (c.in_ok-passes.ensures.ok.2 ∙ c.if-passes.false) (c.in_ok-evaluate-2.ensures.meaning tt) refl)
 
-pub conditional-returns-in_err-test-clause-meaning : goal.conditional-returns-in_err-test-clause-meaning
-conditional-returns-in_err-test-clause-meaning t c =
-    let p = err_from_is_err_and c.from_residual.result c.from_residual.ensures.1 in rw (p.1, p.2) (λ k. operands_end (element_stops (c.in_err-test.ensures.meaning k)))
+pub conditional-returns-in_err-passes-clause-meaning : goal.conditional-returns-in_err-passes-clause-meaning
+conditional-returns-in_err-passes-clause-meaning t c =
+    let p = err_from_is_err_and c.from_residual.result c.from_residual.ensures.1 in rw (p.1, p.2) (λ k. operands_end (element_stops (c.in_err-passes.ensures.err k)))
 
 pub conditional-returns-in_err-evaluate-clause-meaning : goal.conditional-returns-in_err-evaluate-clause-meaning
 conditional-returns-in_err-evaluate-clause-meaning t c =
-    let p = err_from_is_err_and c.from_residual-in_err-evaluate.result c.from_residual-in_err-evaluate.ensures.1 in rw (p.1, p.2) (λ k. applies (element_then (c.in_ok-test.ensures.meaning tt) no_more refl) no_more (conditional_true (sym c.is_true.ensures ∙ c.if-is_true.true) (c.in_err-evaluate.ensures.meaning k) refl))
+    let p = err_from_is_err_and c.from_residual-in_err-evaluate.result c.from_residual-in_err-evaluate.ensures.1 in rw (p.1, p.2) (λ k. applies (element_then c.in_ok-passes.ensures.ok.1 no_more refl) no_more (conditional_true (c.in_ok-passes.ensures.ok.2 ∙ c.if-passes.true) (c.in_err-evaluate.ensures.meaning k) refl))
 
 pub index-returns-clause-meaning : goal.index-returns-clause-meaning
 index-returns-clause-meaning t c =
@@ -220,11 +229,11 @@ evaluate_all-returns-in_err-splice-in-Splice-clause-meaning t c =
 
 pub conditional-returns-in_err-evaluate-2-clause-meaning : goal.conditional-returns-in_err-evaluate-2-clause-meaning
 conditional-returns-in_err-evaluate-2-clause-meaning t c =
-    let p = err_from_is_err_and c.from_residual-in_err-evaluate-2.result c.from_residual-in_err-evaluate-2.ensures.1 in rw (p.1, p.2) (λ k. applies (element_then (c.in_ok-test.ensures.meaning tt) no_more refl) no_more (conditional_false (sym c.is_true.ensures ∙ c.if-is_true.false) (c.in_err-evaluate-2.ensures.meaning k) refl))
+    let p = err_from_is_err_and c.from_residual-in_err-evaluate-2.result c.from_residual-in_err-evaluate-2.ensures.1 in rw (p.1, p.2) (λ k. applies (element_then c.in_ok-passes.ensures.ok.1 no_more refl) no_more (conditional_false (c.in_ok-passes.ensures.ok.2 ∙ c.if-passes.false) (c.in_err-evaluate-2.ensures.meaning k) refl))
 
-pub conditional-returns-then-is_true-clause-meaning : goal.conditional-returns-then-is_true-clause-meaning
-conditional-returns-then-is_true-clause-meaning t c =
-    λ k. applies (element_then (c.in_ok-test.ensures.meaning tt) no_more refl) no_more (conditional_true (sym c.is_true.ensures ∙ c.if-is_true.true) (c.in_ok-evaluate.ensures.meaning tt) refl)
+pub conditional-returns-then-passes-clause-meaning : goal.conditional-returns-then-passes-clause-meaning
+conditional-returns-then-passes-clause-meaning t c =
+    λ k. applies (element_then c.in_ok-passes.ensures.ok.1 no_more refl) no_more (conditional_true (c.in_ok-passes.ensures.ok.2 ∙ c.if-passes.true) (c.in_ok-evaluate.ensures.meaning tt) refl)
 
 pub assign-returns-in_err-path-clause-meaning : goal.assign-returns-in_err-path-clause-meaning
 assign-returns-in_err-path-clause-meaning t c =
@@ -478,15 +487,15 @@ run_all-returns-clause-meaning t c =
 
 pub branch-returns-clause-meaning : goal.branch-returns-clause-meaning
 branch-returns-clause-meaning t c =
-    λ k. selects (arm_passed (c.in_ok-value.ensures.meaning tt) (sym c.is_true.ensures ∙ c.if-is_true.false) (c.select.ensures.meaning k))
+    λ k. selects (arm_passed c.in_ok-passes.ensures.ok.1 (c.in_ok-passes.ensures.ok.2 ∙ c.if-passes.false) (c.select.ensures.meaning k))
 
-pub branch-returns-then-is_true-clause-meaning : goal.branch-returns-then-is_true-clause-meaning
-branch-returns-then-is_true-clause-meaning t c =
-    λ k. selects (arm_runs (c.in_ok-value.ensures.meaning tt) (sym c.is_true.ensures ∙ c.if-is_true.true) (c.run_all.ensures.meaning k))
+pub branch-returns-then-passes-clause-meaning : goal.branch-returns-then-passes-clause-meaning
+branch-returns-then-passes-clause-meaning t c =
+    λ k. selects (arm_runs c.in_ok-passes.ensures.ok.1 (c.in_ok-passes.ensures.ok.2 ∙ c.if-passes.true) (c.run_all.ensures.meaning k))
 
-pub branch-returns-in_err-value-clause-meaning : goal.branch-returns-in_err-value-clause-meaning
-branch-returns-in_err-value-clause-meaning t c =
-    let p = err_from_is_err_and c.from_residual.result c.from_residual.ensures.1 in rw (p.1, p.2) (λ k. selects (test_stops (c.in_err-value.ensures.meaning k)))
+pub branch-returns-in_err-passes-clause-meaning : goal.branch-returns-in_err-passes-clause-meaning
+branch-returns-in_err-passes-clause-meaning t c =
+    let p = err_from_is_err_and c.from_residual.result c.from_residual.ensures.1 in rw (p.1, p.2) (λ k. selects (test_stops (c.in_err-passes.ensures.err k)))
 
 pub select-returns-clause-meaning : goal.select-returns-clause-meaning
 select-returns-clause-meaning t c =
@@ -496,17 +505,21 @@ pub select-returns-in-Else-clause-meaning : goal.select-returns-in-Else-clause-m
 select-returns-in-Else-clause-meaning t c =
     λ k. c.loop-arm.invariant.rest _ _ (rw (drop_next c.args.arms.now c.loop-arm.arm-index c.arm-item.result c.loop-arm-test.true c.arm-item.is, c.in-Else.is, row_block, ← c.deref-in-Else.ensures.value) (else_runs (c.run_all-in-Else.ensures.meaning k)))
 
-pub select-returns-in_err-value-in-ElseIf-clause-meaning : goal.select-returns-in_err-value-in-ElseIf-clause-meaning
-select-returns-in_err-value-in-ElseIf-clause-meaning t c =
-    let p = err_from_is_err_and c.from_residual.result c.from_residual.ensures.1 in rw (p.1, p.2) (λ k. c.loop-arm.invariant.rest (Err (stop_of c.in_err-value-in-ElseIf.field-0.0)) _ (rw (drop_next c.args.arms.now c.loop-arm.arm-index c.arm-item.result c.loop-arm-test.true c.arm-item.is, c.in-ElseIf.is, ← c.deref.ensures) (test_stops (c.in_err-value-in-ElseIf.ensures.meaning k))))
+pub select-returns-in_err-passes-in-ElseIf-clause-meaning : goal.select-returns-in_err-passes-in-ElseIf-clause-meaning
+select-returns-in_err-passes-in-ElseIf-clause-meaning t c =
+    let p = err_from_is_err_and c.from_residual.result c.from_residual.ensures.1 in rw (p.1, p.2) (λ k. c.loop-arm.invariant.rest (Err (stop_of c.in_err-passes-in-ElseIf.field-0.0)) _ (rw (drop_next c.args.arms.now c.loop-arm.arm-index c.arm-item.result c.loop-arm-test.true c.arm-item.is, c.in-ElseIf.is, ← c.deref.ensures) (test_stops (c.in_err-passes-in-ElseIf.ensures.err k))))
 
 pub select-loop-arm-preserved : goal.select-loop-arm-preserved
 select-loop-arm-preserved t c =
-    record { ticks = omega arith; rest = λ o s d. c.loop-arm.invariant.rest o s (rw (drop_next c.args.arms.now c.loop-arm.arm-index c.arm-item.result c.loop-arm-test.true c.arm-item.is, c.in-ElseIf.is, ← c.deref.ensures) (arm_passed (c.in_ok-value-in-ElseIf.ensures.meaning tt) (sym c.is_true.ensures ∙ c.if-is_true.false) d)) }
+    record { ticks = omega arith; rest = λ o s d. c.loop-arm.invariant.rest o s (rw (drop_next c.args.arms.now c.loop-arm.arm-index c.arm-item.result c.loop-arm-test.true c.arm-item.is, c.in-ElseIf.is, ← c.deref.ensures) (arm_passed c.in_ok-passes-in-ElseIf.ensures.ok.1 (c.in_ok-passes-in-ElseIf.ensures.ok.2 ∙ c.if-passes.false) d)) }
 
 pub turn-returns-clause-meaning : goal.turn-returns-clause-meaning
 turn-returns-clause-meaning t c =
     λ k. turns c.in_ok-take_tick.ensures.taken (ap (λ x. state_of x c.args.world.now c.args.active.now) (sym c.in_ok-take_tick.ensures.left)) (c.in_ok-flow.ensures.meaning tt) (sym (c.after_turn.ensures ∙ ap (λ x. after_turn x (Ok (flow_of c.in_ok-flow.flow))) c.as_ref.ensures.value))
+
+pub turn-returns-in-Next-clause-meaning : goal.turn-returns-in-Next-clause-meaning
+turn-returns-in-Next-clause-meaning t c =
+    λ k. turns c.in_ok-take_tick.ensures.taken (ap (λ x. state_of x c.args.world.now c.args.active.now) (sym c.in_ok-take_tick.ensures.left)) (rw c.in-Next.is at (c.in_ok-flow.ensures.meaning tt)) refl
 
 pub turn-returns-in_err-take_tick-clause-meaning : goal.turn-returns-in_err-take_tick-clause-meaning
 turn-returns-in_err-take_tick-clause-meaning t c =
@@ -520,6 +533,10 @@ pub visit-returns-clause-meaning : goal.visit-returns-clause-meaning
 visit-returns-clause-meaning t c =
     λ k. turns c.in_ok-take_tick.ensures.taken (let left = sym c.in_ok-take_tick.ensures.left in state_at (ap (λ (x : Task). x.ticks_left) left) (ap (λ (x : Task). x.notices.items) left) (sym c.in_ok-set.ensures)) (c.in_ok-flow.ensures.meaning tt) (sym (c.after_turn.ensures ∙ ap (λ x. after_turn (Some x) (Ok (flow_of c.in_ok-flow.flow))) c.text.ensures))
 
+pub visit-returns-in-Next-clause-meaning : goal.visit-returns-in-Next-clause-meaning
+visit-returns-in-Next-clause-meaning t c =
+    λ k. turns c.in_ok-take_tick.ensures.taken (let left = sym c.in_ok-take_tick.ensures.left in state_at (ap (λ (x : Task). x.ticks_left) left) (ap (λ (x : Task). x.notices.items) left) (sym c.in_ok-set.ensures)) (rw c.in-Next.is at (c.in_ok-flow.ensures.meaning tt)) refl
+
 pub visit-returns-in_err-take_tick-clause-meaning : goal.visit-returns-in_err-take_tick-clause-meaning
 visit-returns-in_err-take_tick-clause-meaning t c =
     let p = err_from_is_err_and c.from_residual.result c.from_residual.ensures.1 in rw (p.1, p.2) (λ k. let h = c.in_err-take_tick.ensures.spent k in rw (c.in_err-take_tick.ensures.kept, h.1) (turn_spent h.0))
@@ -528,21 +545,21 @@ pub visit-returns-in_err-flow-clause-meaning : goal.visit-returns-in_err-flow-cl
 visit-returns-in_err-flow-clause-meaning t c =
     let p = err_from_is_err_and c.from_residual-in_err-flow.result c.from_residual-in_err-flow.ensures.1 in rw (p.1, p.2) (λ k. turns c.in_ok-take_tick.ensures.taken (let left = sym c.in_ok-take_tick.ensures.left in state_at (ap (λ (x : Task). x.ticks_left) left) (ap (λ (x : Task). x.notices.items) left) (sym c.in_ok-set.ensures)) (c.in_err-flow.ensures.meaning k) refl)
 
-pub repeat-returns-then-not-is_true-clause-meaning : goal.repeat-returns-then-not-is_true-clause-meaning
-repeat-returns-then-not-is_true-clause-meaning t c =
-    λ k. c.turns.invariant.rest (Ok next) _ (loop_ends (c.in_ok-value.ensures.meaning tt) (sym c.is_true.ensures ∙ c.if-not-is_true.true))
+pub repeat-returns-then-not-passes-clause-meaning : goal.repeat-returns-then-not-passes-clause-meaning
+repeat-returns-then-not-passes-clause-meaning t c =
+    λ k. c.turns.invariant.rest (Ok next) _ (loop_ends c.in_ok-passes.ensures.ok.1 (c.in_ok-passes.ensures.ok.2 ∙ c.if-not-passes.true))
 
 pub repeat-returns-in-Some-clause-meaning : goal.repeat-returns-in-Some-clause-meaning
 repeat-returns-in-Some-clause-meaning t c =
-    λ k. c.turns.invariant.rest (Ok (flow_of c.in-Some.flow)) _ (loop_left (c.in_ok-value.ensures.meaning tt) (sym c.is_true.ensures ∙ c.if-not-is_true.false) (rw c.in-Some.is at (c.in_ok-flow.ensures.meaning tt)))
+    λ k. c.turns.invariant.rest (Ok (flow_of c.in-Some.flow)) _ (loop_left c.in_ok-passes.ensures.ok.1 (c.in_ok-passes.ensures.ok.2 ∙ c.if-not-passes.false) (rw c.in-Some.is at (c.in_ok-flow.ensures.meaning tt)))
 
-pub repeat-returns-in_err-value-clause-meaning : goal.repeat-returns-in_err-value-clause-meaning
-repeat-returns-in_err-value-clause-meaning t c =
-    let p = err_from_is_err_and c.from_residual.result c.from_residual.ensures.1 in rw (p.1, p.2) (λ k. c.turns.invariant.rest (Err (stop_of c.in_err-value.field-0.0)) _ (loop_stops (c.in_err-value.ensures.meaning k)))
+pub repeat-returns-in_err-passes-clause-meaning : goal.repeat-returns-in_err-passes-clause-meaning
+repeat-returns-in_err-passes-clause-meaning t c =
+    let p = err_from_is_err_and c.from_residual.result c.from_residual.ensures.1 in rw (p.1, p.2) (λ k. c.turns.invariant.rest (Err (stop_of c.in_err-passes.field-0.0)) _ (loop_stops (c.in_err-passes.ensures.err k)))
 
 pub repeat-turns-preserved : goal.repeat-turns-preserved
 repeat-turns-preserved t c =
-    record { ticks = omega arith; rest = λ o s d. c.turns.invariant.rest o s (loop_then (c.in_ok-value.ensures.meaning tt) (sym c.is_true.ensures ∙ c.if-not-is_true.false) (rw (no_flow c.in_ok-flow.field-0 c.in_default.not-Some) at (c.in_ok-flow.ensures.meaning tt)) d) }
+    record { ticks = omega arith; rest = λ o s d. c.turns.invariant.rest o s (loop_then c.in_ok-passes.ensures.ok.1 (c.in_ok-passes.ensures.ok.2 ∙ c.if-not-passes.false) (rw (no_flow c.in_ok-flow.field-0 c.in_default.not-Some) at (c.in_ok-flow.ensures.meaning tt)) d) }
 
 pub for_list-returns-in-Ok-clause-meaning : goal.for_list-returns-in-Ok-clause-meaning
 for_list-returns-in-Ok-clause-meaning t c =
@@ -656,21 +673,13 @@ pub run_all-returns-in_default : goal.run_all-returns-in_default
 run_all-returns-in_default t c =
     record { meaning = λ k. c.loop-statement.invariant.rest (Ok (flow_of c.in_ok-flow.flow)) _ (rw (drop_next c.args.statements.now c.loop-statement.statement-index c.statement-item.result c.loop-statement-test.true c.statement-item.is) (leaves (c.in_ok-flow.ensures.meaning tt) (goes_on-not _ c.in_default.not-Next))); ticks = omega arith; fewer = λ some. omega (arith, c.in_ok-flow.ensures.fewer) }
 
-pub select-returns-then-is_true-clause-meaning : goal.select-returns-then-is_true-clause-meaning
-select-returns-then-is_true-clause-meaning t c =
-    λ k. c.loop-arm.invariant.rest _ _ (rw (drop_next c.args.arms.now c.loop-arm.arm-index c.arm-item.result c.loop-arm-test.true c.arm-item.is, c.in-ElseIf.is, row_block, ← c.deref.ensures, ← c.deref-then-is_true.ensures.value) (arm_runs (c.in_ok-value-in-ElseIf.ensures.meaning tt) (sym c.is_true.ensures ∙ c.if-is_true.true) (c.run_all.ensures.meaning k)))
+pub select-returns-then-passes-clause-meaning : goal.select-returns-then-passes-clause-meaning
+select-returns-then-passes-clause-meaning t c =
+    λ k. c.loop-arm.invariant.rest _ _ (rw (drop_next c.args.arms.now c.loop-arm.arm-index c.arm-item.result c.loop-arm-test.true c.arm-item.is, c.in-ElseIf.is, row_block, ← c.deref.ensures, ← c.deref-then-passes.ensures.value) (arm_runs c.in_ok-passes-in-ElseIf.ensures.ok.1 (c.in_ok-passes-in-ElseIf.ensures.ok.2 ∙ c.if-passes.true) (c.run_all.ensures.meaning k)))
 
 pub repeat-returns-in_err-flow-clause-meaning : goal.repeat-returns-in_err-flow-clause-meaning
 repeat-returns-in_err-flow-clause-meaning t c =
-    let p = err_from_is_err_and c.from_residual-in_err-flow.result c.from_residual-in_err-flow.ensures.1 in rw (p.1, p.2) (λ k. c.turns.invariant.rest (Err (stop_of c.in_err-flow.field-0.0)) _ (loop_left (c.in_ok-value.ensures.meaning tt) (sym c.is_true.ensures ∙ c.if-not-is_true.false) (c.in_err-flow.ensures.meaning k)))
-
-pub repeat-turns-preserved-in_default : goal.repeat-turns-preserved-in_default
-repeat-turns-preserved-in_default t c =
-    record { ticks = omega arith; rest = λ o s d. c.turns.invariant.rest o s (loop_then (c.in_ok-value.ensures.meaning tt) (sym c.is_true.ensures ∙ c.if-not-is_true.false) (rw (no_flow c.in_ok-flow.field-0 c.in_default.not-Some) at (c.in_ok-flow.ensures.meaning tt)) d) }
-
-pub repeat-turns-preserved-in_default-2 : goal.repeat-turns-preserved-in_default-2
-repeat-turns-preserved-in_default-2 t c =
-    record { ticks = omega arith; rest = λ o s d. c.turns.invariant.rest o s (loop_then (c.in_ok-value.ensures.meaning tt) (sym c.is_true.ensures ∙ c.if-not-is_true.false) (rw (no_flow c.in_ok-flow.field-0 c.in_default.not-Some) at (c.in_ok-flow.ensures.meaning tt)) d) }
+    let p = err_from_is_err_and c.from_residual-in_err-flow.result c.from_residual-in_err-flow.ensures.1 in rw (p.1, p.2) (λ k. c.turns.invariant.rest (Err (stop_of c.in_err-flow.field-0.0)) _ (loop_left c.in_ok-passes.ensures.ok.1 (c.in_ok-passes.ensures.ok.2 ∙ c.if-not-passes.false) (c.in_err-flow.ensures.meaning k)))
 
 pub for_list-returns-clause-meaning : goal.for_list-returns-clause-meaning
 for_list-returns-clause-meaning t c =
@@ -742,9 +751,15 @@ pub assign_variable-returns-in_err-value-clause-meaning : goal.assign_variable-r
 assign_variable-returns-in_err-value-clause-meaning t c =
     let p = err_from_is_err_and c.from_residual.result c.from_residual.ensures.1 in rw (p.1, p.2) (λ k. unassigned (c.in_err-value.ensures.meaning k))
 
+pub assign_alone-returns-in-Some-clause-meaning : goal.assign_alone-returns-in-Some-clause-meaning
+assign_alone-returns-in-Some-clause-meaning t c =
+    let number : SFits w32 c.in-Some.number = search rules in
+    λ k. performed c.in_ok-take_tick.ensures.taken (assigned (rw c.in_ok-take_tick.ensures.left at (c.in-Some.ensures.some (context_of c.args.stack.now None))) (same_state (sym (rw (to_z-of_z w32 c.in-Some.number number) at c.in_ok-set.ensures)) refl))
+
 pub assign_alone-returns-clause-meaning : goal.assign_alone-returns-clause-meaning
 assign_alone-returns-clause-meaning t c =
-    λ k. performed c.in_ok-take_tick.ensures.taken (assigned (rw c.in_ok-take_tick.ensures.left at (c.in_ok-value.ensures.meaning tt)) (same_state (sym c.in_ok-set.ensures) refl))
+    let same = rw (none_left _ c.in_default.not-Some) at c.integer_at_once.ensures.none in
+    λ k. performed c.in_ok-take_tick.ensures.taken (assigned (rw (same, c.in_ok-take_tick.ensures.left) at (c.in_ok-value.ensures.meaning tt)) (same_state (sym c.in_ok-set-2.ensures) refl))
 
 pub assign_alone-returns-in_err-take_tick-clause-meaning : goal.assign_alone-returns-in_err-take_tick-clause-meaning
 assign_alone-returns-in_err-take_tick-clause-meaning t c =
@@ -752,7 +767,7 @@ assign_alone-returns-in_err-take_tick-clause-meaning t c =
 
 pub assign_alone-returns-in_err-value-clause-meaning : goal.assign_alone-returns-in_err-value-clause-meaning
 assign_alone-returns-in_err-value-clause-meaning t c =
-    let p = err_from_is_err_and c.from_residual-in_err-value.result c.from_residual-in_err-value.ensures.1 in rw (p.1, p.2) (λ k. unperformed c.in_ok-take_tick.ensures.taken (unassigned (rw c.in_ok-take_tick.ensures.left at (c.in_err-value.ensures.meaning k))))
+    let p = err_from_is_err_and c.from_residual-in_err-value.result c.from_residual-in_err-value.ensures.1 in rw (p.1, p.2) (let same = rw (none_left _ c.in_default.not-Some) at c.integer_at_once.ensures.none in λ k. unperformed c.in_ok-take_tick.ensures.taken (unassigned (rw (same, c.in_ok-take_tick.ensures.left) at (c.in_err-value.ensures.meaning k))))
 
 pub lengthen-returns-in-Ok-clause-meaning : goal.lengthen-returns-in-Ok-clause-meaning
 lengthen-returns-in-Ok-clause-meaning t c =
@@ -777,27 +792,111 @@ lengthen-returns-in_err-take_tick-2-clause-meaning t c =
 pub put_behind-returns-clause-ok : goal.put_behind-returns-clause-ok
 put_behind-returns-clause-ok t c =
     let h = c.in_ok-set_longer.ensures.ok in
-    lengthened c.in-List.list (rw c.in-List.is at (c.in_ok-found.ensures.meaning c.args.world.now tt)) (c.in_ok-last.ensures.meaning tt) h.1 (same_state (sym h.2) refl)
+    lengthened c.in-List.list (rw c.in-List.is at (c.in_ok-found.ensures.meaning None c.args.world.now tt)) (c.in_ok-last.ensures.meaning tt) h.1 (same_state (sym h.2) refl)
 
 pub put_behind-returns-in_err-found-clause-err : goal.put_behind-returns-in_err-found-clause-err
 put_behind-returns-in_err-found-clause-err t c =
-    let p = err_from_is_err_and c.from_residual.result c.from_residual.ensures.1 in rw (p.1, p.2) (λ k. first_stops (c.in_err-found.ensures.meaning c.args.world.now k))
+    let p = err_from_is_err_and c.from_residual.result c.from_residual.ensures.1 in rw (p.1, p.2) (λ k. first_stops (c.in_err-found.ensures.meaning None c.args.world.now k))
 
 pub put_behind-returns-in_default-clause-err : goal.put_behind-returns-in_default-clause-err
 put_behind-returns-in_default-clause-err t c =
-    λ k. first_fails (c.in_ok-found.ensures.meaning c.args.world.now tt) (unspliced _ c.in_default.not-List)
+    λ k. first_fails (c.in_ok-found.ensures.meaning None c.args.world.now tt) (unspliced _ c.in_default.not-List)
 
 pub put_behind-returns-in_err-last-clause-err : goal.put_behind-returns-in_err-last-clause-err
 put_behind-returns-in_err-last-clause-err t c =
-    let p = err_from_is_err_and c.from_residual-in_err-last.result c.from_residual-in_err-last.ensures.1 in rw (p.1, p.2) (λ k. second_stops c.in-List.list (rw c.in-List.is at (c.in_ok-found.ensures.meaning c.args.world.now tt)) (c.in_err-last.ensures.meaning k))
+    let p = err_from_is_err_and c.from_residual-in_err-last.result c.from_residual-in_err-last.ensures.1 in rw (p.1, p.2) (λ k. second_stops c.in-List.list (rw c.in-List.is at (c.in_ok-found.ensures.meaning None c.args.world.now tt)) (c.in_err-last.ensures.meaning k))
 
 pub put_behind-returns-in_err-set_longer-clause-err : goal.put_behind-returns-in_err-set_longer-clause-err
 put_behind-returns-in_err-set_longer-clause-err t c =
     let p = err_from_is_err_and c.from_residual-in_err-set_longer.result c.from_residual-in_err-set_longer.ensures.1 in
-    rw (p.1, p.2) (λ k. subst (λ s. Computes Faults (context_of c.args.stack.now None) (program.list (splice (variable c.args.name.now) (element (expression c.args.last.now) no_items))) (state_of c.args.self.now c.args.world.now c.args.active.now) (Err (failure_of c.in_err-set_longer.field-0.0)) s) (same_state (sym (c.in_err-set_longer.ensures.kept k)) refl) (too_long c.in-List.list (rw c.in-List.is at (c.in_ok-found.ensures.meaning c.args.world.now tt)) (c.in_ok-last.ensures.meaning tt) (c.in_err-set_longer.ensures.err k)))
+    rw (p.1, p.2) (λ k. subst (λ s. Computes Faults (context_of c.args.stack.now None) (program.list (splice (variable c.args.name.now) (element (expression c.args.last.now) no_items))) (state_of c.args.self.now c.args.world.now c.args.active.now) (Err (failure_of c.in_err-set_longer.field-0.0)) s) (same_state (sym (c.in_err-set_longer.ensures.kept k)) refl) (too_long c.in-List.list (rw c.in-List.is at (c.in_ok-found.ensures.meaning None c.args.world.now tt)) (c.in_ok-last.ensures.meaning tt) (c.in_err-set_longer.ensures.err k)))
 
 pub evaluate_alone-returns-in-Some-as_longer-clause-meaning : goal.evaluate_alone-returns-in-Some-as_longer-clause-meaning
 evaluate_alone-returns-in-Some-as_longer-clause-meaning t c = λ k. rw (c.in-Some.ensures, c.in-Some-as_longer.ensures) (c.lengthen.ensures.meaning k)
+
+pub append-returns-in-Ok-clause-meaning : goal.append-returns-in-Ok-clause-meaning
+append-returns-in-Ok-clause-meaning t c =
+    λ e a k. set_longer c.in_ok-take_tick.ensures.taken (rw c.in_ok-take_tick.ensures.left at c.in_ok-take_tick-2.ensures.taken) (rw (c.in_ok-take_tick-2.ensures.left, c.in_ok-take_tick.ensures.left) at (c.in-Ok.ensures.ok e a))
+
+pub append-returns-in_ok-set-in-Err-clause-meaning : goal.append-returns-in_ok-set-in-Err-clause-meaning
+append-returns-in_ok-set-in-Err-clause-meaning t c =
+    λ e a k. let h = rw (c.in_ok-take_tick-2.ensures.left, c.in_ok-take_tick.ensures.left) at (c.in-Err.ensures.err (c.in_ok-value-in-Err.ensures.known tt) e a) in set_error c.in_ok-take_tick.ensures.taken (rw c.in_ok-take_tick.ensures.left at c.in_ok-take_tick-2.ensures.taken) h.computes (h.settles ∙ c.in_ok-value-in-Err.ensures.outcome tt) (same_state (sym c.in_ok-set-in-Err.ensures) refl)
+
+pub append-returns-in_err-value-in-Err-clause-meaning : goal.append-returns-in_err-value-in-Err-clause-meaning
+append-returns-in_err-value-in-Err-clause-meaning t c =
+    let p = err_from_is_err_and c.from_residual-in_err-value-in-Err.result c.from_residual-in_err-value-in-Err.ensures.1 in rw (p.1, p.2) (λ e a k. let h = rw (c.in_ok-take_tick-2.ensures.left, c.in_ok-take_tick.ensures.left) at (c.in-Err.ensures.err (c.in_err-value-in-Err.ensures.known k) e a) in not_set c.in_ok-take_tick.ensures.taken (rw c.in_ok-take_tick.ensures.left at c.in_ok-take_tick-2.ensures.taken) h.computes (h.settles ∙ c.in_err-value-in-Err.ensures.outcome k))
+
+pub append-returns-in_err-take_tick-clause-meaning : goal.append-returns-in_err-take_tick-clause-meaning
+append-returns-in_err-take_tick-clause-meaning t c =
+    let p = err_from_is_err_and c.from_residual.result c.from_residual.ensures.1 in rw (p.1, p.2) (λ e a k. let h = c.in_err-take_tick.ensures.spent k in rw (c.in_err-take_tick.ensures.kept, h.1) (evaluates (spent h.0) refl))
+
+pub append-returns-in_err-take_tick-2-clause-meaning : goal.append-returns-in_err-take_tick-2-clause-meaning
+append-returns-in_err-take_tick-2-clause-meaning t c =
+    let p = err_from_is_err_and c.from_residual-in_err-take_tick-2.result c.from_residual-in_err-take_tick-2.ensures.1 in rw (p.1, p.2) (λ e a k. let h = c.in_err-take_tick-2.ensures.spent k in rw (c.in_err-take_tick-2.ensures.kept, c.in_ok-take_tick.ensures.left, h.1) (unperformed c.in_ok-take_tick.ensures.taken (unassigned (spent (rw c.in_ok-take_tick.ensures.left at h.0)))))
+
+pub put_appended-returns-clause-ok : goal.put_appended-returns-clause-ok
+put_appended-returns-clause-ok t c =
+    λ e a. let h = c.in_ok-set_longer.ensures.ok in appended c.in-List.list a (rw c.in-List.is at (c.in_ok-found.ensures.meaning None c.args.world.now tt)) (c.in_ok-last.ensures.meaning tt) h.1 (same_state (sym h.2) refl)
+
+pub put_appended-returns-in_err-found-clause-err : goal.put_appended-returns-in_err-found-clause-err
+put_appended-returns-in_err-found-clause-err t c =
+    let p = err_from_is_err_and c.from_residual.result c.from_residual.ensures.1 in rw (p.1, p.2) (λ k e a. variable_stops a (c.in_err-found.ensures.meaning None c.args.world.now k))
+
+pub put_appended-returns-in_err-last-clause-err : goal.put_appended-returns-in_err-last-clause-err
+put_appended-returns-in_err-last-clause-err t c =
+    let p = err_from_is_err_and c.from_residual-in_err-last.result c.from_residual-in_err-last.ensures.1 in rw (p.1, p.2) (λ k e a. last_stops a (c.in_ok-found.ensures.meaning None c.args.world.now tt) (c.in_err-last.ensures.meaning k))
+
+pub put_appended-returns-in_default-clause-err : goal.put_appended-returns-in_default-clause-err
+put_appended-returns-in_default-clause-err t c =
+    λ k e a. no_list _ c.in_default.not-List a (c.in_ok-found.ensures.meaning None c.args.world.now tt) (c.in_ok-last.ensures.meaning tt)
+
+pub put_appended-returns-in_err-set_longer-clause-err : goal.put_appended-returns-in_err-set_longer-clause-err
+put_appended-returns-in_err-set_longer-clause-err t c =
+    let p = err_from_is_err_and c.from_residual-in_err-set_longer.result c.from_residual-in_err-set_longer.ensures.1 in
+    rw (p.1, p.2) (λ k e a. subst (SettlesAs Faults (context_of c.args.stack.now None) e (state_of c.args.self.now c.args.world.now c.args.active.now) (failure_of c.in_err-set_longer.field-0.0)) (same_state (sym (c.in_err-set_longer.ensures.kept k)) refl) (past_limits c.in-List.list a (rw c.in-List.is at (c.in_ok-found.ensures.meaning None c.args.world.now tt)) (c.in_ok-last.ensures.meaning tt) (c.in_err-set_longer.ensures.err k)))
+
+pub evaluate_alone-returns-in-Some-as_appended-clause-meaning : goal.evaluate_alone-returns-in-Some-as_appended-clause-meaning
+evaluate_alone-returns-in-Some-as_appended-clause-meaning t c = λ k. rw c.in-Some.ensures (c.append.ensures.meaning _ c.in-Some-as_appended.ensures k)
+
+pub set_place-returns-in-Ok-clause-meaning : goal.set_place-returns-in-Ok-clause-meaning
+set_place-returns-in-Ok-clause-meaning t c =
+    λ k. put_alone c.in_ok-take_tick.ensures.taken (rw c.in_ok-take_tick.ensures.left at c.in-Ok.ensures.ok)
+
+pub set_place-returns-in_ok-_error-in-Err-clause-meaning : goal.set_place-returns-in_ok-_error-in-Err-clause-meaning
+set_place-returns-in_ok-_error-in-Err-clause-meaning t c =
+    λ k. passed_over c.in_ok-take_tick.ensures.taken (rw c.in_ok-take_tick.ensures.left at (c.in-Err.ensures.err (c.in_ok-_error-in-Err.ensures.known tt))) (c.in_ok-_error-in-Err.ensures.outcome tt)
+
+pub set_place-returns-in_err-_error-in-Err-clause-meaning : goal.set_place-returns-in_err-_error-in-Err-clause-meaning
+set_place-returns-in_err-_error-in-Err-clause-meaning t c =
+    let p = err_from_is_err_and c.from_residual-in_err-_error-in-Err.result c.from_residual-in_err-_error-in-Err.ensures.1 in rw (p.1, p.2) (λ k. stopped c.in_ok-take_tick.ensures.taken (rw c.in_ok-take_tick.ensures.left at (c.in-Err.ensures.err (c.in_err-_error-in-Err.ensures.known k))) (c.in_err-_error-in-Err.ensures.outcome k))
+
+pub set_place-returns-in_err-take_tick-clause-meaning : goal.set_place-returns-in_err-take_tick-clause-meaning
+set_place-returns-in_err-take_tick-clause-meaning t c =
+    let p = err_from_is_err_and c.from_residual.result c.from_residual.ensures.1 in rw (p.1, p.2) (λ k. let h = c.in_err-take_tick.ensures.spent k in rw (c.in_err-take_tick.ensures.kept, h.1) (evaluates (spent h.0) refl))
+
+pub put_at-returns-clause-ok : goal.put_at-returns-clause-ok
+put_at-returns-clause-ok t c =
+    let h = c.in_ok-set_at.ensures.ok in put (c.in_ok-container.ensures.value tt) (c.in_ok-place.ensures.meaning tt) (c.in_ok-value.ensures.meaning tt) h.1 (same_state (sym h.2) refl)
+
+pub put_at-returns-in_err-container-clause-err : goal.put_at-returns-in_err-container-clause-err
+put_at-returns-in_err-container-clause-err t c =
+    let p = err_from_is_err_and c.from_residual.result c.from_residual.ensures.1 in rw (p.1, p.2) (λ k. unheld (c.in_err-container.ensures.value k))
+
+pub put_at-returns-in_err-place-clause-err : goal.put_at-returns-in_err-place-clause-err
+put_at-returns-in_err-place-clause-err t c =
+    let p = err_from_is_err_and c.from_residual-in_err-place.result c.from_residual-in_err-place.ensures.1 in rw (p.1, p.2) (λ k. place_ends (c.in_ok-container.ensures.value tt) (c.in_err-place.ensures.meaning k))
+
+pub put_at-returns-in_err-value-clause-err : goal.put_at-returns-in_err-value-clause-err
+put_at-returns-in_err-value-clause-err t c =
+    let p = err_from_is_err_and c.from_residual-in_err-value.result c.from_residual-in_err-value.ensures.1 in rw (p.1, p.2) (λ k. value_ends (c.in_ok-container.ensures.value tt) (c.in_ok-place.ensures.meaning tt) (c.in_err-value.ensures.meaning k))
+
+pub put_at-returns-in_err-set_at-clause-err : goal.put_at-returns-in_err-set_at-clause-err
+put_at-returns-in_err-set_at-clause-err t c =
+    let p = err_from_is_err_and c.from_residual-in_err-set_at.result c.from_residual-in_err-set_at.ensures.1 in
+    rw (p.1, p.2) (λ k. subst (λ s. Computes Faults (context_of c.args.stack.now None) (sets_place c.args.name.now (expression c.args.place.now) (expression c.args.value.now)) (state_of c.args.self.now c.args.world.now c.args.active.now) (Err (failure_of c.in_err-set_at.field-0.0)) s) (same_state (sym (c.in_err-set_at.ensures.kept k)) refl) (not_put (c.in_ok-container.ensures.value tt) (c.in_ok-place.ensures.meaning tt) (c.in_ok-value.ensures.meaning tt) (c.in_err-set_at.ensures.err k)))
+
+pub evaluate_alone-returns-in-Some-as_place_assignment-clause-meaning : goal.evaluate_alone-returns-in-Some-as_place_assignment-clause-meaning
+evaluate_alone-returns-in-Some-as_place_assignment-clause-meaning t c = λ k. rw c.in-Some-as_place_assignment.ensures (c.set_place.ensures.meaning k)
 
 pub evaluate_alone-returns-in-Some-clause-meaning : goal.evaluate_alone-returns-in-Some-clause-meaning
 evaluate_alone-returns-in-Some-clause-meaning t c = λ k. rw c.in-Some.ensures (c.assign_alone.ensures.meaning k)

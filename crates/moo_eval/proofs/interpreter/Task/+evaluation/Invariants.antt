@@ -24,6 +24,9 @@ use Rattle.moo_eval.proofs.interpreter.Task.+evaluation.Given as goal
 abbrev pub decreases-evaluate : goal.decreases-evaluate
 decreases-evaluate l = 7 * l.self.now.ticks_left + 1
 
+abbrev pub decreases-passes : goal.decreases-passes
+decreases-passes l = 7 * l.self.now.ticks_left + 2
+
 abbrev pub decreases-evaluate_node : goal.decreases-evaluate_node
 decreases-evaluate_node l = 7 * l.self.now.ticks_left
 
@@ -38,6 +41,18 @@ decreases-lengthen l = 7 * l.self.now.ticks_left
 
 abbrev pub decreases-put_behind : goal.decreases-put_behind
 decreases-put_behind l = 7 * l.self.now.ticks_left + 2
+
+abbrev pub decreases-append : goal.decreases-append
+decreases-append l = 7 * l.self.now.ticks_left
+
+abbrev pub decreases-put_appended : goal.decreases-put_appended
+decreases-put_appended l = 7 * l.self.now.ticks_left + 2
+
+abbrev pub decreases-set_place : goal.decreases-set_place
+decreases-set_place l = 7 * l.self.now.ticks_left
+
+abbrev pub decreases-put_at : goal.decreases-put_at
+decreases-put_at l = 7 * l.self.now.ticks_left + 2
 
 abbrev pub decreases-evaluate_all : goal.decreases-evaluate_all
 decreases-evaluate_all l = 7 * l.self.now.ticks_left + 2
@@ -142,7 +157,7 @@ abbrev pub decreases-run_all : goal.decreases-run_all
 decreases-run_all l = 7 * l.self.now.ticks_left + 2
 
 abbrev pub decreases-repeat : goal.decreases-repeat
-decreases-repeat l = 7 * l.self.now.ticks_left + 2
+decreases-repeat l = 7 * l.self.now.ticks_left + 3
 
 abbrev pub decreases-visit_all : goal.decreases-visit_all
 decreases-visit_all l = 7 * l.self.now.ticks_left + 2

@@ -1,0 +1,63 @@
+-- Expressions whose worth is known at once.
+use Rattle.std.proofs.Common.{◌≡◌, ℕ, suc, ◌<◌, ◌-◌, ℤ, pos, List, [], ◌∷◌, Option, Some, None, Result, Ok, Err, IfSome, option_map, slice_get, length, refl, sym, ap, ◌∙◌}
+use Rattle.std.specs.Borrow.{Bor}
+use Rattle.std.specs.Slice.{IsItemAt}
+use Rattle.std.proofs.lemmas.Option.{slice_get-map, slice_get_read}
+use Rattle.moo_value.specs.declared.value.Value.{Value}
+use Rattle.moo_value.specs.Tree.{Tree, integer, object, list_of}
+use Rattle.moo_value.specs.View.{tree, trees}
+use Rattle.moo_value.specs.TreeCode.{trees_of-elements_of}
+use Rattle.moo_value.specs.Compare.{folded}
+use Rattle.moo_program.specs.declared.operator.BinaryOperator.{BinaryOperator}
+use Rattle.moo_program.specs.declared.tree.Literal.{Literal}
+use Rattle.moo_program.specs.Tree.{Expr, literal, literal_value, variable, binary, index, property}
+use Rattle.moo_operation.specs.Operators.{binary_of}
+use Rattle.moo_operation.specs.Places.{index_of, or_range}
+use Rattle.moo_outcome.specs.Outcome.{answers}
+use Rattle.moo_outcome.specs.State.{Context, within}
+use Rattle.moo_outcome.specs.declared.frame.Activation.{Activation}
+use Rattle.moo_outcome.specs.Seen.{variables_of}
+use Rattle.moo_table.specs.World.{World}
+use Rattle.moo_access.specs.Calls.{read_property}
+use Rattle.moo_eval.specs.Leaves.{IsLeaf, literal_leaf, variable_leaf}
+use Rattle.moo_eval.specs.Worth.{IsWorth}
+use Rattle.moo_eval.specs.Meaning.{begins, applies, no_more, element_then, binary_is, index_is, property_is}
+use Rattle.moo_eval.proofs.Direct.{leaf_gives}
+
+-- a number, or a variable that is set
+pub leaf_worth : (w : World) (active : Activation) {e : Expr} {v : Tree} {n n' : ℕ} → (0 < n) × (n' ≡ n - 1) → IsLeaf (variables_of active.variables) e v → IsWorth w active n e v n'
+leaf_worth w active z l = λ c notices. rw z.1 (leaf_gives z.0 l)
+
+pub operator_worth : (w : World) (active : Activation) {op : BinaryOperator} {a b : Expr} {x y v : Tree} {n n' n'' n3 : ℕ} → (0 < n) × (n' ≡ n - 1) → IsWorth w active n' a x n'' → IsWorth w active n'' b y n3 → binary_of op x y ≡ Ok v → IsWorth w active n (binary op a b) v n3
+operator_worth w active z f g h = λ c notices. begins z.0 (applies (element_then (rw z.1 at f c notices) (element_then (g c notices) no_more refl) refl) no_more (binary_is (ap answers h))) refl
+
+pub element_worth : (w : World) (active : Activation) {a i : Expr} {x y v : Tree} {n n' n'' n3 : ℕ} → (0 < n) × (n' ≡ n - 1) → IsWorth w active n' a x n'' → IsWorth w active n'' i y n3 → index_of x y ≡ Ok v → IsWorth w active n (index a i) v n3
+element_worth w active z f g h = λ c notices. begins z.0 (applies (element_then (rw z.1 at f c notices) no_more refl) (element_then (g (within c (_ ∷ [])) notices) no_more refl) (index_is (ap answers h))) refl
+
+pub property_worth : (w : World) (active : Activation) {a b : Expr} {x y v : Tree} {n n' n'' n3 : ℕ} → (0 < n) × (n' ≡ n - 1) → IsWorth w active n' a x n'' → IsWorth w active n'' b y n3 → read_property w active.programmer x y ≡ Ok v → IsWorth w active n (property a b) v n3
+property_worth w active z f g h = λ c notices. begins z.0 (applies (element_then (rw z.1 at f c notices) (element_then (g c notices) no_more refl) refl) no_more (property_is (ap answers h))) refl
+
+-- of an answer, where there is one
+pub map_some : {A : Type 0} {P Q : A → Type 0} (r : Option A) → ((x : A) → P x → Q x) → IfSome r P → IfSome r Q
+map_some None f h = tt
+map_some (Some x) f h = f x h
+
+-- the element at a place
+pub element_found : (vs : List Value) (ts : List Tree) (k : ℕ) (v : Value) → trees vs ≡ ts → slice_get vs k ≡ Some v → index_of (list_of ts) (integer (pos (suc k))) ≡ Ok (tree v)
+element_found vs ts k v e h =
+    let found : slice_get ts k ≡ Some (tree v) = ap (λ us. slice_get us k) (sym e) ∙ slice_get-map tree vs k ∙ ap (option_map tree) h in
+    ap (λ us. or_range (slice_get us k) (λ t. Ok t)) (trees_of-elements_of ts) ∙ ap (λ t. or_range t (λ t. Ok t)) found
+
+pub element_there : (vs : List Value) (ts : List Tree) (k : ℕ) (r : Option (Bor Value)) → trees vs ≡ ts → IsItemAt vs k r → IfSome r (λ v. index_of (list_of ts) (integer (pos (suc k))) ≡ Ok (tree v.now))
+element_there vs ts k None e h = tt
+element_there vs ts k (Some v) e h = element_found vs ts k v.now e (slice_get_read vs (length vs) k v.now refl h.3.0 h.1)
+
+-- an object that is written out
+pub object_leaf : (variables : List ℕ → Option Tree) (l : Literal) (r : Option ℤ) → IfSome r (λ o. literal_value l ≡ object o) → IfSome r (λ o. IsLeaf variables (literal l) (object o))
+object_leaf variables l None h = tt
+object_leaf variables l (Some o) h = rw (sym h) literal_leaf
+
+-- a variable that is set
+pub set_leaf : (variables : List ℕ → Option Tree) (name : List ℕ) (r : Option (Bor Value)) → option_map (λ v. tree v.now) r ≡ variables (folded name) → IfSome r (λ v. IsLeaf variables (variable name) (tree v.now))
+set_leaf variables name None e = tt
+set_leaf variables name (Some v) e = variable_leaf (sym e)

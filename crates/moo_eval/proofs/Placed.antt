@@ -1,0 +1,64 @@
+-- Assignments to a place of the list or string in a variable.
+use Rattle.std.proofs.Common.{◌≡◌, ℕ, ◌<◌, List, [], ◌∷◌, Option, Some, None, Result, Ok, Err, refl, sym, ap, ◌∙◌}
+use Rattle.std.specs.Result.{result_err}
+use Rattle.moo_value.specs.declared.error_code.ErrorCode.{ErrorCode}
+use Rattle.moo_value.specs.declared.error_code.ErrorCode.TheVariants.{VariableNotFound}
+use Rattle.moo_value.specs.Tree.{Tree}
+use Rattle.moo_value.specs.Compare.{folded}
+use Rattle.moo_program.specs.Tree.{Expr, performs}
+use Rattle.moo_operation.specs.Answer.{IsRefused}
+use Rattle.moo_operation.specs.Assignment.{with_index_of}
+use Rattle.moo_operation.specs.declared.fault.OperationFault.{OperationFault}
+use Rattle.moo_operation.specs.declared.fault.OperationFault.TheVariants as fault
+use Rattle.moo_outcome.specs.Fault.{failed}
+use Rattle.moo_outcome.specs.Outcome.{Stop, Failure, stops, fails, next, or_error, answers, settled}
+use Rattle.moo_outcome.specs.Seen.{HadMemoryIn}
+use Rattle.moo_outcome.specs.State.{Context, within}
+use Rattle.moo_outcome.specs.Variables.{bind}
+use Rattle.moo_access.specs.State.{State, ticked, bound, trace}
+use Rattle.moo_code_function.specs.Telling.{Telling}
+use Rattle.moo_eval.specs.Element.{sets_place, IsPut}
+use Rattle.moo_eval.specs.Meaning.{Evaluates, Computes, Does, begins, applies, no_more, element_stops, element_then, assign_is, target_ends, value_stops, assigns, locates, finds, inside, step_ends, enters, unread, spot_ends, steps_in, no_store, stores, puts_variable, evaluates}
+use Rattle.moo_eval.proofs.Direct.{performed}
+
+-- the container with the value at the place
+pub put : {T : Telling} {c : Context} {name : List ℕ} {i e : Expr} {s s1 s2 t : State} {x y v w : Tree} → answers (or_error (s.variables (folded name)) VariableNotFound) ≡ Ok x → Evaluates T (within c (x ∷ [])) i s (Ok y) s1 → Evaluates T c e s1 (Ok v) s2 → with_index_of x y v ≡ Ok w → bound (bind name w ∷ []) s2 ≡ t → IsPut T c name i e s t
+put {v = v} held d g made sets = record { value = v; computes = applies no_more no_more (assign_is (assigns (locates (finds no_more refl) (enters (steps_in held (element_then d no_more refl)) inside)) g (stores (ap answers made) (puts_variable sets)) refl)) }
+
+-- the container takes no such value at the place
+pub not_put : {T : Telling} {c : Context} {name : List ℕ} {i e : Expr} {s s1 s2 : State} {x y v : Tree} {failure : Failure} → answers (or_error (s.variables (folded name)) VariableNotFound) ≡ Ok x → Evaluates T (within c (x ∷ [])) i s (Ok y) s1 → Evaluates T c e s1 (Ok v) s2 → answers (with_index_of x y v) ≡ Err failure → Computes T c (sets_place name i e) s (Err failure) s2
+not_put held d g made = applies no_more no_more (assign_is (assigns (locates (finds no_more refl) (enters (steps_in held (element_then d no_more refl)) inside)) g (no_store made) refl))
+
+-- the variable is not set
+pub unheld : {T : Telling} {c : Context} {name : List ℕ} {i e : Expr} {s : State} {failure : Failure} → answers (or_error (s.variables (folded name)) VariableNotFound) ≡ Err failure → Computes T c (sets_place name i e) s (Err failure) s
+unheld held = applies no_more no_more (assign_is (target_ends (locates (finds no_more refl) (step_ends (unread held)))))
+
+-- the place stops
+pub place_ends : {T : Telling} {c : Context} {name : List ℕ} {i e : Expr} {s s' : State} {x : Tree} {stop : Stop} → answers (or_error (s.variables (folded name)) VariableNotFound) ≡ Ok x → Evaluates T (within c (x ∷ [])) i s (Err stop) s' → Computes T c (sets_place name i e) s (Err (stops stop)) s'
+place_ends held d = applies no_more no_more (assign_is (target_ends (locates (finds no_more refl) (step_ends (spot_ends held (element_stops d))))))
+
+-- the value stops
+pub value_ends : {T : Telling} {c : Context} {name : List ℕ} {i e : Expr} {s s1 s' : State} {x y : Tree} {stop : Stop} → answers (or_error (s.variables (folded name)) VariableNotFound) ≡ Ok x → Evaluates T (within c (x ∷ [])) i s (Ok y) s1 → Evaluates T c e s1 (Err stop) s' → Computes T c (sets_place name i e) s (Err (stops stop)) s'
+value_ends held d g = applies no_more no_more (assign_is (value_stops (locates (finds no_more refl) (enters (steps_in held (element_then d no_more refl)) inside)) g))
+
+-- as a statement, after a tick for the assignment
+pub put_alone : {T : Telling} {c : Context} {name : List ℕ} {i e : Expr} {s t : State} → 0 < s.ticks → IsPut T c name i e (ticked s) t → Does T c (performs (sets_place name i e)) s (Ok next) t
+put_alone z h = performed z h.computes
+
+pub passed_over : {T : Telling} {c : Context} {e : Expr} {s s' : State} {o : Result Tree Failure} {v : Tree} → 0 < s.ticks → Computes T c e (ticked s) o s' → settled c.frame.d (trace c s') o ≡ Ok v → Does T c (performs e) s (Ok next) s'
+passed_over z d f = evaluates (begins z d f) refl
+
+pub stopped : {T : Telling} {c : Context} {e : Expr} {s s' : State} {o : Result Tree Failure} {stop : Stop} → 0 < s.ticks → Computes T c e (ticked s) o s' → settled c.frame.d (trace c s') o ≡ Err stop → Does T c (performs e) s (Err stop) s'
+stopped z d f = evaluates (begins z d f) refl
+
+-- what is refused beforehand, and what is not
+pub refused_before : (r : Result Tree ErrorCode) (code : ErrorCode) → Some code ≡ result_err r → answers r ≡ Err (fails code)
+refused_before (Ok w) code h = absurd cc
+refused_before (Err e) code h =
+    let q : ◌≡◌ {A = Option ErrorCode} (Some code) (Some e) = h in
+    let same : e ≡ code = cc in
+    ap (λ x. Err (fails x)) same
+
+pub not_refused : (f : OperationFault) (r : Result Tree ErrorCode) → IsRefused f r → result_err r ≡ None → HadMemoryIn (failed f) → ⊥
+not_refused (fault.Raise code) r h n k = let q : ◌≡◌ {A = Option ErrorCode} (Some code) None = sym (ap result_err h) ∙ n in absurd cc
+not_refused fault.Memory r h n k = k

@@ -1,0 +1,32 @@
+use Rattle.std.proofs.Common.{Some, w32, rules}
+use Rattle.std.proofs.lemmas.Int.{to_z-of_z}
+use mir.Val.{SFits}
+use Rattle.moo_outcome.specs.Seen.{variables_of}
+use Rattle.moo_eval.proofs.Direct.{number_leaf, held_leaf}
+use Rattle.moo_eval.proofs.AtOnce.{leaf_worth, operator_worth, element_worth, map_some}
+use Rattle.moo_eval.proofs.worth.+worth.Goals as goal
+
+pub element_worth-returns-clause-value : goal.element_worth-returns-clause-value
+element_worth-returns-clause-value t c =
+    let world = c.args.sight.now.world.now in
+    let active = c.args.sight.now.active.now in
+    let fits : SFits w32 c.in_ok-place.place = search rules in
+    map_some c.element_at.result (λ v h. element_worth world active c.in_ok-take.ensures.taken (leaf_worth world active c.in_ok-take-2.ensures.taken c.in_ok-list.ensures) c.in_ok-place.ensures.value h) (rw (to_z-of_z w32 c.in_ok-place.place fits) at c.element_at.ensures)
+
+pub operand_worth-returns-in_ok-take-in-Literal-clause-value : goal.operand_worth-returns-in_ok-take-in-Literal-clause-value
+operand_worth-returns-in_ok-take-in-Literal-clause-value t c =
+    let number = c.in_ok-number-in-Literal.number in
+    let fits : SFits w32 c.in_ok-number-in-Literal.number = search rules in
+    rw (c.in-Literal.is, to_z-of_z w32 number fits) (leaf_worth c.args.sight.now.world.now c.args.sight.now.active.now c.in_ok-take-in-Literal.ensures.taken (number_leaf (variables_of c.args.sight.now.active.now.variables) c.in-Literal.literal (Some number) c.in_ok-number-in-Literal.ensures))
+
+pub operand_worth-returns-in_ok-take-in-Variable-clause-value : goal.operand_worth-returns-in_ok-take-in-Variable-clause-value
+operand_worth-returns-in_ok-take-in-Variable-clause-value t c =
+    rw c.in-Variable.is (map_some c.integer_of.result (λ n l. leaf_worth c.args.sight.now.world.now c.args.sight.now.active.now c.in_ok-take-in-Variable.ensures.taken l) (held_leaf (variables_of c.args.sight.now.active.now.variables) c.in-Variable.name _ c.integer_of.result c.get.ensures c.integer_of.ensures))
+
+pub integer_worth-returns-in_ok-b-in-Binary-clause-value : goal.integer_worth-returns-in_ok-b-in-Binary-clause-value
+integer_worth-returns-in_ok-b-in-Binary-clause-value t c =
+    let a = c.in_ok-a-in-Binary.a in
+    let b = c.in_ok-b-in-Binary.b in
+    let first : SFits w32 c.in_ok-a-in-Binary.a = search rules in
+    let second : SFits w32 c.in_ok-b-in-Binary.b = search rules in
+    rw (c.in-Binary.is, ← c.deref.ensures, ← c.deref-in-Binary.ensures) (map_some c.number_of.result (λ n h. operator_worth c.args.sight.now.world.now c.args.sight.now.active.now c.in_ok-take-in-Binary.ensures.taken c.in_ok-a-in-Binary.ensures.value c.in_ok-b-in-Binary.ensures.value h) (rw (to_z-of_z w32 a first, to_z-of_z w32 b second) at c.number_of.ensures))

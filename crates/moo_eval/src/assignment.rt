@@ -28,6 +28,7 @@ use moo_world::World;
 impl Task {
     // The target is found first, then the value is evaluated, then it is stored.
     #[cycle(evaluation)]
+    #[inline(never)]
     pub(crate) fn assign(
         &mut self,
         world: &mut World,

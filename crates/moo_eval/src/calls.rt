@@ -26,6 +26,7 @@ use moo_world::World;
 
 impl Task {
     #[cycle(evaluation)]
+    #[inline(never)]
     pub(crate) fn property(
         &mut self,
         world: &mut World,
@@ -45,6 +46,7 @@ impl Task {
 
     // The verb runs in a frame of its own, over the same world and with the ticks that are left.
     #[cycle(evaluation)]
+    #[inline(never)]
     pub(crate) fn verb_call(
         &mut self,
         world: &mut World,
@@ -83,6 +85,7 @@ impl Task {
     }
 
     #[cycle(evaluation)]
+    #[inline(never)]
     pub(crate) fn call(
         &mut self,
         world: &mut World,
@@ -131,6 +134,7 @@ impl Task {
 
     // The codes come first. An error that they name is the value, or what `other` gives in its place.
     #[cycle(evaluation)]
+    #[inline(never)]
     pub(crate) fn catch(
         &mut self,
         world: &mut World,

@@ -18,6 +18,7 @@ use moo_world::World;
 impl Task {
     // The second operand is evaluated only where the first doesn't decide.
     #[cycle(evaluation)]
+    #[inline(never)]
     pub(crate) fn logic(
         &mut self,
         world: &mut World,
@@ -40,6 +41,7 @@ impl Task {
 
     // The test decides which of two is evaluated.
     #[cycle(evaluation)]
+    #[inline(never)]
     pub(crate) fn conditional(
         &mut self,
         world: &mut World,

@@ -223,7 +223,8 @@ impl Task {
         self.evaluate_node(world, active, stack, indexed, expr)
     }
 
-    // An expression of any kind.
+    // An expression of any kind. Neither it nor what computes each kind is inlined: nested expressions would each hold the room of
+    // all kinds on the stack.
     #[cycle(evaluation)]
     #[inline(never)]
     pub(crate) fn evaluate_node(
@@ -390,6 +391,7 @@ impl Task {
     }
 
     #[cycle(evaluation)]
+    #[inline(never)]
     fn unary(
         &mut self,
         world: &mut World,
@@ -407,6 +409,7 @@ impl Task {
     }
 
     #[cycle(evaluation)]
+    #[inline(never)]
     fn binary(
         &mut self,
         world: &mut World,
@@ -427,6 +430,7 @@ impl Task {
 
     // The index is evaluated with the base as what `$` measures.
     #[cycle(evaluation)]
+    #[inline(never)]
     fn index(
         &mut self,
         world: &mut World,
@@ -445,6 +449,7 @@ impl Task {
     }
 
     #[cycle(evaluation)]
+    #[inline(never)]
     fn range(
         &mut self,
         world: &mut World,
@@ -465,6 +470,7 @@ impl Task {
     }
 
     #[cycle(evaluation)]
+    #[inline(never)]
     fn list(
         &mut self,
         world: &mut World,

@@ -65,6 +65,7 @@ impl Task {
 
     // A `while`, from a test on.
     #[cycle(evaluation)]
+    #[inline(never)]
     pub(crate) fn repeat(
         &mut self,
         world: &mut World,
@@ -89,6 +90,7 @@ impl Task {
     }
 
     #[cycle(evaluation)]
+    #[inline(never)]
     pub(crate) fn for_list(
         &mut self,
         world: &mut World,
@@ -131,6 +133,7 @@ impl Task {
     }
 
     #[cycle(evaluation)]
+    #[inline(never)]
     pub(crate) fn for_range(
         &mut self,
         world: &mut World,

@@ -139,6 +139,7 @@ impl Task {
 
     // The first arm of an `if` whose condition is true.
     #[cycle(evaluation)]
+    #[inline(never)]
     fn branch(
         &mut self,
         world: &mut World,
@@ -159,6 +160,7 @@ impl Task {
     }
 
     #[cycle(evaluation)]
+    #[inline(never)]
     fn select(
         &mut self,
         world: &mut World,

@@ -21,6 +21,7 @@ use moo_world::World;
 impl Task {
     // The codes of all handlers come before the statements.
     #[cycle(evaluation)]
+    #[inline(never)]
     pub(crate) fn try_except(
         &mut self,
         world: &mut World,
@@ -43,6 +44,7 @@ impl Task {
 
     // The codes of handlers, in order.
     #[cycle(evaluation)]
+    #[inline(never)]
     fn prepare<'a>(
         &mut self,
         world: &mut World,
@@ -65,6 +67,7 @@ impl Task {
 
     // The first handler that names the error runs, with its variable set, or the error goes on.
     #[cycle(evaluation)]
+    #[inline(never)]
     fn handle(
         &mut self,
         world: &mut World,
@@ -85,6 +88,7 @@ impl Task {
 
     // The cleanup runs after the statements, however they end, unless the ticks ran out.
     #[cycle(evaluation)]
+    #[inline(never)]
     pub(crate) fn try_finally(
         &mut self,
         world: &mut World,

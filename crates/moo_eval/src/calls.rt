@@ -1,14 +1,18 @@
 //! Catches, and calls of verbs and functions.
-ghost use Rattle.std.specs.Prelude.{◌≡◌, ◌≢◌, ◌≤◌, ◌<◌, None, OnOk, is_ok, IsTrue};
-ghost use Rattle.moo_program.specs.Tree.{property, verb_call, call};
+ghost use Rattle.std.specs.Prelude.{◌≡◌, ◌≢◌, ◌≤◌, ◌<◌, ◌∷◌, ℕ, List, [], Option, None, Some, OnOk, is_ok, IsTrue};
+ghost use Rattle.std.specs.Borrow.{Bor};
+ghost use Rattle.moo_value.specs.declared.value.Value.{Value as ValueModel};
+ghost use Rattle.moo_value.specs.View.{tree as tree_of};
+ghost use Rattle.moo_program.specs.Tree.{Expr as ExprTree, Items, property, verb_call, call};
 ghost use Rattle.moo_program.specs.View.{tree, items_of, codes_of};
 ghost use Rattle.moo_outcome.specs.Catching.{guards};
 ghost use Rattle.moo_program.specs.Tree.{no_statement};
 ghost use Rattle.moo_outcome.specs.declared.frame.Activation.{Activation};
 ghost use Rattle.moo_access.specs.SeenCalled.{entered_of};
+ghost use Rattle.moo_hook.specs.Calls.{caller_of};
 ghost use Rattle.moo_hook.specs.Seen.{progress_of};
 ghost use Rattle.moo_eval.specs.Hooks.{RunsCalled};
-ghost use Rattle.moo_eval.specs.Meaning.{Computes, EvaluatesAll, Proceeds};
+ghost use Rattle.moo_eval.specs.Meaning.{Applies, Computes, EvaluatesAll, Proceeds};
 ghost use Rattle.moo_outcome.specs.Seen.{context_of, seen_answer, seen_answers, seen_flow, catch_of, IsKnown, IsKnownFailure};
 ghost use Rattle.moo_eval.specs.Operands.{answered};
 ghost use Rattle.moo_code_function.specs.Telling.{Faults};
@@ -19,7 +23,7 @@ use crate::interpreter::Task;
 use moo_access::{Called, enter_verb, read_property};
 use moo_function::Function;
 use moo_hook::{Progress, start_call, verb_caller};
-use moo_outcome::{Activation, CallStack, Failure, Flow, Stop, caught};
+use moo_outcome::{Activation, CallStack, Failure, Flow, Gathered, Stop, caught};
 use moo_program::{Codes, Expr, Item};
 use moo_value::{MooStr, Value};
 use moo_world::World;
@@ -63,8 +67,26 @@ impl Task {
         let base = self.evaluate(world, active, stack, indexed, base)?;
         let name = self.evaluate(world, active, stack, indexed, name)?;
         let values = self.evaluate_all(world, active, stack, indexed, items)?;
+        self.call_verb(world, active, stack, &base, &name, values)
+    }
+
+    // The verb that is called, its operands evaluated. Not inlined: calls in the arguments of calls would each hold its room.
+    #[cycle(evaluation)]
+    #[inline(never)]
+    fn call_verb(
+        &mut self,
+        world: &mut World,
+        active: &Activation,
+        stack: &CallStack<'_>,
+        base: &Value,
+        name: &Value,
+        values: Gathered,
+    ) -> Result<Value, Failure>
+        ensures meaning { (indexed : Option (Bor ValueModel)) (a b : ExprTree) (items : Items) → IsKnownFailure result → Applies Faults (context_of stack.now indexed) (verb_call a b items) (tree_of base.now ∷ tree_of name.now ∷ values) [] (state_of self.old world.old active.now) (seen_answer result) (state_of self.new world.new active.now) }
+        ensures ticks { self.new.ticks_left ≤ self.old.ticks_left }
+    {
         let args = values.into_arguments(self.alloc())?;
-        let called = enter_verb(self.alloc(), world, stack, active, &base, &name, args)?;
+        let called = enter_verb(self.alloc(), world, stack, active, base, name, args)?;
         self.run_called(world, called)
     }
 
@@ -103,6 +125,23 @@ impl Task {
         let Some(caller) = verb_caller(function) else {
             return self.call_function(world, active, stack, function, values);
         };
+        self.call_caller(world, active, stack, caller, values)
+    }
+
+    // A function that calls verbs, its arguments evaluated. Not inlined, likewise.
+    #[cycle(evaluation)]
+    #[inline(never)]
+    fn call_caller(
+        &mut self,
+        world: &mut World,
+        active: &Activation,
+        stack: &CallStack<'_>,
+        caller: Function,
+        values: Gathered,
+    ) -> Result<Value, Failure>
+        ensures meaning { (indexed : Option (Bor ValueModel)) (name : List ℕ) (items : Items) → caller_of name ≡ Some caller → IsKnownFailure result → Applies Faults (context_of stack.now indexed) (call name items) values [] (state_of self.old world.old active.now) (seen_answer result) (state_of self.new world.new active.now) }
+        ensures ticks { self.new.ticks_left ≤ self.old.ticks_left }
+    {
         let first = start_call(self.alloc(), world, stack, active, caller, values)?;
         self.proceed(world, active, stack, first)
     }

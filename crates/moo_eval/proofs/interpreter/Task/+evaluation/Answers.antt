@@ -259,13 +259,17 @@ pub call-returns-in_default-clause-meaning : goal.call-returns-in_default-clause
 call-returns-in_default-clause-meaning t c =
     λ k. applies (c.in_ok-values.ensures.meaning tt) no_more (call_is (ap verb_caller (ap function_of (sym c.as_bytes.ensures.value) ∙ sym c.from_name-function.ensures) ∙ sym c.verb_caller.ensures ∙ none_left _ c.in_default.not-Some) (c.call_function.ensures.call c.args.name.now (ap function_of (sym c.as_bytes.ensures.value) ∙ sym c.from_name-function.ensures) k))
 
-pub call-returns-in_err-first-clause-meaning : goal.call-returns-in_err-first-clause-meaning
-call-returns-in_err-first-clause-meaning t c =
-    let p = err_from_is_err_and c.from_residual-in_err-first.result c.from_residual-in_err-first.ensures.1 in rw (p.1, p.2) (λ k. applies (c.in_ok-values.ensures.meaning tt) no_more (call_runs (ap verb_caller (ap function_of (sym c.as_bytes.ensures.value) ∙ sym c.from_name-function.ensures) ∙ sym c.verb_caller.ensures ∙ c.in-Some.is) (c.in_err-first.ensures c.evaluate_all.new.self.ticks_left c.evaluate_all.new.self.notices.items k) is_done))
-
 pub call-returns-clause-meaning : goal.call-returns-clause-meaning
 call-returns-clause-meaning t c =
-    λ k. applies (c.in_ok-values.ensures.meaning tt) no_more (call_runs (ap verb_caller (ap function_of (sym c.as_bytes.ensures.value) ∙ sym c.from_name-function.ensures) ∙ sym c.verb_caller.ensures ∙ c.in-Some.is) (c.in_ok-first.ensures c.evaluate_all.new.self.ticks_left c.evaluate_all.new.self.notices.items tt) (c.proceed.ensures.meaning k))
+    λ k. applies (c.in_ok-values.ensures.meaning tt) no_more (c.call_caller.ensures.meaning c.args.indexed c.args.name.now (items_of c.args.items.now) (ap verb_caller (ap function_of (sym c.as_bytes.ensures.value) ∙ sym c.from_name-function.ensures) ∙ sym c.verb_caller.ensures ∙ c.in-Some.is) k)
+
+pub call_caller-returns-in_err-first-clause-meaning : goal.call_caller-returns-in_err-first-clause-meaning
+call_caller-returns-in_err-first-clause-meaning t c =
+    let p = err_from_is_err_and c.from_residual.result c.from_residual.ensures.1 in rw (p.1, p.2) (λ indexed name items e k. call_runs e (c.in_err-first.ensures c.args.self.now.ticks_left c.args.self.now.notices.items k) is_done)
+
+pub call_caller-returns-clause-meaning : goal.call_caller-returns-clause-meaning
+call_caller-returns-clause-meaning t c =
+    λ indexed name items e k. call_runs e (c.in_ok-first.ensures c.args.self.now.ticks_left c.args.self.now.notices.items tt) (c.proceed.ensures.meaning k)
 
 pub proceed-returns-in_err-pending-clause-meaning : goal.proceed-returns-in_err-pending-clause-meaning
 proceed-returns-in_err-pending-clause-meaning t c =
@@ -297,19 +301,23 @@ verb_call-returns-in_err-values-clause-meaning t c =
 
 pub verb_call-returns-clause-meaning : goal.verb_call-returns-clause-meaning
 verb_call-returns-clause-meaning t c =
-    λ k. let h = c.run_called.ensures.meaning c.evaluate_all.new.active k in applies (element_then (c.in_ok-base.ensures.meaning tt) (element_then (c.in_ok-name.ensures.meaning tt) (c.in_ok-values.ensures.meaning tt) refl) refl) no_more (verb_runs (rw c.in_ok-args.ensures.ok at (c.in_ok-called.ensures tt)) h.runs h.leaves h.gives)
+    λ k. applies (element_then (c.in_ok-base.ensures.meaning tt) (element_then (c.in_ok-name.ensures.meaning tt) (c.in_ok-values.ensures.meaning tt) refl) refl) no_more (c.call_verb.ensures.meaning c.args.indexed (expression c.args.base.now) (expression c.args.name.now) (items_of c.args.items.now) k)
 
-pub verb_call-returns-in_err-args-clause-meaning : goal.verb_call-returns-in_err-args-clause-meaning
-verb_call-returns-in_err-args-clause-meaning t c =
-    let p = err_from_is_err_and c.from_residual-in_err-args.result c.from_residual-in_err-args.ensures.1 in rw (p.1, p.2) (λ k. applies (element_then (c.in_ok-base.ensures.meaning tt) (element_then (c.in_ok-name.ensures.meaning tt) (c.in_ok-values.ensures.meaning tt) refl) refl) no_more (verb_fails (unlisted _ _ (c.in_err-args.ensures.err k))))
+pub call_verb-returns-clause-meaning : goal.call_verb-returns-clause-meaning
+call_verb-returns-clause-meaning t c =
+    λ indexed a b items k. let h = c.run_called.ensures.meaning c.args.active.now k in verb_runs (rw c.in_ok-args.ensures.ok at (c.in_ok-called.ensures tt)) h.runs h.leaves h.gives
+
+pub call_verb-returns-in_err-args-clause-meaning : goal.call_verb-returns-in_err-args-clause-meaning
+call_verb-returns-in_err-args-clause-meaning t c =
+    let p = err_from_is_err_and c.from_residual.result c.from_residual.ensures.1 in rw (p.1, p.2) (λ indexed a b items k. verb_fails (unlisted _ _ (c.in_err-args.ensures.err k)))
+
+pub call_verb-returns-in_err-called-clause-meaning : goal.call_verb-returns-in_err-called-clause-meaning
+call_verb-returns-in_err-called-clause-meaning t c =
+    let p = err_from_is_err_and c.from_residual-in_err-called.result c.from_residual-in_err-called.ensures.1 in rw (p.1, p.2) (λ indexed a b items k. verb_fails (rw c.in_ok-args.ensures.ok at (c.in_err-called.ensures k)))
 
 pub run_called-returns-clause-meaning : goal.run_called-returns-clause-meaning
 run_called-returns-clause-meaning t c =
     λ caller k. record { outcome = _; last = _; runs = runs_at c.statements-statements.ensures.statements (c.run_all.ensures.meaning (c.answered.ensures.known k)); leaves = refl; gives = c.answered.ensures.answer }
-
-pub verb_call-returns-in_err-called-clause-meaning : goal.verb_call-returns-in_err-called-clause-meaning
-verb_call-returns-in_err-called-clause-meaning t c =
-    let p = err_from_is_err_and c.from_residual-in_err-called.result c.from_residual-in_err-called.ensures.1 in rw (p.1, p.2) (λ k. applies (element_then (c.in_ok-base.ensures.meaning tt) (element_then (c.in_ok-name.ensures.meaning tt) (c.in_ok-values.ensures.meaning tt) refl) refl) no_more (verb_fails (rw c.in_ok-args.ensures.ok at (c.in_err-called.ensures k))))
 
 pub catch-returns-in_err-values-clause-meaning : goal.catch-returns-in_err-values-clause-meaning
 catch-returns-in_err-values-clause-meaning t c =

@@ -22,106 +22,112 @@ use Rattle.moo_eval.proofs.interpreter.Task.+evaluation.Given as goal
 -- Each node, statement and turn takes a tick; between two ticks the calls go down these ranks.
 
 abbrev pub decreases-evaluate : goal.decreases-evaluate
-decreases-evaluate l = 7 * l.self.now.ticks_left + 1
+decreases-evaluate l = 8 * l.self.now.ticks_left + 1
 
 abbrev pub decreases-passes : goal.decreases-passes
-decreases-passes l = 7 * l.self.now.ticks_left + 2
+decreases-passes l = 8 * l.self.now.ticks_left + 2
 
 abbrev pub decreases-evaluate_node : goal.decreases-evaluate_node
-decreases-evaluate_node l = 7 * l.self.now.ticks_left
+decreases-evaluate_node l = 8 * l.self.now.ticks_left
 
 abbrev pub decreases-assign_variable : goal.decreases-assign_variable
-decreases-assign_variable l = 7 * l.self.now.ticks_left + 4
+decreases-assign_variable l = 8 * l.self.now.ticks_left + 4
 
 abbrev pub decreases-assign_alone : goal.decreases-assign_alone
-decreases-assign_alone l = 7 * l.self.now.ticks_left
+decreases-assign_alone l = 8 * l.self.now.ticks_left
 
 abbrev pub decreases-lengthen : goal.decreases-lengthen
-decreases-lengthen l = 7 * l.self.now.ticks_left
+decreases-lengthen l = 8 * l.self.now.ticks_left
 
 abbrev pub decreases-put_behind : goal.decreases-put_behind
-decreases-put_behind l = 7 * l.self.now.ticks_left + 2
+decreases-put_behind l = 8 * l.self.now.ticks_left + 2
 
 abbrev pub decreases-append : goal.decreases-append
-decreases-append l = 7 * l.self.now.ticks_left
+decreases-append l = 8 * l.self.now.ticks_left
 
 abbrev pub decreases-put_appended : goal.decreases-put_appended
-decreases-put_appended l = 7 * l.self.now.ticks_left + 2
+decreases-put_appended l = 8 * l.self.now.ticks_left + 2
 
 abbrev pub decreases-set_place : goal.decreases-set_place
-decreases-set_place l = 7 * l.self.now.ticks_left
+decreases-set_place l = 8 * l.self.now.ticks_left
 
 abbrev pub decreases-put_at : goal.decreases-put_at
-decreases-put_at l = 7 * l.self.now.ticks_left + 2
+decreases-put_at l = 8 * l.self.now.ticks_left + 2
 
 abbrev pub decreases-evaluate_all : goal.decreases-evaluate_all
-decreases-evaluate_all l = 7 * l.self.now.ticks_left + 2
+decreases-evaluate_all l = 8 * l.self.now.ticks_left + 2
 
 abbrev pub decreases-unary : goal.decreases-unary
-decreases-unary l = 7 * l.self.now.ticks_left + 3
+decreases-unary l = 8 * l.self.now.ticks_left + 3
 
 abbrev pub decreases-binary : goal.decreases-binary
-decreases-binary l = 7 * l.self.now.ticks_left + 3
+decreases-binary l = 8 * l.self.now.ticks_left + 3
 
 abbrev pub decreases-logic : goal.decreases-logic
-decreases-logic l = 7 * l.self.now.ticks_left + 3
+decreases-logic l = 8 * l.self.now.ticks_left + 3
 
 abbrev pub decreases-conditional : goal.decreases-conditional
-decreases-conditional l = 7 * l.self.now.ticks_left + 3
+decreases-conditional l = 8 * l.self.now.ticks_left + 3
 
 abbrev pub decreases-index : goal.decreases-index
-decreases-index l = 7 * l.self.now.ticks_left + 3
+decreases-index l = 8 * l.self.now.ticks_left + 3
 
 abbrev pub decreases-range : goal.decreases-range
-decreases-range l = 7 * l.self.now.ticks_left + 3
+decreases-range l = 8 * l.self.now.ticks_left + 3
 
 abbrev pub decreases-list : goal.decreases-list
-decreases-list l = 7 * l.self.now.ticks_left + 3
+decreases-list l = 8 * l.self.now.ticks_left + 3
 
 abbrev pub decreases-compute : goal.decreases-compute
-decreases-compute l = 7 * l.self.now.ticks_left + 6
+decreases-compute l = 8 * l.self.now.ticks_left + 7
 
 abbrev pub decreases-property : goal.decreases-property
-decreases-property l = 7 * l.self.now.ticks_left + 3
+decreases-property l = 8 * l.self.now.ticks_left + 3
 
 abbrev pub decreases-verb_call : goal.decreases-verb_call
-decreases-verb_call l = 7 * l.self.now.ticks_left + 4
+decreases-verb_call l = 8 * l.self.now.ticks_left + 5
+
+abbrev pub decreases-call_verb : goal.decreases-call_verb
+decreases-call_verb l = 8 * l.self.now.ticks_left + 4
 
 abbrev pub decreases-run_called : goal.decreases-run_called
-decreases-run_called l = 7 * l.self.now.ticks_left + 3
+decreases-run_called l = 8 * l.self.now.ticks_left + 3
 
 abbrev pub decreases-proceed : goal.decreases-proceed
-decreases-proceed l = 7 * l.self.now.ticks_left + 4
+decreases-proceed l = 8 * l.self.now.ticks_left + 4
 
 abbrev pub decreases-call : goal.decreases-call
-decreases-call l = 7 * l.self.now.ticks_left + 5
+decreases-call l = 8 * l.self.now.ticks_left + 6
+
+abbrev pub decreases-call_caller : goal.decreases-call_caller
+decreases-call_caller l = 8 * l.self.now.ticks_left + 5
 
 abbrev pub decreases-catch : goal.decreases-catch
-decreases-catch l = 7 * l.self.now.ticks_left + 4
+decreases-catch l = 8 * l.self.now.ticks_left + 4
 
 abbrev pub decreases-guards : goal.decreases-guards
-decreases-guards l = 7 * l.self.now.ticks_left + 3
+decreases-guards l = 8 * l.self.now.ticks_left + 3
 
 abbrev pub decreases-assign : goal.decreases-assign
-decreases-assign l = 7 * l.self.now.ticks_left + 5
+decreases-assign l = 8 * l.self.now.ticks_left + 5
 
 abbrev pub decreases-locate : goal.decreases-locate
-decreases-locate l = 7 * l.self.now.ticks_left + 3
+decreases-locate l = 8 * l.self.now.ticks_left + 3
 
 abbrev pub decreases-find : goal.decreases-find
-decreases-find l = 7 * l.self.now.ticks_left + 2
+decreases-find l = 8 * l.self.now.ticks_left + 2
 
 abbrev pub decreases-step : goal.decreases-step
-decreases-step l = 7 * l.self.now.ticks_left + 2
+decreases-step l = 8 * l.self.now.ticks_left + 2
 
 abbrev pub decreases-store : goal.decreases-store
-decreases-store l = 7 * l.self.now.ticks_left + 4
+decreases-store l = 8 * l.self.now.ticks_left + 4
 
 abbrev pub decreases-scatter : goal.decreases-scatter
-decreases-scatter l = 7 * l.self.now.ticks_left + 3
+decreases-scatter l = 8 * l.self.now.ticks_left + 3
 
 abbrev pub decreases-set_defaults : goal.decreases-set_defaults
-decreases-set_defaults l = 7 * l.self.now.ticks_left + 2
+decreases-set_defaults l = 8 * l.self.now.ticks_left + 2
 
 -- what the rest gives, after the values so far, is what all items give
 abbrev pub invariant-evaluate_all-loop-item : goal.invariant-evaluate_all-loop-item
@@ -145,58 +151,58 @@ invariant-set_defaults-loop-default l = record {
 }
 
 abbrev pub decreases-run : goal.decreases-run
-decreases-run l = 7 * l.self.now.ticks_left + 1
+decreases-run l = 8 * l.self.now.ticks_left + 1
 
 abbrev pub decreases-turn : goal.decreases-turn
-decreases-turn l = 7 * l.self.now.ticks_left + 1
+decreases-turn l = 8 * l.self.now.ticks_left + 1
 
 abbrev pub decreases-visit : goal.decreases-visit
-decreases-visit l = 7 * l.self.now.ticks_left + 1
+decreases-visit l = 8 * l.self.now.ticks_left + 1
 
 abbrev pub decreases-run_all : goal.decreases-run_all
-decreases-run_all l = 7 * l.self.now.ticks_left + 2
+decreases-run_all l = 8 * l.self.now.ticks_left + 2
 
 abbrev pub decreases-repeat : goal.decreases-repeat
-decreases-repeat l = 7 * l.self.now.ticks_left + 3
+decreases-repeat l = 8 * l.self.now.ticks_left + 3
 
 abbrev pub decreases-visit_all : goal.decreases-visit_all
-decreases-visit_all l = 7 * l.self.now.ticks_left + 2
+decreases-visit_all l = 8 * l.self.now.ticks_left + 2
 
 abbrev pub decreases-count : goal.decreases-count
-decreases-count l = 7 * l.self.now.ticks_left + 2
+decreases-count l = 8 * l.self.now.ticks_left + 2
 
 abbrev pub decreases-select : goal.decreases-select
-decreases-select l = 7 * l.self.now.ticks_left + 3
+decreases-select l = 8 * l.self.now.ticks_left + 3
 
 abbrev pub decreases-for_list : goal.decreases-for_list
-decreases-for_list l = 7 * l.self.now.ticks_left + 3
+decreases-for_list l = 8 * l.self.now.ticks_left + 3
 
 abbrev pub decreases-for_range : goal.decreases-for_range
-decreases-for_range l = 7 * l.self.now.ticks_left + 3
+decreases-for_range l = 8 * l.self.now.ticks_left + 3
 
 abbrev pub decreases-handle : goal.decreases-handle
-decreases-handle l = 7 * l.self.now.ticks_left + 3
+decreases-handle l = 8 * l.self.now.ticks_left + 3
 
 abbrev pub decreases-try_finally : goal.decreases-try_finally
-decreases-try_finally l = 7 * l.self.now.ticks_left + 3
+decreases-try_finally l = 8 * l.self.now.ticks_left + 3
 
 abbrev pub decreases-branch : goal.decreases-branch
-decreases-branch l = 7 * l.self.now.ticks_left + 4
+decreases-branch l = 8 * l.self.now.ticks_left + 4
 
 abbrev pub decreases-try_except : goal.decreases-try_except
-decreases-try_except l = 7 * l.self.now.ticks_left + 5
+decreases-try_except l = 8 * l.self.now.ticks_left + 5
 
 abbrev pub decreases-perform : goal.decreases-perform
-decreases-perform l = 7 * l.self.now.ticks_left + 6
+decreases-perform l = 8 * l.self.now.ticks_left + 6
 
 abbrev pub decreases-prepare : goal.decreases-prepare
-decreases-prepare l = 7 * l.self.now.ticks_left + 4
+decreases-prepare l = 8 * l.self.now.ticks_left + 4
 
 abbrev pub decreases-give : goal.decreases-give
-decreases-give l = 7 * l.self.now.ticks_left + 2
+decreases-give l = 8 * l.self.now.ticks_left + 2
 
 abbrev pub decreases-evaluate_alone : goal.decreases-evaluate_alone
-decreases-evaluate_alone l = 7 * l.self.now.ticks_left + 2
+decreases-evaluate_alone l = 8 * l.self.now.ticks_left + 2
 
 -- what the rest does is what all statements do
 abbrev pub invariant-run_all-loop-statement : goal.invariant-run_all-loop-statement

@@ -7,6 +7,7 @@ ghost use Rattle.std.specs.Str.{bytes_eq};
 ghost use Rattle.moo_value.specs.Compare.{folded};
 ghost use Rattle.moo_grammar.specs.Order.{numbered, AreOrdered};
 
+use moo_program::Name;
 use moo_value::MooStr;
 use std::alloc::{AllocError, Global};
 use std::cmp::Ordering;
@@ -19,7 +20,7 @@ pub(crate) struct Slot {
 }
 
 /// The slots of these names, by the order of the names.
-pub(crate) fn ordered_slots(alloc: Global, names: &[MooStr]) -> Result<Vec<Slot>, AllocError>
+pub(crate) fn ordered_slots(alloc: Global, names: &[Name]) -> Result<Vec<Slot>, AllocError>
     ensures { IfOk result (λ slots. AreOrdered names.now slots.items) }
 {
     let mut slots = numbered(alloc, names)?;
@@ -27,12 +28,12 @@ pub(crate) fn ordered_slots(alloc: Global, names: &[MooStr]) -> Result<Vec<Slot>
     Ok(slots)
 }
 
-fn numbered(alloc: Global, names: &[MooStr]) -> Result<Vec<Slot>, AllocError>
+fn numbered(alloc: Global, names: &[Name]) -> Result<Vec<Slot>, AllocError>
     ensures { IfOk result (λ slots. slots.items ≡ numbered 0 names.now) }
 {
     let mut slots = Vec::with_capacity(alloc, names.len())?;
     for (slot, name) in names.iter().enumerate() {
-        let name = name.try_clone()?;
+        let name = name.text().try_clone()?;
         slots.push(Slot { name, slot })?;
     }
     Ok(slots)

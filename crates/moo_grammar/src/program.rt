@@ -9,8 +9,7 @@ ghost use Rattle.moo_program.specs.Slots.{slots};
 ghost use Rattle.moo_grammar.specs.Texts.{HasText};
 
 use crate::order::{Slot, ordered_slots, slot_among};
-use moo_program::{Stmt, variable_names};
-use moo_value::MooStr;
+use moo_program::{Name, Stmt, variable_names};
 use std::alloc::{AllocError, Global};
 use std::marker::Model;
 use std::rc::Rc;
@@ -19,7 +18,7 @@ use std::rc::Rc;
 #[derive(Drop)]
 pub struct Program {
     statements: Rc<Vec<Stmt>>,
-    names: Rc<Vec<MooStr>>,
+    names: Rc<Vec<Name>>,
     /// The slots of the names, by the order of the names.
     order: Rc<Vec<Slot>>,
 }
@@ -94,7 +93,7 @@ impl Program {
     }
 
     /// The names of the program's variables, letters folded, each once, in the order in which they stand first in it.
-    pub fn slots(&self) -> &[MooStr]
+    pub fn slots(&self) -> &[Name]
         ensures { result.now ≡ slots self.now }
     {
         self.names.as_slice()

@@ -1,6 +1,7 @@
 //! The variables of a frame.
-ghost use Rattle.std.specs.Prelude.{◌≡◌, ℕ, [], ◌<◌, ◌≤◌, ◌++◌, Some, None, map, position, length, get_or, option_map, IsTrue, IfOk, IfSome, IfNone, OnOk};
+ghost use Rattle.std.specs.Prelude.{◌≡◌, ℕ, [], ◌<◌, ◌≤◌, ◌++◌, Some, None, map, position, length, get_or, option_map, IsTrue, IsFalse, IfOk, IfSome, IfNone, OnOk};
 ghost use Rattle.std.specs.Str.{bytes_eq};
+ghost use Rattle.moo_value.specs.Tree.{integer};
 ghost use Rattle.moo_value.specs.View.{tree};
 ghost use Rattle.moo_value.specs.Compare.{folded};
 ghost use Rattle.moo_program.specs.Given.{given_name};
@@ -84,6 +85,21 @@ impl Variables {
         Ok(())
     }
 
+    /// Sets a variable that has a slot, and tells whether it has one. No memory is asked for.
+    #[inline(always)]
+    pub fn put(&mut self, name: &Name, value: Value) -> bool
+        ensures put { IsTrue result → variables_of self.new ≡ with_variable (variables_of self.old) (bind name.now (tree value)) }
+        ensures kept { IsFalse result → self.new ≡ self.old }
+    {
+        match self.slot(name) {
+            Some(slot) => {
+                self.values[slot] = Some(value);
+                true
+            }
+            None => false,
+        }
+    }
+
     /// The value of a variable that every frame has.
     pub fn get_given(&self, given: Given) -> Option<&Value>
         ensures { option_map (λ v. tree v.now) result ≡ variables_of self.now (folded (given_name given)) }
@@ -104,6 +120,17 @@ impl Variables {
         }
     }
 
+    /// The integer that a variable with a slot holds, or `None` where it holds another value, or isn't known to have a slot.
+    #[inline(always)]
+    pub fn get_integer(&self, name: &Name) -> Option<i32>
+        ensures { IfSome result (λ n. variables_of self.now (folded name.now) ≡ Some (integer n)) }
+    {
+        match self.slot(name) {
+            Some(slot) => integer_of(&self.values[slot]),
+            None => None,
+        }
+    }
+
     // The slot of a variable that every frame has.
     fn place(&self, given: Given) -> Option<usize>
         ensures some { IfSome result (λ i. (position (λ own. bytes_eq (folded own) (folded (given_name given))) (names_of self.now) ≡ Some i) × (i < length self.now.values.items)) }
@@ -118,6 +145,7 @@ impl Variables {
     }
 
     // The slot of a name that every frame has, or of one of the program.
+    #[inline(always)]
     fn slot(&self, name: &Name) -> Option<usize>
         ensures some { IfSome result (λ i. (position (λ own. bytes_eq (folded own) (folded name.now)) (names_of self.now) ≡ Some i) × (i < length self.now.values.items)) }
         ensures none { IfNone result ((i : ℕ) → position (λ own. bytes_eq (folded own) (folded name.now)) (names_of self.now) ≡ Some i → length self.now.values.items ≤ i) }
@@ -134,11 +162,12 @@ impl Variables {
     }
 
     // The slot of a name among those of the program: the hint, if the name there is spelled so, and else what a search finds.
+    #[inline(always)]
     fn own_slot(&self, name: &Name) -> Option<usize>
         ensures { result ≡ position (λ own. bytes_eq (folded own) (folded name.now)) (slots self.now.program) }
     {
         let hint = name.hint();
-        if self.is_spelled(hint, name.as_bytes()) {
+        if self.is_spelled(hint, name) {
             Some(hint)
         } else {
             self.searched_slot(name)
@@ -156,11 +185,12 @@ impl Variables {
     }
 
     // Whether the program's name in this slot is spelled so.
-    fn is_spelled(&self, slot: usize, name: &[u8]) -> bool
+    #[inline(always)]
+    fn is_spelled(&self, slot: usize, name: &Name) -> bool
         ensures { IsTrue result → (slot < length (slots self.now.program)) × (get_or (slots self.now.program) slot [] ≡ name.now) }
     {
         match self.program.slots().get(slot) {
-            Some(own) => own.as_bytes() == name,
+            Some(own) => own.is_spelled_as(name),
             None => false,
         }
     }
@@ -222,8 +252,19 @@ fn given_values(
     Ok(values)
 }
 
+// The integer in a slot.
+#[inline(always)]
+fn integer_of(value: &Option<Value>) -> Option<i32>
+    ensures { IfSome result (λ n. option_map (λ v. tree v) value.now ≡ Some (integer n)) }
+{
+    match value {
+        Some(Value::Int(number)) => Some(*number),
+        _ => None,
+    }
+}
+
 // No value for each of these names.
-fn push_none(values: &mut Vec<Option<Value>>, names: &[MooStr]) -> Result<(), AllocError>
+fn push_none(values: &mut Vec<Option<Value>>, names: &[Name]) -> Result<(), AllocError>
     ensures { OnOk result (values.new.items ≡ values.old.items ++ map (λ name. None) names.now) }
 {
     for _ in names {

@@ -6,3 +6,4 @@ pub mod Sizes
 pub mod VariableSteps
 pub mod EachOnce
 pub mod GivenNames
+pub mod Spelled

@@ -7,3 +7,4 @@ pub mod Limits
 pub mod Code
 pub mod Slots
 pub mod Given
+pub mod Spelling

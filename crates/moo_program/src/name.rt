@@ -1,7 +1,8 @@
 //! The names of variables.
-ghost use Rattle.std.specs.Prelude.{◌≡◌, length};
+ghost use Rattle.std.specs.Prelude.{◌≡◌, ◌≢◌, ◌↔◌, length, IsTrue, IfSome};
 ghost use Rattle.moo_value.specs.Size.{IsString};
 ghost use Rattle.moo_program.specs.Given.{given_of};
+ghost use Rattle.moo_program.specs.Spelling.{spelling};
 
 use crate::given::Given;
 use moo_value::MooStr;
@@ -12,19 +13,23 @@ use std::marker::Model;
 #[derive(Drop)]
 pub struct Name {
     text: MooStr,
+    /// A number that no other spelling has, or 0 where that is too large.
+    number: u64,
     given: Option<Given>,
     hint: Cell<u32>,
 }
 
 impl Model for Name {
-    ghost use Rattle.std.specs.Prelude.{◌≡◌, ℕ, List};
+    ghost use Rattle.std.specs.Prelude.{◌≡◌, ◌≢◌, ℕ, List};
+    ghost use Rattle.moo_value.specs.Tree.{IsText};
     ghost use Rattle.moo_program.specs.Given.{given_of};
+    ghost use Rattle.moo_program.specs.Spelling.{spelling};
 
     ghost Value = { List ℕ };
 
     ghost view = { λ name. name.text };
 
-    ghost invariant = { λ name. name.given ≡ given_of name.text };
+    ghost invariant = { λ name. (name.given ≡ given_of name.text) × IsText name.text × (name.number ≢ 0 → name.number ≡ spelling name.text) };
 }
 
 impl Name {
@@ -32,9 +37,11 @@ impl Name {
     pub fn new(text: MooStr) -> Name
         ensures { result ≡ text }
     {
+        let number = number_of(text.as_bytes());
         let given = Given::from_name(text.as_bytes());
         Name {
             text,
+            number,
             given,
             hint: Cell::new(0),
         }
@@ -63,6 +70,25 @@ impl Name {
         self.text.len()
     }
 
+    /// Whether another is spelled as this one, each letter in the same case.
+    #[inline]
+    pub fn is_spelled_as(&self, other: &Name) -> bool
+        ensures { IsTrue result ↔ (self.now ≡ other.now) }
+    {
+        if self.number == other.number && self.number != 0 {
+            return true;
+        }
+        self.has_bytes_of(other)
+    }
+
+    // The same, byte by byte. Not inlined, so that what is known by the numbers pays nothing for it.
+    #[inline(never)]
+    fn has_bytes_of(&self, other: &Name) -> bool
+        ensures { IsTrue result ↔ (self.now ≡ other.now) }
+    {
+        self.text.as_bytes() == other.text.as_bytes()
+    }
+
     /// The variable that every frame has, if it names one.
     pub fn given(&self) -> Option<Given>
         ensures { result ≡ given_of self.now }
@@ -81,4 +107,27 @@ impl Name {
             self.hint.set(slot);
         }
     }
+}
+
+// The number of a spelling, or 0 where it is too large.
+fn number_of(text: &[u8]) -> u64
+    ensures { result ≢ 0 → result ≡ spelling text.now }
+{
+    match small_number_of(text) {
+        Some(number) => number,
+        None => 0,
+    }
+}
+
+// The number of a spelling, where it isn't too large: that of the bytes behind is multiplied, from the last byte on.
+fn small_number_of(text: &[u8]) -> Option<u64>
+    ensures { IfSome result (λ number. number ≡ spelling text.now) }
+{
+    let mut number: u64 = 0;
+    let mut rest = text;
+    while let Some((last, before)) = rest.split_last() {
+        number = number.checked_mul(257)?.checked_add(1 + u64::from(*last))?;
+        rest = before;
+    }
+    Some(number)
 }

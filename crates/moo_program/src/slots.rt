@@ -4,6 +4,7 @@ ghost use Rattle.moo_value.specs.Compare.{folded};
 ghost use Rattle.moo_program.specs.View.{block};
 ghost use Rattle.moo_program.specs.Slots.{firsts, slots};
 
+use crate::name::Name;
 use crate::tree::Stmt;
 use crate::variables::add_block;
 use moo_value::MooStr;
@@ -11,7 +12,7 @@ use std::alloc::{AllocError, Global};
 use std::collections::BTreeMap;
 
 /// The names of the variables, letters folded, each once, in the order in which they stand first.
-pub fn variable_names(alloc: Global, statements: &[Stmt]) -> Result<Vec<MooStr>, AllocError>
+pub fn variable_names(alloc: Global, statements: &[Stmt]) -> Result<Vec<Name>, AllocError>
     ensures { IfOk result (λ names. names.items ≡ slots (block statements.now)) }
 {
     let mut names = Vec::new(alloc);
@@ -57,7 +58,7 @@ fn folded_name(alloc: Global, name: &MooStr) -> Result<MooStr, AllocError>
 }
 
 // Those that stand nowhere before.
-fn first_names(alloc: Global, names: &[MooStr]) -> Result<Vec<MooStr>, AllocError>
+fn first_names(alloc: Global, names: &[MooStr]) -> Result<Vec<Name>, AllocError>
     ensures { IfOk result (λ found. found.items ≡ firsts (λ _. false) names.now) }
 {
     let mut seen = BTreeMap::new(alloc);
@@ -67,7 +68,7 @@ fn first_names(alloc: Global, names: &[MooStr]) -> Result<Vec<MooStr>, AllocErro
             continue;
         }
         seen.insert(name.as_bytes(), ())?;
-        found.push(name.try_clone()?)?;
+        found.push(Name::new(name.try_clone()?))?;
     }
     Ok(found)
 }

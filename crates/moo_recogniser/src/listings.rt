@@ -28,6 +28,13 @@ fn add_lines(told: &mut Vec<u8>, lines: &[MooStr]) -> Result<(), AllocError> {
     Ok(())
 }
 
+fn add_slots(told: &mut Vec<u8>, program: &Program) -> Result<(), AllocError> {
+    for name in program.slots() {
+        add_line(told, name.as_bytes())?;
+    }
+    Ok(())
+}
+
 /// Adds what the word asks for of the text's program, or what a player is told.
 pub fn add_told(
     alloc: Global,
@@ -58,7 +65,7 @@ fn add_program(
 ) -> Result<(), AllocError> {
     match word {
         "fits" => add_line(told, b"a program"),
-        "slots" => add_lines(told, program.slots()),
+        "slots" => add_slots(told, program),
         "longest" => add_longest(alloc, program, told),
         "four" => add_four(alloc, program, told),
         _ => add_full(alloc, program, told),

@@ -27,5 +27,5 @@ loop-name-preserved c =
     let same : y ≡ x = c.as_bytes-in-loop-name.ensures.value in
     let unseen : has m y ≡ false = ap (λ v. has m v) (same ∙ sym c.as_bytes.ensures.value) ∙ sym c.contains_key.ensures ∙ c.if-contains_key.false in
     let step : firsts (has m) (x ∷ rest) ≡ x ∷ firsts (has n) rest = subst (λ v. firsts (has m) (v ∷ rest) ≡ v ∷ firsts (has n) rest) same (first_of m n _ y rest unseen c.in_ok-insert.ensures.updates) in
-    let pushed : c.push.new.self.items ≡ found ++ x ∷ [] = c.in_ok-push.ensures.items ∙ ap (λ v. found ++ v ∷ []) c.in_ok-try_clone.ensures in
+    let pushed : c.push.new.self.items ≡ found ++ x ∷ [] = c.in_ok-push.ensures.items ∙ ap (λ v. found ++ v ∷ []) (c.new.ensures ∙ c.in_ok-try_clone.ensures) in
     ap (λ v. v ++ firsts (has n) rest) pushed ∙ append_assoc found (x ∷ []) (firsts (has n) rest) ∙ ap (λ v. found ++ v) (sym step ∙ ap (firsts (has m)) (sym at)) ∙ c.loop-name.invariant

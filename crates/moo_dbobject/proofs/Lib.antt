@@ -1,5 +1,6 @@
 pub mod NumberLaws
 pub mod ObjectAgain
+pub mod ObjectDraft
 pub mod ObjectFound
 pub mod ObjectLines
 pub mod ObjectClean

@@ -6,7 +6,8 @@ use Rattle.moo_dbvalue.specs.Until.{Place, until}
 use Rattle.moo_dbvalue.proofs.Steps.{bind_ok, ok_is}
 use Rattle.moo_dbobject.specs.Objects.{Object, object_lines, IsObject}
 use Rattle.moo_dbobject.specs.ObjectReading.{Draft, fresh_draft, object_line}
-use Rattle.moo_dbobject.proofs.ObjectFound.{IsDraft, Adds, draft_read, note_after, object_found, fresh_is}
+use Rattle.moo_dbobject.proofs.ObjectDraft.{IsDraft, Adds, draft_read, note_after, fresh_is}
+use Rattle.moo_dbobject.proofs.ObjectFound.{object_found}
 
 -- the lines behind those that were taken
 pub record Ends (taken ls : List Line) (note : Line) (o : Object) (rest : List Line) : Type 0 where

@@ -15,7 +15,7 @@ use Rattle.moo_dbobject.specs.Objects.{Verb, Cell, Body, Object, IsVerb, IsCellV
 use Rattle.moo_dbobject.specs.ObjectReading.{PartVerb, Draft, fresh_draft, verb_bits_of, preposition_of, after_verb, after_name, named_object, after_cell, verb_made, verbs_made, after_value_line, value_line_step, is_clear, object_step}
 use Rattle.moo_dbobject.specs.declared.object_reader.Awaited.{Awaited}
 use Rattle.moo_dbobject.specs.declared.object_reader.Awaited.TheVariants as awaited
-use Rattle.moo_dbobject.proofs.ObjectFound.{Keeps}
+use Rattle.moo_dbobject.proofs.ObjectDraft.{Keeps}
 
 abbrev pub HasSmallNames : Verb → Type 0
 HasSmallNames v = IsString v.names

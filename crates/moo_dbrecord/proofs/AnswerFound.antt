@@ -11,7 +11,7 @@ use Rattle.moo_dbvalue.specs.declared.fault.LineFault.TheVariants.{Truncated}
 use Rattle.moo_dbvalue.specs.Lines.{Line, Sizes, unlimited, limited, IsStringOf, IsCountOf, unlines}
 use Rattle.moo_dbvalue.proofs.LineLaws.{chosen_ok}
 use Rattle.moo_dbvalue.proofs.ValueFound.{flat_map_push}
-use Rattle.moo_dbobject.proofs.ObjectFound.{fresh_is}
+use Rattle.moo_dbobject.proofs.ObjectDraft.{fresh_is}
 use Rattle.moo_dbrecord.specs.Programs.{Program, IsSourceLine, IsProgramText}
 use Rattle.moo_dbrecord.specs.Texts.{Text, Slack, text_lines, tasks_lines, connections_lines, MayHave, IsWritten, Spells}
 use Rattle.moo_dbrecord.specs.DumpReading.{Progress, dump_step, end_of, ended, start}

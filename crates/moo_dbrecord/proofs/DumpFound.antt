@@ -15,7 +15,8 @@ use Rattle.moo_dbvalue.proofs.TextLaws.{text_found, bounded_count_found}
 use Rattle.moo_dbvalue.proofs.ValueFound.{All-push, flat_map_push}
 use Rattle.moo_dbobject.specs.Objects.{Object, object_lines}
 use Rattle.moo_dbobject.specs.ObjectReading.{Draft, fresh_draft, object_line}
-use Rattle.moo_dbobject.proofs.ObjectFound.{draft_read, object_read, note_after, IsDraft, IsObjectRead, object_found, fresh_is}
+use Rattle.moo_dbobject.proofs.ObjectDraft.{draft_read, object_read, note_after, IsDraft, IsObjectRead, fresh_is}
+use Rattle.moo_dbobject.proofs.ObjectFound.{object_found}
 use Rattle.moo_dbrecord.specs.Programs.{Table, blank_entry, blank_table, with_source, Program, program_line, program_lines, Fills, IsSourceLine, IsProgramText}
 use Rattle.moo_dbrecord.specs.Texts.{Text, Slack, Link, header_line, live_line, recycled_line, objects_lines, link_line, connections_line, connections_lines, tasks_lines, IsEntry, IsLink, MayHave}
 use Rattle.moo_dbrecord.specs.Headings.{version_of, head_of, program_head_of, tasks_of, connection_count_of, connection_of}

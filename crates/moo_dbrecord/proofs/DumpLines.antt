@@ -12,7 +12,7 @@ use Rattle.moo_dbobject.specs.Objects.{Object, object_lines}
 use Rattle.moo_dbobject.specs.ObjectReading.{Draft, object_step}
 use Rattle.moo_dbobject.specs.declared.object_reader.Awaited.{Awaited}
 use Rattle.moo_dbobject.specs.declared.object_reader.Awaited.TheVariants as awaited
-use Rattle.moo_dbobject.proofs.ObjectFound.{note_after}
+use Rattle.moo_dbobject.proofs.ObjectDraft.{note_after}
 use Rattle.moo_dbrecord.specs.Programs.{Table, is_open, with_source, Program, program_lines, Fills}
 use Rattle.moo_dbrecord.specs.Texts.{Text, Slack, header_line, live_line, recycled_line, objects_lines}
 use Rattle.moo_dbrecord.proofs.DumpProgress.{counts, objected, programmed}

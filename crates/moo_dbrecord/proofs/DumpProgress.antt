@@ -6,7 +6,7 @@ use Rattle.std.specs.Fmt.{signed_decimal}
 use Rattle.std.specs.List.{flat_map, AllByRecursion}
 use Rattle.moo_dbvalue.specs.Lines.{Line, Sizes, unlimited, IsStringOf, IsCountOf, count_line}
 use Rattle.moo_dbobject.specs.ObjectReading.{fresh_draft}
-use Rattle.moo_dbobject.proofs.ObjectFound.{draft_read, IsDraft}
+use Rattle.moo_dbobject.proofs.ObjectDraft.{draft_read, IsDraft}
 use Rattle.moo_dbrecord.specs.Programs.{blank_table, is_open, program_line, program_lines, Fills, IsSourceLine, IsProgramText}
 use Rattle.moo_dbrecord.specs.Texts.{Text, Slack, header_line, live_line, objects_lines, link_line, connections_line, tasks_lines, text_lines, IsEntry, IsLink, MayHave, IsVersion}
 use Rattle.moo_dbrecord.specs.DumpReading.{Progress}

@@ -12,7 +12,7 @@ use Rattle.moo_dbvalue.proofs.ValueFound.{All-push}
 use Rattle.moo_dbvalue.proofs.ValueSmall.{count_small}
 use Rattle.moo_dbobject.specs.Objects.{Verb, Object}
 use Rattle.moo_dbobject.specs.ObjectReading.{Draft, object_line}
-use Rattle.moo_dbobject.proofs.ObjectFound.{IsDraft}
+use Rattle.moo_dbobject.proofs.ObjectDraft.{IsDraft}
 use Rattle.moo_dbobject.proofs.ObjectSmall.{IsSmallObject, IsSmallPart, IsSmallRead, fresh_small, object_small, object_within}
 use Rattle.moo_dbrecord.specs.Programs.{Row, Table, no_program, blank_entry, blank_table, is_open_in, is_open, with_source_in, with_source, Program, Fills}
 use Rattle.moo_dbrecord.specs.Texts.{Text, Slack, IsEntry, Spells, SpellsWithin, HasRecordsWithin}

@@ -1,5 +1,5 @@
 -- Lists that grow in the variable that they stand in by a call.
-use Rattle.std.proofs.Common.{◌≡◌, ℕ, ℤ, length, List, [], ◌∷◌, ◌++◌, Bool, true, false, Option, Some, None, Result, Ok, Err, refl, sym, ap, ◌∙◌, subst}
+use Rattle.std.proofs.Common.{◌≡◌, ℕ, ℤ, length, List, [], ◌∷◌, ◌++◌, Bool, true, false, Some, None, Result, Ok, Err, refl, sym, ap, ◌∙◌, subst}
 use Rattle.std.proofs.lemmas.List.Edits.{insert_end}
 use Rattle.moo_value.specs.Tree.{Tree, list_of}
 use Rattle.moo_value.specs.View.{tree}

@@ -1,5 +1,8 @@
 -- Expressions whose worth is known at once.
-use Rattle.std.proofs.Common.{◌≡◌, ℕ, suc, ◌<◌, ◌-◌, ℤ, pos, List, [], ◌∷◌, Option, Some, None, Result, Ok, Err, IfSome, option_map, slice_get, length, refl, sym, ap, ◌∙◌}
+use Rattle.std.proofs.Common.{◌≡◌, ℕ, suc, ◌<◌, ◌-◌, ℤ, pos, List, [], ◌∷◌, Option, Some, None, Ok, IfSome, option_map, slice_get, length, refl, sym, ap, ◌∙◌, subst, arith}
+use Rattle.std.proofs.lemmas.Int.{to_z-of_z}
+use mir.Syntax.{w32}
+use mir.Val.{SFits, to_z, of_z}
 use Rattle.std.specs.Borrow.{Bor}
 use Rattle.std.specs.Slice.{IsItemAt}
 use Rattle.std.proofs.lemmas.Option.{slice_get-map, slice_get_read}
@@ -14,7 +17,7 @@ use Rattle.moo_program.specs.Tree.{Expr, literal, literal_value, variable, binar
 use Rattle.moo_operation.specs.Operators.{binary_of}
 use Rattle.moo_operation.specs.Places.{index_of, or_range}
 use Rattle.moo_outcome.specs.Outcome.{answers}
-use Rattle.moo_outcome.specs.State.{Context, within}
+use Rattle.moo_outcome.specs.State.{within}
 use Rattle.moo_outcome.specs.declared.frame.Activation.{Activation}
 use Rattle.moo_outcome.specs.Seen.{variables_of}
 use Rattle.moo_table.specs.World.{World}
@@ -57,7 +60,17 @@ pub object_leaf : (variables : List ℕ → Option Tree) (l : Literal) (r : Opti
 object_leaf variables l None h = tt
 object_leaf variables l (Some o) h = rw (sym h) literal_leaf
 
+-- a literal
+pub written_leaf : (variables : List ℕ → Option Tree) (l : Literal) (v : Tree) → literal_value l ≡ v → IsLeaf variables (literal l) v
+written_leaf variables l v e = rw (sym e) literal_leaf
+
 -- a variable that is set
 pub set_leaf : (variables : List ℕ → Option Tree) (name : List ℕ) (r : Option (Bor Value)) → option_map (λ v. tree v.now) r ≡ variables (folded name) → IfSome r (λ v. IsLeaf variables (variable name) (tree v.now))
 set_leaf variables name None e = tt
 set_leaf variables name (Some v) e = variable_leaf (sym e)
+
+-- an operator between leaves takes three ticks
+pub leaves_worth : (w : World) (active : Activation) {op : BinaryOperator} {a b : Expr} (x y : ℤ) {v : Tree} (n : ℕ) → SFits w32 x → SFits w32 y → 2 < n → IsLeaf (variables_of active.variables) a (integer x) → IsLeaf (variables_of active.variables) b (integer y) → binary_of op (integer (to_z w32 (of_z w32 x))) (integer (to_z w32 (of_z w32 y))) ≡ Ok v → IsWorth w active n (binary op a b) v (n - 3)
+leaves_worth w active {op = op} {a = a} {b = b} x y {v = v} n f g z l m h =
+    let three : n - 1 - 1 - 1 ≡ n - 3 = omega arith in
+    subst (λ k. IsWorth w active n (binary op a b) v k) three (operator_worth w active (omega (arith, z), refl) (leaf_worth w active (omega (arith, z), refl) l) (leaf_worth w active (omega (arith, z), refl) m) (rw (to_z-of_z w32 x f, to_z-of_z w32 y g) at h))

@@ -1,13 +1,9 @@
 -- Each function of the table has a group: by cases.
-use Rattle.std.proofs.Common.{◌≡◌, ℕ, false, List, Option, None, Some, Result, Ok, Err}
+use Rattle.std.proofs.Common.{◌≡◌, None, Some, Result, Ok, Err}
 use Rattle.moo_value.specs.declared.error_code.ErrorCode.{ErrorCode}
 use Rattle.moo_value.specs.Tree.{Tree}
-use Rattle.moo_function.specs.declared.function.Function.{Function}
 use Rattle.moo_function.specs.declared.function.Function.TheVariants as function
-use Rattle.moo_value_function.specs.Calls.{simply, answer}
-use Rattle.moo_builtin.specs.Calls.{values, field}
-use Rattle.moo_call.specs.Calls.{is_of_task}
-use Rattle.moo_hook.specs.Calls.{calls_verbs}
+use Rattle.moo_value_function.specs.Calls.{simply}
 use Rattle.moo_eval.specs.Functions.{EachFunctionHasAGroup}
 
 -- what is given is something

@@ -1,5 +1,5 @@
 -- Lists that grow in the variable that they stand in.
-use Rattle.std.proofs.Common.{◌≡◌, ℕ, ◌+◌, ◌≤◌, ◌<◌, max, List, [], ◌∷◌, ◌++◌, Bool, true, false, IsTrue, leb, Option, Result, Ok, Err, refl, sym, ap, ◌∙◌, subst, arith}
+use Rattle.std.proofs.Common.{◌≡◌, ℕ, ◌+◌, ◌≤◌, ◌<◌, max, List, [], ◌∷◌, ◌++◌, false, IsTrue, leb, Result, Ok, Err, refl, ap, arith}
 use Rattle.std.proofs.lemmas.Bool.{false≢true}
 use Rattle.std.proofs.lemmas.Bool.Decides.{nat_tests}
 use Rattle.moo_value.specs.Tree.{Tree, list_of}
@@ -9,10 +9,8 @@ use Rattle.moo_value.specs.declared.value.Value.TheVariants.{Int, Obj, Err as Er
 use Rattle.moo_value.specs.TreeCode.{trees_of-elements_of}
 use Rattle.moo_value.specs.Size.{weight, depth, list_weight, list_depth, weight_limit, depth_limit, IsWithinLimits}
 use Rattle.moo_value.proofs.Lists.{list_weight-push, list_depth-push}
-use Rattle.moo_program.specs.declared.tree.Item.{Item}
 use Rattle.moo_program.specs.Tree as program
 use Rattle.moo_program.specs.Tree.{Expr, Items, variable, splice, element, no_items, assign, performs}
-use Rattle.moo_program.specs.View.{with_item, items_of}
 use Rattle.moo_operation.specs.Places.{made_list, spliced_of}
 use Rattle.moo_operation.proofs.Lawful.{limited_past}
 use Rattle.moo_outcome.specs.Variables.{bind}

@@ -24,3 +24,4 @@ mod Lengthened
 mod AtOnce
 mod Appended
 mod Placed
+mod Foreseen

@@ -1,5 +1,5 @@
 -- Assignments to a place of the list or string in a variable.
-use Rattle.std.proofs.Common.{◌≡◌, ℕ, ◌<◌, List, [], ◌∷◌, Option, Some, None, Result, Ok, Err, refl, sym, ap, ◌∙◌}
+use Rattle.std.proofs.Common.{◌≡◌, ℕ, ◌<◌, List, [], ◌∷◌, Option, Some, None, Result, Ok, Err, IfErr, refl, sym, ap, ◌∙◌}
 use Rattle.std.specs.Result.{result_err}
 use Rattle.moo_value.specs.declared.error_code.ErrorCode.{ErrorCode}
 use Rattle.moo_value.specs.declared.error_code.ErrorCode.TheVariants.{VariableNotFound}
@@ -12,7 +12,8 @@ use Rattle.moo_operation.specs.declared.fault.OperationFault.{OperationFault}
 use Rattle.moo_operation.specs.declared.fault.OperationFault.TheVariants as fault
 use Rattle.moo_outcome.specs.Fault.{failed}
 use Rattle.moo_outcome.specs.Outcome.{Stop, Failure, stops, fails, next, or_error, answers, settled}
-use Rattle.moo_outcome.specs.Seen.{HadMemoryIn}
+use Rattle.moo_outcome.specs.declared.outcome.Failure as code_failure
+use Rattle.moo_outcome.specs.Seen.{HadMemoryIn, failure_of}
 use Rattle.moo_outcome.specs.State.{Context, within}
 use Rattle.moo_outcome.specs.Variables.{bind}
 use Rattle.moo_access.specs.State.{State, ticked, bound, trace}
@@ -62,3 +63,12 @@ refused_before (Err e) code h =
 pub not_refused : (f : OperationFault) (r : Result Tree ErrorCode) → IsRefused f r → result_err r ≡ None → HadMemoryIn (failed f) → ⊥
 not_refused (fault.Raise code) r h n k = let q : ◌≡◌ {A = Option ErrorCode} (Some code) None = sym (ap result_err h) ∙ n in absurd cc
 not_refused fault.Memory r h n k = k
+
+unrefused : (made : Result Tree ErrorCode) {f : Failure} → result_err made ≡ None → answers made ≡ Err f → ⊥
+unrefused (Ok w) {f = f} n e = let q : ◌≡◌ {A = Result Tree Failure} (Ok w) (Err f) = e in absurd cc
+unrefused (Err code) n e = let q : ◌≡◌ {A = Option ErrorCode} (Some code) None = n in absurd cc
+
+-- what isn't refused doesn't fail but for want of memory
+pub never_refused : {A : Type 0} (Q : Type 0) (r : Result A code_failure.Failure) (made : Result Tree ErrorCode) → result_err made ≡ None → IfErr r (λ f. HadMemoryIn f → answers made ≡ Err (failure_of f)) → IfErr r (λ f. HadMemoryIn f → Q)
+never_refused Q (Ok x) made n h = tt
+never_refused Q (Err f) made n h = λ k. absurd (unrefused made n (h k))

@@ -1,5 +1,5 @@
 -- Assignments to a place of the list or string in a variable.
-use Rattle.std.specs.Prelude.{ℕ, List, Result, Ok}
+use Rattle.std.specs.Prelude.{ℕ, List, Ok}
 use Rattle.moo_value.specs.Tree.{Tree}
 use Rattle.moo_program.specs.Tree.{Expr, variable, index, assign}
 use Rattle.moo_outcome.specs.State.{Context}

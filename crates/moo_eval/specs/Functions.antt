@@ -1,5 +1,5 @@
 -- The table of the built-in functions and the groups that define them.
-use Rattle.std.specs.Prelude.{◌≡◌, ℕ, false, List, Option, None}
+use Rattle.std.specs.Prelude.{◌≡◌, ℕ, false, List, None}
 use Rattle.moo_value.specs.Tree.{Tree}
 use Rattle.moo_function.specs.declared.function.Function.{Function}
 use Rattle.moo_value_function.specs.Calls.{answer}

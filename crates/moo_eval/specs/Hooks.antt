@@ -15,7 +15,6 @@ use Rattle.moo_hook.specs.declared.progress.Stage.{Stage}
 use Rattle.moo_hook.specs.declared.progress.Progress as code_progress
 use Rattle.moo_hook.specs.declared.progress.Progress.TheVariants as progress_case
 use Rattle.moo_hook.specs.Progressing.{Progress, done, verb_next}
-use Rattle.moo_hook.specs.Stages.{resumed}
 use Rattle.moo_eval.specs.declared.hooks.Pending.{Pending}
 use Rattle.moo_eval.specs.declared.hooks.Pending.TheVariants as pending_case
 use Rattle.moo_eval.specs.Operands.{answered, begun, left}

@@ -1,5 +1,5 @@
 -- The parts of an expression, and what is made of their outcomes.
-use Rattle.std.specs.Prelude.{ℕ, pos, List, ◌++◌, Result, Ok, Err}
+use Rattle.std.specs.Prelude.{pos, List, ◌++◌, Result, Ok, Err}
 use Rattle.moo_value.specs.Tree.{Tree, integer}
 use Rattle.moo_program.specs.Tree as program
 use Rattle.moo_program.specs.Tree.{Expr, literal, variable, length_mark, unary, binary, logic, conditional, index, range, property, verb_call, call, assign, catch, catch_or, Items, no_items, element}

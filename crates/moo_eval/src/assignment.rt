@@ -70,7 +70,8 @@ impl Task {
         Ok(value)
     }
 
-    /// An assignment to a variable, whose own value is not used.
+    /// An assignment to a variable, whose own value is not used. What it is set to is evaluated node by node: it is not known at
+    /// once, where it is of a kind that may be.
     #[cycle(evaluation)]
     pub(crate) fn assign_alone(
         &mut self,
@@ -84,11 +85,7 @@ impl Task {
         ensures ticks { self.new.ticks_left ≤ self.old.ticks_left }
     {
         self.take_tick(active, stack)?;
-        if let Some(number) = self.integer_at_once(world, active, value) {
-            active.variables.set(name, Value::Int(number))?;
-            return Ok(Flow::Next);
-        }
-        let value = self.evaluate(world, active, stack, None, value)?;
+        let value = self.evaluate_node(world, active, stack, None, value)?;
         active.variables.set(name, value)?;
         Ok(Flow::Next)
     }

@@ -1,26 +1,30 @@
 //! Elements that are set in the variable that holds their list, as in `l[i] = x`, and bytes of a string.
-ghost use Rattle.std.specs.Prelude.{◌≡◌, ◌≤◌, None, Ok, Err, IfErr, IfSome, OnOk};
+ghost use Rattle.std.specs.Prelude.{◌≡◌, ◌≤◌, ◌<◌, None, Some, Ok, Err, IfOk, IfErr, IfSome, IsTrue, IsFalse, OnOk};
 ghost use Rattle.moo_value.specs.Tree.{Tree};
 ghost use Rattle.moo_value.specs.View.{tree as value_tree};
 ghost use Rattle.moo_operation.specs.Assignment.{with_index_of};
 ghost use Rattle.moo_program.specs.Tree.{variable, index, performs};
-ghost use Rattle.moo_program.specs.View.{tree};
-ghost use Rattle.moo_outcome.specs.Outcome.{answers};
+ghost use Rattle.moo_program.specs.View.{tree, statement as statement_of};
+ghost use Rattle.moo_outcome.specs.Outcome.{answers, next};
+ghost use Rattle.moo_outcome.specs.State.{Context};
 ghost use Rattle.moo_outcome.specs.Variables.{bind, with_variable};
 ghost use Rattle.moo_outcome.specs.Seen.{context_of, variables_of, failure_of, seen_flow, HadMemoryIn, IsKnown};
 ghost use Rattle.moo_code_function.specs.Telling.{Faults};
 ghost use Rattle.moo_eval.specs.Element.{sets_place, IsPut};
-ghost use Rattle.moo_eval.specs.Meaning.{Computes, Does};
+ghost use Rattle.moo_eval.specs.Meaning.{Computes, Does, Runs};
 ghost use Rattle.moo_eval.specs.Seen.{state_of};
+ghost use Rattle.moo_eval.specs.Worth.{IsPlaced};
 
 use crate::assignment::as_variable;
 use crate::interpreter::Task;
+use crate::leaves::held;
+use crate::worth::{Sight, worth};
 use moo_operation::{index_refusal, with_index};
 use moo_outcome::{Activation, CallStack, Failure, Flow, Stop, Variables, read_variable, settle};
-use moo_program::{Expr, Name};
+use moo_program::{Expr, Name, Stmt};
 use moo_value::Value;
 use moo_world::World;
-use std::alloc::Global;
+use std::alloc::{AllocError, Global};
 
 impl Task {
     /// `name[place] = value`, whose own value is not used.
@@ -75,6 +79,72 @@ impl Task {
         )?;
         Ok(())
     }
+    /// Runs `name[place] = value` where place and value are known at once and nothing is raised, and tells whether it did. Else nothing
+    /// has begun.
+    pub(crate) fn places_at_once(
+        &mut self,
+        world: &World,
+        active: &mut Activation,
+        statement: &Stmt,
+    ) -> Result<bool, AllocError>
+        ensures done { IfOk result (λ b. IsTrue b → (c : Context) → Runs Faults c (statement_of statement.now) (state_of self.old world.now active.old) (Ok next) (state_of self.new world.now active.new)) }
+        ensures fewer { IfOk result (λ b. IsTrue b → self.new.ticks_left < self.old.ticks_left) }
+        ensures kept { IfOk result (λ b. IsFalse b → (self.new ≡ self.old) × (active.new ≡ active.old)) }
+        ensures ticks { self.new.ticks_left ≤ self.old.ticks_left }
+    {
+        let Some((name, place, value)) = as_placing(statement) else {
+            return Ok(false);
+        };
+        let mut left = self.ticks_left.left() as u32;
+        if left < 2 {
+            return Ok(false);
+        }
+        left -= 2;
+        let placed = self.places(world, active, &mut left, name, place, value)?;
+        if placed {
+            self.ticks_left.leave(left);
+        }
+        Ok(placed)
+    }
+
+    // Sets a place of a variable to what is known at once. The ticks are taken of those that are left.
+    #[inline(never)]
+    fn places(
+        &self,
+        world: &World,
+        active: &mut Activation,
+        left: &mut u32,
+        name: &Name,
+        place: &Expr,
+        value: &Expr,
+    ) -> Result<bool, AllocError>
+        ensures placed { IfOk result (λ b. IsTrue b → IsPlaced world.now active.old active.new left.old left.new name.now (tree place.now) (tree value.now)) }
+        ensures kept { IfOk result (λ b. IsFalse b → active.new ≡ active.old) }
+        ensures ticks { left.new ≤ left.old }
+    {
+        let sight = Sight {
+            world,
+            active,
+            alloc: self.alloc,
+        };
+        let Some(container) = held(active, name) else {
+            return Ok(false);
+        };
+        let Some(place) = worth(&sight, left, place) else {
+            return Ok(false);
+        };
+        let Some(value) = worth(&sight, left, value) else {
+            return Ok(false);
+        };
+        if index_refusal(&container, &place, &value).is_some() {
+            return Ok(false);
+        }
+        let variables = &mut active.variables;
+        match replace_at(self.alloc, variables, name, container, &place, value) {
+            Ok(()) => Ok(true),
+            Err(_) => Err(AllocError),
+        }
+    }
 }
 
 /// Sets a variable to the container with the value at the place: raises what `with_index` raises, and then the variable
@@ -94,6 +164,21 @@ fn set_at(
     if let Some(code) = index_refusal(&container, place, &value) {
         return Err(Failure::Fails(code));
     }
+    replace_at(alloc, variables, name, container, place, value)
+}
+
+// The same, where the value isn't refused at the place.
+fn replace_at(
+    alloc: Global,
+    variables: &mut Variables,
+    name: &Name,
+    container: Value,
+    place: &Value,
+    value: Value,
+) -> Result<(), Failure>
+    ensures ok { OnOk result ((w : Tree) × (with_index_of (value_tree container) (value_tree place.now) (value_tree value) ≡ Ok w) × (variables_of variables.new ≡ with_variable (variables_of variables.old) (bind name.now w))) }
+    ensures err { IfErr result (λ failure. HadMemoryIn failure → answers (with_index_of (value_tree container) (value_tree place.now) (value_tree value)) ≡ Err (failure_of failure)) }
+{
     variables.set(name, Value::Int(0))?;
     let whole = with_index(alloc, container, place, value)?;
     variables.set(name, whole)?;
@@ -122,4 +207,15 @@ fn as_place(target: &Expr) -> Option<(&Name, &Expr)>
     };
     let name = as_variable(base)?;
     Some((name, place))
+}
+
+// The same of a statement.
+#[inline]
+fn as_placing(statement: &Stmt) -> Option<(&Name, &Expr, &Expr)>
+    ensures { IfSome result (λ p. statement_of statement.now ≡ performs (sets_place p.0.now (tree p.1.now) (tree p.2.now))) }
+{
+    match statement {
+        Stmt::Expression(expr) => as_place_assignment(expr),
+        _ => None,
+    }
 }

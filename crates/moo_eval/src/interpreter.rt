@@ -1,12 +1,9 @@
 //! Expressions.
 ghost use Rattle.std.specs.Prelude.{◌≡◌, ◌-◌, ◌<◌, ◌≤◌, ℕ, List, [], ◌++◌, None, Ok, Err, IfSome, IfNone, IfOk, IfErr, OnOk, OnErr, IsTrue, IsFalse};
-ghost use Rattle.moo_program.specs.Tree.{unary, binary, index, range, list};
 ghost use Rattle.moo_program.specs.View.{tree, items_of};
 ghost use Rattle.moo_value.specs.Tree.{Tree, integer};
 ghost use Rattle.moo_value.specs.View.{tree as tree_of};
-ghost use Rattle.moo_operation.specs.Truth.{is_true};
 ghost use Rattle.moo_outcome.specs.Outcome.{out_of_ticks, settled};
-ghost use Rattle.moo_outcome.specs.State.{Context};
 ghost use Rattle.moo_eval.specs.Meaning.{Evaluates, Computes, EvaluatesAll};
 ghost use Rattle.moo_outcome.specs.Seen.{context_of, trace_of, stop_of, failure_of, seen_value, seen_answer, seen_by, HadMemory, HadMemoryIn, IsKnown, IsKnownFailure};
 ghost use Rattle.moo_function.specs.Names.{function_of};
@@ -18,18 +15,13 @@ ghost use Rattle.moo_hook.specs.Seen.{progress_of, seen_progress};
 ghost use Rattle.moo_hook.specs.Turns.{stage_turns, progress_turns};
 ghost use Rattle.moo_eval.specs.Seen.{state_of};
 
-use crate::integers;
-use crate::leaves::is_leaf;
-use crate::worth::{DEEPEST, Sight, integer_worth, worth};
 use moo_call::{Ticks, call_function};
 use moo_function::Function;
 use moo_hook::{Progress, Stage, resume_call};
-use moo_operation as operation;
 use moo_outcome::{
     Activation, CallStack, Failure, Gathered, Notice, Stop, literal_value, measure, read_variable,
     settle,
 };
-use moo_program::operator::{BinaryOperator, UnaryOperator};
 use moo_program::{Expr, Item};
 use moo_value::{ErrorCode, Value};
 use moo_world::World;
@@ -38,9 +30,9 @@ use std::alloc::{AllocError, Global};
 /// What a task may still use, and what it has asked for so far.
 #[derive(Drop)]
 pub struct Task {
-    ticks_left: Ticks,
+    pub(crate) ticks_left: Ticks,
     notices: Vec<Notice>,
-    alloc: Global,
+    pub(crate) alloc: Global,
 }
 
 impl Task {
@@ -92,104 +84,6 @@ impl Task {
             Ok(trace) => Stop::OutOfTicks(trace),
             Err(_) => Stop::Memory,
         }
-    }
-
-    /// Takes three ticks, where three are left.
-    #[inline]
-    pub(crate) fn take_three(&mut self) -> bool
-        ensures taken { IsTrue result → (2 < self.old.ticks_left) × (self.new ≡ record self.old { ticks_left = self.old.ticks_left - 1 - 1 - 1 }) }
-        ensures kept { IsFalse result → self.new ≡ self.old }
-    {
-        let left = self.ticks_left.left();
-        if left < 3 {
-            return false;
-        }
-        self.ticks_left.take();
-        self.ticks_left.take();
-        self.ticks_left.take();
-        true
-    }
-
-    /// The value of an element or of a property that is known at once, where all its ticks are left. Else nothing has begun. Not
-    /// inlined: nested expressions would each hold its room on the stack.
-    #[inline(never)]
-    fn at_once(&mut self, world: &World, active: &Activation, expr: &Expr) -> Option<Value>
-        ensures some { IfSome result (λ v. (c : Context) → Evaluates Faults c (tree expr.now) (state_of self.old world.now active.now) (Ok (tree_of v)) (state_of self.new world.now active.now)) }
-        ensures none { IfNone result (self.new ≡ self.old) }
-        ensures ticks { self.new.ticks_left ≤ self.old.ticks_left }
-    {
-        let mut left = self.ticks_left.left() as u32;
-        let sight = Sight {
-            world,
-            active,
-            alloc: self.alloc,
-        };
-        let value = worth(&sight, &mut left, expr)?;
-        self.ticks_left.leave(left);
-        Some(value)
-    }
-
-    /// The integer of an operator that is known at once, likewise.
-    pub(crate) fn integer_at_once(
-        &mut self,
-        world: &World,
-        active: &Activation,
-        expr: &Expr,
-    ) -> Option<i32>
-        ensures some { IfSome result (λ n. (c : Context) → Evaluates Faults c (tree expr.now) (state_of self.old world.now active.now) (Ok (integer n)) (state_of self.new world.now active.now)) }
-        ensures none { IfNone result (self.new ≡ self.old) }
-        ensures ticks { self.new.ticks_left ≤ self.old.ticks_left }
-    {
-        let Expr::Binary(operator, left, right) = expr else {
-            return None;
-        };
-        if is_leaf(left) && is_leaf(right) {
-            return self.of_leaves(active, *operator, left, right);
-        }
-        self.of_parts(world, active, expr)
-    }
-
-    // The same where an operand has parts itself.
-    #[inline(never)]
-    fn of_parts(&mut self, world: &World, active: &Activation, expr: &Expr) -> Option<i32>
-        ensures some { IfSome result (λ n. (c : Context) → Evaluates Faults c (tree expr.now) (state_of self.old world.now active.now) (Ok (integer n)) (state_of self.new world.now active.now)) }
-        ensures none { IfNone result (self.new ≡ self.old) }
-        ensures ticks { self.new.ticks_left ≤ self.old.ticks_left }
-    {
-        let mut left = self.ticks_left.left() as u32;
-        let sight = Sight {
-            world,
-            active,
-            alloc: self.alloc,
-        };
-        let number = integer_worth(&sight, &mut left, expr, DEEPEST)?;
-        self.ticks_left.leave(left);
-        Some(number)
-    }
-
-    /// Whether the value of a test is true.
-    #[cycle(evaluation)]
-    pub(crate) fn passes(
-        &mut self,
-        world: &mut World,
-        active: &mut Activation,
-        stack: &CallStack<'_>,
-        indexed: Option<&Value>,
-        test: &Expr,
-    ) -> Result<bool, Stop>
-        ensures ok { IfOk result (λ b. (v : Tree) × Evaluates Faults (context_of stack.now indexed.entry) (tree test.now) (state_of self.old world.old active.old) (Ok v) (state_of self.new world.new active.new) × (is_true v ≡ b)) }
-        ensures err { IfErr result (λ stop. HadMemory stop → Evaluates Faults (context_of stack.now indexed.entry) (tree test.now) (state_of self.old world.old active.old) (Err (stop_of stop)) (state_of self.new world.new active.new)) }
-        ensures ticks { self.new.ticks_left ≤ self.old.ticks_left }
-    {
-        if let Expr::Binary(..) = test {
-            if let Some(number) = self.integer_at_once(world, active, test) {
-                return Ok(is_other_than_0(number));
-            }
-            let value = self.evaluate_node(world, active, stack, indexed, test)?;
-            return Ok(operation::is_true(&value));
-        }
-        let value = self.evaluate(world, active, stack, indexed, test)?;
-        Ok(operation::is_true(&value))
     }
 
     /// The value of an expression, which takes a tick as it begins. `indexed` is what `$` measures.
@@ -389,109 +283,4 @@ impl Task {
         }
         Ok(values)
     }
-
-    #[cycle(evaluation)]
-    #[inline(never)]
-    fn unary(
-        &mut self,
-        world: &mut World,
-        active: &mut Activation,
-        stack: &CallStack<'_>,
-        indexed: Option<&Value>,
-        operator: UnaryOperator,
-        operand: &Expr,
-    ) -> Result<Value, Failure>
-        ensures meaning { IsKnownFailure result → Computes Faults (context_of stack.now indexed.entry) (unary operator (tree operand.now)) (state_of self.old world.old active.old) (seen_answer result) (state_of self.new world.new active.new) }
-        ensures ticks { self.new.ticks_left ≤ self.old.ticks_left }
-    {
-        let operand = self.evaluate(world, active, stack, indexed, operand)?;
-        Ok(operation::unary(operator, &operand)?)
-    }
-
-    #[cycle(evaluation)]
-    #[inline(never)]
-    fn binary(
-        &mut self,
-        world: &mut World,
-        active: &mut Activation,
-        stack: &CallStack<'_>,
-        indexed: Option<&Value>,
-        operator: BinaryOperator,
-        left: &Expr,
-        right: &Expr,
-    ) -> Result<Value, Failure>
-        ensures meaning { IsKnownFailure result → Computes Faults (context_of stack.now indexed.entry) (binary operator (tree left.now) (tree right.now)) (state_of self.old world.old active.old) (seen_answer result) (state_of self.new world.new active.new) }
-        ensures ticks { self.new.ticks_left ≤ self.old.ticks_left }
-    {
-        let left = self.evaluate(world, active, stack, indexed, left)?;
-        let right = self.evaluate(world, active, stack, indexed, right)?;
-        Ok(integers::binary(self.alloc, operator, &left, &right)?)
-    }
-
-    // The index is evaluated with the base as what `$` measures.
-    #[cycle(evaluation)]
-    #[inline(never)]
-    fn index(
-        &mut self,
-        world: &mut World,
-        active: &mut Activation,
-        stack: &CallStack<'_>,
-        indexed: Option<&Value>,
-        base: &Expr,
-        place: &Expr,
-    ) -> Result<Value, Failure>
-        ensures meaning { IsKnownFailure result → Computes Faults (context_of stack.now indexed.entry) (index (tree base.now) (tree place.now)) (state_of self.old world.old active.old) (seen_answer result) (state_of self.new world.new active.new) }
-        ensures ticks { self.new.ticks_left ≤ self.old.ticks_left }
-    {
-        let base = self.evaluate(world, active, stack, indexed, base)?;
-        let place = self.evaluate(world, active, stack, Some(&base), place)?;
-        Ok(operation::index(self.alloc, &base, &place)?)
-    }
-
-    #[cycle(evaluation)]
-    #[inline(never)]
-    fn range(
-        &mut self,
-        world: &mut World,
-        active: &mut Activation,
-        stack: &CallStack<'_>,
-        indexed: Option<&Value>,
-        base: &Expr,
-        low: &Expr,
-        high: &Expr,
-    ) -> Result<Value, Failure>
-        ensures meaning { IsKnownFailure result → Computes Faults (context_of stack.now indexed.entry) (range (tree base.now) (tree low.now) (tree high.now)) (state_of self.old world.old active.old) (seen_answer result) (state_of self.new world.new active.new) }
-        ensures ticks { self.new.ticks_left ≤ self.old.ticks_left }
-    {
-        let base = self.evaluate(world, active, stack, indexed, base)?;
-        let low = self.evaluate(world, active, stack, Some(&base), low)?;
-        let high = self.evaluate(world, active, stack, Some(&base), high)?;
-        Ok(operation::range(self.alloc, &base, &low, &high)?)
-    }
-
-    #[cycle(evaluation)]
-    #[inline(never)]
-    fn list(
-        &mut self,
-        world: &mut World,
-        active: &mut Activation,
-        stack: &CallStack<'_>,
-        indexed: Option<&Value>,
-        items: &[Item],
-    ) -> Result<Value, Failure>
-        ensures meaning { IsKnownFailure result → Computes Faults (context_of stack.now indexed.entry) (list (items_of items.now)) (state_of self.old world.old active.old) (seen_answer result) (state_of self.new world.new active.new) }
-        ensures ticks { self.new.ticks_left ≤ self.old.ticks_left }
-    {
-        let values = self.evaluate_all(world, active, stack, indexed, items)?;
-        let list = values.into_list(self.alloc)?;
-        Ok(Value::List(list))
-    }
-}
-
-// Whether an integer counts as true.
-#[inline]
-fn is_other_than_0(number: i32) -> bool
-    ensures { result ≡ is_true (integer number) }
-{
-    number != 0
 }

@@ -1,10 +1,12 @@
-//! Expressions without parts, and operators between these.
-ghost use Rattle.std.specs.Prelude.{◌≡◌, ◌≤◌, Option, Ok, Err, IfSome, IfNone};
+//! Expressions without parts.
+ghost use Rattle.std.specs.Prelude.{◌≡◌, ◌≤◌, Option, Some, Err, IfSome};
 ghost use Rattle.std.specs.Borrow.{Bor};
 ghost use Rattle.moo_value.specs.Tree.{integer};
+ghost use Rattle.moo_value.specs.Compare.{folded};
+ghost use Rattle.moo_value.specs.View.{tree as value_tree};
 ghost use Rattle.moo_value.specs.declared.value.Value.{Value as ValueModel};
 ghost use Rattle.moo_value.specs.declared.error_code.ErrorCode.TheVariants.{VariableNotFound};
-ghost use Rattle.moo_program.specs.Tree.{literal as literal_node, variable, binary};
+ghost use Rattle.moo_program.specs.Tree.{literal as literal_node, literal_value as value_of_literal, variable};
 ghost use Rattle.moo_program.specs.View.{tree};
 ghost use Rattle.moo_outcome.specs.Outcome.{fails, settled};
 ghost use Rattle.moo_outcome.specs.State.{Context};
@@ -15,11 +17,9 @@ ghost use Rattle.moo_eval.specs.Leaves.{IsLeaf};
 ghost use Rattle.moo_eval.specs.Meaning.{Evaluates};
 ghost use Rattle.moo_eval.specs.Seen.{state_of};
 
-use crate::integers::number_of;
 use crate::interpreter::Task;
-use crate::worth::{integer_literal, integer_of};
+use crate::worth::integer_literal;
 use moo_outcome::{Activation, CallStack, Failure, Stop, literal_value, settle};
-use moo_program::operator::BinaryOperator;
 use moo_program::{Expr, Literal, Name};
 use moo_value::{ErrorCode, Value};
 
@@ -64,39 +64,16 @@ impl Task {
         self.take_tick(active, stack)?;
         Ok(literal_value(literal)?)
     }
-
-    /// What an operator gives for two numbers, or variables that hold one, where it can't fail and all three ticks are left. Else
-    /// nothing has begun.
-    #[inline]
-    pub(crate) fn of_leaves(
-        &mut self,
-        active: &Activation,
-        operator: BinaryOperator,
-        left: &Expr,
-        right: &Expr,
-    ) -> Option<i32>
-        ensures some { IfSome result (λ n. (c : Context) (w : World) → Evaluates Faults c (binary operator (tree left.now) (tree right.now)) (state_of self.old w active.now) (Ok (integer n)) (state_of self.new w active.now)) }
-        ensures none { IfNone result (self.new ≡ self.old) }
-        ensures ticks { self.new.ticks_left ≤ self.old.ticks_left }
-    {
-        let b = integer_leaf(active, right)?;
-        let a = integer_leaf(active, left)?;
-        let number = number_of(operator, a, b)?;
-        if !self.take_three() {
-            return None;
-        }
-        Some(number)
-    }
 }
 
 // The integer of a number, or of a variable that holds one.
-#[inline]
-fn integer_leaf(active: &Activation, expr: &Expr) -> Option<i32>
+#[inline(always)]
+pub(crate) fn integer_leaf(active: &Activation, expr: &Expr) -> Option<i32>
     ensures { IfSome result (λ n. IsLeaf (variables_of active.now.variables) (tree expr.now) (integer n)) }
 {
     match expr {
         Expr::Literal(literal) => integer_literal(literal),
-        Expr::Variable(name) => integer_of(active.variables.get(name)),
+        Expr::Variable(name) => active.variables.get_integer(name),
         _ => None,
     }
 }
@@ -105,4 +82,18 @@ fn integer_leaf(active: &Activation, expr: &Expr) -> Option<i32>
 #[inline]
 pub(crate) fn is_leaf(expr: &Expr) -> bool {
     matches!(expr, Expr::Literal(_) | Expr::Variable(_))
+}
+
+/// The value of a variable that is set, where there is memory for its copy.
+pub(crate) fn held(active: &Activation, name: &Name) -> Option<Value>
+    ensures { IfSome result (λ v. variables_of active.now.variables (folded name.now) ≡ Some (value_tree v)) }
+{
+    active.variables.get(name)?.try_clone().ok()
+}
+
+/// The value of a literal, likewise.
+pub(crate) fn written_out(literal: &Literal) -> Option<Value>
+    ensures { IfSome result (λ v. value_of_literal literal.now ≡ value_tree v) }
+{
+    literal_value(literal).ok()
 }

@@ -1,6 +1,7 @@
 //! Runs programs: their expressions and statements, and their budget of ticks.
 #![tactic(auto)]
 
+mod ahead;
 mod appending;
 mod assignment;
 mod calls;
@@ -14,11 +15,13 @@ pub mod laws;
 mod leaves;
 mod line;
 mod loops;
+mod operators;
 mod statement;
 mod task;
 mod trying;
 mod typed;
 mod worth;
+mod writing;
 
 pub use line::{EvalLine, eval_line};
 pub use moo_hook::typed_frame;

@@ -32,7 +32,7 @@ impl Task {
         ensures fewer { OnOk result (self.new.ticks_left < self.old.ticks_left) }
     {
         self.take_tick(active, stack)?;
-        let flow = self.run_all(world, active, stack, body)?;
+        let flow = self.run_body(world, active, stack, body)?;
         if let Flow::Next = flow {
             return Ok(None);
         }
@@ -56,7 +56,7 @@ impl Task {
     {
         self.take_tick(active, stack)?;
         active.variables.set(name, value)?;
-        let flow = self.run_all(world, active, stack, body)?;
+        let flow = self.run_body(world, active, stack, body)?;
         if let Flow::Next = flow {
             return Ok(None);
         }

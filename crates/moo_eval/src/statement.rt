@@ -32,6 +32,16 @@ impl Task {
         ensures ticks { self.new.ticks_left ≤ self.old.ticks_left }
         ensures fewer { OnOk result (self.new.ticks_left < self.old.ticks_left) }
     {
+        if self.sets_at_once(world, active, statement) {
+            return Ok(Flow::Next);
+        }
+        if self.writes_at_once(world, active, statement) {
+            return Ok(Flow::Next);
+        }
+        let placed = self.places_at_once(world, active, statement)?;
+        if placed {
+            return Ok(Flow::Next);
+        }
         self.take_tick(active, stack)?;
         self.perform(world, active, stack, statement)
     }
@@ -137,6 +147,26 @@ impl Task {
         Ok(Flow::Next)
     }
 
+    /// The statements of a loop or of an arm. The first of them are run ahead, as far as they are known at once.
+    #[cycle(evaluation)]
+    #[inline(always)]
+    pub(crate) fn run_body(
+        &mut self,
+        world: &mut World,
+        active: &mut Activation,
+        stack: &CallStack<'_>,
+        body: &[Stmt],
+    ) -> Result<Flow, Stop>
+        ensures meaning { IsKnown result → RunsAll Faults (context_of stack.now None) (block body.now) (state_of self.old world.old active.old) (seen_flow result) (state_of self.new world.new active.new) }
+        ensures ticks { self.new.ticks_left ≤ self.old.ticks_left }
+    {
+        let rest = self.run_ahead(world, active, body);
+        if rest.is_empty() {
+            return Ok(Flow::Next);
+        }
+        self.run_all(world, active, stack, rest)
+    }
+
     // The first arm of an `if` whose condition is true.
     #[cycle(evaluation)]
     #[inline(never)]
@@ -154,7 +184,7 @@ impl Task {
     {
         let passes = self.passes(world, active, stack, None, test)?;
         if passes {
-            return self.run_all(world, active, stack, body);
+            return self.run_body(world, active, stack, body);
         }
         self.select(world, active, stack, arms)
     }
@@ -176,10 +206,10 @@ impl Task {
                 Arm::ElseIf(test, body) => {
                     let passes = self.passes(world, active, stack, None, test)?;
                     if passes {
-                        return self.run_all(world, active, stack, body);
+                        return self.run_body(world, active, stack, body);
                     }
                 }
-                Arm::Else(body) => return self.run_all(world, active, stack, body),
+                Arm::Else(body) => return self.run_body(world, active, stack, body),
             }
         }
         Ok(Flow::Next)

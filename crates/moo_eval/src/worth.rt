@@ -4,7 +4,7 @@ ghost use Rattle.std.specs.Prelude.{◌≡◌, ◌-◌, ◌<◌, ◌≤◌, suc,
 ghost use Rattle.moo_value.specs.Tree.{integer, object, string};
 ghost use Rattle.moo_value.specs.View.{tree as value_tree};
 ghost use Rattle.moo_program.specs.declared.tree.Literal.TheVariants.{Str};
-ghost use Rattle.moo_program.specs.Tree.{literal, literal_value, index, property};
+ghost use Rattle.moo_program.specs.Tree.{literal, literal_value as value_of_literal, binary, index, property};
 ghost use Rattle.moo_program.specs.View.{tree};
 ghost use Rattle.moo_operation.specs.Places.{index_of};
 ghost use Rattle.moo_outcome.specs.Seen.{indexed_of, variables_of};
@@ -13,7 +13,9 @@ ghost use Rattle.moo_eval.specs.Leaves.{IsLeaf};
 ghost use Rattle.moo_eval.specs.Worth.{IsWorth};
 
 use crate::integers::number_of;
+use crate::leaves::{held, integer_leaf, is_leaf, written_out};
 use moo_outcome::Activation;
+use moo_program::operator::BinaryOperator;
 use moo_program::{Expr, Literal};
 use moo_value::{MooStr, Value};
 use moo_world::{Rights, World};
@@ -21,7 +23,7 @@ use std::alloc::Global;
 
 /// How many operators and indexes may stand in each other. What is deeper is evaluated part by part, so that no part is
 /// looked at more often than this.
-pub(crate) const DEEPEST: u8 = 4;
+const DEEPEST: u8 = 4;
 
 /// What is looked at.
 #[derive(Drop)]
@@ -31,13 +33,25 @@ pub(crate) struct Sight<'a> {
     pub(crate) alloc: Global,
 }
 
-/// The value of an element or of a property, where it is known at once. Its ticks are taken of those that are left, where they
-/// are so many.
+/// The value of a literal, of a variable, of an operator between integers, of an element or of a property, where it is known at once.
+/// Its ticks are taken of those that are left, where they are so many.
 pub(crate) fn worth(sight: &Sight<'_>, left: &mut u32, expr: &Expr) -> Option<Value>
     ensures value { IfSome result (λ v. IsWorth sight.now.world.now sight.now.active.now left.old (tree expr.now) (value_tree v) left.new) }
     ensures ticks { left.new ≤ left.old }
 {
     match expr {
+        Expr::Literal(literal) => {
+            take(left)?;
+            written_out(literal)
+        }
+        Expr::Variable(name) => {
+            take(left)?;
+            held(sight.active, name)
+        }
+        Expr::Binary(operator, first, second) => {
+            let number = number_worth(sight, left, *operator, first, second)?;
+            Some(Value::Int(number))
+        }
         Expr::Index(base, place) => {
             let element = element_worth(sight, left, base, place, DEEPEST)?;
             element.try_clone().ok()
@@ -45,6 +59,46 @@ pub(crate) fn worth(sight: &Sight<'_>, left: &mut u32, expr: &Expr) -> Option<Va
         Expr::Property(base, name) => property_worth(sight, left, base, name),
         _ => None,
     }
+}
+
+/// The integer of an operator, where it is known at once, and its ticks as above. One between leaves is looked at where it stands.
+#[inline(always)]
+pub(crate) fn number_worth(
+    sight: &Sight<'_>,
+    left: &mut u32,
+    operator: BinaryOperator,
+    first: &Expr,
+    second: &Expr,
+) -> Option<i32>
+    ensures value { IfSome result (λ n. IsWorth sight.now.world.now sight.now.active.now left.old (binary operator (tree first.now) (tree second.now)) (integer n) left.new) }
+    ensures ticks { left.new ≤ left.old }
+{
+    if is_leaf(first) && is_leaf(second) {
+        return leaves_worth(sight, left, operator, first, second);
+    }
+    operator_worth(sight, left, operator, first, second, DEEPEST)
+}
+
+// The integer of an operator between leaves, whose three ticks are taken together.
+#[inline(always)]
+fn leaves_worth(
+    sight: &Sight<'_>,
+    left: &mut u32,
+    operator: BinaryOperator,
+    first: &Expr,
+    second: &Expr,
+) -> Option<i32>
+    ensures value { IfSome result (λ n. IsWorth sight.now.world.now sight.now.active.now left.old (binary operator (tree first.now) (tree second.now)) (integer n) left.new) }
+    ensures ticks { left.new ≤ left.old }
+{
+    let a = integer_leaf(sight.active, first)?;
+    let b = integer_leaf(sight.active, second)?;
+    let number = number_of(operator, a, b)?;
+    if *left < 3 {
+        return None;
+    }
+    *left -= 3;
+    Some(number)
 }
 
 // The integer of an operand. A number or a variable is looked at where the operand stands, so that it needs no call.
@@ -62,25 +116,41 @@ fn operand_worth(sight: &Sight<'_>, left: &mut u32, expr: &Expr, deep: u8) -> Op
         }
         Expr::Variable(name) => {
             take(left)?;
-            integer_of(sight.active.variables.get(name))
+            sight.active.variables.get_integer(name)
         }
-        _ => integer_worth(sight, left, expr, deep.checked_sub(1)?),
+        Expr::Binary(operator, first, second) => {
+            operator_worth(sight, left, *operator, first, second, deep.checked_sub(1)?)
+        }
+        _ => part_worth(sight, left, expr, deep.checked_sub(1)?),
     }
 }
 
-/// The integer of an operator, of an element or of a property, where it is known at once, and its ticks as above.
+// The integer of an operator, where it is known at once, and its ticks as above.
 #[cycle(worth)]
-pub(crate) fn integer_worth(sight: &Sight<'_>, left: &mut u32, expr: &Expr, deep: u8) -> Option<i32>
+fn operator_worth(
+    sight: &Sight<'_>,
+    left: &mut u32,
+    operator: BinaryOperator,
+    first: &Expr,
+    second: &Expr,
+    deep: u8,
+) -> Option<i32>
+    ensures value { IfSome result (λ n. IsWorth sight.now.world.now sight.now.active.now left.old (binary operator (tree first.now) (tree second.now)) (integer n) left.new) }
+    ensures ticks { left.new ≤ left.old }
+{
+    take(left)?;
+    let a = operand_worth(sight, left, first, deep)?;
+    let b = operand_worth(sight, left, second, deep)?;
+    number_of(operator, a, b)
+}
+
+// The integer of an element or of a property, likewise.
+#[cycle(worth)]
+fn part_worth(sight: &Sight<'_>, left: &mut u32, expr: &Expr, deep: u8) -> Option<i32>
     ensures value { IfSome result (λ n. IsWorth sight.now.world.now sight.now.active.now left.old (tree expr.now) (integer n) left.new) }
     ensures ticks { left.new ≤ left.old }
 {
     match expr {
-        Expr::Binary(operator, first, second) => {
-            take(left)?;
-            let a = operand_worth(sight, left, first, deep)?;
-            let b = operand_worth(sight, left, second, deep)?;
-            number_of(*operator, a, b)
-        }
         Expr::Index(base, place) => { integer_of(element_worth(sight, left, base, place, deep)) }
         Expr::Property(base, name) => {
             let value = property_worth(sight, left, base, name)?;
@@ -122,9 +192,9 @@ fn property_worth(sight: &Sight<'_>, left: &mut u32, base: &Expr, name: &Expr) -
     property_of(sight.alloc, sight.world, sight.active.programmer, o, name)
 }
 
-// A tick, where one is left.
+/// A tick, where one is left.
 #[inline]
-fn take(left: &mut u32) -> Option<()>
+pub(crate) fn take(left: &mut u32) -> Option<()>
     ensures taken { IfSome result (λ _. (0 < left.old) × (left.new ≡ left.old - 1)) }
     ensures ticks { left.new ≤ left.old }
 {
@@ -199,7 +269,7 @@ fn object_leaf(active: &Activation, expr: &Expr) -> Option<i32>
 
 #[inline]
 fn object_literal(literal: &Literal) -> Option<i32>
-    ensures { IfSome result (λ o. literal_value literal.now ≡ object o) }
+    ensures { IfSome result (λ o. value_of_literal literal.now ≡ object o) }
 {
     match literal {
         Literal::Object(number) => Some(*number),
@@ -230,7 +300,7 @@ fn text_leaf(expr: &Expr) -> Option<&MooStr>
 
 #[inline]
 pub(crate) fn integer_literal(literal: &Literal) -> Option<i32>
-    ensures { IfSome result (λ n. literal_value literal.now ≡ integer n) }
+    ensures { IfSome result (λ n. value_of_literal literal.now ≡ integer n) }
 {
     match literal {
         Literal::Integer(number) => Some(*number),

@@ -1,4 +1,4 @@
-use Rattle.std.proofs.Common.{◌+◌, ap, ◌∙◌, arith}
+use Rattle.std.proofs.Common.{◌+◌, arith}
 use Rattle.moo_value.specs.View.{tree}
 use Rattle.moo_eval.proofs.Lengthened.{fits_push, too_heavy_push}
 use Rattle.moo_eval.proofs.growth.fits_behind.Goals as goal

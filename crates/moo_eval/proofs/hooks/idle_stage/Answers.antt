@@ -1,4 +1,4 @@
-use Rattle.std.proofs.Common.{◌≡◌, sym, ◌∙◌}
+use Rattle.std.proofs.Common.{sym, ◌∙◌}
 use Rattle.moo_eval.proofs.Hooking.{not_empty}
 use Rattle.moo_eval.proofs.hooks.idle_stage.Goals as goal
 

@@ -1,4 +1,4 @@
-use Rattle.std.proofs.Common.{Some, w32, rules}
+use Rattle.std.proofs.Common.{Some, w32, rules, refl}
 use Rattle.std.proofs.lemmas.Int.{to_z-of_z}
 use mir.Val.{SFits}
 use Rattle.moo_outcome.specs.Seen.{variables_of}
@@ -21,12 +21,10 @@ operand_worth-returns-in_ok-take-in-Literal-clause-value t c =
 
 pub operand_worth-returns-in_ok-take-in-Variable-clause-value : goal.operand_worth-returns-in_ok-take-in-Variable-clause-value
 operand_worth-returns-in_ok-take-in-Variable-clause-value t c =
-    rw c.in-Variable.is (map_some c.integer_of.result (λ n l. leaf_worth c.args.sight.now.world.now c.args.sight.now.active.now c.in_ok-take-in-Variable.ensures.taken l) (held_leaf (variables_of c.args.sight.now.active.now.variables) c.in-Variable.name _ c.integer_of.result c.get.ensures c.integer_of.ensures))
+    rw c.in-Variable.is (map_some c.get_integer.result (λ n l. leaf_worth c.args.sight.now.world.now c.args.sight.now.active.now c.in_ok-take-in-Variable.ensures.taken l) (held_leaf (variables_of c.args.sight.now.active.now.variables) c.in-Variable.name _ c.get_integer.result refl c.get_integer.ensures))
 
-pub integer_worth-returns-in_ok-b-in-Binary-clause-value : goal.integer_worth-returns-in_ok-b-in-Binary-clause-value
-integer_worth-returns-in_ok-b-in-Binary-clause-value t c =
-    let a = c.in_ok-a-in-Binary.a in
-    let b = c.in_ok-b-in-Binary.b in
-    let first : SFits w32 c.in_ok-a-in-Binary.a = search rules in
-    let second : SFits w32 c.in_ok-b-in-Binary.b = search rules in
-    rw (c.in-Binary.is, ← c.deref.ensures, ← c.deref-in-Binary.ensures) (map_some c.number_of.result (λ n h. operator_worth c.args.sight.now.world.now c.args.sight.now.active.now c.in_ok-take-in-Binary.ensures.taken c.in_ok-a-in-Binary.ensures.value c.in_ok-b-in-Binary.ensures.value h) (rw (to_z-of_z w32 a first, to_z-of_z w32 b second) at c.number_of.ensures))
+pub operator_worth-returns-clause-value : goal.operator_worth-returns-clause-value
+operator_worth-returns-clause-value t c =
+    let first : SFits w32 c.in_ok-a.a = search rules in
+    let second : SFits w32 c.in_ok-b.b = search rules in
+    map_some c.number_of.result (λ n h. operator_worth c.args.sight.now.world.now c.args.sight.now.active.now c.in_ok-take.ensures.taken c.in_ok-a.ensures.value c.in_ok-b.ensures.value h) (rw (to_z-of_z w32 c.in_ok-a.a first, to_z-of_z w32 c.in_ok-b.b second) at c.number_of.ensures)

@@ -25,9 +25,11 @@ use Rattle.moo_eval.specs.Growth.{SettlesAs}
 use Rattle.moo_eval.proofs.Appended.{appended, past_limits, no_list, variable_stops, last_stops}
 use Rattle.moo_eval.specs.Element.{sets_place}
 use Rattle.moo_eval.proofs.Placed.{put, not_put, unheld, place_ends, value_ends, put_alone, passed_over, stopped}
+use Rattle.std.proofs.lemmas.Bool.{eqb-true}
+use Rattle.moo_eval.proofs.Foreseen.{nothing_left}
 use Rattle.moo_eval.proofs.Direct.{assigned, unassigned, performed, unperformed}
 use Rattle.moo_eval.proofs.Exits.{refused, gathered, unlisted, same_state, optional_ends, goes_on-not, state_at, no_flow, guarded_on, property_put, runs_at}
-use Rattle.moo_outcome.proofs.Rest.{drop_next, next_tree}
+use Rattle.moo_outcome.proofs.Rest.{drop_next}
 use Rattle.moo_program.proofs.Rows.{row_items, row_block, row_arms, row_handlers}
 use Rattle.std.specs.Option.{option_map}
 use Rattle.std.specs.Prelude.{◌≤ℤ◌, true, false, option_copied}
@@ -36,7 +38,7 @@ use mir.Val.{SFits, to_z}
 use Rattle.moo_outcome.specs.Leading.{after_turn, numbered}
 use Rattle.moo_outcome.specs.SeenHandling.{guarded_of}
 use Rattle.moo_eval.proofs.Counting.{narrow, next_number, not_below, reached}
-use Rattle.moo_outcome.specs.Handling.{guarded, guarded_before}
+use Rattle.moo_outcome.specs.Handling.{guarded}
 use Rattle.moo_eval.specs.Operands.{before}
 use Rattle.moo_eval.proofs.interpreter.Task.+evaluation.Goals as goal
 use Rattle.moo_eval.proofs.interpreter.Task.+evaluation.Goals.{evaluate_all-in-Element+in_ok-value-in-Element+in_ok-push-in-Element, evaluate_all-in-Splice+in_ok-value-in-Splice+in_ok-splice-in-Splice}
@@ -475,11 +477,32 @@ store-returns-in_err-whole-in-Scatter-clause-meaning t c =
 
 pub run-returns-clause-meaning : goal.run-returns-clause-meaning
 run-returns-clause-meaning t c =
-    λ k. statement_begins c.in_ok-take_tick.ensures.taken (rw c.in_ok-take_tick.ensures.left at (c.perform.ensures.meaning k))
+    let kept = c.sets_at_once.ensures.kept c.if-sets_at_once.false in
+    let same = c.writes_at_once.ensures.kept c.if-writes_at_once.false in
+    let stays = c.in_ok-placed.ensures.kept c.if-placed.false in
+    λ k. statement_begins (rw (stays.0, same.0, kept.0) at c.in_ok-take_tick.ensures.taken) (rw (c.in_ok-take_tick.ensures.left, stays.0, stays.1, same.0, same.1, kept.0, kept.1) at (c.perform.ensures.meaning k))
+
+pub run-returns-then-sets_at_once-clause-meaning : goal.run-returns-then-sets_at_once-clause-meaning
+run-returns-then-sets_at_once-clause-meaning t c =
+    λ k. c.sets_at_once.ensures.done c.if-sets_at_once.true (context_of c.args.stack.now None)
+
+pub run-returns-then-writes_at_once-clause-meaning : goal.run-returns-then-writes_at_once-clause-meaning
+run-returns-then-writes_at_once-clause-meaning t c =
+    let kept = c.sets_at_once.ensures.kept c.if-sets_at_once.false in
+    λ k. rw (← kept.0, ← kept.1) (c.writes_at_once.ensures.done c.if-writes_at_once.true (context_of c.args.stack.now None))
+
+pub run-returns-then-placed-clause-meaning : goal.run-returns-then-placed-clause-meaning
+run-returns-then-placed-clause-meaning t c =
+    let kept = c.sets_at_once.ensures.kept c.if-sets_at_once.false in
+    let same = c.writes_at_once.ensures.kept c.if-writes_at_once.false in
+    λ k. rw same.1 (rw (same.0, same.1, kept.0, kept.1) at (c.in_ok-placed.ensures.done c.if-placed.true (context_of c.args.stack.now None)))
 
 pub run-returns-in_err-take_tick-clause-meaning : goal.run-returns-in_err-take_tick-clause-meaning
 run-returns-in_err-take_tick-clause-meaning t c =
-    let p = err_from_is_err_and c.from_residual.result c.from_residual.ensures.1 in rw (p.1, p.2) (λ k. let h = c.in_err-take_tick.ensures.spent k in rw (c.in_err-take_tick.ensures.kept, h.1) (statement_spent h.0))
+    let kept = c.sets_at_once.ensures.kept c.if-sets_at_once.false in
+    let same = c.writes_at_once.ensures.kept c.if-writes_at_once.false in
+    let stays = c.in_ok-placed.ensures.kept c.if-placed.false in
+    let p = err_from_is_err_and c.from_residual-in_err-take_tick.result c.from_residual-in_err-take_tick.ensures.1 in rw (p.1, p.2) (λ k. let h = rw (stays.0, stays.1, same.0, kept.0, kept.1) at (c.in_err-take_tick.ensures.spent k) in rw (c.in_err-take_tick.ensures.kept, stays.0, stays.1, same.0, same.1, kept.0, kept.1, h.1) (statement_spent h.0))
 
 pub run_all-returns-in_err-flow-clause-meaning : goal.run_all-returns-in_err-flow-clause-meaning
 run_all-returns-in_err-flow-clause-meaning t c =
@@ -493,13 +516,21 @@ pub run_all-returns-clause-meaning : goal.run_all-returns-clause-meaning
 run_all-returns-clause-meaning t c =
     λ k. c.loop-statement.invariant.rest (Ok next) _ (rw (drop_of_length-le c.args.statements.now c.loop-statement-test.false) ends)
 
+pub run_body-returns-clause-meaning : goal.run_body-returns-clause-meaning
+run_body-returns-clause-meaning t c =
+    λ k. c.run_ahead-rest.ensures.rest _ _ _ (c.run_all.ensures.meaning k)
+
+pub run_body-returns-then-is_empty-clause-meaning : goal.run_body-returns-then-is_empty-clause-meaning
+run_body-returns-then-is_empty-clause-meaning t c =
+    λ k. c.run_ahead-rest.ensures.rest (context_of c.args.stack.now None) (Ok next) _ (rw (nothing_left c.run_ahead-rest.result.now (eqb-true _ _ (sym c.is_empty.ensures ∙ c.if-is_empty.true))) ends)
+
 pub branch-returns-clause-meaning : goal.branch-returns-clause-meaning
 branch-returns-clause-meaning t c =
     λ k. selects (arm_passed c.in_ok-passes.ensures.ok.1 (c.in_ok-passes.ensures.ok.2 ∙ c.if-passes.false) (c.select.ensures.meaning k))
 
 pub branch-returns-then-passes-clause-meaning : goal.branch-returns-then-passes-clause-meaning
 branch-returns-then-passes-clause-meaning t c =
-    λ k. selects (arm_runs c.in_ok-passes.ensures.ok.1 (c.in_ok-passes.ensures.ok.2 ∙ c.if-passes.true) (c.run_all.ensures.meaning k))
+    λ k. selects (arm_runs c.in_ok-passes.ensures.ok.1 (c.in_ok-passes.ensures.ok.2 ∙ c.if-passes.true) (c.run_body.ensures.meaning k))
 
 pub branch-returns-in_err-passes-clause-meaning : goal.branch-returns-in_err-passes-clause-meaning
 branch-returns-in_err-passes-clause-meaning t c =
@@ -511,7 +542,7 @@ select-returns-clause-meaning t c =
 
 pub select-returns-in-Else-clause-meaning : goal.select-returns-in-Else-clause-meaning
 select-returns-in-Else-clause-meaning t c =
-    λ k. c.loop-arm.invariant.rest _ _ (rw (drop_next c.args.arms.now c.loop-arm.arm-index c.arm-item.result c.loop-arm-test.true c.arm-item.is, c.in-Else.is, row_block, ← c.deref-in-Else.ensures.value) (else_runs (c.run_all-in-Else.ensures.meaning k)))
+    λ k. c.loop-arm.invariant.rest _ _ (rw (drop_next c.args.arms.now c.loop-arm.arm-index c.arm-item.result c.loop-arm-test.true c.arm-item.is, c.in-Else.is, row_block, ← c.deref-in-Else.ensures.value) (else_runs (c.run_body-in-Else.ensures.meaning k)))
 
 pub select-returns-in_err-passes-in-ElseIf-clause-meaning : goal.select-returns-in_err-passes-in-ElseIf-clause-meaning
 select-returns-in_err-passes-in-ElseIf-clause-meaning t c =
@@ -683,7 +714,7 @@ run_all-returns-in_default t c =
 
 pub select-returns-then-passes-clause-meaning : goal.select-returns-then-passes-clause-meaning
 select-returns-then-passes-clause-meaning t c =
-    λ k. c.loop-arm.invariant.rest _ _ (rw (drop_next c.args.arms.now c.loop-arm.arm-index c.arm-item.result c.loop-arm-test.true c.arm-item.is, c.in-ElseIf.is, row_block, ← c.deref.ensures, ← c.deref-then-passes.ensures.value) (arm_runs c.in_ok-passes-in-ElseIf.ensures.ok.1 (c.in_ok-passes-in-ElseIf.ensures.ok.2 ∙ c.if-passes.true) (c.run_all.ensures.meaning k)))
+    λ k. c.loop-arm.invariant.rest _ _ (rw (drop_next c.args.arms.now c.loop-arm.arm-index c.arm-item.result c.loop-arm-test.true c.arm-item.is, c.in-ElseIf.is, row_block, ← c.deref.ensures, ← c.deref-then-passes.ensures.value) (arm_runs c.in_ok-passes-in-ElseIf.ensures.ok.1 (c.in_ok-passes-in-ElseIf.ensures.ok.2 ∙ c.if-passes.true) (c.run_body.ensures.meaning k)))
 
 pub repeat-returns-in_err-flow-clause-meaning : goal.repeat-returns-in_err-flow-clause-meaning
 repeat-returns-in_err-flow-clause-meaning t c =
@@ -759,15 +790,9 @@ pub assign_variable-returns-in_err-value-clause-meaning : goal.assign_variable-r
 assign_variable-returns-in_err-value-clause-meaning t c =
     let p = err_from_is_err_and c.from_residual.result c.from_residual.ensures.1 in rw (p.1, p.2) (λ k. unassigned (c.in_err-value.ensures.meaning k))
 
-pub assign_alone-returns-in-Some-clause-meaning : goal.assign_alone-returns-in-Some-clause-meaning
-assign_alone-returns-in-Some-clause-meaning t c =
-    let number : SFits w32 c.in-Some.number = search rules in
-    λ k. performed c.in_ok-take_tick.ensures.taken (assigned (rw c.in_ok-take_tick.ensures.left at (c.in-Some.ensures.some (context_of c.args.stack.now None))) (same_state (sym (rw (to_z-of_z w32 c.in-Some.number number) at c.in_ok-set.ensures)) refl))
-
 pub assign_alone-returns-clause-meaning : goal.assign_alone-returns-clause-meaning
 assign_alone-returns-clause-meaning t c =
-    let same = rw (none_left _ c.in_default.not-Some) at c.integer_at_once.ensures.none in
-    λ k. performed c.in_ok-take_tick.ensures.taken (assigned (rw (same, c.in_ok-take_tick.ensures.left) at (c.in_ok-value.ensures.meaning tt)) (same_state (sym c.in_ok-set-2.ensures) refl))
+    λ k. performed c.in_ok-take_tick.ensures.taken (assigned (rw c.in_ok-take_tick.ensures.left at (c.in_ok-value.ensures.meaning tt)) (same_state (sym c.in_ok-set.ensures) refl))
 
 pub assign_alone-returns-in_err-take_tick-clause-meaning : goal.assign_alone-returns-in_err-take_tick-clause-meaning
 assign_alone-returns-in_err-take_tick-clause-meaning t c =
@@ -775,7 +800,7 @@ assign_alone-returns-in_err-take_tick-clause-meaning t c =
 
 pub assign_alone-returns-in_err-value-clause-meaning : goal.assign_alone-returns-in_err-value-clause-meaning
 assign_alone-returns-in_err-value-clause-meaning t c =
-    let p = err_from_is_err_and c.from_residual-in_err-value.result c.from_residual-in_err-value.ensures.1 in rw (p.1, p.2) (let same = rw (none_left _ c.in_default.not-Some) at c.integer_at_once.ensures.none in λ k. unperformed c.in_ok-take_tick.ensures.taken (unassigned (rw (same, c.in_ok-take_tick.ensures.left) at (c.in_err-value.ensures.meaning k))))
+    let p = err_from_is_err_and c.from_residual-in_err-value.result c.from_residual-in_err-value.ensures.1 in rw (p.1, p.2) (λ k. unperformed c.in_ok-take_tick.ensures.taken (unassigned (rw c.in_ok-take_tick.ensures.left at (c.in_err-value.ensures.meaning k))))
 
 pub lengthen-returns-in-Ok-clause-meaning : goal.lengthen-returns-in-Ok-clause-meaning
 lengthen-returns-in-Ok-clause-meaning t c =

@@ -1,4 +1,4 @@
-use Rattle.std.proofs.Common.{◌+◌, ◌*◌, ◌≤◌, ◌<◌, drop, map, List, Result, ◌∙◌, Some, None}
+use Rattle.std.proofs.Common.{◌+◌, ◌*◌, ◌≤◌, ◌<◌, drop, map, List, Result, None}
 use Rattle.moo_value.specs.Tree.{Tree}
 use Rattle.moo_value.specs.View.{trees}
 use Rattle.moo_program.specs.View.{tree, items_of, block, arms_of, handlers_of}
@@ -25,7 +25,10 @@ abbrev pub decreases-evaluate : goal.decreases-evaluate
 decreases-evaluate l = 8 * l.self.now.ticks_left + 1
 
 abbrev pub decreases-passes : goal.decreases-passes
-decreases-passes l = 8 * l.self.now.ticks_left + 2
+decreases-passes l = 8 * l.self.now.ticks_left + 3
+
+abbrev pub decreases-passes_node : goal.decreases-passes_node
+decreases-passes_node l = 8 * l.self.now.ticks_left + 2
 
 abbrev pub decreases-evaluate_node : goal.decreases-evaluate_node
 decreases-evaluate_node l = 8 * l.self.now.ticks_left
@@ -67,7 +70,7 @@ abbrev pub decreases-logic : goal.decreases-logic
 decreases-logic l = 8 * l.self.now.ticks_left + 3
 
 abbrev pub decreases-conditional : goal.decreases-conditional
-decreases-conditional l = 8 * l.self.now.ticks_left + 3
+decreases-conditional l = 8 * l.self.now.ticks_left + 4
 
 abbrev pub decreases-index : goal.decreases-index
 decreases-index l = 8 * l.self.now.ticks_left + 3
@@ -162,8 +165,11 @@ decreases-visit l = 8 * l.self.now.ticks_left + 1
 abbrev pub decreases-run_all : goal.decreases-run_all
 decreases-run_all l = 8 * l.self.now.ticks_left + 2
 
+abbrev pub decreases-run_body : goal.decreases-run_body
+decreases-run_body l = 8 * l.self.now.ticks_left + 3
+
 abbrev pub decreases-repeat : goal.decreases-repeat
-decreases-repeat l = 8 * l.self.now.ticks_left + 3
+decreases-repeat l = 8 * l.self.now.ticks_left + 4
 
 abbrev pub decreases-visit_all : goal.decreases-visit_all
 decreases-visit_all l = 8 * l.self.now.ticks_left + 2
@@ -172,7 +178,7 @@ abbrev pub decreases-count : goal.decreases-count
 decreases-count l = 8 * l.self.now.ticks_left + 2
 
 abbrev pub decreases-select : goal.decreases-select
-decreases-select l = 8 * l.self.now.ticks_left + 3
+decreases-select l = 8 * l.self.now.ticks_left + 4
 
 abbrev pub decreases-for_list : goal.decreases-for_list
 decreases-for_list l = 8 * l.self.now.ticks_left + 3
@@ -187,7 +193,7 @@ abbrev pub decreases-try_finally : goal.decreases-try_finally
 decreases-try_finally l = 8 * l.self.now.ticks_left + 3
 
 abbrev pub decreases-branch : goal.decreases-branch
-decreases-branch l = 8 * l.self.now.ticks_left + 4
+decreases-branch l = 8 * l.self.now.ticks_left + 5
 
 abbrev pub decreases-try_except : goal.decreases-try_except
 decreases-try_except l = 8 * l.self.now.ticks_left + 5

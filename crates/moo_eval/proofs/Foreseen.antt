@@ -1,0 +1,62 @@
+-- Statements that are known at once.
+use Rattle.std.proofs.Common.{◌≡◌, ℕ, ℤ, suc, pos, ◌<◌, ◌-◌, true, List, [], ◌∷◌, Result, Ok, Err, is_ok, length, refl, sym, ap, ◌∙◌, arith}
+use Rattle.std.proofs.lemmas.Bool.{false≢true}
+use Rattle.std.proofs.lemmas.Int.{to_z-of_z}
+use mir.Syntax.{w32}
+use mir.Val.{SFits, to_z, of_z}
+use lib.IntN.{nat_abs}
+use Rattle.moo_value.specs.declared.error_code.ErrorCode.{ErrorCode}
+use Rattle.moo_value.specs.declared.error_code.ErrorCode.TheVariants.{VariableNotFound}
+use Rattle.moo_program.specs.declared.tree.Stmt.{Stmt}
+use Rattle.moo_program.specs.Tree.{Expr, variable, property, assign, performs, no_statement}
+use Rattle.moo_program.specs.View.{block}
+use Rattle.moo_table.specs.World.{World}
+use Rattle.moo_outcome.specs.declared.frame.Activation.{Activation}
+use Rattle.moo_outcome.specs.declared.notice.Notice.{Notice}
+use Rattle.moo_outcome.specs.Outcome.{answers, or_error, next}
+use Rattle.moo_outcome.specs.declared.outcome.Failure as code_failure
+use Rattle.moo_outcome.specs.Seen.{seen_by}
+use Rattle.moo_outcome.specs.State.{Context, within}
+use Rattle.moo_code_function.specs.Telling.{Faults}
+use Rattle.moo_call.specs.Seen.{state_at}
+use Rattle.moo_eval.specs.Element.{sets_place}
+use Rattle.moo_eval.specs.Worth.{IsSet, IsWritten, IsPlaced}
+use Rattle.moo_eval.specs.Meaning.{Runs, statement_begins, applies, no_more, element_then, assign_is, assigns, locates, finds, inside, stores, puts_property}
+use Rattle.moo_eval.proofs.Direct.{assigned, performed}
+use Rattle.moo_eval.proofs.Placed.{put, put_alone}
+use Rattle.moo_eval.proofs.Exits.{same_state}
+
+-- a variable is set to what is known at once
+pub set_ahead : {w : World} {active active' : Activation} {n m : ℕ} {notices : List Notice} {x : List ℕ} {e : Expr} (c : Context) → 1 < n → IsSet w active active' (n - 2) m x e → Runs Faults c (performs (assign (variable x) e)) (state_at n notices w active) (Ok next) (state_at m notices w active')
+set_ahead {n = n} {notices = notices} c h p =
+    let two : n - 2 ≡ n - 1 - 1 = omega arith in
+    statement_begins (omega (arith, h)) (performed (omega (arith, h)) (assigned (rw two at p.gives c notices) (same_state (sym p.sets) (sym p.keeps))))
+
+-- a property is set to what is known at once
+pub written_ahead : {w w' : World} {active : Activation} {n m : ℕ} {notices : List Notice} {a b e : Expr} (c : Context) → 1 < n → IsWritten w w' active (n - 2) m a b e → Runs Faults c (performs (assign (property a b) e)) (state_at n notices w active) (Ok next) (state_at m notices w' active)
+written_ahead {n = n} {notices = notices} c h p =
+    let two : n - 2 ≡ n - 1 - 1 = omega arith in
+    statement_begins (omega (arith, h)) (performed (omega (arith, h)) (applies no_more no_more (assign_is (assigns (locates (finds (element_then (rw two at p.gives_base c notices) (element_then (p.gives_name c notices) no_more refl) refl) refl) inside) (p.gives_value c notices) (stores refl (puts_property (ap answers p.writes) refl)) refl))))
+
+-- a place of a variable is set to what is known at once
+pub placed_ahead : {w : World} {active active' : Activation} {n m : ℕ} {notices : List Notice} {x : List ℕ} {i e : Expr} (c : Context) → 1 < n → IsPlaced w active active' (n - 2) m x i e → Runs Faults c (performs (sets_place x i e)) (state_at n notices w active) (Ok next) (state_at m notices w active')
+placed_ahead {n = n} {notices = notices} c h p =
+    let two : n - 2 ≡ n - 1 - 1 = omega arith in
+    statement_begins (omega (arith, h)) (put_alone (omega (arith, h)) (put (ap (λ o. answers (or_error o VariableNotFound)) p.holds) (rw two at p.gives_place (within c (p.container ∷ [])) notices) (p.gives_value c notices) p.is (same_state (sym p.sets) (sym p.keeps))))
+
+pub nothing_left : (ss : List Stmt) → length ss ≡ 0 → block ss ≡ no_statement
+nothing_left [] h = refl
+nothing_left (s ∷ ss) h = let more : suc (length ss) ≡ 0 = h in absurd (omega (arith, more))
+
+-- the ticks that are left, as they are counted
+pub ticks_seen : (z : ℤ) (n : ℕ) → SFits w32 z → z ≡ pos n → nat_abs (to_z w32 (of_z w32 z)) ≡ n
+ticks_seen z n f e = ap nat_abs (to_z-of_z w32 z f ∙ e)
+
+unanswered : {A : Type 0} {x : A} (r : Result A ErrorCode) → answers r ≡ Ok x → r ≡ Ok x
+unanswered {x = x} (Ok y) e = let same : y ≡ x = cc in ap (λ z. Ok z) same
+unanswered (Err code) e = absurd cc
+
+-- a property was set, where setting it went well
+pub written : (w' : World) (made : Result World ErrorCode) (r : Result (Unit {0}) code_failure.Failure) → answers made ≡ seen_by (λ done. w') r → is_ok r ≡ true → made ≡ Ok w'
+written w' made (Ok done) e h = unanswered made e
+written w' made (Err failure) e h = absurd (false≢true h)

@@ -1,0 +1,19 @@
+use Rattle.std.proofs.Common.{◌≤◌, Result, length}
+use Rattle.moo_program.specs.View.{block}
+use Rattle.moo_outcome.specs.Outcome.{Flow, Stop}
+use Rattle.moo_outcome.specs.State.{Context}
+use Rattle.moo_access.specs.State.{State}
+use Rattle.moo_code_function.specs.Telling.{Faults}
+use Rattle.moo_eval.specs.Meaning.{RunsAll}
+use Rattle.moo_eval.specs.Seen.{state_of}
+use Rattle.moo_eval.proofs.interpreter.Task.run_ahead.Given as goal
+
+-- where the rest leads, all statements lead
+abbrev pub invariant-loop-first : goal.invariant-loop-first
+invariant-loop-first l = record {
+  ticks : l.self.ticks_left ≤ l.initial.self.ticks_left;
+  rest : (c : Context) (o : Result Flow Stop) (s : State) → RunsAll Faults c (block l.rest) (state_of l.self l.world l.active) o s → RunsAll Faults c (block l.statements) (state_of l.initial.self l.world l.initial.active) o s;
+}
+
+abbrev pub decreases-loop-first : goal.decreases-loop-first
+decreases-loop-first l = length l.rest

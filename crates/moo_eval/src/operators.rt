@@ -1,0 +1,116 @@
+//! Operators, indexes, ranges and lists.
+ghost use Rattle.std.specs.Prelude.{◌≤◌};
+ghost use Rattle.moo_program.specs.Tree.{unary, binary, index, range, list};
+ghost use Rattle.moo_program.specs.View.{tree, items_of};
+ghost use Rattle.moo_outcome.specs.Seen.{context_of, seen_answer, IsKnownFailure};
+ghost use Rattle.moo_code_function.specs.Telling.{Faults};
+ghost use Rattle.moo_eval.specs.Meaning.{Computes};
+ghost use Rattle.moo_eval.specs.Seen.{state_of};
+
+use crate::integers;
+use crate::interpreter::Task;
+use moo_operation as operation;
+use moo_outcome::{Activation, CallStack, Failure};
+use moo_program::operator::{BinaryOperator, UnaryOperator};
+use moo_program::{Expr, Item};
+use moo_value::Value;
+use moo_world::World;
+
+impl Task {
+    #[cycle(evaluation)]
+    #[inline(never)]
+    pub(crate) fn unary(
+        &mut self,
+        world: &mut World,
+        active: &mut Activation,
+        stack: &CallStack<'_>,
+        indexed: Option<&Value>,
+        operator: UnaryOperator,
+        operand: &Expr,
+    ) -> Result<Value, Failure>
+        ensures meaning { IsKnownFailure result → Computes Faults (context_of stack.now indexed.entry) (unary operator (tree operand.now)) (state_of self.old world.old active.old) (seen_answer result) (state_of self.new world.new active.new) }
+        ensures ticks { self.new.ticks_left ≤ self.old.ticks_left }
+    {
+        let operand = self.evaluate(world, active, stack, indexed, operand)?;
+        Ok(operation::unary(operator, &operand)?)
+    }
+
+    #[cycle(evaluation)]
+    #[inline(never)]
+    pub(crate) fn binary(
+        &mut self,
+        world: &mut World,
+        active: &mut Activation,
+        stack: &CallStack<'_>,
+        indexed: Option<&Value>,
+        operator: BinaryOperator,
+        left: &Expr,
+        right: &Expr,
+    ) -> Result<Value, Failure>
+        ensures meaning { IsKnownFailure result → Computes Faults (context_of stack.now indexed.entry) (binary operator (tree left.now) (tree right.now)) (state_of self.old world.old active.old) (seen_answer result) (state_of self.new world.new active.new) }
+        ensures ticks { self.new.ticks_left ≤ self.old.ticks_left }
+    {
+        let left = self.evaluate(world, active, stack, indexed, left)?;
+        let right = self.evaluate(world, active, stack, indexed, right)?;
+        Ok(integers::binary(self.alloc, operator, &left, &right)?)
+    }
+
+    // The index is evaluated with the base as what `$` measures.
+    #[cycle(evaluation)]
+    #[inline(never)]
+    pub(crate) fn index(
+        &mut self,
+        world: &mut World,
+        active: &mut Activation,
+        stack: &CallStack<'_>,
+        indexed: Option<&Value>,
+        base: &Expr,
+        place: &Expr,
+    ) -> Result<Value, Failure>
+        ensures meaning { IsKnownFailure result → Computes Faults (context_of stack.now indexed.entry) (index (tree base.now) (tree place.now)) (state_of self.old world.old active.old) (seen_answer result) (state_of self.new world.new active.new) }
+        ensures ticks { self.new.ticks_left ≤ self.old.ticks_left }
+    {
+        let base = self.evaluate(world, active, stack, indexed, base)?;
+        let place = self.evaluate(world, active, stack, Some(&base), place)?;
+        Ok(operation::index(self.alloc, &base, &place)?)
+    }
+
+    #[cycle(evaluation)]
+    #[inline(never)]
+    pub(crate) fn range(
+        &mut self,
+        world: &mut World,
+        active: &mut Activation,
+        stack: &CallStack<'_>,
+        indexed: Option<&Value>,
+        base: &Expr,
+        low: &Expr,
+        high: &Expr,
+    ) -> Result<Value, Failure>
+        ensures meaning { IsKnownFailure result → Computes Faults (context_of stack.now indexed.entry) (range (tree base.now) (tree low.now) (tree high.now)) (state_of self.old world.old active.old) (seen_answer result) (state_of self.new world.new active.new) }
+        ensures ticks { self.new.ticks_left ≤ self.old.ticks_left }
+    {
+        let base = self.evaluate(world, active, stack, indexed, base)?;
+        let low = self.evaluate(world, active, stack, Some(&base), low)?;
+        let high = self.evaluate(world, active, stack, Some(&base), high)?;
+        Ok(operation::range(self.alloc, &base, &low, &high)?)
+    }
+
+    #[cycle(evaluation)]
+    #[inline(never)]
+    pub(crate) fn list(
+        &mut self,
+        world: &mut World,
+        active: &mut Activation,
+        stack: &CallStack<'_>,
+        indexed: Option<&Value>,
+        items: &[Item],
+    ) -> Result<Value, Failure>
+        ensures meaning { IsKnownFailure result → Computes Faults (context_of stack.now indexed.entry) (list (items_of items.now)) (state_of self.old world.old active.old) (seen_answer result) (state_of self.new world.new active.new) }
+        ensures ticks { self.new.ticks_left ≤ self.old.ticks_left }
+    {
+        let values = self.evaluate_all(world, active, stack, indexed, items)?;
+        let list = values.into_list(self.alloc)?;
+        Ok(Value::List(list))
+    }
+}

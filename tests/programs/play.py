@@ -36,8 +36,9 @@ def run(words, given):
 
 def read(form, row):
     """The parts of a row of this form, with what it repeats."""
-    found = re.fullmatch(form, re.sub(r"\\\[(\d+) ([^]]*)\]", lambda part: int(part[1]) * part[2], row))
-    if not found:
+    whole = re.sub(r"\\\[(\d+) ([^]]*)\]", lambda part: int(part[1]) * part[2], row)
+    found = re.fullmatch(form, whole)
+    if not found or re.search(r"\\\[\d", whole):
         raise Broken(row)
     return found.groups()
 

@@ -71,7 +71,7 @@ impl Name {
     }
 
     /// Whether another is spelled as this one, each letter in the same case.
-    #[inline]
+    #[inline(always)]
     pub fn is_spelled_as(&self, other: &Name) -> bool
         ensures { IsTrue result ↔ (self.now ≡ other.now) }
     {

@@ -52,6 +52,7 @@ impl Task {
 
     // A variable without an index is no way to go.
     #[cycle(evaluation)]
+    #[inline(never)]
     fn assign_variable(
         &mut self,
         world: &mut World,
@@ -140,6 +141,7 @@ impl Task {
 
     // The way to what a target sets, whose containers are read from the root on.
     #[cycle(evaluation)]
+    #[inline(never)]
     fn locate<'a>(
         &mut self,
         world: &mut World,
@@ -166,6 +168,7 @@ impl Task {
 
     // What the root of a target names.
     #[cycle(evaluation)]
+    #[inline(never)]
     fn find<'a>(
         &mut self,
         world: &mut World,
@@ -189,6 +192,7 @@ impl Task {
 
     // The container at the end of a path, and the places in it, where `$` measures it.
     #[cycle(evaluation)]
+    #[inline(never)]
     fn step(
         &mut self,
         world: &mut World,
@@ -218,6 +222,7 @@ impl Task {
     }
 
     #[cycle(evaluation)]
+    #[inline(never)]
     fn store(
         &mut self,
         world: &mut World,

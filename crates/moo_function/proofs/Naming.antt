@@ -166,6 +166,10 @@ unfolding function_of
 calls_by_name name f =
     (λ is. sym ((bytes_eq-Decides (function_name f) (folded name)).0 (passes (is_called name) f all_functions is)), λ is. ap named is ∙ named-name f)
 
+-- a name that is spelled as a function's calls it
+pub called_as_spelled : (name : List ℕ) (f : Function) → name ≡ function_name f → function_of name ≡ Some f
+called_as_spelled name f is = (calls_by_name name f).1 (ap folded is ∙ folded-name f)
+
 skipped : {A : Type 0} (x : A) (t : Bool) (found later : Option A) → (t ≡ true → false ≡ true) → found ≡ later → found ≡ cond t (Some x) later
 skipped x true found later h same = let apart = h refl in cc
 skipped x false found later h same = same

@@ -1,7 +1,9 @@
 //! The names of the built-in functions.
-ghost use Rattle.std.specs.Prelude.{◌≡◌, find};
+ghost use Rattle.std.specs.Prelude.{◌≡◌, IfSome, find};
 ghost use Rattle.moo_function.specs.Table.{function_name};
 ghost use Rattle.moo_function.specs.Names.{function_of, is_called, of_length};
+
+use crate::likely::likely;
 
 /// A built-in function (the manual's chapter on built-in functions).
 #[derive(Clone, Copy, PartialEq, Eq, Debug)]
@@ -87,11 +89,26 @@ impl Function {
     pub fn from_name(name: &[u8]) -> Option<Function>
         ensures { result ≡ function_of name.now }
     {
+        if let Some(function) = spelled_out(name) {
+            return Some(function);
+        }
         first_called(of_length(name.len()), name)
     }
 }
 
+// The function whose name is this one, letter for letter: most calls are written so.
+fn spelled_out(name: &[u8]) -> Option<Function>
+    ensures { IfSome result (λ function. name.now ≡ function_name function) }
+{
+    let function = likely(name)?;
+    if name != function.name().as_bytes() {
+        return None;
+    }
+    Some(function)
+}
+
 // The first of the functions that is called so.
+#[inline(never)]
 fn first_called(functions: &[Function], name: &[u8]) -> Option<Function>
     ensures { result ≡ find (is_called name.now) functions.now }
 {

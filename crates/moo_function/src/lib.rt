@@ -6,6 +6,7 @@
 mod check;
 mod function;
 pub mod laws;
+mod likely;
 mod table;
 
 pub use function::Function;

@@ -48,6 +48,7 @@ pub struct Row {
 }
 
 // Just these arguments.
+#[inline(always)]
 const fn takes(name: &'static str, needed: &'static [Kind]) -> Row
     ensures { seen result ≡ table.takes name.now needed.now }
 {
@@ -55,6 +56,7 @@ const fn takes(name: &'static str, needed: &'static [Kind]) -> Row
 }
 
 // These, and perhaps others.
+#[inline(always)]
 const fn takes_perhaps(
     name: &'static str,
     needed: &'static [Kind],
@@ -71,6 +73,7 @@ const fn takes_perhaps(
 }
 
 // These, and any number more.
+#[inline(always)]
 const fn takes_more(name: &'static str, needed: &'static [Kind], more: Kind) -> Row
     ensures { seen result ≡ table.takes_more name.now needed.now more }
 {
@@ -84,6 +87,7 @@ const fn takes_more(name: &'static str, needed: &'static [Kind], more: Kind) -> 
 
 impl Function {
     /// Its row of the table.
+    #[inline(always)]
     pub fn row(self) -> Row
         ensures { seen result ≡ table.row self }
     {

@@ -11,11 +11,14 @@ use moo_value::MooStr;
 use std::alloc::{AllocError, Global};
 use std::collections::BTreeMap;
 
+/// For how many variables, each where it stands, there is room at first.
+const FIRST_ROOM: usize = 16;
+
 /// The names of the variables, letters folded, each once, in the order in which they stand first.
 pub fn variable_names(alloc: Global, statements: &[Stmt]) -> Result<Vec<Name>, AllocError>
     ensures { IfOk result (λ names. names.items ≡ slots (block statements.now)) }
 {
-    let mut names = Vec::new(alloc);
+    let mut names = Vec::with_capacity(alloc, FIRST_ROOM)?;
     add_block(statements, &mut names)?;
     let names = folded_names(alloc, &names)?;
     first_names(alloc, &names)
@@ -24,7 +27,7 @@ pub fn variable_names(alloc: Global, statements: &[Stmt]) -> Result<Vec<Name>, A
 fn folded_names(alloc: Global, names: &[MooStr]) -> Result<Vec<MooStr>, AllocError>
     ensures { IfOk result (λ all. all.items ≡ map folded names.now) }
 {
-    let mut all = Vec::new(alloc);
+    let mut all = Vec::with_capacity(alloc, names.len())?;
     for name in names {
         all.push(folded_name(alloc, name)?)?;
     }

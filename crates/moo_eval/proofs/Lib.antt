@@ -25,3 +25,4 @@ mod AtOnce
 mod Appended
 mod Placed
 mod Foreseen
+mod Measuring

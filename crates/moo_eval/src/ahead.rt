@@ -19,6 +19,7 @@ ghost use Rattle.moo_eval.specs.Worth.{IsSet};
 use crate::assignment::as_assignment;
 use crate::interpreter::Task;
 use crate::leaves::integer_leaf;
+use crate::lengths::may_be_length;
 use crate::worth::{Sight, number_worth, take, worth};
 use moo_operation as operation;
 use moo_outcome::{Activation, CallStack, Stop};
@@ -124,21 +125,35 @@ impl Task {
     /// Runs the first statements, as far as they are known at once: those that are left.
     pub(crate) fn run_ahead<'a>(
         &mut self,
-        world: &World,
+        world: &mut World,
         active: &mut Activation,
         statements: &'a [Stmt],
     ) -> &'a [Stmt]
-        ensures rest { (c : Context) (o : Result Flow Stopped) (s : State) → RunsAll Faults c (block result.now) (state_of self.new world.now active.new) o s → RunsAll Faults c (block statements.now) (state_of self.old world.now active.old) o s }
+        ensures rest { (c : Context) (o : Result Flow Stopped) (s : State) → RunsAll Faults c (block result.now) (state_of self.new world.new active.new) o s → RunsAll Faults c (block statements.now) (state_of self.old world.old active.old) o s }
         ensures ticks { self.new.ticks_left ≤ self.old.ticks_left }
     {
         let mut rest = statements;
         while let Some((first, others)) = rest.split_first() {
-            if !self.sets_at_once(world, active, first) {
+            if !self.runs_at_once(world, active, first) {
                 return rest;
             }
             rest = others;
         }
         rest
+    }
+
+    // Runs a statement that sets a variable or a property to what is known at once, and tells whether it was one. Else nothing has
+    // begun.
+    #[inline(always)]
+    fn runs_at_once(&mut self, world: &mut World, active: &mut Activation, statement: &Stmt) -> bool
+        ensures done { IsTrue result → (c : Context) → Runs Faults c (statement_of statement.now) (state_of self.old world.old active.old) (Ok next) (state_of self.new world.new active.new) }
+        ensures fewer { IsTrue result → self.new.ticks_left < self.old.ticks_left }
+        ensures kept { IsFalse result → (self.new ≡ self.old) × (world.new ≡ world.old) × (active.new ≡ active.old) }
+    {
+        if self.sets_at_once(world, active, statement) {
+            return true;
+        }
+        self.writes_at_once(world, active, statement)
     }
 
     /// Runs a statement that sets a variable to what is known at once, and tells whether it was one and all its ticks were left. Else
@@ -262,13 +277,14 @@ fn puts_leaf(active: &mut Activation, left: &mut u32, name: &Name, number: i32) 
     }
 }
 
-// Whether an expression is of a kind whose worth may be known at once without being an integer.
+/// Whether the worth of an expression that is no operator may be known at once.
 #[inline]
-fn may_be_known(value: &Expr) -> bool {
-    matches!(
-        value,
-        Expr::Literal(_) | Expr::Variable(_) | Expr::Index(..) | Expr::Property(..)
-    )
+pub(crate) fn may_be_known(value: &Expr) -> bool {
+    match value {
+        Expr::Literal(_) | Expr::Variable(_) | Expr::Index(..) | Expr::Property(..) => true,
+        Expr::Call(name, _) => may_be_length(name),
+        _ => false,
+    }
 }
 
 // The variable and the value of a statement that sets one.

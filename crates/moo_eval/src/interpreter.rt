@@ -15,6 +15,7 @@ ghost use Rattle.moo_hook.specs.Seen.{progress_of, seen_progress};
 ghost use Rattle.moo_hook.specs.Turns.{stage_turns, progress_turns};
 ghost use Rattle.moo_eval.specs.Seen.{state_of};
 
+use crate::ahead::may_be_known;
 use moo_call::{Ticks, call_function};
 use moo_function::Function;
 use moo_hook::{Progress, Stage, resume_call};
@@ -107,12 +108,13 @@ impl Task {
                     return Ok(Value::Int(number));
                 }
             }
-            Expr::Index(..) | Expr::Property(..) => {
-                if let Some(value) = self.at_once(world, active, expr) {
-                    return Ok(value);
+            _ => {
+                if may_be_known(expr) {
+                    if let Some(value) = self.at_once(world, active, expr) {
+                        return Ok(value);
+                    }
                 }
             }
-            _ => {}
         }
         self.evaluate_node(world, active, stack, indexed, expr)
     }

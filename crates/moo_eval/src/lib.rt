@@ -13,6 +13,7 @@ mod integers;
 mod interpreter;
 pub mod laws;
 mod leaves;
+mod lengths;
 mod line;
 mod loops;
 mod operators;

@@ -1,5 +1,5 @@
 //! Expressions that are whose worth is known at once, since nothing can stop them and they change nothing: numbers, variables that hold
-//! one, operators between these, elements of a list that stands in a variable, and properties.
+//! one, operators between these, elements and lengths of what stands in a variable, and properties.
 ghost use Rattle.std.specs.Prelude.{◌≡◌, ◌-◌, ◌<◌, ◌≤◌, suc, pos, Ok, Some, IfSome};
 ghost use Rattle.moo_value.specs.Tree.{integer, object, string};
 ghost use Rattle.moo_value.specs.View.{tree as value_tree};
@@ -14,6 +14,7 @@ ghost use Rattle.moo_eval.specs.Worth.{IsWorth};
 
 use crate::integers::number_of;
 use crate::leaves::{held, integer_leaf, is_leaf, written_out};
+use crate::lengths::length_worth;
 use moo_outcome::Activation;
 use moo_program::operator::BinaryOperator;
 use moo_program::{Expr, Literal};
@@ -33,8 +34,8 @@ pub(crate) struct Sight<'a> {
     pub(crate) alloc: Global,
 }
 
-/// The value of a literal, of a variable, of an operator between integers, of an element or of a property, where it is known at once.
-/// Its ticks are taken of those that are left, where they are so many.
+/// The value of a literal, of a variable, of an operator between integers, of an element, of a property or of `length`, where it is
+/// known at once. Its ticks are taken of those that are left, where they are so many.
 pub(crate) fn worth(sight: &Sight<'_>, left: &mut u32, expr: &Expr) -> Option<Value>
     ensures value { IfSome result (λ v. IsWorth sight.now.world.now sight.now.active.now left.old (tree expr.now) (value_tree v) left.new) }
     ensures ticks { left.new ≤ left.old }
@@ -57,6 +58,10 @@ pub(crate) fn worth(sight: &Sight<'_>, left: &mut u32, expr: &Expr) -> Option<Va
             element.try_clone().ok()
         }
         Expr::Property(base, name) => property_worth(sight, left, base, name),
+        Expr::Call(name, items) => {
+            let number = length_worth(sight, left, name, items)?;
+            Some(Value::Int(number))
+        }
         _ => None,
     }
 }
@@ -144,7 +149,7 @@ fn operator_worth(
     number_of(operator, a, b)
 }
 
-// The integer of an element or of a property, likewise.
+// The integer of an element, of a property or of a call, likewise.
 #[cycle(worth)]
 fn part_worth(sight: &Sight<'_>, left: &mut u32, expr: &Expr, deep: u8) -> Option<i32>
     ensures value { IfSome result (λ n. IsWorth sight.now.world.now sight.now.active.now left.old (tree expr.now) (integer n) left.new) }
@@ -156,6 +161,7 @@ fn part_worth(sight: &Sight<'_>, left: &mut u32, expr: &Expr, deep: u8) -> Optio
             let value = property_worth(sight, left, base, name)?;
             integer_of(Some(&value))
         }
+        Expr::Call(name, items) => length_worth(sight, left, name, items),
         _ => None,
     }
 }
@@ -247,7 +253,7 @@ fn places_before(place: i32) -> Option<usize>
 
 // The value of a variable, where the expression is one that is set.
 #[inline]
-fn variable_of<'a>(active: &'a Activation, expr: &Expr) -> Option<&'a Value>
+pub(crate) fn variable_of<'a>(active: &'a Activation, expr: &Expr) -> Option<&'a Value>
     ensures { IfSome result (λ v. IsLeaf (variables_of active.now.variables) (tree expr.now) (value_tree v.now)) }
 {
     match expr {

@@ -1,6 +1,7 @@
 use Rattle.std.proofs.Common.{Some, w32, rules, refl}
 use Rattle.std.proofs.lemmas.Int.{to_z-of_z}
 use mir.Val.{SFits}
+use Rattle.moo_program.proofs.Rows.{row_items}
 use Rattle.moo_outcome.specs.Seen.{variables_of}
 use Rattle.moo_eval.proofs.Direct.{number_leaf, held_leaf}
 use Rattle.moo_eval.proofs.AtOnce.{leaf_worth, operator_worth, element_worth, map_some}
@@ -28,3 +29,7 @@ operator_worth-returns-clause-value t c =
     let first : SFits w32 c.in_ok-a.a = search rules in
     let second : SFits w32 c.in_ok-b.b = search rules in
     map_some c.number_of.result (λ n h. operator_worth c.args.sight.now.world.now c.args.sight.now.active.now c.in_ok-take.ensures.taken c.in_ok-a.ensures.value c.in_ok-b.ensures.value h) (rw (to_z-of_z w32 c.in_ok-a.a first, to_z-of_z w32 c.in_ok-b.b second) at c.number_of.ensures)
+
+pub part_worth-returns-in-Call-clause-value : goal.part_worth-returns-in-Call-clause-value
+part_worth-returns-in-Call-clause-value t c =
+    rw (c.in-Call.is, row_items, ← c.deref-in-Call.ensures.value) c.length_worth.ensures.value

@@ -12,7 +12,7 @@ use Rattle.moo_eval.proofs.interpreter.Task.run_ahead.Given as goal
 abbrev pub invariant-loop-first : goal.invariant-loop-first
 invariant-loop-first l = record {
   ticks : l.self.ticks_left ≤ l.initial.self.ticks_left;
-  rest : (c : Context) (o : Result Flow Stop) (s : State) → RunsAll Faults c (block l.rest) (state_of l.self l.world l.active) o s → RunsAll Faults c (block l.statements) (state_of l.initial.self l.world l.initial.active) o s;
+  rest : (c : Context) (o : Result Flow Stop) (s : State) → RunsAll Faults c (block l.rest) (state_of l.self l.world l.active) o s → RunsAll Faults c (block l.statements) (state_of l.initial.self l.initial.world l.initial.active) o s;
 }
 
 abbrev pub decreases-loop-first : goal.decreases-loop-first

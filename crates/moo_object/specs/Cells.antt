@@ -59,6 +59,10 @@ with_value name v (c ∷ cells) =
     if same_name c.name name then record { definer = c.definer; name = c.name; owner = c.owner; perms = c.perms; value = Some v } ∷ cells
     else c ∷ with_value name v cells
 
+-- a cell with a value
+abbrev pub valued : Tree → Cell → Cell
+valued v c = record { definer = c.definer; name = c.name; owner = c.owner; perms = c.perms; value = Some v }
+
 -- a cell without its value
 abbrev pub emptied : Cell → Cell
 emptied c = record { definer = c.definer; name = c.name; owner = c.owner; perms = c.perms; value = None }

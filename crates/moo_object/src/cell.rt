@@ -1,11 +1,13 @@
 // The cells of properties.
-ghost use Rattle.std.specs.Prelude.{◌≡◌, ◌≤◌, IfOk, IfSome, IfNone, None, Some};
+ghost use Rattle.std.specs.Prelude.{◌≡◌, ◌≤◌, IfOk, IfSome, IfNone, None, Some, is_some};
 ghost use Rattle.std.specs.Option.{option_copied, option_map};
 ghost use Rattle.moo_value.specs.Compare.{folded};
 ghost use Rattle.moo_value.specs.View.{tree};
+ghost use Rattle.moo_object.specs.BuiltIn.{built_in_of};
 ghost use Rattle.moo_object.specs.Cells.{is_key, is_named, key_of, cleared, own_cell, emptied, with_info, renamed};
 
 use crate::bits::{bit, take_bit};
+use crate::built_in_property::built_in;
 use crate::name::{folded_name, same_name};
 use moo_value::{MooStr, Value};
 use std::alloc::{AllocError, Global};
@@ -52,14 +54,18 @@ pub struct PropCell {
     name: MooStr,
     owner: i32,
     perms: PropPerms,
+    // Whether a built-in property has the name, and hides this one.
+    is_hidden: bool,
     value: Option<Value>,
 }
 
 impl Model for PropCell {
     ghost use Rattle.moo_object.specs.Cells.{Cell};
+    ghost use Rattle.std.specs.Prelude.{◌≡◌, is_some};
     ghost use Rattle.std.specs.Option.{option_map};
     ghost use Rattle.moo_value.specs.Compare.{folded};
     ghost use Rattle.moo_value.specs.View.{tree};
+    ghost use Rattle.moo_object.specs.BuiltIn.{built_in_of};
     ghost use Rattle.std.specs.Coded.{codes};
     ghost use Rattle.moo_value.specs.TreeCode.{tree_code};
 
@@ -74,6 +80,8 @@ impl Model for PropCell {
       perms = c.perms;
       value = option_map tree c.value;
     } };
+
+    ghost invariant = { λ c. c.is_hidden ≡ is_some (built_in_of (folded c.name)) };
 }
 
 impl PropCell {
@@ -87,11 +95,13 @@ impl PropCell {
     ) -> PropCell
         ensures { result ≡ record { definer = definer; name = folded name; owner = owner; perms = perms; value = option_map tree value } }
     {
+        let is_hidden = built_in(name.as_bytes()).is_some();
         PropCell {
             definer,
             name,
             owner,
             perms,
+            is_hidden,
             value,
         }
     }
@@ -106,11 +116,13 @@ impl PropCell {
     ) -> PropCell
         ensures { result ≡ own_cell definer (folded name) (tree value) owner perms }
     {
+        let is_hidden = built_in(name.as_bytes()).is_some();
         PropCell {
             definer,
             name,
             owner,
             perms,
+            is_hidden,
             value: Some(value),
         }
     }
@@ -127,6 +139,13 @@ impl PropCell {
         ensures { result ≡ is_key (definer, folded name.now) self.now }
     {
         self.definer == definer && same_name(self.name.as_bytes(), name)
+    }
+
+    /// Whether a built-in property has the name, and hides this one.
+    pub fn is_hidden(&self) -> bool
+        ensures { result ≡ is_some (built_in_of self.now.name) }
+    {
+        self.is_hidden
     }
 
     /// Whether this is the cell of a name.
@@ -184,6 +203,7 @@ impl PropCell {
                 self.owner
             },
             perms: self.perms,
+            is_hidden: self.is_hidden,
             value: None,
         })
     }
@@ -201,6 +221,7 @@ impl PropCell {
             name: self.name.try_clone()?,
             owner: self.owner,
             perms: self.perms,
+            is_hidden: self.is_hidden,
             value,
         })
     }
@@ -231,6 +252,7 @@ impl PropCell {
     pub fn set_name(&mut self, name: MooStr)
         ensures { self.new ≡ renamed (folded name) self.old }
     {
+        self.is_hidden = built_in(name.as_bytes()).is_some();
         self.name = name;
     }
 }

@@ -1,5 +1,6 @@
 // Names, which are the same whatever the case of their letters.
 ghost use Rattle.std.specs.Prelude.{◌≡◌, ◌↔◌, ◌<◌, IfOk, IsTrue, filter, length, not, position, slice_set};
+ghost use Rattle.std.specs.Char.{to_ascii_lowercase};
 ghost use Rattle.std.specs.List.{list_any};
 ghost use Rattle.moo_value.specs.Compare.{folded};
 ghost use Rattle.moo_object.specs.Names.{same_name};
@@ -9,11 +10,37 @@ use std::alloc::{AllocError, Global};
 
 /// Whether two names are the same, A to Z taken as a to z.
 #[tactic(auto, using(crate::proofs::Names::tested))]
+#[inline]
 pub fn same_name(one: &[u8], other: &[u8]) -> bool
     ensures folds { IsTrue result ↔ (folded one.now ≡ folded other.now) }
     ensures value { result ≡ same_name (folded one.now) (folded other.now) }
 {
-    one.eq_ignore_ascii_case(other)
+    if one.len() != other.len() {
+        return false;
+    }
+    begin_alike(one, other)
+}
+
+// Whether two names of one length are the same.
+#[inline]
+fn begin_alike(one: &[u8], other: &[u8]) -> bool
+    requires { length one.now ≡ length other.now }
+    ensures { IsTrue result ↔ (folded one.now ≡ folded other.now) }
+{
+    for i in 0..one.len() {
+        if !is_same_letter(one[i], other[i]) {
+            return false;
+        }
+    }
+    true
+}
+
+// Mostly both are spelled alike, so that is looked at first.
+#[inline]
+fn is_same_letter(one: u8, other: u8) -> bool
+    ensures { IsTrue result ↔ (to_ascii_lowercase one ≡ to_ascii_lowercase other) }
+{
+    one == other || one.to_ascii_lowercase() == other.to_ascii_lowercase()
 }
 
 /// A name with its letters folded: A to Z as a to z.

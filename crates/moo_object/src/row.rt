@@ -4,7 +4,8 @@ ghost use Rattle.std.specs.Option.{ForSome, option_copied, option_and_then};
 ghost use Rattle.std.specs.List.{list_any};
 ghost use Rattle.moo_value.specs.Compare.{folded};
 ghost use Rattle.moo_value.specs.View.{tree};
-ghost use Rattle.moo_object.specs.Cells.{AreDistinct, with_value, is_key, key_of, cell_at, cell_named, at_key, emptied, with_info};
+ghost use Rattle.moo_object.specs.Cells.{AreDistinct, with_value, is_key, is_named, key_of, cell_at, cell_named, at_key, emptied, valued, with_info};
+ghost use Rattle.moo_object.specs.Verbs.{changed_at};
 ghost use Rattle.moo_object.specs.Rows.{put_before, taken_before, with_new_name};
 
 use crate::cell::{PropCell, PropPerms};
@@ -96,6 +97,14 @@ impl Row {
         set_named(&mut self.cells, name, value);
     }
 
+    /// Sets the value of the cell at a place.
+    pub fn set_at(&mut self, place: usize, value: Value)
+        requires { place < length self.old }
+        ensures { self.new ≡ changed_at place (valued (tree value)) self.old }
+    {
+        put_value(&mut self.cells, place, value);
+    }
+
     /// Makes the cell for a definition clear.
     pub fn clear(&mut self, definer: usize, name: &[u8])
         ensures { self.new ≡ map (at_key (definer, folded name.now) emptied) self.old }
@@ -180,6 +189,13 @@ pub fn cell_named<'a>(cells: &'a [PropCell], name: &[u8]) -> Option<&'a PropCell
     cells.iter().find(|cell| cell.is_named(name))
 }
 
+/// The place of the cell of a name.
+pub fn place_named(cells: &[PropCell], name: &[u8]) -> Option<usize>
+    ensures { result ≡ position (is_named (folded name.now)) cells.now }
+{
+    cells.iter().position(|cell| cell.is_named(name))
+}
+
 // Sets the value of the first cell that has the name.
 fn set_named(cells: &mut Vec<PropCell>, name: &[u8], value: Value)
     ensures { cells.new.items ≡ with_value (folded name.now) (tree value) cells.old.items }
@@ -190,6 +206,13 @@ fn set_named(cells: &mut Vec<PropCell>, name: &[u8], value: Value)
             return;
         }
     }
+}
+
+fn put_value(cells: &mut Vec<PropCell>, place: usize, value: Value)
+    requires { place < length cells.old.items }
+    ensures { cells.new.items ≡ changed_at place (valued (tree value)) cells.old.items }
+{
+    cells[place].set_value(value);
 }
 
 fn lose_cell(cells: &mut Vec<PropCell>, definer: usize, name: &[u8])

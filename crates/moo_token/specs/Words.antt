@@ -1,6 +1,7 @@
 -- Keywords: words that are no names, in any case.
-use Rattle.std.specs.Prelude.{ℕ, Bool, ◌==◌, List, [], ◌∷◌, Option, length, filter, find, codes}
+use Rattle.std.specs.Prelude.{ℕ, Bool, ◌==◌, ◌&&◌, List, [], ◌∷◌, Option, length, filter, find, get_or, codes}
 use Rattle.std.specs.Str.{str_eq_ignore_ascii_case}
+use Rattle.moo_value.specs.Compare.{folded}
 use Rattle.moo_token.specs.declared.keyword.Keyword.{Keyword}
 use Rattle.moo_token.specs.declared.keyword.Keyword.TheVariants.{If, Else, ElseIf, EndIf, For, In, EndFor, While, EndWhile, Fork, EndFork, Return, Try, EndTry, Except, Finally, Any, Break, Continue}
 
@@ -36,6 +37,10 @@ is_spelled word k = str_eq_ignore_ascii_case (keyword_text k) word
 unfoldable pub keyword_of : List ℕ → Option Keyword
 keyword_of word = find (is_spelled word) all_keywords
 
--- for private clauses: the keywords of so many letters
-abbrev pub of_length : ℕ → List Keyword
-of_length count = filter (λ k. length (keyword_text k) == count) all_keywords
+-- for private clauses: the first letter of a word, as a small one
+abbrev pub first_letter : List ℕ → ℕ
+first_letter word = get_or (folded word) 0 0
+
+-- for private clauses: the keywords of so many letters that begin with this small one
+abbrev pub likely : ℕ → ℕ → List Keyword
+likely count letter = filter (λ k. (length (keyword_text k) == count) && (get_or (keyword_text k) 0 0 == letter)) all_keywords

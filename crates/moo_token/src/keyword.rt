@@ -1,6 +1,6 @@
 //! Words that are no names.
 ghost use Rattle.std.specs.Prelude.{◌≡◌, find};
-ghost use Rattle.moo_token.specs.Words.{keyword_text, keyword_of, is_spelled, of_length};
+ghost use Rattle.moo_token.specs.Words.{keyword_text, keyword_of, is_spelled, first_letter, likely};
 
 #[derive(Clone, Copy, PartialEq, Eq, Debug)]
 pub enum Keyword {
@@ -54,11 +54,10 @@ impl Keyword {
     }
 
     /// The keyword that the word is, in any case.
-    #[tactic(auto, using(crate::proofs::Naming::found_by_length))]
     pub fn of(word: &[u8]) -> Option<Keyword>
         ensures { result ≡ keyword_of word.now }
     {
-        first_spelled(of_length(word.len()), word)
+        first_spelled(likely(word.len(), first_letter(word)), word)
     }
 }
 
@@ -78,24 +77,41 @@ fn is_spelled(keyword: Keyword, word: &[u8]) -> bool
     keyword.text().as_bytes().eq_ignore_ascii_case(word)
 }
 
-// The keywords of this length.
-fn of_length(length: usize) -> &'static [Keyword]
-    ensures { result.now ≡ of_length length }
+// The first letter of a word, as a small one, or 0 where there is none.
+fn first_letter(word: &[u8]) -> u8
+    ensures { result ≡ first_letter word.now }
 {
-    match length {
-        2 => &[Keyword::If, Keyword::In],
-        3 => &[Keyword::For, Keyword::Try, Keyword::Any],
-        4 => &[Keyword::Else, Keyword::Fork],
-        5 => &[Keyword::EndIf, Keyword::While, Keyword::Break],
-        6 => &[
+    match word {
+        [] => 0,
+        [first, ..] => first.to_ascii_lowercase(),
+    }
+}
+
+// The keywords of this length that begin with this small letter.
+fn likely(length: usize, letter: u8) -> &'static [Keyword]
+    ensures { result.now ≡ likely length letter }
+{
+    match (length, letter) {
+        (2, b'i') => &[Keyword::If, Keyword::In],
+        (3, b'f') => &[Keyword::For],
+        (3, b't') => &[Keyword::Try],
+        (3, b'a') => &[Keyword::Any],
+        (4, b'e') => &[Keyword::Else],
+        (4, b'f') => &[Keyword::Fork],
+        (5, b'e') => &[Keyword::EndIf],
+        (5, b'w') => &[Keyword::While],
+        (5, b'b') => &[Keyword::Break],
+        (6, b'e') => &[
             Keyword::ElseIf,
             Keyword::EndFor,
-            Keyword::Return,
             Keyword::EndTry,
             Keyword::Except,
         ],
-        7 => &[Keyword::EndFork, Keyword::Finally],
-        8 => &[Keyword::EndWhile, Keyword::Continue],
+        (6, b'r') => &[Keyword::Return],
+        (7, b'e') => &[Keyword::EndFork],
+        (7, b'f') => &[Keyword::Finally],
+        (8, b'e') => &[Keyword::EndWhile],
+        (8, b'c') => &[Keyword::Continue],
         _ => &[],
     }
 }

@@ -1,4 +1,4 @@
-//! The names of a text: those that are spelled alike share one string.
+//! The names of texts: those that are spelled alike share one string.
 ghost use Rattle.std.specs.Prelude.{◌≡◌, ◌<◌, IfOk};
 ghost use Rattle.moo_value.specs.Size.{IsString};
 
@@ -6,52 +6,79 @@ use crate::scan::copied;
 use moo_value::MooStr;
 use std::alloc::{AllocError, Global};
 
-const ROWS: usize = 32;
+const ROWS: usize = 256;
 
-/// Names that have been met. Some of those may be missing.
+/// The number of no name.
+const NONE: u16 = u16::MAX;
+
+/// Names that have been met, one in each row. Texts whose names are read with the same ones share their strings.
 #[derive(Drop)]
-pub(crate) struct Known {
+pub struct Known {
     names: Vec<MooStr>,
-    /// For names that are alike the number of the one that was kept last.
-    rows: [u8; ROWS],
+    /// The number of the name in each row.
+    rows: [u16; ROWS],
 }
 
 impl Known {
     /// No names.
-    pub(crate) fn new(alloc: Global) -> Known {
+    pub fn new(alloc: Global) -> Known {
         Known {
             names: Vec::new(alloc),
-            rows: [0; ROWS],
+            rows: [NONE; ROWS],
         }
     }
 
-    /// The string of a name: the one that it had before, if that is found at once, or a new one.
+    /// The string of a name: the one that it had before, if that is still known, or a new one.
     pub(crate) fn string(&mut self, alloc: Global, name: &[u8]) -> Result<MooStr, AllocError>
         requires { IsString name.now }
         ensures { IfOk result (λ s. s ≡ name.now) }
     {
-        let place = row(name);
-        if let Some(known) = self.names.get(usize::from(self.rows[place])) {
-            if known.as_bytes() == name {
-                return known.try_clone();
-            }
+        let row = row(name);
+        let number = usize::from(self.rows[row]);
+        match self.names.get(number) {
+            Some(known) if known.as_bytes() == name => known.try_clone(),
+            Some(_) => self.replaced(alloc, number, name),
+            None => self.added(alloc, row, name),
         }
+    }
+
+    // The string of a name that takes the place of another one.
+    #[inline(never)]
+    fn replaced(&mut self, alloc: Global, number: usize, name: &[u8]) -> Result<MooStr, AllocError>
+        requires { IsString name.now }
+        ensures { IfOk result (λ s. s ≡ name.now) }
+    {
         let string = copied(alloc, name)?;
-        if let Ok(number) = u8::try_from(self.names.len()) {
+        if let Some(place) = self.names.get_mut(number) {
+            *place = string.try_clone()?;
+        }
+        Ok(string)
+    }
+
+    // The string of the first name of a row.
+    #[inline(never)]
+    fn added(&mut self, alloc: Global, row: usize, name: &[u8]) -> Result<MooStr, AllocError>
+        requires row { row < 256 }
+        requires string { IsString name.now }
+        ensures { IfOk result (λ s. s ≡ name.now) }
+    {
+        let string = copied(alloc, name)?;
+        if let Ok(number) = u16::try_from(self.names.len()) {
             self.names.push(string.try_clone()?)?;
-            self.rows[place] = number;
+            self.rows[row] = number;
         }
         Ok(string)
     }
 }
 
-// The row of a name, by its length, its first and its last letter: alone, no two letters share one.
+// The row of a name, by its length and three of its letters: alone, no two letters share one.
 fn row(name: &[u8]) -> usize
-    ensures { result < 32 }
+    ensures { result < 256 }
 {
-    match (name.first(), name.last()) {
-        (Some(first), Some(last)) => {
-            (name.len() + usize::from(*first) + 2 * usize::from(*last)) % ROWS
+    match (name.first(), name.get(name.len() / 2), name.last()) {
+        (Some(first), Some(middle), Some(last)) => {
+            let letters = 5 * usize::from(*first) + 11 * usize::from(*middle);
+            (name.len() + letters + 29 * usize::from(*last)) % ROWS
         }
         _ => 0,
     }

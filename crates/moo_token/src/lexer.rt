@@ -42,8 +42,10 @@ fn ends_comment(bytes: &[u8]) -> bool
     }
 }
 
-/// For how many tokens there is room at first.
-const FIRST_ROOM: usize = 64;
+/// For how many tokens of so many lines there is room at first.
+fn first_room(lines: usize) -> usize {
+    lines.clamp(8, 128) * 8
+}
 
 /// Passes what stands at the front of a line's rest: a blank, a part of a comment or a token. Tells its length, or
 /// `None` where no token stands there, which ends the spots with `Bad`.
@@ -82,6 +84,7 @@ fn pass(
     Ok(Some(length))
 }
 
+#[inline]
 fn keep(spots: &mut Vec<Spot>, token: Token, line: usize) -> Result<(), AllocError>
     ensures { OnOk result (spots.new.items ≡ spots.old.items ++ record { token = token; line = line } ∷ []) }
 {
@@ -118,15 +121,25 @@ fn pass_line(
 pub fn tokens(alloc: Global, lines: &[MooStr]) -> Result<Vec<Spot>, AllocError>
     ensures { IfOk result (λ spots. IsReading lines.now spots.items) }
 {
-    let mut spots = Vec::with_capacity(alloc, FIRST_ROOM)?;
-    let mut known = Known::new(alloc);
+    tokens_with(alloc, &mut Known::new(alloc), lines)
+}
+
+/// The same, where names that are known have the strings that they had before.
+pub fn tokens_with(
+    alloc: Global,
+    known: &mut Known,
+    lines: &[MooStr],
+) -> Result<Vec<Spot>, AllocError>
+    ensures { IfOk result (λ spots. IsReading lines.now spots.items) }
+{
+    let mut spots = Vec::with_capacity(alloc, first_room(lines.len()))?;
     let mut opened = None;
     let mut number = 0;
     for line in lines {
         number += 1;
         if !pass_line(
             alloc,
-            &mut known,
+            known,
             number,
             line.as_bytes(),
             &mut opened,

@@ -3,7 +3,8 @@ ghost use Rattle.std.specs.Prelude.{◌≡◌, ◌<◌, ◌==◌, IfOk, OnOk, On
 ghost use Rattle.std.specs.Option.{ForSome, option_and_then};
 ghost use Rattle.moo_value.specs.Compare.{folded};
 ghost use Rattle.moo_value.specs.View.{tree};
-ghost use Rattle.moo_object.specs.Cells.{AreDistinct, is_key, cell_at, cleared, key_of, with_value, at_key, emptied, with_info};
+ghost use Rattle.moo_object.specs.Cells.{AreDistinct, is_key, cell_at, cleared, key_of, with_value, at_key, emptied, valued, with_info};
+ghost use Rattle.moo_object.specs.Verbs.{changed_at};
 ghost use Rattle.moo_object.specs.Rows.{put_before, taken_before, with_new_name};
 ghost use Rattle.moo_object.specs.Objects.{fitted_cell, fitted_row};
 
@@ -102,6 +103,14 @@ impl Object {
         ensures { self.new ≡ record self.old { cells = with_value (folded name.now) (tree value) self.old.cells } }
     {
         self.cells.set_value(name, value);
+    }
+
+    /// Sets the value of the cell at a place.
+    pub fn set_value_at(&mut self, place: usize, value: Value)
+        requires { place < length self.old.cells }
+        ensures { self.new ≡ record self.old { cells = changed_at place (valued (tree value)) self.old.cells } }
+    {
+        self.cells.set_at(place, value);
     }
 
     /// Makes the cell for a definition clear.

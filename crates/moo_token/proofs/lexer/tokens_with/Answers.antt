@@ -1,5 +1,5 @@
 use Rattle.moo_token.proofs.Steps.{starts, line_passed, line_stops, ends_unclosed, ends}
-use Rattle.moo_token.proofs.lexer.tokens.Goals as goal
+use Rattle.moo_token.proofs.lexer.tokens_with.Goals as goal
 
 pub loop-line-init : goal.loop-line-init
 loop-line-init c = starts _ _ c.in_ok-spots.ensures.items

@@ -1,32 +1,92 @@
 -- What an entered verb begins with, step by step.
-use Rattle.std.proofs.Common.{◌≡◌, ℕ, ℤ, List, codes, Option, Result, Ok, Err, true, if◌then◌else◌, sym, ap, ◌∙◌}
+use Rattle.std.proofs.Common.{◌≡◌, ℕ, ℤ, List, [], ◌∷◌, ◌++◌, take, drop, codes, Option, None, Some, Result, Ok, Err, Bool, true, false, cond, if◌then◌else◌, refl, sym, ap, ◌∙◌}
+use Rattle.std.specs.Option.{unwrap_or}
+use Rattle.std.specs.List.{find}
+use Rattle.std.specs.Str.{bytes_eq}
+use Rattle.moo_value.specs.Compare.{folded}
 use Rattle.moo_value.specs.declared.error_code.ErrorCode.{ErrorCode}
 use Rattle.moo_value.specs.declared.error_code.ErrorCode.TheVariants.{MaximumRecursion}
-use Rattle.moo_value.specs.Tree.{Tree, object, string}
+use Rattle.moo_value.specs.Tree.{Tree, object, string, list_of}
 use Rattle.moo_operation.specs.Places.{made_list}
 use Rattle.moo_object.specs.declared.verb.Verb.{Verb}
 use Rattle.moo_table.specs.World.{World}
 use Rattle.moo_outcome.specs.State.{Context}
+use Rattle.moo_outcome.specs.Variables.{Binding, bind, type_bindings, handed_bindings, value_of_name}
+use Rattle.moo_outcome.proofs.Names.{split}
+use Rattle.moo_outcome.proofs.Stored.{one_test, two_tests, apart}
 use Rattle.moo_outcome.specs.Outcome.{Failure, answers}
 use Rattle.moo_outcome.specs.declared.frame.Frame.{Frame}
-use Rattle.moo_access.specs.Entering.{Entered, found_verb, has_frame_left, player_of_call, called_frame, command_names, with_taken, taken_over, entered, entered_found, after_list, entered_from}
+use Rattle.moo_access.specs.Entering.{Entered, found_verb, has_frame_left, player_of_call, called_frame, with_taken, called_variables, entered, entered_found, after_list, entered_from}
 
--- The variables that tell of the command are taken over one after another.
-pub taken : (e v0 v1 v2 v3 v4 v5 v6 : List ℕ → Option Tree) →
-    v1 ≡ with_taken v0 (codes "argstr") (e (codes "argstr")) →
-    v2 ≡ with_taken v1 (codes "dobj") (e (codes "dobj")) →
-    v3 ≡ with_taken v2 (codes "dobjstr") (e (codes "dobjstr")) →
-    v4 ≡ with_taken v3 (codes "prepstr") (e (codes "prepstr")) →
-    v5 ≡ with_taken v4 (codes "iobj") (e (codes "iobj")) →
-    v6 ≡ with_taken v5 (codes "iobjstr") (e (codes "iobjstr")) →
-    v6 ≡ taken_over e command_names v0
-taken e v0 v1 v2 v3 v4 v5 v6 p1 p2 p3 p4 p5 p6 =
-    p6
-    ∙ ap (λ v. with_taken v (codes "iobjstr") (e (codes "iobjstr"))) (p5
-    ∙ ap (λ v. with_taken v (codes "iobj") (e (codes "iobj"))) (p4
-    ∙ ap (λ v. with_taken v (codes "prepstr") (e (codes "prepstr"))) (p3
-    ∙ ap (λ v. with_taken v (codes "dobjstr") (e (codes "dobjstr"))) (p2
-    ∙ ap (λ v. with_taken v (codes "dobj") (e (codes "dobj"))) p1))))
+-- a name that none of these bindings has
+abbrev is_new : List ℕ → List Binding → Bool
+is_new name [] = true
+is_new name (b ∷ bs) = cond (bytes_eq (folded b.name) (folded name)) false (is_new name bs)
+
+is_not : (b c : Bool) → cond b false c ≡ true → b ≡ false
+is_not true c h = absurd cc
+is_not false c h = refl
+
+among_others : (b c : Bool) → cond b false c ≡ true → c ≡ true
+among_others true c h = absurd cc
+among_others false c h = h
+
+taken_at : (name n : List ℕ) (w x : Tree) (xs ys : List Binding) → is_new name xs ≡ true → value_of_name (xs ++ bind name w ∷ ys) n ≡ cond (bytes_eq (folded name) n) (Some w) (value_of_name (xs ++ bind name x ∷ ys) n)
+taken_at name n w x [] ys h =
+    let rest = find (λ y. bytes_eq (folded y.name) n) ys in
+    split (bytes_eq (folded name) n) (bind name w) rest
+    ∙ sym (one_test (bytes_eq (folded name) n) (Some w) (Some x) (value_of_name ys n))
+    ∙ ap (cond (bytes_eq (folded name) n) (Some w)) (sym (split (bytes_eq (folded name) n) (bind name x) rest))
+taken_at name n w x (b ∷ bs) ys h =
+    let differs = is_not (bytes_eq (folded b.name) (folded name)) (is_new name bs) h in
+    let others = among_others (bytes_eq (folded b.name) (folded name)) (is_new name bs) h in
+    split (bytes_eq (folded b.name) n) b (find (λ y. bytes_eq (folded y.name) n) (bs ++ bind name w ∷ ys))
+    ∙ ap (cond (bytes_eq (folded b.name) n) (Some b.value)) (taken_at name n w x bs ys others)
+    ∙ sym (two_tests (bytes_eq (folded name) n) (bytes_eq (folded b.name) n) (Some w) (Some b.value) (value_of_name (bs ++ bind name x ∷ ys) n) (apart name b.name n differs))
+    ∙ ap (cond (bytes_eq (folded name) n) (Some w)) (sym (split (bytes_eq (folded b.name) n) b (find (λ y. bytes_eq (folded y.name) n) (bs ++ bind name x ∷ ys))))
+
+-- A value among bindings that is taken over where it is set elsewhere.
+replaced : (name : List ℕ) (o : Option Tree) (x : Tree) (xs ys : List Binding) → is_new name xs ≡ true → value_of_name (xs ++ bind name (unwrap_or o x) ∷ ys) ≡ with_taken (value_of_name (xs ++ bind name x ∷ ys)) name o
+replaced name None x xs ys h = refl
+replaced name (Some w) x xs ys h = λ j n. taken_at name n w x xs ys h j
+
+-- the bindings of a frame that has this of the command
+abbrev told : Frame → Tree → Tree → Tree → Tree → Tree → Tree → List Binding
+told f dobj iobj argstr dobjstr prepstr iobjstr =
+    type_bindings
+    ++ bind (codes "player") (object f.player)
+    ∷ bind (codes "this") (object f.this)
+    ∷ bind (codes "caller") (object f.caller)
+    ∷ bind (codes "dobj") dobj
+    ∷ bind (codes "iobj") iobj
+    ∷ bind (codes "verb") (string f.verb)
+    ∷ bind (codes "argstr") argstr
+    ∷ bind (codes "dobjstr") dobjstr
+    ∷ bind (codes "prepstr") prepstr
+    ∷ bind (codes "iobjstr") iobjstr
+    ∷ bind (codes "args") (list_of f.args)
+    ∷ []
+
+-- What tells of the command is taken over one after another.
+pub taken : (f : Frame) (e : List ℕ → Option Tree) → value_of_name (handed_bindings f e) ≡ called_variables f e
+taken f e =
+    let dobj = unwrap_or (e (codes "dobj")) (object f.dobj) in
+    let iobj = unwrap_or (e (codes "iobj")) (object f.iobj) in
+    let argstr = unwrap_or (e (codes "argstr")) (string f.argstr) in
+    let dobjstr = unwrap_or (e (codes "dobjstr")) (string f.dobjstr) in
+    let prepstr = unwrap_or (e (codes "prepstr")) (string f.prepstr) in
+    let none = told f (object f.dobj) (object f.iobj) (string f.argstr) (string f.dobjstr) (string f.prepstr) (string f.iobjstr) in
+    let one = told f (object f.dobj) (object f.iobj) argstr (string f.dobjstr) (string f.prepstr) (string f.iobjstr) in
+    let two = told f dobj (object f.iobj) argstr (string f.dobjstr) (string f.prepstr) (string f.iobjstr) in
+    let three = told f dobj (object f.iobj) argstr dobjstr (string f.prepstr) (string f.iobjstr) in
+    let four = told f dobj (object f.iobj) argstr dobjstr prepstr (string f.iobjstr) in
+    let five = told f dobj iobj argstr dobjstr prepstr (string f.iobjstr) in
+    replaced (codes "iobjstr") (e (codes "iobjstr")) (string f.iobjstr) (take 16 five) (drop 17 five) refl
+    ∙ ap (λ v. with_taken v (codes "iobjstr") (e (codes "iobjstr"))) (replaced (codes "iobj") (e (codes "iobj")) (object f.iobj) (take 11 four) (drop 12 four) refl
+    ∙ ap (λ v. with_taken v (codes "iobj") (e (codes "iobj"))) (replaced (codes "prepstr") (e (codes "prepstr")) (string f.prepstr) (take 15 three) (drop 16 three) refl
+    ∙ ap (λ v. with_taken v (codes "prepstr") (e (codes "prepstr"))) (replaced (codes "dobjstr") (e (codes "dobjstr")) (string f.dobjstr) (take 14 two) (drop 15 two) refl
+    ∙ ap (λ v. with_taken v (codes "dobjstr") (e (codes "dobjstr"))) (replaced (codes "dobj") (e (codes "dobj")) (object f.dobj) (take 10 one) (drop 11 one) refl
+    ∙ ap (λ v. with_taken v (codes "dobj") (e (codes "dobj"))) (replaced (codes "argstr") (e (codes "argstr")) (string f.argstr) (take 13 none) (drop 14 none) refl)))))
 
 -- A verb that is found is entered where a frame is left for it.
 pub enters : (w : World) (c : Context) (vars : List ℕ → Option Tree) (p this other : ℤ) (name : List ℕ) (vs : List Tree) (r : Result (ℤ × Verb) ErrorCode) {found : ℤ × Verb} {player : ℤ} {f : Frame} {e : Entered} →

@@ -3,13 +3,11 @@
 ghost use Rattle.std.specs.Prelude.{◌≡◌, ◌∷◌, [], None, Some, Ok, Err, codes, is_some, option_map, IfOk, IfErr, OnOk};
 ghost use Rattle.std.specs.Option.{unwrap_or};
 ghost use Rattle.moo_value.specs.Tree.{list_of};
-ghost use Rattle.moo_value.specs.Compare.{folded};
 ghost use Rattle.moo_value.specs.View.{tree, trees};
 ghost use Rattle.moo_program.specs.Tree.{no_statement};
 ghost use Rattle.moo_operation.specs.Places.{made_list};
-ghost use Rattle.moo_access.specs.Entering.{entered_verb, entered_from, entered_found, found_verb, verb_there, called_verb, frames, has_frame_left, object_or, player_of_call, verb_frame, called_frame, is_frame, with_taken, called_variables, entered};
+ghost use Rattle.moo_access.specs.Entering.{entered_verb, entered_from, entered_found, found_verb, verb_there, called_verb, frames, has_frame_left, object_or, player_of_call, verb_frame, called_frame, is_frame, called_variables, entered};
 ghost use Rattle.moo_access.specs.SeenCalled.{entered_of, found_of};
-ghost use Rattle.moo_program.specs.Given.{given_name};
 ghost use Rattle.moo_outcome.specs.Outcome.{answers};
 ghost use Rattle.moo_outcome.specs.Seen.{context_of, variables_of, failure_of, seen_by, IsKnownFailure, HadMemoryIn};
 
@@ -95,6 +93,7 @@ pub fn enter_verb_from<'a>(
     enter_found(alloc, world, stack, active, this, from, name, args)
 }
 
+#[inline(always)]
 fn enter_found<'a>(
     alloc: Global,
     world: &World,
@@ -230,6 +229,7 @@ fn called_frame(
 
 /// The frame of a verb that was found: its owner is the programmer, and it has the d bit and the program of its verb. The
 /// error is want of memory.
+#[inline(always)]
 pub fn verb_frame(alloc: Global, found: Found<'_>, call: Call) -> Result<Frame, AllocError>
     ensures { IfOk result (λ frame. frame ≡ verb_frame (found_of found.entry) call) }
 {
@@ -296,26 +296,5 @@ fn called_variables(
 ) -> Result<Variables, AllocError>
     ensures { IfOk result (λ variables. variables_of variables ≡ called_variables frame.now (variables_of caller.now)) }
 {
-    let mut variables = Variables::first(alloc, frame)?;
-    take_over(&mut variables, caller, Given::Argstr)?;
-    take_over(&mut variables, caller, Given::Dobj)?;
-    take_over(&mut variables, caller, Given::Dobjstr)?;
-    take_over(&mut variables, caller, Given::Prepstr)?;
-    take_over(&mut variables, caller, Given::Iobj)?;
-    take_over(&mut variables, caller, Given::Iobjstr)?;
-    Ok(variables)
-}
-
-// Sets a variable as it stands elsewhere, if it is set there.
-fn take_over(
-    variables: &mut Variables,
-    elsewhere: &Variables,
-    given: Given,
-) -> Result<(), AllocError>
-    ensures { OnOk result (variables_of variables.new ≡ with_taken (variables_of variables.old) (given_name given) (variables_of elsewhere.now (folded (given_name given)))) }
-{
-    match elsewhere.get_given(given) {
-        Some(value) => variables.set_given(given, value.try_clone()?),
-        None => Ok(()),
-    }
+    Variables::handed(alloc, frame, caller)
 }

@@ -2,6 +2,7 @@ pub mod Shared
 pub mod OneSharing
 pub mod Names
 pub mod GivenNames
+pub mod FirstValues
 pub mod Hinted
 pub mod Rest
 pub mod Scattered

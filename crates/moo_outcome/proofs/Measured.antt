@@ -1,6 +1,5 @@
 -- Measuring takes no memory.
-use Rattle.std.proofs.Common.{◌≡◌, Result, Ok, Err, ap}
-use Rattle.moo_value.specs.declared.error_code.ErrorCode.{ErrorCode}
+use Rattle.std.proofs.Common.{◌≡◌, Err, ap}
 use Rattle.moo_value.specs.Tree.{Tree, integer, object, error, string, list}
 use Rattle.moo_operation.specs.declared.fault.OperationFault.{OperationFault}
 use Rattle.moo_operation.specs.declared.fault.OperationFault.TheVariants as fault

@@ -2,7 +2,6 @@
 use Rattle.std.proofs.Common.{◌≡◌, ℕ, ◌+◌, ◌-◌, ◌≤◌, ◌<◌, List, [], ◌∷◌, ◌++◌, length, take, drop, get_or, sym, ap, ◌∙◌, arith, Err}
 use Rattle.std.proofs.lemmas.List.{take_more, take-append-drop, append-nil}
 use Rattle.std.proofs.lemmas.List.Concat.{flat_map-append}
-use Rattle.moo_value.specs.declared.error_code.ErrorCode.TheVariants.{Quota}
 use Rattle.moo_value.specs.declared.list.ListFault.{ListFault}
 use Rattle.moo_value.specs.declared.list.ListFault.TheVariants as list
 use Rattle.moo_value.specs.Faults.{IsRefusedList}

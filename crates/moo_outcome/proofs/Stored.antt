@@ -13,25 +13,25 @@ use Rattle.moo_value.specs.Tree.{Tree}
 use Rattle.moo_value.specs.Compare.{folded}
 use Rattle.moo_value.specs.View.{tree}
 use Rattle.moo_outcome.specs.Variables.{Binding, bind, with_variable, value_of_name, with_all}
-use Rattle.moo_outcome.specs.Seen.{own_name, binding_of, value_among, slot_value}
+use Rattle.moo_outcome.specs.Seen.{binding_of, value_among, slot_value}
 use Rattle.moo_outcome.proofs.Names.{is_own, first_name, unslotted}
 
 -- names that compare as the same are the same
 same_text : (a b : List ℕ) → bytes_eq a b ≡ true → a ≡ b
 same_text a b h = (bytes_eq-Decides a b).0 h
 
-one_test : (a : Bool) (x y z : Option Tree) → cond a x (cond a y z) ≡ cond a x z
+pub one_test : (a : Bool) (x y z : Option Tree) → cond a x (cond a y z) ≡ cond a x z
 one_test true x y z = refl
 one_test false x y z = refl
 
-two_tests : (a b : Bool) (x y z : Option Tree) → (a ≡ true → b ≡ true → ⊥) → cond a x (cond b y z) ≡ cond b y (cond a x z)
+pub two_tests : (a b : Bool) (x y z : Option Tree) → (a ≡ true → b ≡ true → ⊥) → cond a x (cond b y z) ≡ cond b y (cond a x z)
 two_tests true true x y z h = absurd (h refl refl)
 two_tests true false x y z h = refl
 two_tests false true x y z h = refl
 two_tests false false x y z h = refl
 
 -- two names that aren't the same don't both have a third
-apart : (name other n : List ℕ) → bytes_eq (folded other) (folded name) ≡ false → bytes_eq (folded name) n ≡ true → bytes_eq (folded other) n ≡ true → ⊥
+pub apart : (name other n : List ℕ) → bytes_eq (folded other) (folded name) ≡ false → bytes_eq (folded name) n ≡ true → bytes_eq (folded other) n ≡ true → ⊥
 apart name other n d e f = not_from_Decides _ (bytes_eq-Decides (folded other) (folded name)) d (same_text (folded other) n f ∙ sym (same_text (folded name) n e))
 
 put_at : (name n : List ℕ) (v : Value) (slots : List (List ℕ)) (values : List (Option Value)) (elsewhere : List ℕ → Option Tree) (i : ℕ) → i < length slots → i < length values → is_own name (get_or slots i []) ≡ true → ((k : ℕ) → k < i → is_own name (get_or slots k []) ≡ false) → slot_value slots (set values i (Some v)) elsewhere n ≡ cond (bytes_eq (folded name) n) (Some (tree v)) (slot_value slots values elsewhere n)
@@ -53,7 +53,7 @@ set_slot name v slots values elsewhere i e h =
     let p = position-Some (is_own name) slots i [] e in
     λ j n. put_at name n v slots values elsewhere i p.0 h p.1 p.2 j
 
-put_elsewhere : (name n : List ℕ) (v : Tree) (slots : List (List ℕ)) (values : List (Option Value)) (elsewhere : List ℕ → Option Tree) → ((k : ℕ) → k < length slots → k < length values → is_own name (get_or slots k []) ≡ false) → slot_value slots values (with_variable elsewhere (bind name v)) n ≡ cond (bytes_eq (folded name) n) (Some v) (slot_value slots values elsewhere n)
+pub put_elsewhere : (name n : List ℕ) (v : Tree) (slots : List (List ℕ)) (values : List (Option Value)) (elsewhere : List ℕ → Option Tree) → ((k : ℕ) → k < length slots → k < length values → is_own name (get_or slots k []) ≡ false) → slot_value slots values (with_variable elsewhere (bind name v)) n ≡ cond (bytes_eq (folded name) n) (Some v) (slot_value slots values elsewhere n)
 put_elsewhere name n v [] values elsewhere a = refl
 put_elsewhere name n v (own ∷ slots) [] elsewhere a = refl
 put_elsewhere name n v (own ∷ slots) (x ∷ values) elsewhere a =
@@ -62,7 +62,7 @@ put_elsewhere name n v (own ∷ slots) (x ∷ values) elsewhere a =
     ∙ sym (two_tests (bytes_eq (folded name) n) (bytes_eq (folded own) n) (Some v) old (slot_value slots values elsewhere n) (apart name own n (a 0 (omega arith) (omega arith))))
 
 -- A name without a slot is set among the others, as the newest.
-pub set_elsewhere : (name : List ℕ) (row : Variable) (slots : List (List ℕ)) (values : List (Option Value)) (others : List Variable) → own_name row.name ≡ name → ((i : ℕ) → position (is_own name) slots ≡ Some i → length values ≤ i) → slot_value slots values (value_among (others ++ row ∷ [])) ≡ with_variable (slot_value slots values (value_among others)) (bind name (tree row.value))
+pub set_elsewhere : (name : List ℕ) (row : Variable) (slots : List (List ℕ)) (values : List (Option Value)) (others : List Variable) → row.name ≡ name → ((i : ℕ) → position (is_own name) slots ≡ Some i → length values ≤ i) → slot_value slots values (value_among (others ++ row ∷ [])) ≡ with_variable (slot_value slots values (value_among others)) (bind name (tree row.value))
 set_elsewhere name row slots values others same h =
     ap (λ rows. slot_value slots values (value_of_name (map binding_of rows))) (reverse-append others (row ∷ []))
     ∙ ap (slot_value slots values) (sym (first_name (binding_of row) (map binding_of (reverse others))))

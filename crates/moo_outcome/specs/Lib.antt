@@ -1,4 +1,5 @@
 pub mod Variables
+pub mod GivenValues
 pub mod Surroundings
 pub mod State
 pub mod Outcome

@@ -1,5 +1,5 @@
 -- What the program's values stand for in the meaning.
-use Rattle.std.specs.Prelude.{ℕ, Bool, IsTrue, List, [], ◌∷◌, ◌++◌, Box, Option, Some, None, Result, Ok, Err, map, option_map, reverse, if◌then◌else◌}
+use Rattle.std.specs.Prelude.{ℕ, Bool, IsTrue, List, [], ◌∷◌, Box, Option, Some, None, Result, Ok, Err, map, option_map, reverse, if◌then◌else◌}
 use Rattle.std.specs.Str.{bytes_eq}
 use Rattle.std.specs.Borrow.{Bor}
 use Rattle.std.specs.declared.vec.Vec.{Vec}
@@ -17,8 +17,6 @@ use Rattle.moo_outcome.specs.declared.frame.Activation.{Activation}
 use Rattle.moo_outcome.specs.declared.surroundings.Surroundings as code_surroundings
 use Rattle.moo_outcome.specs.declared.variables.Variables.{Variables}
 use Rattle.moo_outcome.specs.declared.variables.Variable.{Variable}
-use Rattle.moo_outcome.specs.declared.variables.OtherName.{OtherName}
-use Rattle.moo_outcome.specs.declared.variables.OtherName.TheVariants as name_case
 use Rattle.moo_outcome.specs.declared.outcome.Raise as code_raise
 use Rattle.moo_outcome.specs.declared.outcome.Stop as code_stop
 use Rattle.moo_outcome.specs.declared.outcome.Stop.TheVariants as stop_case
@@ -28,17 +26,14 @@ use Rattle.moo_outcome.specs.declared.outcome.Flow as code_flow
 use Rattle.moo_outcome.specs.declared.outcome.Flow.TheVariants as flow_case
 use Rattle.moo_program.specs.Given.{given_names}
 use Rattle.moo_outcome.specs.Variables.{Binding, value_of_name}
+use Rattle.moo_outcome.specs.GivenValues.{given_values}
 use Rattle.moo_outcome.specs.Surroundings.{Surroundings}
 use Rattle.moo_outcome.specs.State.{Context, entries}
 use Rattle.moo_outcome.specs.declared.frame.TraceEntry.{TraceEntry}
 use Rattle.moo_outcome.specs.Outcome.{Raise, Stop, raised, out_of_ticks, Failure, fails, stops, Flow, next, returned, broken, continued}
 
-abbrev pub own_name : OtherName → List ℕ
-own_name (name_case.Given name) = name.now
-own_name (name_case.Own name) = name
-
 abbrev pub binding_of : Variable → Binding
-binding_of v = record { name = own_name v.name; value = tree v.value }
+binding_of v = record { name = v.name; value = tree v.value }
 
 -- of these variables the newest, the last one, hides the others of its name
 abbrev pub value_among : List Variable → List ℕ → Option Tree
@@ -50,13 +45,13 @@ slot_value (own ∷ slots) (value ∷ values) elsewhere name =
     if bytes_eq (folded own) name then option_map (λ v. tree v) value else slot_value slots values elsewhere name
 slot_value _ _ elsewhere name = elsewhere name
 
--- the names that have slots: those that every frame has, and then the program's
-abbrev pub names_of : Variables → List (List ℕ)
-names_of variables = given_names ++ slots variables.program
+-- the variables that not every frame has
+abbrev pub own_variables : Variables → List ℕ → Option Tree
+own_variables variables = slot_value (slots variables.program) variables.values.items (value_among variables.others.items)
 
 -- the value that a folded name has
 unfoldable pub variables_of : Variables → List ℕ → Option Tree
-variables_of variables = slot_value (names_of variables) variables.values.items (value_among variables.others.items)
+variables_of variables = slot_value given_names (given_values variables.given) (own_variables variables)
 
 -- the values in slots
 abbrev pub seen_values : List (Option Value) → List (Option Tree)

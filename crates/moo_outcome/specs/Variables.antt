@@ -1,6 +1,7 @@
 -- The variables of a frame.
 use Rattle.std.specs.Prelude.{ℕ, pos, List, [], ◌∷◌, ◌++◌, Option, Some, codes, option_map, if◌then◌else◌}
 use Rattle.std.specs.List.{find}
+use Rattle.std.specs.Option.{unwrap_or}
 use Rattle.std.specs.Str.{bytes_eq}
 use Rattle.moo_value.specs.Tree.{Tree, integer, object, string, list_of}
 use Rattle.moo_value.specs.Compare.{folded}
@@ -46,6 +47,24 @@ text_bindings f =
 -- the variables that a frame begins with
 abbrev pub first_bindings : Frame → List Binding
 first_bindings f = type_bindings ++ object_bindings f ++ text_bindings f ++ bind (codes "args") (list_of f.args) ∷ []
+
+-- The variables that the frame of a called verb begins with, by those of its caller: what tells of the command stands as it
+-- does there, if it is set.
+abbrev pub handed_bindings : Frame → (List ℕ → Option Tree) → List Binding
+handed_bindings f caller =
+    type_bindings
+    ++ bind (codes "player") (object f.player)
+    ∷ bind (codes "this") (object f.this)
+    ∷ bind (codes "caller") (object f.caller)
+    ∷ bind (codes "dobj") (unwrap_or (caller (codes "dobj")) (object f.dobj))
+    ∷ bind (codes "iobj") (unwrap_or (caller (codes "iobj")) (object f.iobj))
+    ∷ bind (codes "verb") (string f.verb)
+    ∷ bind (codes "argstr") (unwrap_or (caller (codes "argstr")) (string f.argstr))
+    ∷ bind (codes "dobjstr") (unwrap_or (caller (codes "dobjstr")) (string f.dobjstr))
+    ∷ bind (codes "prepstr") (unwrap_or (caller (codes "prepstr")) (string f.prepstr))
+    ∷ bind (codes "iobjstr") (unwrap_or (caller (codes "iobjstr")) (string f.iobjstr))
+    ∷ bind (codes "args") (list_of f.args)
+    ∷ []
 
 -- the value that a folded name has
 abbrev pub value_of_name : List Binding → List ℕ → Option Tree

@@ -1,7 +1,7 @@
 //! Frames, and what a traceback tells of them: 'Naming Values Within a Verb' and 'MOO Tasks' of the LambdaMOO
 //! Programmer's Manual, 'Variables' and 'Tracebacks' of docs/LANGUAGE.md. Objects are told by their numbers, #-1 for
 //! none.
-ghost use Rattle.std.specs.Prelude.{◌≡◌, ◌++◌, IfOk, OnOk};
+ghost use Rattle.std.specs.Prelude.{◌≡◌, ◌+◌, ◌≤◌, ◌++◌, length, vec_len, vec_capacity, IfOk, OnOk};
 ghost use Rattle.moo_outcome.specs.State.{trace_frame};
 ghost use Rattle.moo_outcome.specs.Seen.{trace_of};
 
@@ -128,8 +128,9 @@ impl CallStack<'_> {
     pub fn trace(&self, alloc: Global, active: &Activation) -> Result<Vec<TraceEntry>, AllocError>
         ensures { IfOk result (λ all. all.items ≡ trace_of self.now active.now) }
     {
-        let mut all = Vec::new(alloc);
-        all.push(TraceEntry::Verb(self.running.trace_frame(active.programmer)?))?;
+        let running = self.running.trace_frame(active.programmer)?;
+        let mut all = Vec::with_capacity(alloc, self.callers.len() + 1)?;
+        all.push_reserved(TraceEntry::Verb(running));
         append(&mut all, &self.callers)?;
         Ok(all)
     }
@@ -137,10 +138,11 @@ impl CallStack<'_> {
 
 // Puts copies of these entries at the end.
 fn append(all: &mut Vec<TraceEntry>, entries: &[TraceEntry]) -> Result<(), AllocError>
+    requires room { vec_len all.old + length entries.now ≤ vec_capacity all.old }
     ensures { OnOk result (all.new.items ≡ all.old.items ++ entries.now) }
 {
     for entry in entries {
-        all.push(entry.try_clone()?)?;
+        all.push_reserved(entry.try_clone()?);
     }
     Ok(())
 }

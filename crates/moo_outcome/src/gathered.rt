@@ -59,6 +59,7 @@ impl Gathered {
     }
 
     /// Puts a value at the end.
+    #[inline(always)]
     pub fn push(&mut self, value: Value) -> Result<(), AllocError>
         ensures { OnOk result (self.new ≡ self.old ++ tree value ∷ []) }
     {
@@ -111,6 +112,7 @@ impl Gathered {
 
     /// The values, for the arguments of a verb, which have to make a list: E_QUOTA, before an element is copied, where the
     /// lists that were spliced in are too heavy together.
+    #[inline]
     pub fn into_arguments(self, alloc: Global) -> Result<Vec<Value>, Failure>
         ensures ok { IfOk result (λ values. trees values.items ≡ self) }
         ensures err { IfErr result (λ failure. HadMemoryIn failure → answers (made_list self) ≡ Err (failure_of failure)) }
@@ -178,6 +180,7 @@ fn are_too_heavy(stretches: &[Stretch]) -> bool
 }
 
 // The values of stretches, and those behind them.
+#[inline(always)]
 fn joined(
     alloc: Global,
     stretches: &[Stretch],

@@ -1,27 +1,30 @@
 //! The variables of a frame.
-ghost use Rattle.std.specs.Prelude.{◌≡◌, ℕ, [], ◌<◌, ◌≤◌, ◌++◌, Some, None, map, position, length, get_or, option_map, IsTrue, IsFalse, IfOk, IfSome, IfNone, OnOk};
+ghost use Rattle.std.specs.Prelude.{◌≡◌, ℕ, [], ◌+◌, ◌<◌, ◌≤◌, ◌++◌, Some, None, map, position, length, get_or, option_map, vec_len, vec_capacity, IsTrue, IsFalse, IfOk, IfSome, IfNone, OnOk};
 ghost use Rattle.std.specs.Str.{bytes_eq};
 ghost use Rattle.moo_value.specs.Tree.{integer};
 ghost use Rattle.moo_value.specs.View.{tree};
 ghost use Rattle.moo_value.specs.Compare.{folded};
-ghost use Rattle.moo_program.specs.Given.{given_name};
+ghost use Rattle.moo_program.specs.Given.{given_name, given_names};
 ghost use Rattle.moo_program.specs.Slots.{slots};
-ghost use Rattle.moo_outcome.specs.Variables.{bind, with_variable, first_bindings, value_of_name};
-ghost use Rattle.moo_outcome.specs.Seen.{own_name, value_among, variables_of, names_of, seen_values, bound_values};
+ghost use Rattle.moo_outcome.specs.Variables.{bind, with_variable, first_bindings, handed_bindings, value_of_name};
+ghost use Rattle.moo_outcome.specs.GivenValues.{given_values};
+ghost use Rattle.moo_outcome.specs.Seen.{value_among, own_variables, slot_value, variables_of};
 
 use crate::frame::Frame;
+use crate::given_values::GivenValues;
 use moo_grammar::Program;
 use moo_program::{Given, Name};
 use moo_value::{MooStr, Value};
 use std::alloc::{AllocError, Global};
 
-/// The variables of a frame: the values of the names that every frame has, a value or none for each name of its program by
-/// the name's slot, and the values of other names. A name that every frame has needs no search, nor does one that has been
-/// found and is spelled as the program's.
+/// The variables of a frame: the values of the names that every frame has, a value or none for each other name of its
+/// program by the name's slot, and the values of further names. A name that every frame has needs no search, nor does one
+/// that has been found and is spelled as the program's.
 #[derive(Drop)]
 pub struct Variables {
     program: Program,
-    /// First those that every frame has, then the program's.
+    given: GivenValues,
+    /// By the slots of the program's names. There are none where every frame has all of them.
     values: Vec<Option<Value>>,
     /// The newest last, which hides older ones of its name.
     others: Vec<Variable>,
@@ -30,15 +33,8 @@ pub struct Variables {
 /// A variable that no statement of the program reads or sets.
 #[derive(Drop)]
 struct Variable {
-    name: OtherName,
+    name: MooStr,
     value: Value,
-}
-
-/// A name that every frame has, or another.
-#[derive(Drop)]
-enum OtherName {
-    Given(&'static str),
-    Own(MooStr),
 }
 
 impl Variables {
@@ -46,39 +42,53 @@ impl Variables {
     pub fn first(alloc: Global, frame: &Frame) -> Result<Variables, AllocError>
         ensures { IfOk result (λ v. variables_of v ≡ value_of_name (first_bindings frame.now)) }
     {
+        let given = GivenValues::first(alloc, frame)?;
+        Variables::with_given(alloc, frame, given)
+    }
+
+    /// The variables that the frame of a called verb begins with: what tells of the command stands as with the caller, if
+    /// it is set there.
+    pub fn handed(alloc: Global, frame: &Frame, caller: &Variables) -> Result<Variables, AllocError>
+        ensures { IfOk result (λ v. variables_of v ≡ value_of_name (handed_bindings frame.now (variables_of caller.now))) }
+    {
+        let given = caller.given.handed(frame)?;
+        Variables::with_given(alloc, frame, given)
+    }
+
+    // The variables of a frame that has these values.
+    #[inline(always)]
+    fn with_given(alloc: Global, frame: &Frame, given: GivenValues) -> Result<Variables, AllocError>
+        ensures { IfOk result (λ v. variables_of v ≡ slot_value given_names (given_values given) (value_of_name [])) }
+    {
         let program = frame.program.try_clone()?;
-        let slots = program.slots();
-        let mut values = given_values(alloc, frame, Given::COUNT + slots.len())?;
-        push_none(&mut values, slots)?;
+        let values = own_values(alloc, program.slots())?;
         Ok(Variables {
             program,
+            given,
             values,
             others: Vec::new(alloc),
         })
-    }
-
-    /// Sets a variable that every frame has.
-    pub fn set_given(&mut self, given: Given, value: Value) -> Result<(), AllocError>
-        ensures { OnOk result (variables_of self.new ≡ with_variable (variables_of self.old) (bind (given_name given) (tree value))) }
-    {
-        match self.place(given) {
-            Some(slot) => self.values[slot] = Some(value),
-            None => self.others.push(Variable {
-                name: OtherName::Given(given.name()),
-                value,
-            })?,
-        }
-        Ok(())
     }
 
     /// Sets a variable.
     pub fn set(&mut self, name: &Name, value: Value) -> Result<(), AllocError>
         ensures { OnOk result (variables_of self.new ≡ with_variable (variables_of self.old) (bind name.now (tree value))) }
     {
+        match name.given() {
+            Some(given) => self.given.set(given, value),
+            None => self.set_own(name, value),
+        }
+    }
+
+    // Sets a variable that not every frame has.
+    fn set_own(&mut self, name: &Name, value: Value) -> Result<(), AllocError>
+        ensures own { OnOk result (own_variables self.new ≡ with_variable (own_variables self.old) (bind name.now (tree value))) }
+        ensures given { self.new.given ≡ self.old.given }
+    {
         match self.slot(name) {
             Some(slot) => self.values[slot] = Some(value),
             None => self.others.push(Variable {
-                name: OtherName::Own(name.text().try_clone()?),
+                name: name.text().try_clone()?,
                 value,
             })?,
         }
@@ -89,6 +99,19 @@ impl Variables {
     #[inline(always)]
     pub fn put(&mut self, name: &Name, value: Value) -> bool
         ensures put { IsTrue result → variables_of self.new ≡ with_variable (variables_of self.old) (bind name.now (tree value)) }
+        ensures kept { IsFalse result → self.new ≡ self.old }
+    {
+        match name.given() {
+            Some(given) => self.given.put(given, value),
+            None => self.put_own(name, value),
+        }
+    }
+
+    // The same of a variable that not every frame has.
+    #[inline(always)]
+    fn put_own(&mut self, name: &Name, value: Value) -> bool
+        ensures own { IsTrue result → own_variables self.new ≡ with_variable (own_variables self.old) (bind name.now (tree value)) }
+        ensures given { self.new.given ≡ self.old.given }
         ensures kept { IsFalse result → self.new ≡ self.old }
     {
         match self.slot(name) {
@@ -104,15 +127,23 @@ impl Variables {
     pub fn get_given(&self, given: Given) -> Option<&Value>
         ensures { option_map (λ v. tree v.now) result ≡ variables_of self.now (folded (given_name given)) }
     {
-        match self.place(given) {
-            Some(slot) => self.values[slot].as_ref(),
-            None => self.other(given.name().as_bytes()),
-        }
+        Some(self.given.get(given))
     }
 
     /// The value of a variable, or `None` where it isn't set.
     pub fn get(&self, name: &Name) -> Option<&Value>
         ensures { option_map (λ v. tree v.now) result ≡ variables_of self.now (folded name.now) }
+    {
+        match name.given() {
+            Some(given) => self.get_given(given),
+            None => self.own(name),
+        }
+    }
+
+    // The value of a variable that not every frame has.
+    #[inline(always)]
+    fn own(&self, name: &Name) -> Option<&Value>
+        ensures { option_map (λ v. tree v.now) result ≡ own_variables self.now (folded name.now) }
     {
         match self.slot(name) {
             Some(slot) => self.values[slot].as_ref(),
@@ -125,35 +156,30 @@ impl Variables {
     pub fn get_integer(&self, name: &Name) -> Option<i32>
         ensures { IfSome result (λ n. variables_of self.now (folded name.now) ≡ Some (integer n)) }
     {
+        match name.given() {
+            Some(given) => integer_in(self.get_given(given)),
+            None => self.own_integer(name),
+        }
+    }
+
+    // The same of a variable that not every frame has.
+    #[inline(always)]
+    fn own_integer(&self, name: &Name) -> Option<i32>
+        ensures { IfSome result (λ n. own_variables self.now (folded name.now) ≡ Some (integer n)) }
+    {
         match self.slot(name) {
             Some(slot) => integer_of(&self.values[slot]),
             None => None,
         }
     }
 
-    // The slot of a variable that every frame has.
-    fn place(&self, given: Given) -> Option<usize>
-        ensures some { IfSome result (λ i. (position (λ own. bytes_eq (folded own) (folded (given_name given))) (names_of self.now) ≡ Some i) × (i < length self.now.values.items)) }
-        ensures none { IfNone result ((i : ℕ) → position (λ own. bytes_eq (folded own) (folded (given_name given))) (names_of self.now) ≡ Some i → length self.now.values.items ≤ i) }
-    {
-        let slot = given.slot();
-        if slot < self.values.len() {
-            Some(slot)
-        } else {
-            None
-        }
-    }
-
-    // The slot of a name that every frame has, or of one of the program.
+    // The slot of a name among those of the program, if a value may stand there.
     #[inline(always)]
     fn slot(&self, name: &Name) -> Option<usize>
-        ensures some { IfSome result (λ i. (position (λ own. bytes_eq (folded own) (folded name.now)) (names_of self.now) ≡ Some i) × (i < length self.now.values.items)) }
-        ensures none { IfNone result ((i : ℕ) → position (λ own. bytes_eq (folded own) (folded name.now)) (names_of self.now) ≡ Some i → length self.now.values.items ≤ i) }
+        ensures some { IfSome result (λ i. (position (λ own. bytes_eq (folded own) (folded name.now)) (slots self.now.program) ≡ Some i) × (i < length self.now.values.items)) }
+        ensures none { IfNone result ((i : ℕ) → position (λ own. bytes_eq (folded own) (folded name.now)) (slots self.now.program) ≡ Some i → length self.now.values.items ≤ i) }
     {
-        let slot = match name.given() {
-            Some(known) => known.slot(),
-            None => self.own_slot(name)?.checked_add(Given::COUNT)?,
-        };
+        let slot = self.own_slot(name)?;
         if slot < self.values.len() {
             Some(slot)
         } else {
@@ -201,7 +227,7 @@ impl Variables {
     {
         let mut rest = self.others.as_slice();
         while let Some((newest, older)) = rest.split_last() {
-            if newest.name.is(name) {
+            if is_named(&newest.name, name) {
                 return Some(&newest.value);
             }
             rest = older;
@@ -210,46 +236,39 @@ impl Variables {
     }
 }
 
-impl OtherName {
-    // Whether the name is this one but for the case of its letters.
-    fn is(&self, name: &[u8]) -> bool
-        ensures { result ≡ bytes_eq (folded (own_name self.now)) (folded name.now) }
-    {
-        match self {
-            OtherName::Given(own) => own.as_bytes().eq_ignore_ascii_case(name),
-            OtherName::Own(own) => is_named(own, name),
-        }
+// The values of the names of a program, none set. Where every frame has all of them, none has a slot.
+#[inline(always)]
+fn own_values(alloc: Global, names: &[Name]) -> Result<Vec<Option<Value>>, AllocError>
+    ensures { IfOk result (λ values. slot_value names.now values.items (value_of_name []) ≡ value_of_name []) }
+{
+    if !has_own(names) {
+        return Ok(Vec::new(alloc));
     }
+    let mut values = Vec::with_capacity(alloc, names.len())?;
+    push_none(&mut values, names);
+    Ok(values)
 }
 
-// The values of the names that every frame has, in their order.
-fn given_values(
-    alloc: Global,
-    frame: &Frame,
-    capacity: usize,
-) -> Result<Vec<Option<Value>>, AllocError>
-    ensures { IfOk result (λ values. seen_values values.items ≡ bound_values (first_bindings frame.now)) }
+// Whether not every frame has all of these names.
+#[inline(always)]
+fn has_own(names: &[Name]) -> bool {
+    for name in names {
+        if name.given().is_none() {
+            return true;
+        }
+    }
+    false
+}
+
+// The integer that a value is.
+#[inline(always)]
+fn integer_in(value: Option<&Value>) -> Option<i32>
+    ensures { IfSome result (λ n. option_map (λ v. tree v.now) value.entry ≡ Some (integer n)) }
 {
-    let mut values = Vec::with_capacity(alloc, capacity)?;
-    values.push(Some(Value::Int(0)))?;
-    values.push(Some(Value::Int(0)))?;
-    values.push(Some(Value::Int(1)))?;
-    values.push(Some(Value::Int(2)))?;
-    values.push(Some(Value::Int(3)))?;
-    values.push(Some(Value::Int(4)))?;
-    values.push(Some(Value::Int(9)))?;
-    values.push(Some(Value::Obj(frame.player)))?;
-    values.push(Some(Value::Obj(frame.this)))?;
-    values.push(Some(Value::Obj(frame.caller)))?;
-    values.push(Some(Value::Obj(frame.dobj)))?;
-    values.push(Some(Value::Obj(frame.iobj)))?;
-    values.push(Some(Value::Str(frame.verb.try_clone()?)))?;
-    values.push(Some(Value::Str(frame.argstr.try_clone()?)))?;
-    values.push(Some(Value::Str(frame.dobjstr.try_clone()?)))?;
-    values.push(Some(Value::Str(frame.prepstr.try_clone()?)))?;
-    values.push(Some(Value::Str(frame.iobjstr.try_clone()?)))?;
-    values.push(Some(Value::List(frame.args.try_clone()?)))?;
-    Ok(values)
+    match value {
+        Some(Value::Int(number)) => Some(*number),
+        _ => None,
+    }
 }
 
 // The integer in a slot.
@@ -264,13 +283,14 @@ fn integer_of(value: &Option<Value>) -> Option<i32>
 }
 
 // No value for each of these names.
-fn push_none(values: &mut Vec<Option<Value>>, names: &[Name]) -> Result<(), AllocError>
-    ensures { OnOk result (values.new.items ≡ values.old.items ++ map (λ name. None) names.now) }
+#[inline(always)]
+fn push_none(values: &mut Vec<Option<Value>>, names: &[Name])
+    requires room { vec_len values.old + length names.now ≤ vec_capacity values.old }
+    ensures { values.new.items ≡ values.old.items ++ map (λ name. None) names.now }
 {
     for _ in names {
-        values.push(None)?;
+        values.push_reserved(None);
     }
-    Ok(())
 }
 
 /// Whether two names are the same but for the case of their letters.

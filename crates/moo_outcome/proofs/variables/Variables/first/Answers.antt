@@ -1,9 +1,9 @@
-use Rattle.moo_program.specs.Slots.{slots}
-use Rattle.moo_outcome.specs.Seen.{variables_of}
-use Rattle.moo_outcome.proofs.GivenNames.{first_bound}
+use Rattle.moo_outcome.specs.GivenValues.{given_values}
+use Rattle.moo_outcome.proofs.FirstValues.{first_bound}
 use Rattle.moo_outcome.proofs.variables.Variables.first.Goals as goal
 
 pub returns : goal.returns
-unfolding variables_of
 returns c =
-    rw (c.in_ok-push_none.ensures, c.new.ensures.items) (first_bound c.args.frame.now (slots c.in_ok-program.program) c.slots-slots.result.now c.in_ok-values.values.items c.in_ok-values.ensures)
+    let made = c.in_ok-given.ensures in
+    let given = c.in_ok-given.given in
+    rw (first_bound c.args.frame.now given.shared.value (given_values given) made.values made.types made.command) at c.with_given.ensures

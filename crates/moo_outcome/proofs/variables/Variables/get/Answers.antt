@@ -1,22 +1,15 @@
 use Rattle.std.proofs.Common.{sym, ap, ◌∙◌}
-use Rattle.std.specs.Option.{option_map}
-use Rattle.moo_value.specs.Compare.{folded}
-use Rattle.moo_value.specs.View.{tree}
-use Rattle.moo_outcome.specs.Seen.{value_among, variables_of, names_of}
-use Rattle.moo_outcome.proofs.Names.{lent, slot_at, no_slot}
+use Rattle.moo_program.specs.Given.{all_given, is_given}
+use Rattle.moo_program.proofs.GivenNames.{passes, same_name}
+use Rattle.moo_outcome.specs.Seen.{own_variables, variables_of}
+use Rattle.moo_outcome.proofs.GivenNames.{other_at}
 use Rattle.moo_outcome.proofs.variables.Variables.get.Goals as goal
 
 pub returns-in-Some : goal.returns-in-Some
-unfolding variables_of
 returns-in-Some c =
-    let found = c.in-Some.ensures.some in
-    lent c.as_ref.result
-    ∙ ap (option_map (λ v. tree v)) (c.as_ref.ensures.value ∙ c.index.ensures)
-    ∙ sym (slot_at c.args.name.now (names_of c.args.self.now) c.args.self.now.values.items (value_among c.args.self.now.others.items) c.index.result.now c.in-Some.slot found.0 found.1)
+    let is = passes (is_given c.args.name.now) c.in-Some.given all_given (sym c.in-Some.ensures) in
+    c.get_given.ensures ∙ ap (variables_of c.args.self.now) (same_name c.args.name.now c.in-Some.given is)
 
 pub returns-in-None : goal.returns-in-None
 unfolding variables_of
-returns-in-None c =
-    c.other.ensures
-    ∙ ap (λ n. value_among c.args.self.now.others.items (folded n)) c.as_bytes.ensures.value
-    ∙ sym (no_slot c.args.name.now (names_of c.args.self.now) c.args.self.now.values.items (value_among c.args.self.now.others.items) c.in-None.ensures.none)
+returns-in-None c = c.own.ensures ∙ other_at c.args.self.now.given (own_variables c.args.self.now) c.args.name.now (sym c.in-None.ensures)

@@ -1,14 +1,18 @@
-use Rattle.std.proofs.Common.{◌≡◌, sym, ap, ◌∙◌}
-use Rattle.std.specs.Option.{option_map}
-use Rattle.moo_value.specs.Compare.{folded}
-use Rattle.moo_value.specs.View.{tree}
-use Rattle.moo_outcome.specs.Seen.{value_among, variables_of, names_of}
-use Rattle.moo_outcome.proofs.Names.{slot_at}
+use Rattle.std.proofs.Common.{sym, ap, ◌∙◌}
+use Rattle.moo_program.specs.Given.{all_given, is_given}
+use Rattle.moo_program.proofs.GivenNames.{passes, same_name}
+use Rattle.moo_outcome.specs.Seen.{own_variables, variables_of}
+use Rattle.moo_outcome.proofs.GivenNames.{other_at}
 use Rattle.moo_outcome.proofs.variables.Variables.get_integer.Goals as goal
 
 pub returns-in-Some : goal.returns-in-Some
-unfolding variables_of
 returns-in-Some c =
-    let found = c.in-Some.ensures.some in
-    let value = slot_at c.args.name.now (names_of c.args.self.now) c.args.self.now.values.items (value_among c.args.self.now.others.items) c.index.result.now c.in-Some.slot found.0 found.1 ∙ ap (option_map (λ v. tree v)) (sym c.index.ensures) in
-    rw value c.integer_of.ensures
+    let is = passes (is_given c.args.name.now) c.in-Some.given all_given (sym c.in-Some.ensures) in
+    let value = sym (c.get_given.ensures ∙ ap (variables_of c.args.self.now) (same_name c.args.name.now c.in-Some.given is)) in
+    rw value c.integer_in.ensures
+
+pub returns-in-None : goal.returns-in-None
+unfolding variables_of
+returns-in-None c =
+    let value = sym (other_at c.args.self.now.given (own_variables c.args.self.now) c.args.name.now (sym c.in-None.ensures)) in
+    rw value c.own_integer.ensures

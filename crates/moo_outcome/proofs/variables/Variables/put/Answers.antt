@@ -1,9 +1,23 @@
-use Rattle.moo_outcome.specs.Seen.{value_among, variables_of, names_of}
-use Rattle.moo_outcome.proofs.Stored.{set_slot}
+use Rattle.std.proofs.Common.{sym, ap, ◌∙◌}
+use Rattle.moo_value.specs.View.{tree}
+use Rattle.moo_program.specs.Given.{given_names}
+use Rattle.moo_outcome.specs.GivenValues.{given_values}
+use Rattle.moo_outcome.specs.Seen.{slot_value, own_variables, variables_of}
+use Rattle.moo_outcome.proofs.GivenNames.{given_set, other_set}
 use Rattle.moo_outcome.proofs.variables.Variables.put.Goals as goal
 
 pub returns-in-Some-clause-put : goal.returns-in-Some-clause-put
 unfolding variables_of
 returns-in-Some-clause-put c =
-    let found = c.in-Some.ensures.some in
-    λ t. set_slot c.args.name.now c.args.value (names_of c.args.self.now) c.args.self.now.values.items (value_among c.args.self.now.others.items) c.in-Some.slot found.0 found.1
+    let old = c.args.self.now in
+    λ t. ap (λ values. slot_value given_names values (own_variables old)) (c.put.ensures.put t) ∙ given_set old.given (own_variables old) c.args.name.now c.in-Some.given (sym c.in-Some.ensures) c.args.value
+
+pub returns-in-None-clause-put : goal.returns-in-None-clause-put
+unfolding variables_of
+returns-in-None-clause-put c =
+    let old = c.args.self.now in
+    let new = c.put_own.new.self in
+    λ t.
+    ap (λ given. slot_value given_names (given_values given) (own_variables new)) c.put_own.ensures.given
+    ∙ ap (slot_value given_names (given_values old.given)) (c.put_own.ensures.own t)
+    ∙ other_set old.given (own_variables old) c.args.name.now (sym c.in-None.ensures) (tree c.args.value)

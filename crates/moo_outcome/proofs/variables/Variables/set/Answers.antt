@@ -1,15 +1,30 @@
-use Rattle.std.proofs.Common.{refl}
-use Rattle.moo_outcome.specs.Seen.{value_among, variables_of, names_of}
-use Rattle.moo_outcome.proofs.Stored.{set_slot, set_elsewhere}
+use Rattle.std.proofs.Common.{sym, ap, ◌∙◌}
+use Rattle.std.proofs.lemmas.Result.{on_ok_weaker}
+use Rattle.moo_value.specs.View.{tree}
+use Rattle.moo_program.specs.Given.{given_names}
+use Rattle.moo_outcome.specs.GivenValues.{given_values}
+use Rattle.moo_outcome.specs.Seen.{slot_value, own_variables, variables_of}
+use Rattle.moo_outcome.proofs.GivenNames.{given_set, other_set}
 use Rattle.moo_outcome.proofs.variables.Variables.set.Goals as goal
 
 pub returns-in-Some : goal.returns-in-Some
 unfolding variables_of
 returns-in-Some c =
-    let found = c.in-Some.ensures.some in
-    set_slot c.args.name.now c.args.value (names_of c.args.self.now) c.args.self.now.values.items (value_among c.args.self.now.others.items) c.in-Some.slot found.0 found.1
+    let old = c.args.self.now in
+    on_ok_weaker
+    c.set.result
+    (λ e. ap (λ values. slot_value given_names values (own_variables old)) e ∙ given_set old.given (own_variables old) c.args.name.now c.in-Some.given (sym c.in-Some.ensures) c.args.value)
+    c.set.ensures
 
-pub returns-in_ok-push-in-None : goal.returns-in_ok-push-in-None
+pub returns-in-None : goal.returns-in-None
 unfolding variables_of
-returns-in_ok-push-in-None c =
-    rw (c.in_ok-push-in-None.ensures.items, c.in_ok-try_clone-in-None.ensures, c.text.ensures) (set_elsewhere c.args.name.now _ (names_of c.args.self.now) c.args.self.now.values.items c.args.self.now.others.items refl c.in-None.ensures.none)
+returns-in-None c =
+    let old = c.args.self.now in
+    let new = c.set_own.new.self in
+    on_ok_weaker
+    c.set_own.result
+    (λ e.
+    ap (λ given. slot_value given_names (given_values given) (own_variables new)) c.set_own.ensures.given
+    ∙ ap (slot_value given_names (given_values old.given)) e
+    ∙ other_set old.given (own_variables old) c.args.name.now (sym c.in-None.ensures) (tree c.args.value))
+    c.set_own.ensures.own

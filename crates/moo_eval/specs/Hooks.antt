@@ -35,16 +35,16 @@ LeadsTo T c p s q t = (r : Result Tree Failure) (u : State) → Proceeds T c q t
 -- no statement runs before this stage
 abbrev pub IsIdle : code_progress.Progress → Stage → Type 0
 IsIdle (progress_case.Done v) stage = ⊥
-IsIdle (progress_case.VerbNext called at) stage = (called.stack.running.program ≡ no_statement) × (at ≡ stage)
+IsIdle (progress_case.VerbNext called at) stage = (called.value.stack.running.program ≡ no_statement) × (at ≡ stage)
 IsIdle (progress_case.StageNext at) stage = at ≡ stage
 
 abbrev pub HasStatements : Pending → Type 0
 HasStatements (pending_case.Answer v) = Unit {0}
-HasStatements (pending_case.Verb called stage) = called.stack.running.program ≢ no_statement
+HasStatements (pending_case.Verb called stage) = called.value.stack.running.program ≢ no_statement
 
 abbrev pub pending_progress : Pending → Progress
 pending_progress (pending_case.Answer v) = done (Ok (tree v))
-pending_progress (pending_case.Verb called stage) = verb_next (entered_of called) stage
+pending_progress (pending_case.Verb called stage) = verb_next (entered_of called.value) stage
 
 abbrev pub seen_pending : Result Pending code_failure.Failure → Progress
 seen_pending (Ok pending) = pending_progress pending

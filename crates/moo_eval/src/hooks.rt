@@ -19,7 +19,7 @@ use moo_world::World;
 #[derive(Drop)]
 pub(crate) enum Pending<'a> {
     Answer(Value),
-    Verb(Called<'a>, Stage),
+    Verb(Box<Called<'a>>, Stage),
 }
 
 impl Task {

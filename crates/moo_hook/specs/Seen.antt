@@ -18,7 +18,7 @@ calling_of stack active = record { context = context_of stack None; variables = 
 
 abbrev pub progress_of : code_progress.Progress → Progress
 progress_of (progress_case.Done v) = done (Ok (tree v))
-progress_of (progress_case.VerbNext called stage) = verb_next (entered_of called) stage
+progress_of (progress_case.VerbNext called stage) = verb_next (entered_of called.value) stage
 progress_of (progress_case.StageNext stage) = stage_next stage
 
 abbrev pub seen_progress : Result code_progress.Progress code_failure.Failure → Progress

@@ -105,7 +105,7 @@ fn program_next<'a>(
         return Err(Failure::Fails(ErrorCode::MaximumRecursion));
     }
     let called = typed_below(alloc, stack, active, program)?;
-    Ok(Progress::VerbNext(called, Stage::Evaluated))
+    Ok(Progress::verb_next(alloc, called, Stage::Evaluated)?)
 }
 
 fn typed_below<'a>(

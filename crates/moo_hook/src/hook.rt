@@ -59,7 +59,10 @@ fn call_verb<'a>(
     let verb = Value::Str(text(alloc, name)?);
     let args = arguments(alloc, what)?;
     match enter_verb(alloc, world, stack, active, &base, &verb, args) {
-        Ok(called) => Ok(Progress::VerbNext(through(alloc, function, called)?, stage)),
+        Ok(called) => {
+            let called = through(alloc, function, called)?;
+            Ok(Progress::verb_next(alloc, called, stage)?)
+        }
         Err(Failure::Fails(code)) => or_passed_over(stage, code),
         Err(Failure::Stops(stop)) => Err(Failure::Stops(stop)),
     }

@@ -38,5 +38,5 @@ pub(crate) fn pass<'a>(
         &frame.verb,
         args,
     )?;
-    Ok(Progress::VerbNext(called, Stage::Passed))
+    Ok(Progress::verb_next(alloc, called, Stage::Passed)?)
 }

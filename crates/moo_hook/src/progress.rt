@@ -1,11 +1,14 @@
 //! Steps and stages of a function.
-ghost use Rattle.std.specs.Prelude.{◌≡◌};
-ghost use Rattle.moo_hook.specs.Seen.{as_outcome};
+ghost use Rattle.std.specs.Prelude.{◌≡◌, IfOk};
+ghost use Rattle.moo_access.specs.SeenCalled.{entered_of};
+ghost use Rattle.moo_hook.specs.Progressing.{verb_next};
+ghost use Rattle.moo_hook.specs.Seen.{as_outcome, progress_of};
 
 use moo_access::{Called, failed};
 use moo_outcome::Failure;
 use moo_value::Value;
 use moo_world::WorldFault;
+use std::alloc::{AllocError, Global};
 
 /// What comes once a verb that a function called has answered.
 #[derive(Clone, Copy)]
@@ -34,9 +37,23 @@ pub enum Progress<'a> {
     /// It answers.
     Done(Value),
     /// A verb runs, and what it answers goes to the stage.
-    VerbNext(Called<'a>, Stage),
+    VerbNext(Box<Called<'a>>, Stage),
     /// The stage comes at once, as after a verb that answers 0.
     StageNext(Stage),
+}
+
+impl<'a> Progress<'a> {
+    /// A verb runs next, and what it answers goes to the stage. It stands in a block of its own, since most steps have none.
+    pub(crate) fn verb_next(
+        alloc: Global,
+        called: Called<'a>,
+        stage: Stage,
+    ) -> Result<Progress<'a>, AllocError>
+        ensures { IfOk result (λ step. progress_of step ≡ verb_next (entered_of called) stage) }
+    {
+        let called = Box::new(alloc, called)?;
+        Ok(Progress::VerbNext(called, stage))
+    }
 }
 
 /// An answer of the world, as the outcome of a function.

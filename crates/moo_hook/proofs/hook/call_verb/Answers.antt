@@ -1,4 +1,4 @@
-use Rattle.std.proofs.Common.{w32}
+use Rattle.std.proofs.Common.{◌∙◌, sym, w32}
 use Rattle.std.proofs.lemmas.Int.{to_z-of_z}
 use Rattle.moo_access.specs.SeenCalled.{entered_of}
 use Rattle.moo_hook.specs.Seen.{calling_of, arguments_of}
@@ -8,7 +8,7 @@ use Rattle.moo_hook.proofs.hook.call_verb.Goals as goal
 pub returns-in-Ok : goal.returns-in-Ok
 returns-in-Ok c =
     let o = to_z-of_z w32 c.args.o c.ranges.o in
-    λ k. entered_by (calling_of c.args.stack.now c.args.active.now) c.args.world.now c.args.function.now c.args.o c.args.name.now (arguments_of c.args.what) c.args.stage (entered_of c.in-Ok.called) (entered_of c.in_ok-through-in-Ok.field-0) (simp (o, c.in_ok-text.ensures, c.in_ok-args.ensures) at (c.in-Ok.ensures tt)) c.in_ok-through-in-Ok.ensures
+    λ k. entered_by (calling_of c.args.stack.now c.args.active.now) c.args.world.now c.args.function.now c.args.o c.args.name.now (arguments_of c.args.what) c.args.stage (entered_of c.in-Ok.called) (entered_of c.in_ok-called-in-Ok.called) (simp (o, c.in_ok-text.ensures, c.in_ok-args.ensures) at (c.in-Ok.ensures tt)) c.in_ok-called-in-Ok.ensures ∙ sym c.in_ok-verb_next-in-Ok.ensures
 
 pub returns-in-Err-Fails : goal.returns-in-Err-Fails
 returns-in-Err-Fails c =

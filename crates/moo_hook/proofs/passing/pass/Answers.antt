@@ -1,4 +1,4 @@
-use Rattle.std.proofs.Common.{◌∙◌, ap, rules, w32}
+use Rattle.std.proofs.Common.{◌∙◌, ap, sym, rules, w32}
 use mir.Val.{SFits}
 use Rattle.std.proofs.lemmas.Int.{to_z-of_z}
 use Rattle.std.proofs.lemmas.Result.{err_from_is_err_and}
@@ -27,4 +27,4 @@ returns c =
     let this = to_z-of_z w32 c.args.stack.now.running.this g in
     let h : SFits w32 c.parent-from.result = search rules in
     let from = to_z-of_z w32 c.parent-from.result h ∙ simp definer at c.parent-from.ensures in
-    λ k. ap (run_by Passed) (simp (this, from) at (c.in_ok-called.ensures tt))
+    λ k. ap (run_by Passed) (simp (this, from) at (c.in_ok-called.ensures tt)) ∙ sym c.in_ok-verb_next.ensures

@@ -1,5 +1,5 @@
 -- How a call enters a verb.
-use Rattle.std.specs.Prelude.{ℕ, suc, ℤ, List, [], ◌∷◌, codes, Option, None, Some, Result, Ok, Err, Bool, true, false, nat_lt, count_by, is_some, if◌then◌else◌}
+use Rattle.std.specs.Prelude.{ℕ, suc, ℤ, List, [], ◌∷◌, codes, Option, None, Some, Result, Ok, Err, Bool, true, false, nat_lt, is_some, if◌then◌else◌}
 use Rattle.std.specs.Option.{unwrap_or, option_map, option_and_then}
 use Rattle.moo_value.specs.declared.error_code.ErrorCode.{ErrorCode}
 use Rattle.moo_value.specs.declared.error_code.ErrorCode.TheVariants.{TypeMismatch, InvalidIndirection, VerbNotFound, MaximumRecursion}
@@ -20,7 +20,7 @@ use Rattle.moo_outcome.specs.State.{Context, entries}
 use Rattle.moo_outcome.specs.Outcome.{or_error}
 use Rattle.moo_outcome.specs.declared.frame.Frame.{Frame}
 use Rattle.moo_outcome.specs.declared.frame.TraceEntry.{TraceEntry}
-use Rattle.moo_outcome.specs.declared.frame.TraceEntry.TheVariants as entry
+use Rattle.moo_outcome.specs.Frames.{frame_count}
 use Rattle.moo_access.specs.declared.entering.Call.{Call}
 
 -- what a called verb begins with
@@ -43,14 +43,9 @@ called_verb w o name =
 abbrev pub found_verb : World → ℤ → List ℕ → Result (ℤ × Verb) ErrorCode
 found_verb w o name = if is_some (object_numbered w o) then or_error (called_verb w o name) VerbNotFound else Err InvalidIndirection
 
--- the frames of verbs among the entries
-abbrev pub is_frame : TraceEntry → Bool
-is_frame (entry.Verb f) = true
-is_frame (entry.BuiltIn name) = false
-
 -- how many frames stand, the running one among them
 abbrev pub frames : List TraceEntry → ℕ
-frames callers = suc (count_by is_frame callers)
+frames callers = suc (frame_count callers)
 
 abbrev pub most_frames : ℕ
 most_frames = 50

@@ -6,14 +6,14 @@ ghost use Rattle.moo_value.specs.Tree.{list_of};
 ghost use Rattle.moo_value.specs.View.{tree, trees};
 ghost use Rattle.moo_program.specs.Tree.{no_statement};
 ghost use Rattle.moo_operation.specs.Places.{made_list};
-ghost use Rattle.moo_access.specs.Entering.{entered_verb, entered_from, entered_found, found_verb, verb_there, called_verb, frames, has_frame_left, object_or, player_of_call, verb_frame, called_frame, is_frame, called_variables, entered};
+ghost use Rattle.moo_access.specs.Entering.{entered_verb, entered_from, entered_found, found_verb, verb_there, called_verb, has_frame_left, object_or, player_of_call, verb_frame, called_frame, called_variables, entered};
 ghost use Rattle.moo_access.specs.SeenCalled.{entered_of, found_of};
 ghost use Rattle.moo_outcome.specs.Outcome.{answers};
 ghost use Rattle.moo_outcome.specs.Seen.{context_of, variables_of, failure_of, seen_by, IsKnownFailure, HadMemoryIn};
 
 use moo_grammar::Program;
 use moo_object::{Need, Verb};
-use moo_outcome::{Activation, CallStack, Failure, Frame, Stop, TraceEntry, Variables};
+use moo_outcome::{Activation, CallStack, Failure, Frame, Stop, Variables};
 use moo_program::Given;
 use moo_value::{ErrorCode, ListFault, MooList, MooStr, Value};
 use moo_world::{Rights, VerbAt, World};
@@ -164,27 +164,9 @@ pub fn verb_there(world: &World, place: VerbAt) -> Option<Found<'_>>
 
 /// Whether a frame is left for what is called next.
 pub fn has_frame_left(stack: &CallStack<'_>) -> bool
-    ensures { result ≡ has_frame_left stack.now.callers.items }
+    ensures { result ≡ has_frame_left stack.now.callers }
 {
-    frames(stack) < MOST_FRAMES
-}
-
-// How many frames stand, the running one among them.
-fn frames(stack: &CallStack<'_>) -> usize
-    ensures { result ≡ frames stack.now.callers.items }
-{
-    let below = stack
-        .callers
-        .iter()
-        .filter(|entry| is_frame(*entry))
-        .count();
-    below + 1
-}
-
-fn is_frame(entry: &TraceEntry) -> bool
-    ensures { result ≡ is_frame entry.now }
-{
-    matches!(entry, TraceEntry::Verb(_))
+    stack.callers.frames() < MOST_FRAMES - 1
 }
 
 // The player of a called verb: a wizard may have put another into the variable.
@@ -272,7 +254,7 @@ fn entered<'a>(
 ) -> Result<Called<'a>, AllocError>
     ensures { IfOk result (λ called. entered_of called ≡ entered (context_of stack.now None) (variables_of active.now.variables) active.now.programmer frame) }
 {
-    let callers = stack.trace(alloc, active)?;
+    let callers = stack.callers_of_called(alloc, active)?;
     let variables = called_variables(alloc, &frame, &active.variables)?;
     let programmer = frame.programmer;
     Ok(Called {

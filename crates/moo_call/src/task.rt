@@ -14,7 +14,7 @@ use crate::connections::{connected_players, connected_seconds, idle_seconds};
 use crate::ticks::Ticks;
 use moo_function::Function;
 use moo_operation as operation;
-use moo_outcome::{Activation, CallStack, Failure, Notice, TraceEntry, frame_lists};
+use moo_outcome::{Activation, CallStack, Callers, Failure, Notice, TraceEntry, frame_lists};
 use moo_value::{ErrorCode, Value};
 use moo_world::{Rights, World};
 use std::alloc::Global;
@@ -74,20 +74,23 @@ pub(crate) fn task_reply(
 
 // The frames that the running one was called from.
 fn callers(alloc: Global, stack: &CallStack<'_>) -> Result<Value, Failure>
-    ensures { IsKnownFailure result → answers (listed (frame_lists stack.now.callers.items)) ≡ seen_answer result }
+    ensures { IsKnownFailure result → answers (listed (frame_lists stack.now.callers)) ≡ seen_answer result }
 {
-    let frames = frame_lists(alloc, &stack.callers)?;
+    let entries = stack.callers.to_vec(alloc)?;
+    let frames = frame_lists(alloc, &entries)?;
     Ok(operation::list(alloc, frames)?)
 }
 
 // The programmer of the frame that called the running one.
-fn nearest_programmer(callers: &[TraceEntry]) -> i32
+fn nearest_programmer(callers: &Callers) -> i32
     ensures { result ≡ nearest_programmer callers.now }
 {
-    for entry in callers {
-        if let TraceEntry::Verb(frame) = entry {
+    let mut rest = callers;
+    while let Some((nearest, behind)) = rest.split_first() {
+        if let TraceEntry::Verb(frame) = nearest {
             return frame.programmer;
         }
+        rest = behind;
     }
     -1
 }

@@ -22,7 +22,8 @@ use Rattle.moo_outcome.specs.declared.frame.TraceEntry.TheVariants as entry
 use Rattle.moo_outcome.specs.Outcome.{Failure, fails, stops, answers}
 use Rattle.moo_outcome.specs.State.{Context, trace_frame}
 use Rattle.moo_access.specs.State.{State}
-use Rattle.moo_access.specs.Entering.{Entered, frames, most_frames, is_frame, has_frame_left, found_verb, entered_found, entered_by, entered_verb, entered_from, after_list}
+use Rattle.moo_outcome.specs.Frames.{is_frame}
+use Rattle.moo_access.specs.Entering.{Entered, frames, most_frames, has_frame_left, found_verb, entered_found, entered_by, entered_verb, entered_from, after_list}
 use Rattle.moo_code_function.specs.Telling.{Telling}
 use Rattle.moo_hook.specs.declared.progress.Stage.{Stage}
 use Rattle.moo_hook.specs.declared.progress.Stage.TheVariants as stage

@@ -8,7 +8,9 @@ ghost use Rattle.moo_eval.specs.Task.{TaskEnds, end_of};
 ghost use Rattle.moo_eval.specs.Ends.{IfEnded, LeavesNotices, IsBegunBy};
 
 use crate::interpreter::Task;
-use moo_outcome::{Activation, CallStack, Flow, Frame, Stop, TaskEnv, Variables, traceback_lines};
+use moo_outcome::{
+    Activation, CallStack, Callers, Flow, Frame, Stop, TaskEnv, Variables, traceback_lines,
+};
 use moo_value::Value;
 use moo_world::World;
 use std::alloc::{AllocError, Global};
@@ -61,7 +63,7 @@ fn run_frame(
     };
     let stack = CallStack {
         running: start,
-        callers: Vec::new(alloc),
+        callers: Callers::none(),
         surroundings: &env.surroundings,
     };
     let mut task = Task::new(alloc);

@@ -137,7 +137,7 @@ fn begun_below<'a>(
 ) -> Result<Called<'a>, AllocError>
     ensures { IfOk result (λ called. entered_of called ≡ begun_below (calling_of stack.now active.now) frame) }
 {
-    let callers = stack.trace(alloc, active)?;
+    let callers = stack.callers_of_called(alloc, active)?;
     let variables = Variables::first(alloc, &frame)?;
     let programmer = frame.programmer;
     Ok(Called {

@@ -96,7 +96,8 @@ pub(crate) fn through<'a>(
 {
     let mut called = called;
     let entry = TraceEntry::BuiltIn(text(alloc, function)?);
-    called.stack.callers.insert(0, entry)?;
+    let callers = called.stack.callers.try_clone()?;
+    called.stack.callers = callers.with_nearest(alloc, entry)?;
     Ok(called)
 }
 

@@ -2,6 +2,8 @@ pub mod Variables
 pub mod GivenValues
 pub mod Surroundings
 pub mod State
+pub mod Frames
+pub mod Callers
 pub mod Outcome
 pub mod Catching
 pub mod Leading

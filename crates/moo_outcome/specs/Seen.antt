@@ -71,14 +71,14 @@ surroundings_of s = record { moment = s.moment; connections = s.connections.now 
 abbrev pub context_of : CallStack → Option (Bor Value) → Context
 context_of stack indexed = record {
   frame = stack.running;
-  callers = stack.callers.items;
+  callers = stack.callers;
   indexed = indexed_of indexed;
   surroundings = surroundings_of stack.surroundings.now;
 }
 
 -- the entries from the running frame down
 abbrev pub trace_of : CallStack → Activation → List TraceEntry
-trace_of stack active = entries stack.running active.programmer stack.callers.items
+trace_of stack active = entries stack.running active.programmer stack.callers
 
 abbrev pub raise_of : code_raise.Raise → Raise
 raise_of raise = let account = raise.account.value in record { code = raise.code; message = account.message; value = tree account.value; trace = account.trace.items }

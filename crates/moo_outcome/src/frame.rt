@@ -1,10 +1,11 @@
 //! Frames, and what a traceback tells of them: 'Naming Values Within a Verb' and 'MOO Tasks' of the LambdaMOO
 //! Programmer's Manual, 'Variables' and 'Tracebacks' of docs/LANGUAGE.md. Objects are told by their numbers, #-1 for
 //! none.
-ghost use Rattle.std.specs.Prelude.{◌≡◌, ◌+◌, ◌≤◌, ◌++◌, length, vec_len, vec_capacity, IfOk, OnOk};
+ghost use Rattle.std.specs.Prelude.{◌≡◌, IfOk};
 ghost use Rattle.moo_outcome.specs.State.{trace_frame};
 ghost use Rattle.moo_outcome.specs.Seen.{trace_of};
 
+use crate::callers::Callers;
 use crate::surroundings::Surroundings;
 use crate::variables::Variables;
 use moo_grammar::Program;
@@ -77,7 +78,7 @@ pub enum TraceEntry {
 pub struct CallStack<'a> {
     pub running: Frame,
     /// The nearest first.
-    pub callers: Vec<TraceEntry>,
+    pub callers: Callers,
     pub surroundings: &'a Surroundings<'a>,
 }
 
@@ -97,7 +98,7 @@ impl TraceFrame {
 }
 
 impl TraceEntry {
-    fn try_clone(&self) -> Result<TraceEntry, AllocError>
+    pub(crate) fn try_clone(&self) -> Result<TraceEntry, AllocError>
         ensures { IfOk result (λ copy. copy ≡ self.now) }
     {
         match self {
@@ -129,22 +130,24 @@ impl CallStack<'_> {
         ensures { IfOk result (λ all. all.items ≡ trace_of self.now active.now) }
     {
         let running = self.running.trace_frame(active.programmer)?;
-        let mut all = Vec::with_capacity(alloc, self.callers.len() + 1)?;
-        all.push_reserved(TraceEntry::Verb(running));
-        append(&mut all, &self.callers)?;
+        let mut all = Vec::new(alloc);
+        all.push(TraceEntry::Verb(running))?;
+        self.callers.append_to(&mut all)?;
         Ok(all)
     }
-}
 
-// Puts copies of these entries at the end.
-fn append(all: &mut Vec<TraceEntry>, entries: &[TraceEntry]) -> Result<(), AllocError>
-    requires room { vec_len all.old + length entries.now ≤ vec_capacity all.old }
-    ensures { OnOk result (all.new.items ≡ all.old.items ++ entries.now) }
-{
-    for entry in entries {
-        all.push_reserved(entry.try_clone()?);
+    /// What a verb is called from that the running frame calls.
+    pub fn callers_of_called(
+        &self,
+        alloc: Global,
+        active: &Activation,
+    ) -> Result<Callers, AllocError>
+        ensures { IfOk result (λ all. all ≡ trace_of self.now active.now) }
+    {
+        let running = self.running.trace_frame(active.programmer)?;
+        let callers = self.callers.try_clone()?;
+        callers.with_nearest(alloc, TraceEntry::Verb(running))
     }
-    Ok(())
 }
 
 /// What changes while a frame runs.

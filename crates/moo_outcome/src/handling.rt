@@ -13,6 +13,7 @@ ghost use Rattle.moo_outcome.specs.Seen.{variables_of, raise_of, stop_of, failur
 ghost use Rattle.moo_outcome.specs.SeenHandling.{guarded_of};
 
 use crate::access::push;
+use crate::callers::Callers;
 use crate::catching::is_caught;
 use crate::frame::{Activation, CallStack, TraceEntry, TraceFrame};
 use crate::outcome::{Failure, Raise, Stop, raised};
@@ -131,15 +132,20 @@ pub fn frame_lists(alloc: Global, trace: &[TraceEntry]) -> Result<Vec<Value>, Fa
 }
 
 // The entries of a trace down to the frame that has these callers.
-fn above<'a>(callers: &[TraceEntry], trace: &'a [TraceEntry]) -> &'a [TraceEntry]
+fn above<'a>(callers: &Callers, trace: &'a [TraceEntry]) -> &'a [TraceEntry]
     ensures { result.now ≡ above callers.now trace.now }
 {
-    let count = trace.len().saturating_sub(callers.len());
+    let mut count = trace.len();
+    let mut rest = callers;
+    while let Some((_, behind)) = rest.split_first() {
+        count = count.saturating_sub(1);
+        rest = behind;
+    }
     &trace[..count]
 }
 
 // `{code, message, value, frames}`, with the frames from the raising one to that which has these callers.
-fn told(alloc: Global, callers: &[TraceEntry], raise: Raise) -> Result<Value, Failure>
+fn told(alloc: Global, callers: &Callers, raise: Raise) -> Result<Value, Failure>
     ensures { IsKnownFailure result → answers (told callers.now (raise_of raise)) ≡ seen_answer result }
 {
     let Raise { code, account } = raise;
@@ -163,9 +169,9 @@ pub fn set_caught(
     name: Option<&Name>,
     raise: Raise,
 ) -> Result<(), Stop>
-    ensures ok { OnOk result ((bs : List Binding) × (told_as stack.now.callers.items (option_copied name.entry) (raise_of raise) ≡ Ok bs) × (variables_of active.new.variables ≡ with_all (variables_of active.old.variables) bs)) }
+    ensures ok { OnOk result ((bs : List Binding) × (told_as stack.now.callers (option_copied name.entry) (raise_of raise) ≡ Ok bs) × (variables_of active.new.variables ≡ with_all (variables_of active.old.variables) bs)) }
     ensures programmer { active.new.programmer ≡ active.old.programmer }
-    ensures err { IfErr result (λ stop. HadMemory stop → (failure : meaning.Failure) × (answers (told_as stack.now.callers.items (option_copied name.entry) (raise_of raise)) ≡ Err failure) × (stop_of stop ≡ raised_by (trace_of stack.now active.old) failure)) }
+    ensures err { IfErr result (λ stop. HadMemory stop → (failure : meaning.Failure) × (answers (told_as stack.now.callers (option_copied name.entry) (raise_of raise)) ≡ Err failure) × (stop_of stop ≡ raised_by (trace_of stack.now active.old) failure)) }
     ensures kept { IfErr result (λ stop. HadMemory stop → active.new ≡ active.old) }
     ensures memory { IfErr result (LacksOnlyWhere (IsSome name.entry)) }
 {

@@ -4,6 +4,7 @@
 #![tactic(auto)]
 
 mod access;
+mod callers;
 mod catching;
 mod frame;
 mod gathered;
@@ -20,6 +21,7 @@ mod traceback;
 mod variables;
 
 pub use access::{literal_value, measure, push, read_variable};
+pub use callers::Callers;
 pub use catching::{caught, settle_codes};
 pub use frame::{Activation, CallStack, Frame, TraceEntry, TraceFrame};
 pub use gathered::{Gathered, Stretch};

@@ -8,7 +8,7 @@ use Rattle.moo_access.proofs.entering.enter_found.Goals as goal
 
 pub returns : goal.returns
 returns c =
-    let left : has_frame_left c.args.stack.now.callers.items ≡ true = sym c.has_frame_left.ensures ∙ c.if-not-has_frame_left.false in
+    let left : has_frame_left c.args.stack.now.callers ≡ true = sym c.has_frame_left.ensures ∙ c.if-not-has_frame_left.false in
     let player_fits : SFits w32 c.player_of_call-player.result = search rules in
     let from = to_z-of_z w32 c.args.from c.ranges.from in
     let this = to_z-of_z w32 c.args.this c.ranges.this in

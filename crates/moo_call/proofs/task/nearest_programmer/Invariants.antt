@@ -1,6 +1,9 @@
-use Rattle.std.proofs.Common.{◌≡◌, drop}
+use Rattle.std.proofs.Common.{◌≡◌, length}
 use Rattle.moo_call.specs.Tasks.{nearest_programmer}
 use Rattle.moo_call.proofs.task.nearest_programmer.Given as goal
 
-abbrev pub invariant-loop-entry : goal.invariant-loop-entry
-invariant-loop-entry l = nearest_programmer l.callers ≡ nearest_programmer (drop l.entry-index l.callers)
+abbrev pub invariant-loop-nearest : goal.invariant-loop-nearest
+invariant-loop-nearest l = nearest_programmer l.callers ≡ nearest_programmer l.rest
+
+abbrev pub decreases-loop-nearest : goal.decreases-loop-nearest
+decreases-loop-nearest l = length l.rest

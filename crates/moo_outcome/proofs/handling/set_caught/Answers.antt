@@ -7,8 +7,8 @@ use Rattle.moo_outcome.proofs.handling.set_caught.Goals as goal
 
 pub returns-in_ok-set-in-Ok-clause-ok : goal.returns-in_ok-set-in-Ok-clause-ok
 returns-in_ok-set-in-Ok-clause-ok c =
-    (bind c.in-Some.name.now (tree c.in-Ok.value) ∷ [], rw c.in-Some.is (bound_ok c.in-Some.name.now _ _ (rw c.deref.ensures.value at (c.in-Ok.ensures tt))), c.in_ok-set-in-Ok.ensures)
+    (bind c.in-Some.name.now (tree c.in-Ok.value) ∷ [], rw c.in-Some.is (bound_ok c.in-Some.name.now _ _ (c.in-Ok.ensures tt)), c.in_ok-set-in-Ok.ensures)
 
 pub returns-in-Err-clause-err : goal.returns-in-Err-clause-err
 returns-in-Err-clause-err c =
-    λ k. (failure_of c.in-Err.failure, rw c.in-Some.is (bound_fails c.in-Some.name.now _ _ (rw c.deref.ensures.value at (c.in-Err.ensures (c.raised.ensures.known k)))), c.raised.ensures.stop k)
+    λ k. (failure_of c.in-Err.failure, rw c.in-Some.is (bound_fails c.in-Some.name.now _ _ (c.in-Err.ensures (c.raised.ensures.known k))), c.raised.ensures.stop k)

@@ -49,7 +49,7 @@ impl<'a> Progress<'a> {
         called: Called<'a>,
         stage: Stage,
     ) -> Result<Progress<'a>, AllocError>
-        ensures { IfOk result (λ step. progress_of step ≡ verb_next (entered_of called) stage) }
+        ensures { IfOk result (λ step. progress_of step ≡ verb_next (entered_of called.entry) stage) }
     {
         let called = Box::new(alloc, called)?;
         Ok(Progress::VerbNext(called, stage))

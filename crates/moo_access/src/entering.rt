@@ -112,7 +112,7 @@ fn enter_found<'a>(
     }
     let player = player_of_call(world, &stack.running, active);
     let frame = called_frame(alloc, &stack.running, player, this, found, name, args)?;
-    Ok(entered(alloc, stack, active, frame)?)
+    entered(alloc, stack, active, frame)
 }
 
 // The list of the arguments.
@@ -246,13 +246,14 @@ pub fn program_of(alloc: Global, verb: &Verb) -> Result<Program, AllocError>
     }
 }
 
+// The verb of a frame begins. It answers as who calls it does, so that what was entered is not moved.
 fn entered<'a>(
     alloc: Global,
     stack: &CallStack<'a>,
     active: &Activation,
     frame: Frame,
-) -> Result<Called<'a>, AllocError>
-    ensures { IfOk result (λ called. entered_of called ≡ entered (context_of stack.now None) (variables_of active.now.variables) active.now.programmer frame) }
+) -> Result<Called<'a>, Failure>
+    ensures { IsKnownFailure result → Ok (entered (context_of stack.now None) (variables_of active.now.variables) active.now.programmer frame) ≡ seen_by entered_of result }
 {
     let callers = stack.callers_of_called(alloc, active)?;
     let variables = called_variables(alloc, &frame, &active.variables)?;

@@ -5,6 +5,7 @@ pub mod Clashes
 pub mod Counting
 pub mod Definitions
 pub mod FittedRows
+pub mod Found
 pub mod Joining
 pub mod Leaving
 pub mod LookingUp

@@ -4,7 +4,7 @@ use Rattle.moo_value.specs.Tree.{Tree}
 use Rattle.moo_value.specs.Compare.{folded}
 use Rattle.moo_forest.specs.Forest.{alone, moved, Links, is_within}
 use Rattle.moo_object.specs.Names.{same_name}
-use Rattle.moo_object.specs.Cells.{Cell, Key, is_key, cleared, with_value}
+use Rattle.moo_object.specs.Cells.{Cell, Key, is_key, cleared, with_value, valued}
 use Rattle.moo_object.specs.Flags.{no_flags}
 use Rattle.moo_object.specs.Objects.{Object}
 use Rattle.moo_object.specs.declared.verb.Verb.{Verb}
@@ -81,6 +81,10 @@ with_changed_verb i f o = record o { verbs = changed_at i f o.verbs }
 -- an object with a value in its cell of a name
 abbrev pub with_value_of : List ℕ → Tree → Object → Object
 with_value_of name v o = record o { cells = with_value name v o.cells }
+
+-- an object with a value in its cell at a place
+abbrev pub with_value_at : ℕ → Tree → Object → Object
+with_value_at place v o = record o { cells = changed_at place (valued v) o.cells }
 
 -- x is the new place, or stands above it
 abbrev pub would_loop : List Links → ℕ → Option ℕ → Bool

@@ -6,7 +6,7 @@ ghost use Rattle.moo_value.specs.Compare.{folded};
 ghost use Rattle.moo_value.specs.View.{tree};
 ghost use Rattle.moo_object.specs.Cells.{Cell, cell_named};
 ghost use Rattle.moo_table.specs.World.{nothing, cells_of};
-ghost use Rattle.moo_table.specs.Changes.{with_value_of};
+ghost use Rattle.moo_table.specs.Changes.{with_value_of, with_value_at};
 
 use moo_object::{Object, PropCell, cell_named};
 use moo_value::Value;
@@ -46,6 +46,16 @@ pub fn set_in(slot: &mut Option<Object>, name: &[u8], value: Value)
 {
     if let Some(object) = slot {
         object.set_value(name, value);
+    }
+}
+
+/// Gives an object's own cell at a place a value.
+pub fn set_at_in(slot: &mut Option<Object>, place: usize, value: Value)
+    requires { place < length (unwrap_or slot.old nothing).cells }
+    ensures { slot.new ≡ option_map (with_value_at place (tree value)) slot.old }
+{
+    if let Some(object) = slot {
+        object.set_value_at(place, value);
     }
 }
 

@@ -1,6 +1,7 @@
 //! The object world: objects in a tree of parents and a tree of places, with properties and verbs, and the players.
 #![tactic(auto)]
 
+mod by_right;
 mod clearing;
 mod creating;
 mod defining;

@@ -15,8 +15,7 @@ ghost use Rattle.std.specs.Borrow.{Bor};
 use crate::World;
 use crate::fault::WorldFault;
 use moo_object::PropCell;
-use moo_table::looking::nearest_value;
-use moo_table::properties::{cells_in, definer_in, set_in};
+use moo_table::properties::{cell_in, cells_in, definer_in, set_in};
 use moo_value::{ErrorCode, Value};
 
 impl World {
@@ -33,8 +32,10 @@ impl World {
         requires { IsSome (object_of self.now.objects x) }
         ensures { option_map tree (option_copied result) ≡ read self.now x (folded name.now) }
     {
-        let definer = definer_in(&self.objects[x], name)?;
-        nearest_value(&self.objects, &self.inheritance, x, definer, name)
+        match cell_in(&self.objects[x], name) {
+            Some(cell) => self.value_of_cell(x, cell, name),
+            None => None,
+        }
     }
 
     /// The cells of an object, in the order of definitions: its own, then its parent's, and so on.

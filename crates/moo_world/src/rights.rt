@@ -159,7 +159,7 @@ impl Rights {
         }
     }
 
-    fn may_read_cell(world: &World, programmer: i32, cell: Option<&PropCell>) -> bool
+    pub(crate) fn may_read_cell(world: &World, programmer: i32, cell: Option<&PropCell>) -> bool
         ensures { result ≡ may_read_cell world.now programmer (option_copied cell.entry) }
     {
         match cell {
@@ -168,7 +168,7 @@ impl Rights {
         }
     }
 
-    fn may_write_cell(world: &World, programmer: i32, cell: Option<&PropCell>) -> bool
+    pub(crate) fn may_write_cell(world: &World, programmer: i32, cell: Option<&PropCell>) -> bool
         ensures { result ≡ may_write_cell world.now programmer (option_copied cell.entry) }
     {
         match cell {

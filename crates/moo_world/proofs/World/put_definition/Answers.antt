@@ -1,9 +1,9 @@
 use Rattle.std.proofs.Common.{◌≡◌, sym, ◌∙◌, ap, subst, arith, length, IsSome, refl}
 use Rattle.moo_forest.specs.Forest.{above_of}
 use Rattle.moo_forest.specs.Walk.{met, IsWalkDown}
-use Rattle.moo_table.specs.World.{World, object_of, cells_of, refitted}
+use Rattle.moo_table.specs.World.{World, object_of, cells_of}
 use Rattle.moo_table.specs.Steps.{defined_along, IsDefinable}
-use Rattle.moo_table.specs.Changes.{with_definition_on, after_define}
+use Rattle.moo_table.specs.Changes.{after_define}
 use Rattle.moo_table.proofs.Changing.{valid_within}
 use Rattle.moo_table.proofs.Counting.{programs_defined}
 use Rattle.moo_table.proofs.Joining.{walk_low}

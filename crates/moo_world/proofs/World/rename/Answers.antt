@@ -5,7 +5,6 @@ use Rattle.moo_forest.specs.Walk.{met, step_at}
 use Rattle.moo_forest.specs.declared.walk.Step.{Step}
 use Rattle.moo_object.specs.Cells.{Key}
 use Rattle.moo_table.specs.World.{World, object_of}
-use Rattle.moo_table.specs.Changes.{changed_on}
 use Rattle.moo_table.specs.Steps.{changed_along, with_new_cell_name, IsRenamable}
 use Rattle.moo_table.specs.Edits.{with_respelled}
 use Rattle.moo_table.specs.Renames.{after_rename}

@@ -1,24 +1,27 @@
-use Rattle.std.proofs.Common.{◌≡◌, sym, ◌∙◌, ap, subst, IsSome, slice_get}
-use Rattle.std.specs.Option.{option_map, option_copied}
+use Rattle.std.proofs.Common.{sym, ◌∙◌, ap, subst, IsSome}
+use Rattle.std.specs.Option.{option_copied}
 use Rattle.moo_value.specs.Compare.{folded}
-use Rattle.moo_value.specs.View.{tree}
-use Rattle.moo_table.specs.World.{World, object_of}
-use Rattle.moo_table.specs.Properties.{read, values_above}
-use Rattle.moo_table.proofs.ValueChanges.{definition_is, nothing_read, nearest_read}
+use Rattle.moo_object.specs.Cells.{cell_named}
+use Rattle.moo_object.specs.Objects.{Object}
+use Rattle.moo_table.specs.World.{World, object_of, thing_of}
+use Rattle.moo_table.specs.Properties.{read}
+use Rattle.moo_table.proofs.Found.{no_definition}
+use Rattle.moo_table.proofs.ValueChanges.{nothing_read}
+use Rattle.moo_table.proofs.VerbChanges.{thing_read}
 use Rattle.moo_world.proofs.World.value_from.Goals as goal
 
-pub returns-in_err-definer : goal.returns-in_err-definer
-returns-in_err-definer c =
+pub value_of_cell-requires-clause-named : goal.value_of_cell-requires-clause-named
+value_of_cell-requires-clause-named c =
     let w : World = record { objects = c.self.inside.objects.items; inheritance = c.self.inside.inheritance; containment = c.self.inside.containment; players = c.self.inside.players.items } in
     let valid = subst (λ v. IsSome (object_of v.objects c.args.x)) (sym c.self.view_is) c.requires in
-    let found = definition_is w c.args.x (folded c.args.name.now) c.index.result.now c.definer_in.result c.self.invariant.formed valid c.index.ensures c.definer_in.ensures in
-    ap (λ r. option_map tree (option_copied r)) c.from_residual.ensures ∙ nothing_read w c.args.x (folded c.args.name.now) (ap (option_map (λ d. (d, folded c.args.name.now))) (sym c.in_err-definer.was) ∙ found) ∙ ap (λ v. read v c.args.x (folded c.args.name.now)) c.self.view_is
+    let thing = thing_read w.objects c.args.x c.index.result.now valid c.index.ensures in
+    let found = sym (ap option_copied c.in-Some.is) ∙ c.cell_in.ensures ∙ ap (λ (o : Object). cell_named o.cells (folded c.args.name.now)) thing in
+    ap (λ v. cell_named (thing_of v.objects c.args.x).cells (folded c.args.name.now)) (sym c.self.view_is) ∙ sym found
 
-pub returns : goal.returns
-returns c =
+pub returns-in-None : goal.returns-in-None
+returns-in-None c =
     let w : World = record { objects = c.self.inside.objects.items; inheritance = c.self.inside.inheritance; containment = c.self.inside.containment; players = c.self.inside.players.items } in
     let valid = subst (λ v. IsSome (object_of v.objects c.args.x)) (sym c.self.view_is) c.requires in
-    let found = definition_is w c.args.x (folded c.args.name.now) c.index.result.now c.definer_in.result c.self.invariant.formed valid c.index.ensures c.definer_in.ensures in
-    nearest_read w c.args.x (folded c.args.name.now) (c.in_ok-definer.definer, folded c.args.name.now) (option_map tree (option_copied c.nearest_value.result)) (ap (option_map (λ d. (d, folded c.args.name.now))) (sym c.in_ok-definer.was) ∙ found)
-    (subst (λ os. option_map tree (option_copied c.nearest_value.result) ≡ slice_get (values_above os w.inheritance (c.in_ok-definer.definer, folded c.args.name.now) c.args.x) 0) c.deref.ensures.value c.nearest_value.ensures)
-    ∙ ap (λ v. read v c.args.x (folded c.args.name.now)) c.self.view_is
+    let thing = thing_read w.objects c.args.x c.index.result.now valid c.index.ensures in
+    let found = sym (ap option_copied c.in-None.is) ∙ c.cell_in.ensures ∙ ap (λ (o : Object). cell_named o.cells (folded c.args.name.now)) thing in
+    nothing_read w c.args.x (folded c.args.name.now) (no_definition w c.args.x (folded c.args.name.now) c.self.invariant.formed (sym found)) ∙ ap (λ v. read v c.args.x (folded c.args.name.now)) c.self.view_is

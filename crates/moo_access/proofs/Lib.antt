@@ -1,3 +1,4 @@
 pub mod Containers
 pub mod Entered
 pub mod LettingGo
+pub mod Written

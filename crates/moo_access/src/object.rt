@@ -2,13 +2,14 @@
 //! 'Expressions' of docs/LANGUAGE.md.
 ghost use Rattle.std.specs.Prelude.{◌≡◌, None, IfErr};
 ghost use Rattle.moo_value.specs.View.{tree};
+ghost use Rattle.moo_value.specs.Tree.{object, string};
 ghost use Rattle.moo_access.specs.Calls.{read_raises, read_property, write_property};
 ghost use Rattle.moo_outcome.specs.Outcome.{answers};
 ghost use Rattle.moo_outcome.specs.Seen.{seen_answer, seen_by, IsKnownFailure, LacksOnlyIn};
 
 use crate::fault::failed;
 use moo_outcome::Failure;
-use moo_value::{ErrorCode, Value};
+use moo_value::{ErrorCode, MooStr, Value};
 use moo_world::{Rights, World};
 use std::alloc::Global;
 
@@ -28,8 +29,26 @@ pub fn read_property(
     let (Value::Obj(o), Value::Str(name)) = (base, name) else {
         return Err(Failure::Fails(ErrorCode::TypeMismatch));
     };
-    let value = world.get(alloc, *o, name.as_bytes()).map_err(failed)?;
-    if Rights::may_read_property(world, programmer, *o, name.as_bytes()) {
+    match world.readable_value(programmer, *o, name.as_bytes()) {
+        Some(value) => Ok(value.try_clone()?),
+        None => read_in_order(alloc, world, programmer, *o, name),
+    }
+}
+
+// Reads any property so, the built-in ones among them: one thing is looked at after the other.
+#[inline(never)]
+fn read_in_order(
+    alloc: Global,
+    world: &World,
+    programmer: i32,
+    o: i32,
+    name: &MooStr,
+) -> Result<Value, Failure>
+    ensures value { IsKnownFailure result → answers (read_property world.now programmer (object o) (string name.now)) ≡ seen_answer result }
+    ensures memory { IfErr result (LacksOnlyIn (read_raises world.now (object o) (string name.now) ≡ None)) }
+{
+    let value = world.get(alloc, o, name.as_bytes()).map_err(failed)?;
+    if Rights::may_read_property(world, programmer, o, name.as_bytes()) {
         Ok(value)
     } else {
         Err(Failure::Fails(ErrorCode::Permission))
@@ -52,9 +71,8 @@ pub fn write_property(
     let (Value::Obj(o), Value::Str(name)) = (base, name) else {
         return Err(Failure::Fails(ErrorCode::TypeMismatch));
     };
-    world.try_set(*o, name.as_bytes(), &value).map_err(failed)?;
-    if !Rights::may_write_property(world, programmer, *o, name.as_bytes()) {
-        return Err(Failure::Fails(ErrorCode::Permission));
+    match world.set_by(programmer, *o, name.as_bytes(), value) {
+        Ok(()) => Ok(()),
+        Err(fault) => Err(failed(fault)),
     }
-    world.set(*o, name.as_bytes(), value).map_err(failed)
 }

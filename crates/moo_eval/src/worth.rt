@@ -221,6 +221,23 @@ fn property_of(
 ) -> Option<Value>
     ensures { IfSome result (λ v. read_property world.now programmer (object o) (string name.now) ≡ Ok (value_tree v)) }
 {
+    match world.readable_value(programmer, o, name.as_bytes()) {
+        Some(value) => value.try_clone().ok(),
+        None => property_in_order(alloc, world, programmer, o, name),
+    }
+}
+
+// The same of any property, the built-in ones among them.
+#[inline(never)]
+fn property_in_order(
+    alloc: Global,
+    world: &World,
+    programmer: i32,
+    o: i32,
+    name: &MooStr,
+) -> Option<Value>
+    ensures { IfSome result (λ v. read_property world.now programmer (object o) (string name.now) ≡ Ok (value_tree v)) }
+{
     let value = world.get(alloc, o, name.as_bytes()).ok()?;
     if Rights::may_read_property(world, programmer, o, name.as_bytes()) {
         Some(value)

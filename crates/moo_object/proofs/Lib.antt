@@ -3,5 +3,6 @@ mod Rows
 mod Seeking
 mod Fitting
 mod Patterns
+mod Letters
 mod Verbs
 mod Numbers

@@ -5,5 +5,6 @@ pub mod Numbers
 pub mod BuiltIn
 pub mod Patterns
 pub mod Verbs
+pub mod Letters
 pub mod Objects
 pub mod Rows

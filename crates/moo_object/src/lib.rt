@@ -13,6 +13,7 @@ mod pattern;
 mod row;
 mod verb;
 mod verb_args;
+mod verb_list;
 
 pub use built_in_property::{BuiltInProperty, built_in};
 pub use cell::{PropCell, PropPerms};

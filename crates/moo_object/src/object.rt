@@ -15,6 +15,7 @@ use crate::flags::Flags;
 use crate::name::{defines_name, forget_name, position_of_name, put_name};
 use crate::row::Row;
 use crate::verb::Verb;
+use crate::verb_list::VerbList;
 use moo_value::MooStr;
 use std::alloc::{AllocError, Global};
 use std::marker::Model;
@@ -25,7 +26,7 @@ pub struct Object {
     name: MooStr,
     owner: i32,
     flags: Flags,
-    verbs: Vec<Verb>,
+    verbs: VerbList,
     defined: Vec<MooStr>,
     cells: Row,
 }
@@ -44,7 +45,7 @@ impl Model for Object {
       name = o.name;
       owner = o.owner;
       flags = o.flags;
-      verbs = o.verbs.items;
+      verbs = o.verbs;
       defined = o.defined.items;
       cells = o.cells;
     } };
@@ -59,7 +60,7 @@ impl Object {
             name,
             owner,
             flags,
-            verbs: Vec::new(alloc),
+            verbs: VerbList::new(alloc),
             defined: Vec::new(alloc),
             cells: Row::new(alloc),
         }
@@ -80,7 +81,7 @@ impl Object {
             name,
             owner,
             flags,
-            verbs,
+            verbs: VerbList::from_verbs(verbs),
             defined,
             cells,
         }
@@ -98,7 +99,7 @@ impl Object {
             name: empty_name(alloc)?,
             owner,
             flags: Flags::none(),
-            verbs: Vec::new(alloc),
+            verbs: VerbList::new(alloc),
             defined: Vec::new(alloc),
             cells: Row::from_cells(cells),
         })

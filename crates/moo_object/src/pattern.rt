@@ -29,7 +29,7 @@ pub fn fits(pattern: &[u8], name: &[u8]) -> bool
     matched == name.len() || ends_in_star(pattern)
 }
 
-fn is_star(byte: u8) -> bool
+pub(crate) fn is_star(byte: u8) -> bool
     ensures { result ≡ is_star byte }
 {
     byte == STAR
@@ -57,7 +57,7 @@ fn ends_in_star(pattern: &[u8]) -> bool
     }
 }
 
-fn is_blank(byte: u8) -> bool
+pub(crate) fn is_blank(byte: u8) -> bool
     ensures { result ≡ is_blank byte }
 {
     byte == BLANK

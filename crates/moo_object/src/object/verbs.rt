@@ -5,7 +5,7 @@ ghost use Rattle.std.specs.List.{remove};
 ghost use Rattle.moo_object.specs.Verbs.{fits_verb, changed_at, with_verb_info, with_args, with_program};
 
 use crate::object::Object;
-use crate::verb::{Need, Verb, VerbPerms, change_args, change_info, change_program};
+use crate::verb::{Need, Verb, VerbPerms};
 use crate::verb_args::VerbArgs;
 use moo_grammar::Program;
 use moo_value::MooStr;
@@ -16,21 +16,21 @@ impl Object {
     pub fn verbs(&self) -> &[Verb]
         ensures { result.now ≡ self.now.verbs }
     {
-        &self.verbs
+        self.verbs.as_slice()
     }
 
     /// The verb at a place, which counts from 0.
     pub fn verb(&self, index: usize) -> Option<&Verb>
         ensures { option_copied result ≡ slice_get self.now.verbs index }
     {
-        self.verbs.get(index)
+        self.verbs.as_slice().get(index)
     }
 
     /// The place of the first verb that a name fits. For a call only verbs that can be executed count.
     pub fn verb_position(&self, need: Need, name: &[u8]) -> Option<usize>
         ensures { result ≡ position (fits_verb need name.now) self.now.verbs }
     {
-        self.verbs.iter().position(|verb| verb.fits(need, name))
+        self.verbs.position(need, name)
     }
 
     /// Adds a verb behind the others.
@@ -38,8 +38,7 @@ impl Object {
         ensures ok { OnOk result (self.new ≡ record self.old { verbs = self.old.verbs ++ verb ∷ [] }) }
         ensures err { OnErr result (self.new ≡ self.old) }
     {
-        self.verbs.push(verb)?;
-        Ok(())
+        self.verbs.push(verb)
     }
 
     /// Takes the verb at a place away.
@@ -47,7 +46,7 @@ impl Object {
         requires { index < length self.old.verbs }
         ensures { self.new ≡ record self.old { verbs = remove self.old.verbs index } }
     {
-        let _verb = self.verbs.remove(index);
+        self.verbs.remove(index);
     }
 
     /// Gives the verb at a place other names, another owner and other permissions.
@@ -55,7 +54,7 @@ impl Object {
         requires { index < length self.old.verbs }
         ensures { self.new ≡ record self.old { verbs = changed_at index (with_verb_info names owner perms) self.old.verbs } }
     {
-        change_info(&mut self.verbs, index, names, owner, perms);
+        self.verbs.set_info(index, names, owner, perms);
     }
 
     /// Says for which commands the verb at a place is.
@@ -63,7 +62,7 @@ impl Object {
         requires { index < length self.old.verbs }
         ensures { self.new ≡ record self.old { verbs = changed_at index (with_args args) self.old.verbs } }
     {
-        change_args(&mut self.verbs, index, args);
+        self.verbs.set_args(index, args);
     }
 
     /// Gives the verb at a place another program, or none.
@@ -71,6 +70,6 @@ impl Object {
         requires { index < length self.old.verbs }
         ensures { self.new ≡ record self.old { verbs = changed_at index (with_program program) self.old.verbs } }
     {
-        change_program(&mut self.verbs, index, program);
+        self.verbs.set_program(index, program);
     }
 }

@@ -12,5 +12,5 @@ returns c =
     let P : ℤ → Type 0 = λ owner. c.set_info.new.self ≡ map (F owner) c.self.inside.cells in
     let changed = subst P (to_z-of_z w32 c.args.owner c.ranges.owner) c.set_info.ensures in
     let G : Contents → Contents = λ v. record v { cells = map (F c.args.owner) v.cells } in
-    ap (λ (cells : List Cell). record { name = c.self.inside.name; owner = c.self.inside.owner; flags = c.self.inside.flags; verbs = c.self.inside.verbs.items; defined = c.self.inside.defined.items; cells = cells }) changed
+    ap (λ (cells : List Cell). record { name = c.self.inside.name; owner = c.self.inside.owner; flags = c.self.inside.flags; verbs = c.self.inside.verbs; defined = c.self.inside.defined.items; cells = cells }) changed
     ∙ ap G c.self.view_is

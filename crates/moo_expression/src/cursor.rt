@@ -187,6 +187,17 @@ impl Cursor<'_> {
         }
     }
 
+    /// Whether an operator of the level comes next.
+    #[inline]
+    pub fn is_at_operator(&self, level: Level) -> bool
+        ensures { result ≡ next_passes (λ x. is_some (operator_at level x)) (left self.now) }
+    {
+        match self.spots.get(self.at) {
+            Some(spot) => operator_at(level, &spot.token).is_some(),
+            None => false,
+        }
+    }
+
     /// Takes an operator of the level, if one comes next.
     pub fn take_operator(&mut self, level: Level) -> Option<Operator>
         ensures { MatchOption result (Stays (λ x. is_some (operator_at level x)) self.old self.new) (λ o. TakesOperator level o self.old self.new) }

@@ -1,12 +1,14 @@
 //! A parser of expressions by recursive descent: a function for each level of the grammar.
-ghost use Rattle.std.specs.Prelude.{◌≡◌, false, IfOk, IfErr};
+ghost use Rattle.std.specs.Prelude.{◌≡◌, ◌≤◌, true, false, IfOk, IfErr};
 ghost use Rattle.moo_token.specs.declared.sign.Sign.TheVariants.{Minus};
 ghost use Rattle.moo_program.specs.Limits.{height};
 ghost use Rattle.moo_program.specs.View.{root};
 ghost use Rattle.moo_grammar.specs.Tokens.{is_sign, next_passes};
-ghost use Rattle.moo_grammar.specs.Grammar.{expression, conditional, chain, operand, power, unary, postfix};
+ghost use Rattle.moo_grammar.specs.declared.level.Level.TheVariants.{Logic, Relation, Sum, Product};
+ghost use Rattle.moo_grammar.specs.Grammar.{expression, conditional, chain, more, operand, power, unary, postfix, expr};
+ghost use Rattle.moo_grammar.specs.Predictive.{grammar};
 ghost use Rattle.moo_expression.specs.Cursor.{left};
-ghost use Rattle.moo_expression.specs.Outcome.{Moves, IsRead, HasFailed};
+ghost use Rattle.moo_expression.specs.Outcome.{Moves, IsRead, IsReadBy, HasFailed, HasFailedBy};
 
 use crate::cursor::Cursor;
 use crate::fault::Fault;
@@ -50,7 +52,7 @@ fn conditional(alloc: Global, tokens: &mut Cursor, place: Place, room: u32) -> R
     ensures read { IfOk result (λ n. IsRead place.names (conditional place.inside) room tokens.old tokens.new (root n.tree)) }
     ensures failed { IfErr result (λ f. HasFailed place.names (conditional place.inside) room tokens.old tokens.new f) }
 {
-    let test = chain(alloc, tokens, Level::Logic, place, room)?;
+    let test = logic(alloc, tokens, place, room)?;
     if !tokens.take(Sign::Question) {
         return Ok(test);
     }
@@ -68,24 +70,92 @@ fn conditional(alloc: Global, tokens: &mut Cursor, place: Place, room: u32) -> R
 }
 
 #[cycle(parser)]
-fn chain(
+fn logic(alloc: Global, tokens: &mut Cursor, place: Place, room: u32) -> Result<Node, Fault>
+    ensures moves { Moves tokens.old tokens.new }
+    ensures read { IfOk result (λ n. IsRead place.names (chain place.inside Logic) room tokens.old tokens.new (root n.tree)) }
+    ensures failed { IfErr result (λ f. HasFailed place.names (chain place.inside Logic) room tokens.old tokens.new f) }
+{
+    let front = relation(alloc, tokens, place, room)?;
+    more(alloc, tokens, Level::Logic, front, place, room)
+}
+
+#[cycle(parser)]
+#[inline(always)]
+fn relation(alloc: Global, tokens: &mut Cursor, place: Place, room: u32) -> Result<Node, Fault>
+    ensures moves { Moves tokens.old tokens.new }
+    ensures read { IfOk result (λ n. IsRead place.names (chain place.inside Relation) room tokens.old tokens.new (root n.tree)) }
+    ensures failed { IfErr result (λ f. HasFailed place.names (chain place.inside Relation) room tokens.old tokens.new f) }
+{
+    let front = sum(alloc, tokens, place, room)?;
+    more(alloc, tokens, Level::Relation, front, place, room)
+}
+
+#[cycle(parser)]
+#[inline(always)]
+fn sum(alloc: Global, tokens: &mut Cursor, place: Place, room: u32) -> Result<Node, Fault>
+    ensures moves { Moves tokens.old tokens.new }
+    ensures read { IfOk result (λ n. IsRead place.names (chain place.inside Sum) room tokens.old tokens.new (root n.tree)) }
+    ensures failed { IfErr result (λ f. HasFailed place.names (chain place.inside Sum) room tokens.old tokens.new f) }
+{
+    let front = product(alloc, tokens, place, room)?;
+    more(alloc, tokens, Level::Sum, front, place, room)
+}
+
+#[cycle(parser)]
+#[inline(always)]
+fn product(alloc: Global, tokens: &mut Cursor, place: Place, room: u32) -> Result<Node, Fault>
+    ensures moves { Moves tokens.old tokens.new }
+    ensures read { IfOk result (λ n. IsRead place.names (chain place.inside Product) room tokens.old tokens.new (root n.tree)) }
+    ensures failed { IfErr result (λ f. HasFailed place.names (chain place.inside Product) room tokens.old tokens.new f) }
+{
+    let front = power(alloc, tokens, place, room)?;
+    more(alloc, tokens, Level::Product, front, place, room)
+}
+
+// What stands behind the first operand of a chain: mostly nothing.
+#[cycle(parser)]
+#[inline(always)]
+fn more(
     alloc: Global,
     tokens: &mut Cursor,
     level: Level,
+    front: Node,
     place: Place,
     room: u32,
 ) -> Result<Node, Fault>
+    requires { front.height ≤ room }
     ensures moves { Moves tokens.old tokens.new }
-    ensures read { IfOk result (λ n. IsRead place.names (chain place.inside level) room tokens.old tokens.new (root n.tree)) }
-    ensures failed { IfErr result (λ f. HasFailed place.names (chain place.inside level) room tokens.old tokens.new f) }
+    ensures read { IfOk result (λ n. IsReadBy place.names expr (λ g. grammar g (more place.inside level (root front.tree))) room (height (root front.tree)) tokens.old tokens.new (root n.tree)) }
+    ensures failed { IfErr result (λ f. HasFailedBy place.names true expr (λ g. grammar g (more place.inside level (root front.tree))) room (height (root front.tree)) tokens.old tokens.new f) }
 {
-    let mut front = operand(alloc, tokens, level, place, room)?;
-    while let Some(operator) = tokens.take_operator(level) {
-        let room_beside = beside(front.height, room)?;
-        let next = operand(alloc, tokens, level, place, room_beside)?;
-        front = join(alloc, operator, front, next, room)?;
+    if !tokens.is_at_operator(level) {
+        return Ok(front);
     }
-    Ok(front)
+    further(alloc, tokens, level, front, place, room)
+}
+
+#[cycle(parser)]
+#[inline(never)]
+fn further(
+    alloc: Global,
+    tokens: &mut Cursor,
+    level: Level,
+    front: Node,
+    place: Place,
+    room: u32,
+) -> Result<Node, Fault>
+    requires { front.height ≤ room }
+    ensures moves { Moves tokens.old tokens.new }
+    ensures read { IfOk result (λ n. IsReadBy place.names expr (λ g. grammar g (more place.inside level (root front.tree))) room (height (root front.tree)) tokens.old tokens.new (root n.tree)) }
+    ensures failed { IfErr result (λ f. HasFailedBy place.names true expr (λ g. grammar g (more place.inside level (root front.tree))) room (height (root front.tree)) tokens.old tokens.new f) }
+{
+    let mut joined = front;
+    while let Some(operator) = tokens.take_operator(level) {
+        let room_beside = beside(joined.height, room)?;
+        let next = operand(alloc, tokens, level, place, room_beside)?;
+        joined = join(alloc, operator, joined, next, room)?;
+    }
+    Ok(joined)
 }
 
 #[cycle(parser)]
@@ -101,9 +171,9 @@ fn operand(
     ensures failed { IfErr result (λ f. HasFailed place.names (operand place.inside level) room tokens.old tokens.new f) }
 {
     match level {
-        Level::Logic => chain(alloc, tokens, Level::Relation, place, room),
-        Level::Relation => chain(alloc, tokens, Level::Sum, place, room),
-        Level::Sum => chain(alloc, tokens, Level::Product, place, room),
+        Level::Logic => relation(alloc, tokens, place, room),
+        Level::Relation => sum(alloc, tokens, place, room),
+        Level::Sum => product(alloc, tokens, place, room),
         Level::Product => power(alloc, tokens, place, room),
     }
 }
@@ -135,6 +205,9 @@ fn unary(alloc: Global, tokens: &mut Cursor, place: Place, room: u32) -> Result<
     ensures read { IfOk result (λ n. IsRead place.names (unary place.inside) room tokens.old tokens.new (root n.tree)) }
     ensures failed { IfErr result (λ f. HasFailed place.names (unary place.inside) room tokens.old tokens.new f) }
 {
+    if !tokens.is_at(Sign::Minus) {
+        return unsigned(alloc, tokens, place, room);
+    }
     let minuses = tokens.take_minuses();
     let operand = unsigned(alloc, tokens, place, behind_minuses(minuses, room))?;
     negate_times(alloc, minuses, operand, room)

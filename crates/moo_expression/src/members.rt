@@ -46,7 +46,7 @@ pub fn members(
     ensures read { IfOk result (λ v. IsRead place.names (members place.inside optional) room tokens.old tokens.new (items_of v.items.items)) }
     ensures failed { IfErr result (λ f. HasFailed place.names (members place.inside optional) room tokens.old tokens.new f) }
 {
-    let mut found = Members::new(alloc);
+    let mut found = Members::begun(alloc)?;
     loop {
         let next = member(alloc, tokens, place, optional, room)?;
         found.push(next)?;

@@ -1,5 +1,5 @@
 //! Trees, each with the most nodes on a path of it.
-ghost use Rattle.std.specs.Prelude.{◌≡◌, ◌∷◌, ◌++◌, [], max, IfErr, OnOk};
+ghost use Rattle.std.specs.Prelude.{◌≡◌, ◌∷◌, ◌++◌, [], max, IfErr, IfOk, OnOk};
 ghost use Rattle.moo_program.specs.Limits.{height as height_of, items_height, codes_height};
 ghost use Rattle.moo_program.specs.View.{root, items_of, codes_of};
 ghost use Rattle.moo_grammar.specs.Grammar.{has_optional};
@@ -55,6 +55,18 @@ impl Members {
             height: 0,
             optional: false,
         }
+    }
+
+    /// No items yet, with room for a few.
+    pub fn begun(alloc: Global) -> Result<Members, Fault>
+        ensures ok { IfOk result (λ m. m.items.items ≡ []) }
+        ensures err { IfErr result (λ f. f ≡ Memory) }
+    {
+        Ok(Members {
+            items: Vec::with_capacity(alloc, 2)?,
+            height: 0,
+            optional: false,
+        })
     }
 
     /// Puts the item behind the others.

@@ -12,9 +12,9 @@ use Rattle.moo_program.specs.Target.{is_target}
 use Rattle.moo_program.specs.Limits.{height, items_height}
 use Rattle.moo_program.specs.View.{root, items_of, codes_of}
 use Rattle.moo_program.proofs.Rows.{row_of, row_items}
-use Rattle.moo_grammar.specs.declared.level.Level.TheVariants.{Relation, Sum, Product}
+use Rattle.moo_grammar.specs.declared.level.Level.TheVariants.{Logic, Relation, Sum, Product}
 use Rattle.moo_grammar.specs.Rules.{may_assign}
-use Rattle.moo_grammar.specs.Grammar.{Sort, joined, expression, conditional, operand, chain, power, unary, postfix, suffixes, primary, arguments, members, has_optional}
+use Rattle.moo_grammar.specs.Grammar.{Sort, joined, expression, conditional, operand, chain, more, power, unary, postfix, suffixes, primary, arguments, members, has_optional}
 use Rattle.moo_grammar.specs.Machine.{give, take, phrase, gives, sees, misses, reads, refuses, sees_fails, misses_fails, phrase_fails, then_fails}
 use Rattle.moo_grammar.specs.Tokens.{next_passes, is_sign, name_at, literal_at}
 use Rattle.moo_grammar.specs.Predictive.{grammar, expect, after_member, behind_dot, behind_colon, verb_arguments, behind_bracket, named, braced, dollar, behind_dollar, guarded, behind_question}
@@ -166,43 +166,175 @@ unfolding grammar
 levels::conditional-returns-clause-failed t c =
     unmade c.args.place.names true (λ g. grammar g (conditional c.args.place.inside)) c.args.room 0 c.args.tokens.now c.conditional.new.tokens (tree.conditional (root c.in_ok-test.test.tree) (root c.in_ok-yes.yes.tree) (root c.in_ok-no.no.tree)) c.node_over.result c.node_over.ensures (omega (arith, c.in_ok-room_beside.ensures.0, c.in_ok-room_beside.ensures.1, c.in_ok-test.test.in_step, c.in_ok-yes.ensures.read.fits, c.in_ok-no.ensures.read.fits))
 
-pub levels::chain-returns-in_err-front-clause-failed : goal.levels::chain-returns-in_err-front-clause-failed
+pub levels::logic-returns-in_err-front-clause-failed : goal.levels::logic-returns-in_err-front-clause-failed
 unfolding grammar
-levels::chain-returns-in_err-front-clause-failed t c =
+levels::logic-returns-in_err-front-clause-failed t c =
     let p = err_from_is_err_and c.from_residual.result c.from_residual.ensures.1 in
     passed _ p.1 p.2 (record {
-      fails = λ g b. phrase_fails (c.in_err-front.ensures.failed.fails g b);
+      fails = λ g b. phrase_fails (phrase_fails (c.in_err-front.ensures.failed.fails g b));
       stands = c.in_err-front.ensures.failed.stands;
-      deep = λ h g ok. phrase_deepens (c.in_err-front.ensures.failed.deep h g ok) (λ a g e h. omega (arith, g, h));
+      deep = λ h g ok. phrase_deepens (phrase_deepens (c.in_err-front.ensures.failed.deep h g ok) (λ a g. g)) (λ a g e h. omega (arith, g, h));
       long = λ h. let l = c.in_err-front.ensures.failed.long h in omega (arith, l);
     })
 
-pub levels::chain-loop-operator-init : goal.levels::chain-loop-operator-init
+pub levels::logic-returns-clause-read : goal.levels::logic-returns-clause-read
 unfolding grammar
-levels::chain-loop-operator-init t c =
+levels::logic-returns-clause-read t c =
     let r = c.in_ok-front.ensures.read in
+    if_ok (λ n. IsReadBy c.args.place.names Sort.expr (λ g. grammar g (more c.args.place.inside Logic (root c.in_ok-front.front.tree))) c.args.room (height (root c.in_ok-front.front.tree)) c.relation.new.tokens c.more.new.tokens (root n.tree)) (λ n. IsReadBy c.args.place.names Sort.expr (λ g. grammar g (chain c.args.place.inside Logic)) c.args.room 0 c.args.tokens.now c.more.new.tokens (root n.tree)) c.more.result c.more.ensures.read
+    (λ n v. record {
+      reads = λ g a. reads (reads (r.reads g a) gives) (reads (v.reads g a) gives);
+      fits = v.fits;
+      tokens = omega (arith, v.tokens, r.tokens);
+    })
+
+pub levels::logic-returns-clause-failed : goal.levels::logic-returns-clause-failed
+unfolding grammar
+levels::logic-returns-clause-failed t c =
+    let r = c.in_ok-front.ensures.read in
+    if_err (λ f. HasFailedBy c.args.place.names true Sort.expr (λ g. grammar g (more c.args.place.inside Logic (root c.in_ok-front.front.tree))) c.args.room (height (root c.in_ok-front.front.tree)) c.relation.new.tokens c.more.new.tokens f) (λ f. HasFailedBy c.args.place.names true Sort.expr (λ g. grammar g (chain c.args.place.inside Logic)) c.args.room 0 c.args.tokens.now c.more.new.tokens f) c.more.result c.more.ensures.failed
+    (λ f w. record {
+      fails = λ g b. then_fails (reads (r.reads g (told_admits f c.args.place.names g b)) gives) (phrase_fails (w.fails g b));
+      stands = w.stands;
+      deep = λ h g ok. then_deepens (reads (r.reads g ok) gives) (phrase_deepens (w.deep h g ok) (λ e g. g));
+      long = λ h. let l = w.long h in omega (arith, l, r.tokens);
+    })
+
+pub levels::relation-returns-in_err-front-clause-failed : goal.levels::relation-returns-in_err-front-clause-failed
+unfolding grammar
+levels::relation-returns-in_err-front-clause-failed t c =
+    let p = err_from_is_err_and c.from_residual.result c.from_residual.ensures.1 in
+    passed _ p.1 p.2 (record {
+      fails = λ g b. phrase_fails (phrase_fails (c.in_err-front.ensures.failed.fails g b));
+      stands = c.in_err-front.ensures.failed.stands;
+      deep = λ h g ok. phrase_deepens (phrase_deepens (c.in_err-front.ensures.failed.deep h g ok) (λ a g. g)) (λ a g e h. omega (arith, g, h));
+      long = λ h. let l = c.in_err-front.ensures.failed.long h in omega (arith, l);
+    })
+
+pub levels::relation-returns-clause-read : goal.levels::relation-returns-clause-read
+unfolding grammar
+levels::relation-returns-clause-read t c =
+    let r = c.in_ok-front.ensures.read in
+    if_ok (λ n. IsReadBy c.args.place.names Sort.expr (λ g. grammar g (more c.args.place.inside Relation (root c.in_ok-front.front.tree))) c.args.room (height (root c.in_ok-front.front.tree)) c.sum.new.tokens c.more.new.tokens (root n.tree)) (λ n. IsReadBy c.args.place.names Sort.expr (λ g. grammar g (chain c.args.place.inside Relation)) c.args.room 0 c.args.tokens.now c.more.new.tokens (root n.tree)) c.more.result c.more.ensures.read
+    (λ n v. record {
+      reads = λ g a. reads (reads (r.reads g a) gives) (reads (v.reads g a) gives);
+      fits = v.fits;
+      tokens = omega (arith, v.tokens, r.tokens);
+    })
+
+pub levels::relation-returns-clause-failed : goal.levels::relation-returns-clause-failed
+unfolding grammar
+levels::relation-returns-clause-failed t c =
+    let r = c.in_ok-front.ensures.read in
+    if_err (λ f. HasFailedBy c.args.place.names true Sort.expr (λ g. grammar g (more c.args.place.inside Relation (root c.in_ok-front.front.tree))) c.args.room (height (root c.in_ok-front.front.tree)) c.sum.new.tokens c.more.new.tokens f) (λ f. HasFailedBy c.args.place.names true Sort.expr (λ g. grammar g (chain c.args.place.inside Relation)) c.args.room 0 c.args.tokens.now c.more.new.tokens f) c.more.result c.more.ensures.failed
+    (λ f w. record {
+      fails = λ g b. then_fails (reads (r.reads g (told_admits f c.args.place.names g b)) gives) (phrase_fails (w.fails g b));
+      stands = w.stands;
+      deep = λ h g ok. then_deepens (reads (r.reads g ok) gives) (phrase_deepens (w.deep h g ok) (λ e g. g));
+      long = λ h. let l = w.long h in omega (arith, l, r.tokens);
+    })
+
+pub levels::sum-returns-in_err-front-clause-failed : goal.levels::sum-returns-in_err-front-clause-failed
+unfolding grammar
+levels::sum-returns-in_err-front-clause-failed t c =
+    let p = err_from_is_err_and c.from_residual.result c.from_residual.ensures.1 in
+    passed _ p.1 p.2 (record {
+      fails = λ g b. phrase_fails (phrase_fails (c.in_err-front.ensures.failed.fails g b));
+      stands = c.in_err-front.ensures.failed.stands;
+      deep = λ h g ok. phrase_deepens (phrase_deepens (c.in_err-front.ensures.failed.deep h g ok) (λ a g. g)) (λ a g e h. omega (arith, g, h));
+      long = λ h. let l = c.in_err-front.ensures.failed.long h in omega (arith, l);
+    })
+
+pub levels::sum-returns-clause-read : goal.levels::sum-returns-clause-read
+unfolding grammar
+levels::sum-returns-clause-read t c =
+    let r = c.in_ok-front.ensures.read in
+    if_ok (λ n. IsReadBy c.args.place.names Sort.expr (λ g. grammar g (more c.args.place.inside Sum (root c.in_ok-front.front.tree))) c.args.room (height (root c.in_ok-front.front.tree)) c.product.new.tokens c.more.new.tokens (root n.tree)) (λ n. IsReadBy c.args.place.names Sort.expr (λ g. grammar g (chain c.args.place.inside Sum)) c.args.room 0 c.args.tokens.now c.more.new.tokens (root n.tree)) c.more.result c.more.ensures.read
+    (λ n v. record {
+      reads = λ g a. reads (reads (r.reads g a) gives) (reads (v.reads g a) gives);
+      fits = v.fits;
+      tokens = omega (arith, v.tokens, r.tokens);
+    })
+
+pub levels::sum-returns-clause-failed : goal.levels::sum-returns-clause-failed
+unfolding grammar
+levels::sum-returns-clause-failed t c =
+    let r = c.in_ok-front.ensures.read in
+    if_err (λ f. HasFailedBy c.args.place.names true Sort.expr (λ g. grammar g (more c.args.place.inside Sum (root c.in_ok-front.front.tree))) c.args.room (height (root c.in_ok-front.front.tree)) c.product.new.tokens c.more.new.tokens f) (λ f. HasFailedBy c.args.place.names true Sort.expr (λ g. grammar g (chain c.args.place.inside Sum)) c.args.room 0 c.args.tokens.now c.more.new.tokens f) c.more.result c.more.ensures.failed
+    (λ f w. record {
+      fails = λ g b. then_fails (reads (r.reads g (told_admits f c.args.place.names g b)) gives) (phrase_fails (w.fails g b));
+      stands = w.stands;
+      deep = λ h g ok. then_deepens (reads (r.reads g ok) gives) (phrase_deepens (w.deep h g ok) (λ e g. g));
+      long = λ h. let l = w.long h in omega (arith, l, r.tokens);
+    })
+
+pub levels::product-returns-in_err-front-clause-failed : goal.levels::product-returns-in_err-front-clause-failed
+unfolding grammar
+levels::product-returns-in_err-front-clause-failed t c =
+    let p = err_from_is_err_and c.from_residual.result c.from_residual.ensures.1 in
+    passed _ p.1 p.2 (record {
+      fails = λ g b. phrase_fails (phrase_fails (c.in_err-front.ensures.failed.fails g b));
+      stands = c.in_err-front.ensures.failed.stands;
+      deep = λ h g ok. phrase_deepens (phrase_deepens (c.in_err-front.ensures.failed.deep h g ok) (λ a g. g)) (λ a g e h. omega (arith, g, h));
+      long = λ h. let l = c.in_err-front.ensures.failed.long h in omega (arith, l);
+    })
+
+pub levels::product-returns-clause-read : goal.levels::product-returns-clause-read
+unfolding grammar
+levels::product-returns-clause-read t c =
+    let r = c.in_ok-front.ensures.read in
+    if_ok (λ n. IsReadBy c.args.place.names Sort.expr (λ g. grammar g (more c.args.place.inside Product (root c.in_ok-front.front.tree))) c.args.room (height (root c.in_ok-front.front.tree)) c.power.new.tokens c.more.new.tokens (root n.tree)) (λ n. IsReadBy c.args.place.names Sort.expr (λ g. grammar g (chain c.args.place.inside Product)) c.args.room 0 c.args.tokens.now c.more.new.tokens (root n.tree)) c.more.result c.more.ensures.read
+    (λ n v. record {
+      reads = λ g a. reads (reads (r.reads g a) gives) (reads (v.reads g a) gives);
+      fits = v.fits;
+      tokens = omega (arith, v.tokens, r.tokens);
+    })
+
+pub levels::product-returns-clause-failed : goal.levels::product-returns-clause-failed
+unfolding grammar
+levels::product-returns-clause-failed t c =
+    let r = c.in_ok-front.ensures.read in
+    if_err (λ f. HasFailedBy c.args.place.names true Sort.expr (λ g. grammar g (more c.args.place.inside Product (root c.in_ok-front.front.tree))) c.args.room (height (root c.in_ok-front.front.tree)) c.power.new.tokens c.more.new.tokens f) (λ f. HasFailedBy c.args.place.names true Sort.expr (λ g. grammar g (chain c.args.place.inside Product)) c.args.room 0 c.args.tokens.now c.more.new.tokens f) c.more.result c.more.ensures.failed
+    (λ f w. record {
+      fails = λ g b. then_fails (reads (r.reads g (told_admits f c.args.place.names g b)) gives) (phrase_fails (w.fails g b));
+      stands = w.stands;
+      deep = λ h g ok. then_deepens (reads (r.reads g ok) gives) (phrase_deepens (w.deep h g ok) (λ e g. g));
+      long = λ h. let l = w.long h in omega (arith, l, r.tokens);
+    })
+
+pub levels::more-returns-then-not-is_at_operator-clause-read : goal.levels::more-returns-then-not-is_at_operator-clause-read
+unfolding grammar
+levels::more-returns-then-not-is_at_operator-clause-read t c =
+    record {
+      reads = λ g a. misses (sym c.is_at_operator.ensures ∙ c.if-not-is_at_operator.true) gives;
+      fits = omega (arith, c.requires, c.args.front.in_step);
+      tokens = omega (arith);
+    }
+
+pub levels::further-loop-operator-init : goal.levels::further-loop-operator-init
+levels::further-loop-operator-init t c =
     record {
       moves = search rules;
       goes_on = record {
-        reads = λ g a e u d. reads (r.reads g a) (reads d gives);
-        fails = λ g a u d. then_fails (r.reads g a) (phrase_fails d);
-        deep = λ g ok n u d. then_deepens (r.reads g ok) (phrase_deepens d (λ e g. g));
+        reads = λ g a e u d. d;
+        fails = λ g a u d. d;
+        deep = λ g ok n u d. d;
       };
-      fits = omega (arith, r.fits, c.in_ok-front.front.in_step);
-      tokens = omega (arith, r.tokens, c.in_ok-front.front.in_step);
+      fits = c.requires;
+      tokens = omega (arith);
     }
 
-pub levels::chain-returns-in_err-room_beside-clause-failed : goal.levels::chain-returns-in_err-room_beside-clause-failed
+pub levels::further-returns-in_err-room_beside-clause-failed : goal.levels::further-returns-in_err-room_beside-clause-failed
 unfolding grammar
-levels::chain-returns-in_err-room_beside-clause-failed t c =
-    let p = err_from_is_err_and c.from_residual-in_err-room_beside.result c.from_residual-in_err-room_beside.ensures.1 in
+levels::further-returns-in_err-room_beside-clause-failed t c =
+    let p = err_from_is_err_and c.from_residual.result c.from_residual.ensures.1 in
     let o = c.in-Some.ensures in
     let i = c.loop-operator.invariant in
-    passed _ p.1 p.2 (too_high c.in_err-room_beside.ensures.0 (λ g ok. i.goes_on.deep g ok _ _ (took_deepens {b = false} o.2 (ap is_some o.1) (rw o.1 (meets_at_once can_read (λ a _ e q. omega (arith, q, c.in_err-room_beside.ensures.1, c.loop-operator.front.in_step, joined_height c.in-Some.operator (root c.loop-operator.front.tree) a)))))) (omega (arith, c.in_err-room_beside.ensures.1, i.tokens, o.2.at)))
+    passed _ p.1 p.2 (too_high c.in_err-room_beside.ensures.0 (λ g ok. i.goes_on.deep g ok _ _ (took_deepens {b = false} o.2 (ap is_some o.1) (rw o.1 (meets_at_once can_read (λ a _ e q. omega (arith, q, c.in_err-room_beside.ensures.1, c.loop-operator.joined.in_step, joined_height c.in-Some.operator (root c.loop-operator.joined.tree) a)))))) (omega (arith, c.in_err-room_beside.ensures.1, i.tokens, c.args.front.in_step, o.2.at)))
 
-pub levels::chain-returns-in_err-next-clause-failed : goal.levels::chain-returns-in_err-next-clause-failed
+pub levels::further-returns-in_err-next-clause-failed : goal.levels::further-returns-in_err-next-clause-failed
 unfolding grammar
-levels::chain-returns-in_err-next-clause-failed t c =
+levels::further-returns-in_err-next-clause-failed t c =
     let p = err_from_is_err_and c.from_residual-in_err-next.result c.from_residual-in_err-next.ensures.1 in
     let w = c.in_err-next.ensures.failed in
     let o = c.in-Some.ensures in
@@ -210,48 +342,48 @@ levels::chain-returns-in_err-next-clause-failed t c =
     passed _ p.1 p.2 (record {
       fails = λ g b. i.goes_on.fails g (told_admits _ c.args.place.names g b) _ (took_fails o.2 (ap is_some o.1) (rw o.1 (phrase_fails (w.fails g b))));
       stands = w.stands;
-      deep = λ h g ok. i.goes_on.deep g ok _ _ (took_deepens {b = true} o.2 (ap is_some o.1) (rw o.1 (phrase_deepens (w.deep h g ok) (λ a g e q. omega (arith, g, q, c.in_ok-room_beside.ensures.0, joined_height c.in-Some.operator (root c.loop-operator.front.tree) a)))));
-      long = λ h. let l = w.long h in omega (arith, l, i.tokens, o.2.at, c.in_ok-room_beside.ensures.0);
+      deep = λ h g ok. i.goes_on.deep g ok _ _ (took_deepens {b = true} o.2 (ap is_some o.1) (rw o.1 (phrase_deepens (w.deep h g ok) (λ a g e q. omega (arith, g, q, c.in_ok-room_beside.ensures.0, joined_height c.in-Some.operator (root c.loop-operator.joined.tree) a)))));
+      long = λ h. let l = w.long h in omega (arith, l, i.tokens, c.args.front.in_step, o.2.at, c.in_ok-room_beside.ensures.0);
     })
 
-pub levels::chain-returns-in_err-front-2-clause-failed : goal.levels::chain-returns-in_err-front-2-clause-failed
-levels::chain-returns-in_err-front-2-clause-failed t c =
-    let p = err_from_is_err_and c.from_residual-in_err-front-2.result c.from_residual-in_err-front-2.ensures.1 in
-    let higher = joined_height c.in-Some.operator (root c.loop-operator.front.tree) (root c.in_ok-next.next.tree) in
-    passed _ p.1 p.2 (not_made (joined c.in-Some.operator (root c.loop-operator.front.tree) (root c.in_ok-next.next.tree)) c.in_err-front-2.ensures (omega (arith, higher, c.in_ok-room_beside.ensures.0, c.in_ok-room_beside.ensures.1, c.loop-operator.front.in_step, c.in_ok-next.ensures.read.fits)))
+pub levels::further-returns-in_err-joined-clause-failed : goal.levels::further-returns-in_err-joined-clause-failed
+levels::further-returns-in_err-joined-clause-failed t c =
+    let p = err_from_is_err_and c.from_residual-in_err-joined.result c.from_residual-in_err-joined.ensures.1 in
+    let higher = joined_height c.in-Some.operator (root c.loop-operator.joined.tree) (root c.in_ok-next.next.tree) in
+    passed _ p.1 p.2 (not_made (joined c.in-Some.operator (root c.loop-operator.joined.tree) (root c.in_ok-next.next.tree)) c.in_err-joined.ensures (omega (arith, higher, c.in_ok-room_beside.ensures.0, c.in_ok-room_beside.ensures.1, c.loop-operator.joined.in_step, c.in_ok-next.ensures.read.fits)))
 
-pub levels::chain-loop-operator-preserved : goal.levels::chain-loop-operator-preserved
+pub levels::further-loop-operator-preserved : goal.levels::further-loop-operator-preserved
 unfolding grammar
-levels::chain-loop-operator-preserved t c =
+levels::further-loop-operator-preserved t c =
     let n = c.in_ok-next.ensures.read in
     let o = c.in-Some.ensures in
     let i = c.loop-operator.invariant in
-    let higher = joined_height c.in-Some.operator (root c.loop-operator.front.tree) (root c.in_ok-next.next.tree) in
+    let higher = joined_height c.in-Some.operator (root c.loop-operator.joined.tree) (root c.in_ok-next.next.tree) in
     record {
       moves = search rules;
-      goes_on = rw c.in_ok-front-2.ensures.0 (record {
+      goes_on = rw c.in_ok-joined.ensures.0 (record {
         reads = λ g a e r d. i.goes_on.reads g a e r (took o.2 (ap is_some o.1) (rw o.1 (reads (n.reads g a) (reads d gives))));
         fails = λ g a r d. i.goes_on.fails g a r (took_fails o.2 (ap is_some o.1) (rw o.1 (then_fails (n.reads g a) (phrase_fails d))));
         deep = λ g ok m r d. i.goes_on.deep g ok m r (took_deepens {b = true} o.2 (ap is_some o.1) (rw o.1 (then_deepens (n.reads g ok) (phrase_deepens d (λ e g. g)))));
       });
-      fits = c.in_ok-front-2.ensures.1;
-      tokens = omega (arith, c.in_ok-front-2.ensures.2, higher, c.loop-operator.front.in_step, c.in_ok-next.next.in_step, n.tokens, i.tokens, o.2.at);
+      fits = c.in_ok-joined.ensures.1;
+      tokens = omega (arith, c.in_ok-joined.ensures.2, higher, c.loop-operator.joined.in_step, c.in_ok-next.next.in_step, n.tokens, i.tokens, c.args.front.in_step, o.2.at);
     }
 
-pub levels::chain-returns-clause-read : goal.levels::chain-returns-clause-read
+pub levels::further-returns-clause-read : goal.levels::further-returns-clause-read
 unfolding grammar
-levels::chain-returns-clause-read t c =
+levels::further-returns-clause-read t c =
     let i = c.loop-operator.invariant in
     record {
       reads = λ g a. i.goes_on.reads g a _ _ (stayed c.in_default.ensures gives);
-      fits = omega (arith, i.fits, c.loop-operator.front.in_step);
-      tokens = omega (arith, i.tokens, c.loop-operator.front.in_step, c.in_default.ensures.at);
+      fits = omega (arith, i.fits, c.loop-operator.joined.in_step);
+      tokens = omega (arith, i.tokens, c.args.front.in_step, c.loop-operator.joined.in_step, c.in_default.ensures.at);
     }
 
 pub levels::operand-returns-in-Logic-clause-read : goal.levels::operand-returns-in-Logic-clause-read
 unfolding grammar
 levels::operand-returns-in-Logic-clause-read t c =
-    if_ok (λ n. IsRead c.args.place.names (chain c.args.place.inside Relation) c.args.room c.args.tokens.now c.chain.new.tokens (root n.tree)) (λ n. IsReadBy c.args.place.names Sort.expr (λ g. grammar g (operand c.args.place.inside c.args.level)) c.args.room 0 c.args.tokens.now c.chain.new.tokens (root n.tree)) c.chain.result c.chain.ensures.read
+    if_ok (λ n. IsRead c.args.place.names (chain c.args.place.inside Relation) c.args.room c.args.tokens.now c.relation.new.tokens (root n.tree)) (λ n. IsReadBy c.args.place.names Sort.expr (λ g. grammar g (operand c.args.place.inside c.args.level)) c.args.room 0 c.args.tokens.now c.relation.new.tokens (root n.tree)) c.relation.result c.relation.ensures.read
     (λ n v. record {
       reads = λ g a. rw c.in-Logic.is (reads (v.reads g a) gives);
       fits = omega (arith, v.fits);
@@ -261,7 +393,7 @@ levels::operand-returns-in-Logic-clause-read t c =
 pub levels::operand-returns-in-Logic-clause-failed : goal.levels::operand-returns-in-Logic-clause-failed
 unfolding grammar
 levels::operand-returns-in-Logic-clause-failed t c =
-    if_err (λ f. HasFailed c.args.place.names (chain c.args.place.inside Relation) c.args.room c.args.tokens.now c.chain.new.tokens f) (λ f. HasFailedBy c.args.place.names true Sort.expr (λ g. grammar g (operand c.args.place.inside c.args.level)) c.args.room 0 c.args.tokens.now c.chain.new.tokens f) c.chain.result c.chain.ensures.failed
+    if_err (λ f. HasFailed c.args.place.names (chain c.args.place.inside Relation) c.args.room c.args.tokens.now c.relation.new.tokens f) (λ f. HasFailedBy c.args.place.names true Sort.expr (λ g. grammar g (operand c.args.place.inside c.args.level)) c.args.room 0 c.args.tokens.now c.relation.new.tokens f) c.relation.result c.relation.ensures.failed
     (λ f w. record {
       fails = λ g b. rw c.in-Logic.is (phrase_fails (w.fails g b));
       stands = w.stands;
@@ -272,7 +404,7 @@ levels::operand-returns-in-Logic-clause-failed t c =
 pub levels::operand-returns-in-Relation-clause-read : goal.levels::operand-returns-in-Relation-clause-read
 unfolding grammar
 levels::operand-returns-in-Relation-clause-read t c =
-    if_ok (λ n. IsRead c.args.place.names (chain c.args.place.inside Sum) c.args.room c.args.tokens.now c.chain-in-Relation.new.tokens (root n.tree)) (λ n. IsReadBy c.args.place.names Sort.expr (λ g. grammar g (operand c.args.place.inside c.args.level)) c.args.room 0 c.args.tokens.now c.chain-in-Relation.new.tokens (root n.tree)) c.chain-in-Relation.result c.chain-in-Relation.ensures.read
+    if_ok (λ n. IsRead c.args.place.names (chain c.args.place.inside Sum) c.args.room c.args.tokens.now c.sum.new.tokens (root n.tree)) (λ n. IsReadBy c.args.place.names Sort.expr (λ g. grammar g (operand c.args.place.inside c.args.level)) c.args.room 0 c.args.tokens.now c.sum.new.tokens (root n.tree)) c.sum.result c.sum.ensures.read
     (λ n v. record {
       reads = λ g a. rw c.in-Relation.is (reads (v.reads g a) gives);
       fits = omega (arith, v.fits);
@@ -282,7 +414,7 @@ levels::operand-returns-in-Relation-clause-read t c =
 pub levels::operand-returns-in-Relation-clause-failed : goal.levels::operand-returns-in-Relation-clause-failed
 unfolding grammar
 levels::operand-returns-in-Relation-clause-failed t c =
-    if_err (λ f. HasFailed c.args.place.names (chain c.args.place.inside Sum) c.args.room c.args.tokens.now c.chain-in-Relation.new.tokens f) (λ f. HasFailedBy c.args.place.names true Sort.expr (λ g. grammar g (operand c.args.place.inside c.args.level)) c.args.room 0 c.args.tokens.now c.chain-in-Relation.new.tokens f) c.chain-in-Relation.result c.chain-in-Relation.ensures.failed
+    if_err (λ f. HasFailed c.args.place.names (chain c.args.place.inside Sum) c.args.room c.args.tokens.now c.sum.new.tokens f) (λ f. HasFailedBy c.args.place.names true Sort.expr (λ g. grammar g (operand c.args.place.inside c.args.level)) c.args.room 0 c.args.tokens.now c.sum.new.tokens f) c.sum.result c.sum.ensures.failed
     (λ f w. record {
       fails = λ g b. rw c.in-Relation.is (phrase_fails (w.fails g b));
       stands = w.stands;
@@ -293,7 +425,7 @@ levels::operand-returns-in-Relation-clause-failed t c =
 pub levels::operand-returns-in-Sum-clause-read : goal.levels::operand-returns-in-Sum-clause-read
 unfolding grammar
 levels::operand-returns-in-Sum-clause-read t c =
-    if_ok (λ n. IsRead c.args.place.names (chain c.args.place.inside Product) c.args.room c.args.tokens.now c.chain-in-Sum.new.tokens (root n.tree)) (λ n. IsReadBy c.args.place.names Sort.expr (λ g. grammar g (operand c.args.place.inside c.args.level)) c.args.room 0 c.args.tokens.now c.chain-in-Sum.new.tokens (root n.tree)) c.chain-in-Sum.result c.chain-in-Sum.ensures.read
+    if_ok (λ n. IsRead c.args.place.names (chain c.args.place.inside Product) c.args.room c.args.tokens.now c.product.new.tokens (root n.tree)) (λ n. IsReadBy c.args.place.names Sort.expr (λ g. grammar g (operand c.args.place.inside c.args.level)) c.args.room 0 c.args.tokens.now c.product.new.tokens (root n.tree)) c.product.result c.product.ensures.read
     (λ n v. record {
       reads = λ g a. rw c.in-Sum.is (reads (v.reads g a) gives);
       fits = omega (arith, v.fits);
@@ -303,7 +435,7 @@ levels::operand-returns-in-Sum-clause-read t c =
 pub levels::operand-returns-in-Sum-clause-failed : goal.levels::operand-returns-in-Sum-clause-failed
 unfolding grammar
 levels::operand-returns-in-Sum-clause-failed t c =
-    if_err (λ f. HasFailed c.args.place.names (chain c.args.place.inside Product) c.args.room c.args.tokens.now c.chain-in-Sum.new.tokens f) (λ f. HasFailedBy c.args.place.names true Sort.expr (λ g. grammar g (operand c.args.place.inside c.args.level)) c.args.room 0 c.args.tokens.now c.chain-in-Sum.new.tokens f) c.chain-in-Sum.result c.chain-in-Sum.ensures.failed
+    if_err (λ f. HasFailed c.args.place.names (chain c.args.place.inside Product) c.args.room c.args.tokens.now c.product.new.tokens f) (λ f. HasFailedBy c.args.place.names true Sort.expr (λ g. grammar g (operand c.args.place.inside c.args.level)) c.args.room 0 c.args.tokens.now c.product.new.tokens f) c.product.result c.product.ensures.failed
     (λ f w. record {
       fails = λ g b. rw c.in-Sum.is (phrase_fails (w.fails g b));
       stands = w.stands;
@@ -394,12 +526,12 @@ levels::unary-returns-in_err-operand-clause-failed t c =
 pub levels::unary-returns-clause-read : goal.levels::unary-returns-clause-read
 unfolding grammar
 levels::unary-returns-clause-read t c =
-    made c.args.place.names (λ g. grammar g (unary c.args.place.inside)) c.args.room 0 c.args.tokens.now c.unsigned.new.tokens (negations c.take_minuses-minuses.result (root c.in_ok-operand.operand.tree)) c.negate_times.result c.negate_times.ensures (λ g a. reads_from c.take_minuses-minuses.ensures.tokens (minuses_read g c.args.place.inside c.take_minuses-minuses.result (c.in_ok-operand.ensures.read.reads g a))) (omega (arith, c.in_ok-operand.ensures.read.tokens, c.take_minuses-minuses.ensures.at, negations_lower c.take_minuses-minuses.result (root c.in_ok-operand.operand.tree)))
+    made c.args.place.names (λ g. grammar g (unary c.args.place.inside)) c.args.room 0 c.args.tokens.now c.unsigned-2.new.tokens (negations c.take_minuses-minuses.result (root c.in_ok-operand.operand.tree)) c.negate_times.result c.negate_times.ensures (λ g a. reads_from c.take_minuses-minuses.ensures.tokens (minuses_read g c.args.place.inside c.take_minuses-minuses.result (c.in_ok-operand.ensures.read.reads g a))) (omega (arith, c.in_ok-operand.ensures.read.tokens, c.take_minuses-minuses.ensures.at, negations_lower c.take_minuses-minuses.result (root c.in_ok-operand.operand.tree)))
 
 pub levels::unary-returns-clause-failed : goal.levels::unary-returns-clause-failed
 unfolding grammar
 levels::unary-returns-clause-failed t c =
-    no_leaf c.args.place.names true (λ g. grammar g (unary c.args.place.inside)) c.args.room 0 c.args.tokens.now c.unsigned.new.tokens (negations c.take_minuses-minuses.result (root c.in_ok-operand.operand.tree)) c.negate_times.result c.negate_times.ensures
+    no_leaf c.args.place.names true (λ g. grammar g (unary c.args.place.inside)) c.args.room 0 c.args.tokens.now c.unsigned-2.new.tokens (negations c.take_minuses-minuses.result (root c.in_ok-operand.operand.tree)) c.negate_times.result c.negate_times.ensures
     (λ high g ok. deepens_from c.take_minuses-minuses.ensures.tokens (minuses_late c.args.place.inside c.take_minuses-minuses.result c.args.room (root c.in_ok-operand.operand.tree) (c.in_ok-operand.ensures.read.reads g ok) (omega (arith, c.in_ok-operand.ensures.read.fits, c.behind_minuses.ensures)) high))
     (λ high. omega (arith, high, c.in_ok-operand.ensures.read.tokens, c.take_minuses-minuses.ensures.at, negations_lower c.take_minuses-minuses.result (root c.in_ok-operand.operand.tree)))
 
@@ -1360,9 +1492,14 @@ members::arguments-returns-clause-failed t c =
       long = w.long;
     })
 
+pub members::members-returns-in_err-found-clause-failed : goal.members::members-returns-in_err-found-clause-failed
+members::members-returns-in_err-found-clause-failed t c =
+    let p = err_from_is_err_and c.from_residual.result c.from_residual.ensures.1 in
+    passed _ p.1 p.2 (no_memory c.in_err-found.ensures.err)
+
 pub members::members-returns-in_err-next-clause-failed : goal.members::members-returns-in_err-next-clause-failed
 members::members-returns-in_err-next-clause-failed t c =
-    let p = err_from_is_err_and c.from_residual.result c.from_residual.ensures.1 in
+    let p = err_from_is_err_and c.from_residual-in_err-next.result c.from_residual-in_err-next.ensures.1 in
     let w = c.in_err-next.ensures.failed in
     let i = c.loop-found.invariant in
     passed _ p.1 p.2 (record {

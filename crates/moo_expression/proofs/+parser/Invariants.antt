@@ -1,18 +1,10 @@
 -- Each call leaves fewer tokens to read, or goes to a tighter level of the grammar.
-use Rattle.std.proofs.Common.{ℕ, ◌+◌, ◌-◌, ◌*◌, ◌≤◌, length}
+use Rattle.std.proofs.Common.{◌+◌, ◌-◌, ◌*◌, ◌≤◌, length}
 use Rattle.moo_program.specs.View.{root, in_front}
-use Rattle.moo_grammar.specs.declared.level.Level.{Level}
-use Rattle.moo_grammar.specs.declared.level.Level.TheVariants.{Logic, Relation, Sum, Product}
 use Rattle.moo_expression.specs.Cursor.{left}
-use Rattle.moo_grammar.specs.Grammar.{chain, more, members}
+use Rattle.moo_grammar.specs.Grammar.{more, members}
 use Rattle.moo_expression.specs.Outcome.{Moves, GoesOn}
 use Rattle.moo_expression.proofs.+parser.Given as goal
-
-abbrev pub level_rank : Level → ℕ
-level_rank Logic = 3
-level_rank Relation = 2
-level_rank Sum = 1
-level_rank Product = 0
 
 abbrev pub decreases-members::arguments : goal.decreases-members::arguments
 decreases-members::arguments l = 40 * (length l.tokens.now.spots.now - l.tokens.now.at) + 29
@@ -80,22 +72,37 @@ decreases-levels::unary l = 40 * (length l.tokens.now.spots.now - l.tokens.now.a
 abbrev pub decreases-levels::unsigned : goal.decreases-levels::unsigned
 decreases-levels::unsigned l = 40 * (length l.tokens.now.spots.now - l.tokens.now.at) + 12
 
-abbrev pub decreases-levels::chain : goal.decreases-levels::chain
-decreases-levels::chain l = 40 * (length l.tokens.now.spots.now - l.tokens.now.at) + (2 * level_rank l.level + 16)
+abbrev pub decreases-levels::logic : goal.decreases-levels::logic
+decreases-levels::logic l = 40 * (length l.tokens.now.spots.now - l.tokens.now.at) + 24
+
+abbrev pub decreases-levels::relation : goal.decreases-levels::relation
+decreases-levels::relation l = 40 * (length l.tokens.now.spots.now - l.tokens.now.at) + 23
+
+abbrev pub decreases-levels::sum : goal.decreases-levels::sum
+decreases-levels::sum l = 40 * (length l.tokens.now.spots.now - l.tokens.now.at) + 22
+
+abbrev pub decreases-levels::product : goal.decreases-levels::product
+decreases-levels::product l = 40 * (length l.tokens.now.spots.now - l.tokens.now.at) + 21
+
+abbrev pub decreases-levels::more : goal.decreases-levels::more
+decreases-levels::more l = 40 * (length l.tokens.now.spots.now - l.tokens.now.at) + 16
+
+abbrev pub decreases-levels::further : goal.decreases-levels::further
+decreases-levels::further l = 40 * (length l.tokens.now.spots.now - l.tokens.now.at) + 15
 
 abbrev pub decreases-levels::operand : goal.decreases-levels::operand
-decreases-levels::operand l = 40 * (length l.tokens.now.spots.now - l.tokens.now.at) + (2 * level_rank l.level + 15)
+decreases-levels::operand l = 40 * (length l.tokens.now.spots.now - l.tokens.now.at) + 24
 
-abbrev pub invariant-levels::chain-loop-operator : goal.invariant-levels::chain-loop-operator
-invariant-levels::chain-loop-operator l = record {
+abbrev pub invariant-levels::further-loop-operator : goal.invariant-levels::further-loop-operator
+invariant-levels::further-loop-operator l = record {
   moves : Moves l.fn.tokens l.tokens;
-  goes_on : GoesOn l.place.names (chain l.place.inside l.level) (more l.place.inside l.level (root l.front.tree)) (λ e. e) (left l.fn.tokens) (left l.tokens);
-  fits : l.front.height ≤ l.room;
-  tokens : l.fn.tokens.at + l.front.height ≤ l.tokens.at;
+  goes_on : GoesOn l.place.names (more l.place.inside l.level (root l.fn.front.tree)) (more l.place.inside l.level (root l.joined.tree)) (λ e. e) (left l.fn.tokens) (left l.tokens);
+  fits : l.joined.height ≤ l.room;
+  tokens : l.fn.tokens.at + l.joined.height ≤ l.tokens.at + l.fn.front.height;
 }
 
-abbrev pub decreases-levels::chain-loop-operator : goal.decreases-levels::chain-loop-operator
-decreases-levels::chain-loop-operator l = length l.tokens.spots.now - l.tokens.at
+abbrev pub decreases-levels::further-loop-operator : goal.decreases-levels::further-loop-operator
+decreases-levels::further-loop-operator l = length l.tokens.spots.now - l.tokens.at
 
 abbrev pub invariant-members::members-loop-found : goal.invariant-members::members-loop-found
 invariant-members::members-loop-found l = record {

@@ -11,5 +11,5 @@ mod syntax_fault;
 pub use moo_grammar::{Names, Program};
 pub use moo_program::operator::{BinaryOperator, LogicOperator, UnaryOperator};
 pub use moo_program::{Arm, Codes, Expr, Handler, Item, Literal, Stmt};
-pub use reader::parse;
+pub use reader::{parse, parse_with};
 pub use syntax_fault::{SyntaxFault, SyntaxFaultKind};

@@ -14,7 +14,7 @@ use crate::syntax_fault::{SyntaxFault, SyntaxFaultKind};
 use moo_expression::{Cursor, Fault};
 use moo_grammar::{Names, Program};
 use moo_program::{MOST_NODES, Stmt, fit_lines};
-use moo_token::{Sign, Spot, tokens};
+use moo_token::{Known, Sign, Spot, tokens_with};
 use moo_value::MooStr;
 use std::alloc::Global;
 
@@ -23,7 +23,20 @@ pub fn parse(alloc: Global, lines: &[MooStr], names: Names) -> Result<Program, S
     ensures program { IfOk result (λ p. IsParsed names lines.now p) }
     ensures fault { IfErr result (λ f. Blames names lines.now f.line f.kind) }
 {
-    let Ok(spots) = tokens(alloc, lines) else {
+    parse_with(alloc, &mut Known::new(alloc), lines, names)
+}
+
+/// The same, where names that are known have the strings that they had before.
+pub fn parse_with(
+    alloc: Global,
+    known: &mut Known,
+    lines: &[MooStr],
+    names: Names,
+) -> Result<Program, SyntaxFault>
+    ensures program { IfOk result (λ p. IsParsed names lines.now p) }
+    ensures fault { IfErr result (λ f. Blames names lines.now f.line f.kind) }
+{
+    let Ok(spots) = tokens_with(alloc, known, lines) else {
         return Err(SyntaxFault {
             line: lines.len(),
             kind: SyntaxFaultKind::Memory,

@@ -30,7 +30,7 @@ pub fn statements(
     ensures read { IfOk result (λ v. IsRead names (grammar.statements (reverse loops.old.items)) room tokens.old tokens.new (block v.items)) }
     ensures failed { IfErr result (λ f. HasFailed names (grammar.statements (reverse loops.old.items)) room tokens.old tokens.new f) }
 {
-    let mut found = Vec::new(alloc);
+    let mut found = Vec::with_capacity(alloc, 2)?;
     while tokens.is_at_statement() {
         if tokens.take(Sign::Semicolon) {
             continue;

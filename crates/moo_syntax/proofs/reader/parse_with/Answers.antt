@@ -1,6 +1,6 @@
 use Rattle.moo_program.specs.View.{block}
 use Rattle.moo_syntax.proofs.Sound.{parsed, has_text}
-use Rattle.moo_syntax.proofs.reader.parse.Goals as goal
+use Rattle.moo_syntax.proofs.reader.parse_with.Goals as goal
 
 pub try_new-requires-clause-text : goal.try_new-requires-clause-text
 try_new-requires-clause-text c =

@@ -27,9 +27,9 @@ pub statements-loop-alloc-init : goal.statements-loop-alloc-init
 statements-loop-alloc-init t c = record {
   moves = search rules;
   loops = refl;
-  goes_on = rw c.new-found.ensures.items (record { reads = λ g a e r d. d; fails = λ g a r d. d; deep = λ g ok n r d. d });
-  fits = rw c.new-found.ensures.items (omega arith);
-  tokens = rw c.new-found.ensures.items (omega arith);
+  goes_on = rw c.in_ok-found.ensures.items (record { reads = λ g a e r d. d; fails = λ g a r d. d; deep = λ g ok n r d. d });
+  fits = rw c.in_ok-found.ensures.items (omega arith);
+  tokens = rw c.in_ok-found.ensures.items (omega arith);
 }
 
 pub statements-loop-alloc-preserved-then-take : goal.statements-loop-alloc-preserved-then-take
@@ -72,10 +72,15 @@ pub statements-loop-alloc-smaller : goal.statements-loop-alloc-smaller
 statements-loop-alloc-smaller t c =
     omega (arith, c.in_ok-next.ensures.read.tokens, statement_height_positive (tree_of c.in_ok-next.next), c.if-take.ensures.at, ap length c.in_ok-next.ensures.moves.spots, ap length c.if-take.ensures.spots, c.statement.new.tokens.in_range, c.loop-alloc.tokens.in_range)
 
+pub statements-returns-in_err-found-clause-failed : goal.statements-returns-in_err-found-clause-failed
+statements-returns-in_err-found-clause-failed t c =
+    let p = err_from_is_err_and c.from_residual.result c.from_residual.ensures.1 in
+    passed _ p.1 p.2 (no_memory refl)
+
 pub statements-returns-in_err-next-clause-failed : goal.statements-returns-in_err-next-clause-failed
 unfolding grammar
 statements-returns-in_err-next-clause-failed t c =
-    let p = err_from_is_err_and c.from_residual.result c.from_residual.ensures.1 in
+    let p = err_from_is_err_and c.from_residual-in_err-next.result c.from_residual-in_err-next.ensures.1 in
     let i = c.loop-alloc.invariant in
     let w = rw i.loops at c.in_err-next.ensures.failed in
     let begins = sym c.is_at_statement.ensures ∙ c.loop-alloc-test.true in

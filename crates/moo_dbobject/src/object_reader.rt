@@ -98,6 +98,11 @@ fn empty(alloc: Global) -> BodyDraft
     }
 }
 
+// For how many of so many verbs, names or cells there is room at first.
+fn first_room(count: u32) -> usize {
+    count.min(64) as usize
+}
+
 fn no_verb() -> VerbDraft
     ensures { part_verb_of result ≡ fresh_draft.verb }
 {
@@ -296,7 +301,9 @@ impl ObjectReader {
                 Ok(false)
             }
             Awaited::VerbCount => {
-                self.expect_verbs(bounded_count(line)?);
+                let count = bounded_count(line)?;
+                self.body.verbs.reserve_exact(first_room(count))?;
+                self.expect_verbs(count);
                 Ok(false)
             }
             Awaited::VerbNames => {
@@ -320,7 +327,9 @@ impl ObjectReader {
                 Ok(false)
             }
             Awaited::NameCount => {
-                self.expect_names(bounded_count(line)?);
+                let count = bounded_count(line)?;
+                self.body.names.reserve_exact(first_room(count))?;
+                self.expect_names(count);
                 Ok(false)
             }
             Awaited::PropertyName => {
@@ -330,6 +339,7 @@ impl ObjectReader {
             }
             Awaited::CellCount => {
                 let count = bounded_count(line)?;
+                self.body.cells.reserve_exact(first_room(count))?;
                 Ok(self.expect_cells(count))
             }
             Awaited::Value if self.is_clear(line) => {

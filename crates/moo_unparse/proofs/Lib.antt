@@ -15,3 +15,4 @@ pub mod Refusals
 pub mod Scatters
 pub mod Sound
 pub mod Texts
+pub mod Written

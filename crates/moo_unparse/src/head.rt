@@ -21,7 +21,7 @@ pub(crate) fn keyword_line(
 ) -> Result<Line, AllocError>
     ensures { IfOk result (λ line. line ≡ margin.now ++ keyword_text keyword) }
 {
-    let mut line = margin.try_clone(alloc)?;
+    let mut line = margin.begin(alloc)?;
     line.keyword(keyword)?;
     Ok(line)
 }
@@ -34,7 +34,7 @@ pub(crate) fn head_line(
 ) -> Result<Line, AllocError>
     ensures { IfOk result (λ line. line ≡ margin.now ++ head parentheses (tree_of statement.now)) }
 {
-    let mut line = margin.try_clone(alloc)?;
+    let mut line = margin.begin(alloc)?;
     write_head(parentheses, statement, &mut line)?;
     Ok(line)
 }
@@ -47,7 +47,7 @@ pub(crate) fn elseif_line(
 ) -> Result<Line, AllocError>
     ensures { IfOk result (λ line. line ≡ margin.now ++ elseif_head parentheses (tree condition.now)) }
 {
-    let mut line = margin.try_clone(alloc)?;
+    let mut line = margin.begin(alloc)?;
     line.keyword(Keyword::ElseIf)?;
     write_condition(parentheses, condition, &mut line)?;
     Ok(line)
@@ -61,7 +61,7 @@ pub(crate) fn except_line(
 ) -> Result<Line, AllocError>
     ensures { IfOk result (λ line. line ≡ margin.now ++ except_head parentheses None (codes_of errors.now)) }
 {
-    let mut line = margin.try_clone(alloc)?;
+    let mut line = margin.begin(alloc)?;
     line.keyword(Keyword::Except)?;
     write_errors(parentheses, errors, &mut line)?;
     Ok(line)
@@ -76,7 +76,7 @@ pub(crate) fn except_as_line(
 ) -> Result<Line, AllocError>
     ensures { IfOk result (λ line. line ≡ margin.now ++ except_head parentheses (Some name.now) (codes_of errors.now)) }
 {
-    let mut line = margin.try_clone(alloc)?;
+    let mut line = margin.begin(alloc)?;
     line.keyword(Keyword::Except)?;
     line.blank()?;
     line.text(name.as_bytes())?;

@@ -13,4 +13,4 @@ mod literal;
 mod operator;
 
 pub use fault::{ListFault, Memory};
-pub use listing::{list_full, list_full_indented, list_short};
+pub use listing::{list_full, list_full_indented, list_short, write_full};

@@ -1,5 +1,5 @@
 //! A line that is being written.
-ghost use Rattle.std.specs.Prelude.{◌≡◌, ◌<◌, ◌∷◌, ◌++◌, codes, IfOk, IfErr, OnOk};
+ghost use Rattle.std.specs.Prelude.{◌≡◌, ◌<◌, ◌∷◌, ◌++◌, [], codes, IfOk, IfErr, OnOk};
 ghost use Rattle.std.specs.Fmt.{signed_decimal};
 ghost use Rattle.moo_value.specs.Tree.{IsTextByte, IsText};
 ghost use Rattle.moo_value.specs.Text.{quoted};
@@ -14,6 +14,9 @@ use moo_token::{Keyword, Sign};
 use moo_value::{MooStr, ValueFault, write_quoted};
 use std::alloc::{AllocError, Global};
 use std::marker::Model;
+
+/// For how many bytes a line has room at first.
+const ROOM: usize = 120;
 
 /// The bytes of a line so far, all of which may stand in a string.
 #[derive(Drop)]
@@ -45,6 +48,15 @@ impl Line {
         ensures { IfOk result (λ line. line ≡ self.now) }
     {
         let bytes = Vec::from_slice(alloc, &self.bytes)?;
+        Ok(Line { bytes })
+    }
+
+    /// A line that begins as this one, with room for as much as most lines have.
+    pub(crate) fn begin(&self, alloc: Global) -> Result<Line, AllocError>
+        ensures { IfOk result (λ line. line ≡ self.now) }
+    {
+        let mut bytes = Vec::with_capacity(alloc, self.bytes.len().saturating_add(ROOM))?;
+        bytes.extend_from_slice(&self.bytes)?;
         Ok(Line { bytes })
     }
 
@@ -120,13 +132,23 @@ impl Line {
         Ok(())
     }
 
+    /// Appends the line and its end.
+    pub(crate) fn put(&self, out: &mut Vec<u8>) -> Result<(), AllocError>
+        ensures text { IsText self.now }
+        ensures line { OnOk result (out.new.items ≡ out.old.items ++ (self.now ++ 10 ∷ [])) }
+    {
+        out.extend_from_slice(&self.bytes)?;
+        out.push(b'\n')?;
+        Ok(())
+    }
+
     /// The line as a string, if it is short enough for one.
     pub(crate) fn into_string(self, alloc: Global) -> Result<MooStr, ListFault>
         ensures ok { IfOk result (λ s. s ≡ self) }
         ensures short { OnOk result (FitsLine self) }
         ensures refused { IfErr result (λ fault. IsRefusedLine fault self) }
     {
-        match MooStr::try_from_vec(alloc, self.bytes) {
+        match MooStr::try_from_bytes(alloc, &self.bytes) {
             Ok(string) => Ok(string),
             Err(ValueFault::Memory) => Err(ListFault::Memory),
             Err(ValueFault::TooHeavy) => Err(ListFault::TooHeavy),

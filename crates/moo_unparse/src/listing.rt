@@ -1,5 +1,8 @@
 //! Programs.
-ghost use Rattle.std.specs.Prelude.{◌≡◌, IfOk, IfErr};
+ghost use Rattle.std.specs.Prelude.{◌≡◌, ◌++◌, ◌∷◌, [], IfOk, IfErr, OnOk};
+ghost use Rattle.std.specs.List.{All, flat_map};
+ghost use Rattle.moo_value.specs.Size.{IsString};
+ghost use Rattle.moo_value.specs.Tree.{IsText};
 ghost use Rattle.moo_program.specs.View.{block};
 ghost use Rattle.moo_program.specs.Listing.{listing};
 ghost use Rattle.moo_unparse.specs.Listings.{listing_in, indented_listing, short_listing};
@@ -12,7 +15,7 @@ use crate::line::Line;
 use moo_grammar::Program;
 use moo_program::Stmt;
 use moo_value::MooStr;
-use std::alloc::Global;
+use std::alloc::{AllocError, Global};
 
 /// The full listing of a program: its lines, with each operand that is an operator or a conditional in
 /// parentheses. Without memory it is refused, and for no other reason.
@@ -28,6 +31,30 @@ pub fn list_full(alloc: Global, program: &Program) -> Result<Vec<MooStr>, Memory
         Err(ListFault::Memory) => Err(Memory),
         Err(ListFault::TooHeavy) => unreachable!(),
     }
+}
+
+/// Appends the full listing of a program, each line with its end.
+pub fn write_full(alloc: Global, program: &Program, out: &mut Vec<u8>) -> Result<(), AllocError>
+    ensures lines { OnOk result (out.new.items ≡ out.old.items ++ flat_map (λ line. line ++ 10 ∷ []) (listing program.now)) }
+    // Each of the lines is a string.
+    ensures strings { OnOk result (All IsString (listing program.now)) }
+{
+    let form = Form {
+        parentheses: Parentheses::All,
+        indent: false,
+    };
+    let lines = lines_in(alloc, form, program.statements())?;
+    put_lines(&lines, out)
+}
+
+fn put_lines(lines: &[Line], out: &mut Vec<u8>) -> Result<(), AllocError>
+    ensures text { OnOk result (All IsText lines.now) }
+    ensures lines { OnOk result (out.new.items ≡ out.old.items ++ flat_map (λ line. line ++ 10 ∷ []) lines.now) }
+{
+    for line in lines {
+        line.put(out)?;
+    }
+    Ok(())
 }
 
 /// The full listing of a program with two blanks before a line for each statement round it. It is refused where a line is
@@ -60,10 +87,17 @@ fn list_in(alloc: Global, form: Form, statements: &[Stmt]) -> Result<Vec<MooStr>
     ensures ok { IfOk result (λ lines. lines.items ≡ listing_in form (block statements.now)) }
     ensures refused { IfErr result (λ fault. IsRefusedListing fault (listing_in form (block statements.now))) }
 {
+    let lines = lines_in(alloc, form, statements)?;
+    strings(alloc, lines)
+}
+
+fn lines_in(alloc: Global, form: Form, statements: &[Stmt]) -> Result<Vec<Line>, AllocError>
+    ensures { IfOk result (λ lines. lines.items ≡ listing_in form (block statements.now)) }
+{
     let margin = Line::new(alloc);
     let mut lines = Vec::new(alloc);
     write_block(alloc, form, &margin, statements, &mut lines)?;
-    strings(alloc, lines)
+    Ok(lines)
 }
 
 fn strings(alloc: Global, lines: Vec<Line>) -> Result<Vec<MooStr>, ListFault>

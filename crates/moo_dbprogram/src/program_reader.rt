@@ -16,7 +16,8 @@ use crate::fault::kind_of_source;
 use crate::program_rows::put_program;
 use moo_dbrecord::{DbFault, DbFaultKind, DbReader, Dump, RecordFault, first_line};
 use moo_grammar::Program;
-use moo_syntax::{Names, parse};
+use moo_syntax::{Names, parse_with};
+use moo_token::Known;
 use std::alloc::Global;
 
 /// Takes a line with its end, and tells the verb whose program it ends.
@@ -42,6 +43,7 @@ fn take_line(
 /// The program of a verb's source.
 fn program_of(
     alloc: Global,
+    known: &mut Known,
     records: &DbReader,
     object: u32,
     verb: u32,
@@ -52,7 +54,7 @@ fn program_of(
     let Some(source) = records.source(object, verb) else {
         return Ok(None);
     };
-    match parse(alloc, source, Names::Any) {
+    match parse_with(alloc, known, source, Names::Any) {
         Ok(program) => Ok(Some(program)),
         Err(fault) => {
             let lines = records.lines();
@@ -82,6 +84,8 @@ fn with_programs(dump: Dump, programs: Vec<Vec<Option<Program>>>) -> Database
 pub struct ProgramReader {
     records: DbReader,
     programs: Vec<Vec<Option<Program>>>,
+    /// The names that stand in the programs.
+    known: Known,
     failed: Option<DbFault>,
 }
 
@@ -94,6 +98,7 @@ impl ProgramReader {
         ProgramReader {
             records: DbReader::new(alloc),
             programs: Vec::new(alloc),
+            known: Known::new(alloc),
             failed: None,
         }
     }
@@ -115,7 +120,7 @@ impl ProgramReader {
         ensures going { IsGoing self.old.records → IsGoing self.new.records }
         ensures same { self.new.failed ≡ self.old.failed }
     {
-        let Some(program) = program_of(alloc, &self.records, object, verb)? else {
+        let Some(program) = program_of(alloc, &mut self.known, &self.records, object, verb)? else {
             return Ok(());
         };
         match put_program(

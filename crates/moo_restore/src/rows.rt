@@ -69,11 +69,11 @@ pub(crate) fn make_row(
     requires { length way.now ≡ length cells.now }
     ensures { IfOk result (λ row. row ≡ rekeyed (keys_on way.now) (map plain_cell cells.now)) }
 {
-    let mut row = Row::new(alloc);
+    let mut row = Vec::with_capacity(alloc, cells.len())?;
     for i in 0..cells.len() {
-        row.insert(make_cell(&cells[i], &way[way.len() - 1 - i])?, 0)?;
+        row.push(make_cell(&cells[i], &way[way.len() - 1 - i])?)?;
     }
-    Ok(row)
+    Ok(Row::from_cells(row))
 }
 
 // A cell for a definition of a name on an object.

@@ -5,4 +5,4 @@ use Rattle.moo_restore.specs.Plain.{plain_cell, keys_on}
 use Rattle.moo_restore.proofs.rows.make_row.Given as goal
 
 abbrev pub invariant-loop-i : goal.invariant-loop-i
-invariant-loop-i l = l.row ≡ rekeyed (take l.i (keys_on l.way)) (map plain_cell (take l.i l.cells))
+invariant-loop-i l = l.row.items ≡ rekeyed (take l.i (keys_on l.way)) (map plain_cell (take l.i l.cells))

@@ -19,10 +19,24 @@ pub fn put_line(out: &mut Vec<u8>, line: &[u8]) -> Result<(), AllocError>
     Ok(())
 }
 
+// Appends the line of one byte: most lines are a digit, and this asks for room once.
+fn put_byte(out: &mut Vec<u8>, byte: u8) -> Result<(), AllocError>
+    ensures { OnOk result (out.new.items ≡ out.old.items ++ unlines ((byte ∷ []) ∷ [])) }
+{
+    out.reserve(2)?;
+    out.push_reserved(byte);
+    out.push_reserved(b'\n');
+    Ok(())
+}
+
 /// Appends the line of a number that counts.
+#[tactic(auto, using(std::proofs::lemmas::Fmt::decimal_digit))]
 pub fn put_count(out: &mut Vec<u8>, count: usize) -> Result<(), AllocError>
     ensures { OnOk result (out.new.items ≡ out.old.items ++ unlines (count_line count ∷ [])) }
 {
+    if count < 10 {
+        return put_byte(out, b'0' + count as u8);
+    }
     let mut buffer = Buffer::new();
     put_line(out, buffer.format(count).as_bytes())
 }
@@ -31,6 +45,9 @@ pub fn put_count(out: &mut Vec<u8>, count: usize) -> Result<(), AllocError>
 pub fn put_number(out: &mut Vec<u8>, number: i32) -> Result<(), AllocError>
     ensures { OnOk result (out.new.items ≡ out.old.items ++ unlines (signed_decimal number ∷ [])) }
 {
+    if number >= 0 {
+        return put_count(out, number as usize);
+    }
     let mut buffer = Buffer::new();
     put_line(out, buffer.format(number).as_bytes())
 }
@@ -42,23 +59,23 @@ pub fn put_value(out: &mut Vec<u8>, value: &Value) -> Result<(), AllocError>
 {
     match value {
         Value::Int(number) => {
-            put_line(out, b"0")?;
+            put_byte(out, b'0')?;
             put_number(out, *number)
         }
         Value::Obj(number) => {
-            put_line(out, b"1")?;
+            put_byte(out, b'1')?;
             put_number(out, *number)
         }
         Value::Str(string) => {
-            put_line(out, b"2")?;
+            put_byte(out, b'2')?;
             put_line(out, string.as_bytes())
         }
         Value::Err(error) => {
-            put_line(out, b"3")?;
+            put_byte(out, b'3')?;
             put_count(out, error.number() as usize)
         }
         Value::List(list) => {
-            put_line(out, b"4")?;
+            put_byte(out, b'4')?;
             put_count(out, list.len())?;
             put_values(out, list.elements())?;
             Ok(())

@@ -25,6 +25,6 @@ put_value-returns-in_ok-put_values-in-List t c =
     let o0 = c.args.out.now.items in
     let whole : list_of ts ≡ tree c.args.value.now = ap list_of c.elements.ensures.value ∙ ap tree (sym c.in-List.is) in
     let count : c.len.result ≡ length ts = c.len.ensures ∙ ap length (sym c.elements.ensures.value) in
-    list_written ts c.len.result o0 c.put_line-in-List.new.out.items c.put_count-in-List.new.out.items c.put_values.new.out.items count
-    (c.in_ok-put_line-in-List.ensures) (c.in_ok-put_count-in-List.ensures) (c.in_ok-put_values-in-List.ensures)
+    list_written ts c.len.result o0 c.put_byte-in-List.new.out.items c.put_count-in-List.new.out.items c.put_values.new.out.items count
+    (c.in_ok-put_byte-in-List.ensures) (c.in_ok-put_count-in-List.ensures) (c.in_ok-put_values-in-List.ensures)
     ∙ ap (λ (t : Tree). o0 ++ unlines (value_lines t)) whole

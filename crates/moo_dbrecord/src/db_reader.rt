@@ -120,6 +120,7 @@ impl DbReader {
     }
 
     /// Ends the line that the bytes end.
+    #[inline(always)]
     fn line(&mut self, alloc: Global, tail: &[u8]) -> Result<(), Refusal>
         ensures steps { Gives (λ _. progress_of self.new.reader) result (dump_step limited self.old.reader.section (progress_of self.old.reader) (self.old.rest.items ++ tail.now)) }
         ensures same { (self.new.lines ≡ self.old.lines) × OnOk result (self.new.rest.items ≡ []) × (self.new.failed ≡ self.old.failed) }
@@ -133,6 +134,7 @@ impl DbReader {
         Ok(())
     }
 
+    #[inline(always)]
     #[tactic(auto, unfolding(crate::specs::Answer::line_ended))]
     fn end_line(&mut self, alloc: Global, tail: &[u8]) -> Result<(), RecordFault>
         ensures steps { Answers (λ _. taken_of self.new) result (line_ended limited (taken_of self.old) (self.old.rest.items ++ tail.now)) }

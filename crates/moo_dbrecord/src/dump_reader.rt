@@ -22,6 +22,9 @@ use moo_value::MooStr;
 use std::alloc::{AllocError, Global};
 use std::mem;
 
+/// For how many lines of a program there is room at first.
+const SOURCE_ROOM: usize = 16;
+
 /// What the next line is.
 #[derive(Clone, Copy)]
 pub(crate) enum Section {
@@ -294,6 +297,7 @@ impl DumpReader {
                 let (object, verb) = program_head(&self.dump.programs, line)?;
                 self.program_object = object;
                 self.program_verb = verb;
+                self.source.reserve_exact(SOURCE_ROOM)?;
                 self.section = Section::Source;
                 Ok(())
             }

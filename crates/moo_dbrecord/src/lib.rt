@@ -16,5 +16,6 @@ pub use dump::{Connection, Dump, Form};
 pub use fault::{DbFault, DbFaultKind, ProgramFault, ProgramFaultKind};
 pub use program_table::Source;
 pub use writing::{
-    put_connections, put_header, put_live, put_players, put_program, put_recycled, put_tasks,
+    put_connections, put_header, put_live, put_players, put_program, put_program_line,
+    put_recycled, put_tasks,
 };

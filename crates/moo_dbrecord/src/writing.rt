@@ -67,7 +67,8 @@ pub fn put_recycled(out: &mut Vec<u8>, number: usize) -> Result<(), AllocError>
     put_line(out, b" recycled")
 }
 
-fn put_program_line(out: &mut Vec<u8>, object: usize, verb: usize) -> Result<(), AllocError>
+/// Appends the line before a program, of an object's verb.
+pub fn put_program_line(out: &mut Vec<u8>, object: usize, verb: usize) -> Result<(), AllocError>
     ensures { OnOk result (out.new.items ≡ out.old.items ++ unlines (program_line object verb ∷ [])) }
 {
     let mut buffer = Buffer::new();

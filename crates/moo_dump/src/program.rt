@@ -10,10 +10,11 @@ ghost use Rattle.moo_restore.specs.Says.{program_of};
 ghost use Rattle.moo_dump.specs.Held.{IsHeldBlock, IsHeldProgram, HoldsProgram, HoldsPrograms};
 ghost use Rattle.moo_dump.specs.Texts.{source_of, row_of, row_at};
 
-use moo_dbrecord::put_program;
+use moo_dbrecord::put_program_line;
+use moo_dbvalue::put_line;
 use moo_grammar::Program;
 use moo_table::verbs::verbs_of;
-use moo_unparse::list_full;
+use moo_unparse::write_full;
 use moo_world::{Object, Verb};
 use std::alloc::{AllocError, Global};
 
@@ -28,10 +29,9 @@ fn put_listing(
     ensures held { OnOk result (IsHeldBlock program.now) }
 {
     let _statements = program.statements();
-    let Ok(source) = list_full(alloc, program) else {
-        return Err(AllocError);
-    };
-    put_program(out, object, verb, &source)
+    put_program_line(out, object, verb)?;
+    write_full(alloc, program, out)?;
+    put_line(out, b".")
 }
 
 fn put_verb_program(

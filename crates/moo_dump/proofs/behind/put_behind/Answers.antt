@@ -1,8 +1,6 @@
-use Rattle.std.proofs.Common.{◌≡◌, ◌++◌, ◌∷◌, ◌<◌, [], ℕ, None, eqb, refl, sym, ◌∙◌, ap, subst, ⊎_elim, append_assoc, append-nil, length, get_or, set, arith}
+use Rattle.std.proofs.Common.{◌++◌, ◌∷◌, ◌<◌, [], refl, sym, ◌∙◌, ap, subst, append_assoc, append-nil, length, arith}
 use Rattle.std.specs.List.{All}
-use Rattle.std.proofs.lemmas.List.{get_or-set_same, get_or-set_other, length-set, length-append}
-use Rattle.std.proofs.lemmas.Bool.{cases_Bool, eqb-true, eqb-false}
-use Rattle.moo_dump.specs.Behind.{next_or}
+use Rattle.std.proofs.lemmas.List.{length-set}
 use Rattle.moo_dump.proofs.Behinds.{among, put_one}
 use Rattle.moo_dump.proofs.behind.put_behind.Goals as goal
 

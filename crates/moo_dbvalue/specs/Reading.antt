@@ -1,10 +1,11 @@
 -- Reading a value line by line: what the reader knows between two lines, and what each line makes of it.
-use Rattle.std.specs.Prelude.{ℕ, ℤ, pos, negsuc, ◌==◌, zero, suc, ◌-◌, ◌&&◌, nat_lt, nat_le, Bool, true, List, [], ◌∷◌, ◌++◌, map, reverse, length, Option, Some, None, Result, Ok, Err, if◌then◌else◌}
+use Rattle.std.specs.Prelude.{ℕ, ℤ, pos, negsuc, ◌==◌, zero, suc, ◌-◌, ◌&&◌, nat_lt, nat_le, ◌≡◌, Bool, true, false, List, [], ◌∷◌, ◌++◌, map, reverse, length, Option, Some, None, option_map, is_some, Result, Ok, Err, if◌then◌else◌}
 use Rattle.moo_value.specs.declared.error_code.ErrorCode.{ErrorCode}
+use Rattle.moo_value.specs.declared.value.Value.{Value}
 use Rattle.moo_value.specs.Size.{weight, depth, weight_limit, depth_limit}
 use Rattle.moo_value.specs.Tree.{Tree, integer, object, error, string, list_of}
 use Rattle.moo_value.specs.TreeCode.{error_numbered}
-use Rattle.moo_value.specs.View.{trees}
+use Rattle.moo_value.specs.View.{tree, trees}
 use Rattle.moo_dbvalue.specs.Lines.{Line, ◌>>=◌, Sizes, within, number_of, count_of, small_of, text_of}
 use Rattle.moo_dbvalue.specs.declared.fault.LineFault.{LineFault}
 use Rattle.moo_dbvalue.specs.declared.fault.LineFault.TheVariants.{FloatValue, BadType}
@@ -102,3 +103,13 @@ value_step s expected.Count p line = count_of line >>= λ n. take_room s n p.roo
 -- the next line of a value
 abbrev pub value_line : Sizes → Partial → Line → Result (Partial × Option Tree) LineFault
 value_line s p line = value_step s p.expected p line
+
+-- what a line gives that ends a value, by what is put down, or ends none
+abbrev pub ended_by : Bool → Option Value → Option Tree
+ended_by true whole = option_map tree whole
+ended_by false whole = None
+
+-- A value is put down where one ends, and what was there stays where none does.
+abbrev pub IsPutDown : Bool → Option Value → Option Value → Type 0
+IsPutDown true old new = is_some new ≡ true
+IsPutDown false old new = new ≡ old

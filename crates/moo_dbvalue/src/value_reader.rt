@@ -1,12 +1,12 @@
 //! A value, read a line at a time.
-ghost use Rattle.std.specs.Prelude.{◌≡◌, ◌≢◌, ◌≤◌, length, option_map, IfErr};
+ghost use Rattle.std.specs.Prelude.{◌≡◌, ◌≢◌, ◌≤◌, length, option_map, IfOk, IfErr};
 ghost use Rattle.moo_value.specs.View.{tree, trees};
 ghost use Rattle.moo_dbvalue.specs.Lines.{Gives, limited};
 ghost use Rattle.moo_dbvalue.specs.declared.fault.Refusal.TheVariants.{Memory};
 ghost use Rattle.moo_dbvalue.specs.declared.value_reader.Expected.TheVariants as expected;
 ghost use Rattle.std.specs.Prelude.{nat_lt};
 ghost use Rattle.moo_value.specs.Size.{depth_limit};
-ghost use Rattle.moo_dbvalue.specs.Reading.{type_of, error_of, take_room, closed, after_value, after_count, value_line, begun, partial_of, innermost_first};
+ghost use Rattle.moo_dbvalue.specs.Reading.{type_of, error_of, take_room, closed, after_value, after_count, value_line, begun, partial_of, innermost_first, ended_by, IsPutDown};
 
 use crate::fault::{LineFault, Refusal};
 use crate::line::{count, number, small, text};
@@ -83,6 +83,11 @@ fn left_of(room: u32, amount: u32) -> Result<u32, Refusal>
     Ok(room - amount)
 }
 
+// For how many of so many values there is room at first.
+fn first_room(length: u32) -> usize {
+    length.min(64) as usize
+}
+
 fn list(alloc: Global, elements: Vec<Value>) -> Result<Value, Refusal>
     ensures { Gives tree result (closed limited (trees elements.items)) }
 {
@@ -105,8 +110,14 @@ impl ValueReader {
         }
     }
 
-    fn complete(&mut self, alloc: Global, value: Value) -> Result<Option<Value>, Refusal>
-        ensures { Gives (λ o. (partial_of self.new, option_map tree o)) result (after_value limited (tree value) self.old.room (innermost_first self.old.lists.items)) }
+    fn complete(
+        &mut self,
+        alloc: Global,
+        value: Value,
+        whole: &mut Option<Value>,
+    ) -> Result<bool, Refusal>
+        ensures gives { Gives (λ ends. (partial_of self.new, ended_by ends whole.new)) result (after_value limited (tree value) self.old.room (innermost_first self.old.lists.items)) }
+        ensures put { IfOk result (λ ends. IsPutDown ends whole.old whole.new) }
     {
         let mut value = value;
         self.expected = Expected::Type;
@@ -115,28 +126,35 @@ impl ValueReader {
             if open.left > 0 {
                 open.left -= 1;
                 self.lists.push(open)?;
-                return Ok(None);
+                return Ok(false);
             }
             value = list(alloc, open.items)?;
         }
         self.room = FULL_ROOM;
-        Ok(Some(value))
+        *whole = Some(value);
+        Ok(true)
     }
 
     #[tactic(auto, using(crate::proofs::Stack::innermost_first_push))]
-    fn open(&mut self, alloc: Global, length: u32) -> Result<Option<Value>, Refusal>
-        ensures { Gives (λ o. (partial_of self.new, option_map tree o)) result (after_count limited length self.old.room (innermost_first self.old.lists.items)) }
+    fn open(
+        &mut self,
+        alloc: Global,
+        length: u32,
+        whole: &mut Option<Value>,
+    ) -> Result<bool, Refusal>
+        ensures gives { Gives (λ ends. (partial_of self.new, ended_by ends whole.new)) result (after_count limited length self.old.room (innermost_first self.old.lists.items)) }
+        ensures put { IfOk result (λ ends. IsPutDown ends whole.old whole.new) }
     {
         if length == 0 {
             let empty = list(alloc, Vec::new(alloc))?;
-            return self.complete(alloc, empty);
+            return self.complete(alloc, empty, whole);
         }
         self.expected = Expected::Type;
         self.lists.push(OpenList {
-            items: Vec::new(alloc),
+            items: Vec::with_capacity(alloc, first_room(length))?,
             left: length - 1,
         })?;
-        Ok(None)
+        Ok(false)
     }
 
     fn may_open(&self) -> bool
@@ -147,9 +165,29 @@ impl ValueReader {
 
     /// Takes the next line of a value, and gives the value at its last. Limits on sizes are told at the
     /// first line after which no value is within them.
-    #[tactic(auto, unfolding(crate::specs::Reading::value_step))]
     pub fn step(&mut self, alloc: Global, line: &[u8]) -> Result<Option<Value>, Refusal>
         ensures gives { Gives (λ o. (partial_of self.new, option_map tree o)) result (value_line limited (partial_of self.old) line.now) }
+        // The line of a type takes no memory.
+        ensures memory { (partial_of self.old).expected ≡ expected.Type → IfErr result (λ e. e ≢ Memory) }
+    {
+        let mut whole = None;
+        if self.take_line(alloc, line, &mut whole)? {
+            Ok(whole)
+        } else {
+            Ok(None)
+        }
+    }
+
+    /// Takes the next line of a value, and tells whether it was the last. Then the value is put down.
+    #[tactic(auto, unfolding(crate::specs::Reading::value_step))]
+    pub fn take_line(
+        &mut self,
+        alloc: Global,
+        line: &[u8],
+        whole: &mut Option<Value>,
+    ) -> Result<bool, Refusal>
+        ensures gives { Gives (λ ends. (partial_of self.new, ended_by ends whole.new)) result (value_line limited (partial_of self.old) line.now) }
+        ensures put { IfOk result (λ ends. IsPutDown ends whole.old whole.new) }
         // The line of a type takes no memory.
         ensures memory { (partial_of self.old).expected ≡ expected.Type → IfErr result (λ e. e ≢ Memory) }
     {
@@ -160,20 +198,20 @@ impl ValueReader {
                     return Err(Refusal::Fault(LineFault::TooLarge));
                 }
                 self.expected = expected;
-                Ok(None)
+                Ok(false)
             }
-            Expected::Int => self.complete(alloc, Value::Int(number(line)?)),
-            Expected::Obj => self.complete(alloc, Value::Obj(number(line)?)),
-            Expected::Error => self.complete(alloc, Value::Err(error(line)?)),
+            Expected::Int => self.complete(alloc, Value::Int(number(line)?), whole),
+            Expected::Obj => self.complete(alloc, Value::Obj(number(line)?), whole),
+            Expected::Error => self.complete(alloc, Value::Err(error(line)?), whole),
             Expected::Str => {
                 let string = text(alloc, line)?;
                 self.room = left_of(self.room, string.len() as u32)?;
-                self.complete(alloc, Value::Str(string))
+                self.complete(alloc, Value::Str(string), whole)
             }
             Expected::Count => {
                 let length = count(line)?;
                 self.room = left_of(self.room, length)?;
-                self.open(alloc, length)
+                self.open(alloc, length, whole)
             }
         }
     }

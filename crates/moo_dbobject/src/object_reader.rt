@@ -213,13 +213,12 @@ impl ObjectReader {
     fn value_line(&mut self, alloc: Global, line: &[u8]) -> Result<(), Refusal>
         ensures { Gives (λ _. draft_of self.new) result (value_line_step limited (draft_of self.old) line.now) }
     {
-        match self.value.step(alloc, line)? {
-            None => self.awaited = Awaited::Inside,
-            Some(value) => {
-                self.cell = Some(value);
-                self.awaited = Awaited::CellOwner;
-            }
-        }
+        let is_whole = self.value.take_line(alloc, line, &mut self.cell)?;
+        self.awaited = if is_whole {
+            Awaited::CellOwner
+        } else {
+            Awaited::Inside
+        };
         Ok(())
     }
 

@@ -28,11 +28,14 @@ pub struct RecordFault {
 /// How many bytes are looked at one by one: most lines are short numbers, and a search by words takes longer to begin.
 const NEARBY: usize = 8;
 
-// The place of the first line's end, if it is one of the first few.
+// The place of the first line's end, if it is one of the first few, of which none is wanting.
 fn end_nearby(bytes: &[u8]) -> Option<usize>
     ensures { IfSome result (λ at. IsFirstByte (is_byte 10) bytes.now (Some at)) }
 {
-    for at in 0..bytes.len().min(NEARBY) {
+    if bytes.len() < NEARBY {
+        return None;
+    }
+    for at in 0..NEARBY {
         if bytes[at] == b'\n' {
             return Some(at);
         }
@@ -203,6 +206,7 @@ impl DbReader {
     }
 
     /// Takes the next line with its end, as `feed` does, without a search for it.
+    #[inline(always)]
     pub fn feed_line(&mut self, alloc: Global, line: &[u8]) -> Result<(), RecordFault>
         requires { IsWholeLine line.now }
         ensures taken { (text : List ℕ) → HasTaken self.old text → HasTaken self.new (text ++ line.now) }

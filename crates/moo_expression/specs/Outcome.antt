@@ -3,13 +3,14 @@ use Rattle.std.specs.Prelude.{ℕ, List, ◌≡◌, ◌≤◌, ◌<◌, ◌+◌,
 use Rattle.moo_token.specs.declared.token.Token.{Token}
 use Rattle.moo_token.specs.declared.sign.Sign.TheVariants.{Assign, LeftParen, RightParen}
 use Rattle.moo_program.specs.declared.tree.Item.{Item}
-use Rattle.moo_program.specs.Tree.{Expr}
+use Rattle.moo_program.specs.declared.operator.BinaryOperator.TheVariants.{Power}
+use Rattle.moo_program.specs.Tree.{Expr, binary}
 use Rattle.moo_program.specs.Limits.{height}
 use Rattle.moo_program.specs.View.{with_item}
 use Rattle.moo_grammar.specs.declared.names.Names.{Names}
 use Rattle.moo_grammar.specs.Rules.{Rules, Admits, strict, may_call}
-use Rattle.moo_grammar.specs.Grammar.{Sort, Of, Kind, sort, expression, members, text}
-use Rattle.moo_grammar.specs.Machine.{Reading, phrase, Reads, Why, by_form, by_rule, Fails}
+use Rattle.moo_grammar.specs.Grammar.{Sort, Of, Kind, sort, expression, power, members, text}
+use Rattle.moo_grammar.specs.Machine.{Reading, give, phrase, Reads, Why, by_form, by_rule, Fails}
 use Rattle.moo_grammar.specs.Tokens.{next_passes, is_sign}
 use Rattle.moo_grammar.specs.Predictive.{grammar, if_name, expect, after_member, behind_question}
 use Rattle.moo_grammar.specs.Items.{item_height}
@@ -100,6 +101,10 @@ pub record LeadsTo (names : Names) (s : Sort) (p q : Rules → Reading s) (ts us
 -- the name of a property or a verb, and what goes on behind it
 abbrev pub member_name : Bool → (Expr → Reading Sort.expr) → Reading Sort.expr
 member_name i k = if_name (λ s. k (text s)) (expect LeftParen (phrase (expression i) λ b. expect RightParen (k b)))
+
+-- for private clauses: what goes on behind the sign of a power
+abbrev pub raising : Bool → Expr → Reading Sort.expr
+raising i a = phrase (power i) λ b. give (binary Power a b)
 
 -- such a name was read
 pub record IsNamed (names : Names) (i : Bool) (room : ℕ) (old new : Cursor) (b : Expr) : Type 0 where

@@ -1,5 +1,5 @@
 //! A parser of expressions by recursive descent: a function for each level of the grammar.
-ghost use Rattle.std.specs.Prelude.{◌≡◌, ◌≤◌, true, false, IfOk, IfErr};
+ghost use Rattle.std.specs.Prelude.{◌≡◌, ◌≤◌, ◌+◌, true, false, IfOk, IfErr};
 ghost use Rattle.moo_token.specs.declared.sign.Sign.TheVariants.{Minus};
 ghost use Rattle.moo_program.specs.Limits.{height};
 ghost use Rattle.moo_program.specs.View.{root};
@@ -8,7 +8,7 @@ ghost use Rattle.moo_grammar.specs.declared.level.Level.TheVariants.{Logic, Rela
 ghost use Rattle.moo_grammar.specs.Grammar.{expression, conditional, chain, more, operand, power, unary, postfix, expr};
 ghost use Rattle.moo_grammar.specs.Predictive.{grammar};
 ghost use Rattle.moo_expression.specs.Cursor.{left};
-ghost use Rattle.moo_expression.specs.Outcome.{Moves, IsRead, IsReadBy, HasFailed, HasFailedBy};
+ghost use Rattle.moo_expression.specs.Outcome.{Moves, IsRead, IsReadBy, HasFailed, HasFailedBy, raising};
 
 use crate::cursor::Cursor;
 use crate::fault::Fault;
@@ -179,6 +179,7 @@ fn operand(
 }
 
 #[cycle(parser)]
+#[inline(always)]
 fn power(alloc: Global, tokens: &mut Cursor, place: Place, room: u32) -> Result<Node, Fault>
     ensures moves { Moves tokens.old tokens.new }
     ensures read { IfOk result (λ n. IsRead place.names (power place.inside) room tokens.old tokens.new (root n.tree)) }
@@ -188,6 +189,24 @@ fn power(alloc: Global, tokens: &mut Cursor, place: Place, room: u32) -> Result<
     if !tokens.take(Sign::Caret) {
         return Ok(base);
     }
+    raised(alloc, tokens, base, place, room)
+}
+
+// A power, behind the sign.
+#[cycle(parser)]
+#[inline(never)]
+fn raised(
+    alloc: Global,
+    tokens: &mut Cursor,
+    base: Node,
+    place: Place,
+    room: u32,
+) -> Result<Node, Fault>
+    requires { base.height ≤ room }
+    ensures moves { Moves tokens.old tokens.new }
+    ensures read { IfOk result (λ n. IsReadBy place.names expr (λ g. raising place.inside (root base.tree)) room (base.height + 1) tokens.old tokens.new (root n.tree)) }
+    ensures failed { IfErr result (λ f. HasFailedBy place.names false expr (λ g. raising place.inside (root base.tree)) room (base.height + 1) tokens.old tokens.new f) }
+{
     let room_beside = beside(base.height, room)?;
     let exponent = power(alloc, tokens, place, room_beside)?;
     let height = base.height.max(exponent.height);
@@ -200,6 +219,7 @@ fn power(alloc: Global, tokens: &mut Cursor, place: Place, room: u32) -> Result<
 }
 
 #[cycle(parser)]
+#[inline(always)]
 fn unary(alloc: Global, tokens: &mut Cursor, place: Place, room: u32) -> Result<Node, Fault>
     ensures moves { Moves tokens.old tokens.new }
     ensures read { IfOk result (λ n. IsRead place.names (unary place.inside) room tokens.old tokens.new (root n.tree)) }

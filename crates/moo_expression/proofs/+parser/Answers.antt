@@ -24,7 +24,7 @@ use Rattle.moo_grammar.proofs.Heights.{height_positive, joined_height, negations
 use Rattle.moo_grammar.proofs.Depths.{allowed_meets, meets_deep}
 use Rattle.moo_expression.specs.Cursor.{left, Takes, TakesLiteral, Stays}
 use Rattle.moo_expression.specs.Outgrown.{can_give, can_read, can_take, Deepens}
-use Rattle.moo_expression.specs.Outcome.{IsRead, IsReadBy, HasFailed, HasFailedBy, IsNamed, IsMember, IsPiece}
+use Rattle.moo_expression.specs.Outcome.{IsRead, IsReadBy, HasFailed, HasFailedBy, raising, IsNamed, IsMember, IsPiece}
 use Rattle.moo_expression.proofs.Deepening.{can_rule, at_any, deepens_from, misses_deepens, then_deepens, phrase_deepens, inner_deepens, meets_at_once}
 use Rattle.moo_expression.proofs.Lone.{system_part, minuses_deepens, minuses_late}
 use Rattle.moo_expression.proofs.Steps.{reads_from, fails_from, took, took_fails, took_deepens, stayed, stayed_fails, stayed_deepens, told_admits, passed, refused, same_fault, no_memory, too_high, unnamed_memory, unnamed_refused, unmade_constant, if_constant, if_ok, if_err, made, unmade, no_leaf, not_made, none_of, called, not_called, in_front_push, minuses_read, minuses_fail, ended, goes_on_member, asked, asked_fails, asked_deepens, unasked, unasked_fails, unasked_deepens, piece_reads, piece_fails, piece_deepens, admitted, admitted_fails, admitted_deepens, brace_ends, brace_fails, brace_keeps, expect_deep}
@@ -484,32 +484,51 @@ levels::power-returns-then-not-take-clause-read t c =
       tokens = omega (arith, c.in_ok-base.ensures.read.tokens, c.if-not-take.ensures.at, c.in_ok-base.ensures.read.fits);
     })
 
-pub levels::power-returns-in_err-room_beside-clause-failed : goal.levels::power-returns-in_err-room_beside-clause-failed
-unfolding grammar
-levels::power-returns-in_err-room_beside-clause-failed t c =
-    let p = err_from_is_err_and c.from_residual-in_err-room_beside.result c.from_residual-in_err-room_beside.ensures.1 in
-    passed _ p.1 p.2 (too_high c.in_err-room_beside.ensures.0 (λ g ok. then_deepens (c.in_ok-base.ensures.read.reads g ok) (took_deepens c.if-not-take.ensures refl (meets_at_once can_read (λ b _. omega (arith, c.in_err-room_beside.ensures.1, c.in_ok-base.base.in_step))))) (omega (arith, c.in_ok-base.base.in_step, c.in_err-room_beside.ensures.1, c.in_ok-base.ensures.read.tokens, c.if-not-take.ensures.at)))
-
-pub levels::power-returns-in_err-exponent-clause-failed : goal.levels::power-returns-in_err-exponent-clause-failed
-unfolding grammar
-levels::power-returns-in_err-exponent-clause-failed t c =
-    let p = err_from_is_err_and c.from_residual-in_err-exponent.result c.from_residual-in_err-exponent.ensures.1 in
-    passed _ p.1 p.2 (record {
-      fails = λ g b. then_fails (c.in_ok-base.ensures.read.reads g (told_admits _ c.args.place.names g b)) (took_fails c.if-not-take.ensures refl (phrase_fails (c.in_err-exponent.ensures.failed.fails g b)));
-      stands = c.in_err-exponent.ensures.failed.stands;
-      deep = λ h g ok. then_deepens (c.in_ok-base.ensures.read.reads g ok) (took_deepens c.if-not-take.ensures refl (phrase_deepens (c.in_err-exponent.ensures.failed.deep h g ok) (λ b g. omega (arith, g, c.in_ok-room_beside.ensures.0))));
-      long = λ h. let l = c.in_err-exponent.ensures.failed.long h in omega (arith, l, c.in_ok-base.ensures.read.tokens, c.if-not-take.ensures.at, c.in_ok-room_beside.ensures.0);
-    })
-
 pub levels::power-returns-clause-read : goal.levels::power-returns-clause-read
 unfolding grammar
 levels::power-returns-clause-read t c =
-    made c.args.place.names (λ g. grammar g (power c.args.place.inside)) c.args.room 0 c.args.tokens.now c.power.new.tokens (tree.binary Power (root c.in_ok-base.base.tree) (root c.in_ok-exponent.exponent.tree)) c.node_over.result c.node_over.ensures (λ g a. reads (c.in_ok-base.ensures.read.reads g a) (took c.if-not-take.ensures refl (reads (c.in_ok-exponent.ensures.read.reads g a) gives))) (omega (arith, c.in_ok-base.ensures.read.tokens, c.if-not-take.ensures.at, c.in_ok-exponent.ensures.read.tokens))
+    let r = c.in_ok-base.ensures.read in
+    if_ok (λ n. IsReadBy c.args.place.names Sort.expr (λ g. raising c.args.place.inside (root c.in_ok-base.base.tree)) c.args.room (c.in_ok-base.base.height + 1) c.take.new.self c.raised.new.tokens (root n.tree)) (λ n. IsReadBy c.args.place.names Sort.expr (λ g. grammar g (power c.args.place.inside)) c.args.room 0 c.args.tokens.now c.raised.new.tokens (root n.tree)) c.raised.result c.raised.ensures.read
+    (λ n v. record {
+      reads = λ g a. reads (r.reads g a) (took c.if-not-take.ensures refl (v.reads g a));
+      fits = v.fits;
+      tokens = omega (arith, v.tokens, r.tokens, c.if-not-take.ensures.at, c.in_ok-base.base.in_step);
+    })
 
 pub levels::power-returns-clause-failed : goal.levels::power-returns-clause-failed
 unfolding grammar
 levels::power-returns-clause-failed t c =
-    unmade c.args.place.names true (λ g. grammar g (power c.args.place.inside)) c.args.room 0 c.args.tokens.now c.power.new.tokens (tree.binary Power (root c.in_ok-base.base.tree) (root c.in_ok-exponent.exponent.tree)) c.node_over.result c.node_over.ensures (omega (arith, c.in_ok-room_beside.ensures.0, c.in_ok-room_beside.ensures.1, c.in_ok-base.base.in_step, c.in_ok-exponent.ensures.read.fits))
+    let r = c.in_ok-base.ensures.read in
+    if_err (λ f. HasFailedBy c.args.place.names false Sort.expr (λ g. raising c.args.place.inside (root c.in_ok-base.base.tree)) c.args.room (c.in_ok-base.base.height + 1) c.take.new.self c.raised.new.tokens f) (λ f. HasFailedBy c.args.place.names true Sort.expr (λ g. grammar g (power c.args.place.inside)) c.args.room 0 c.args.tokens.now c.raised.new.tokens f) c.raised.result c.raised.ensures.failed
+    (λ f w. record {
+      fails = λ g b. then_fails (r.reads g (told_admits f c.args.place.names g b)) (took_fails c.if-not-take.ensures refl (w.fails g b));
+      stands = w.stands;
+      deep = λ h g ok. then_deepens (r.reads g ok) (took_deepens {b = false} c.if-not-take.ensures refl (w.deep h g ok));
+      long = λ h. let l = w.long h in omega (arith, l, r.tokens, c.if-not-take.ensures.at, c.in_ok-base.base.in_step);
+    })
+
+pub levels::raised-returns-in_err-room_beside-clause-failed : goal.levels::raised-returns-in_err-room_beside-clause-failed
+levels::raised-returns-in_err-room_beside-clause-failed t c =
+    let p = err_from_is_err_and c.from_residual.result c.from_residual.ensures.1 in
+    passed _ p.1 p.2 (too_high c.in_err-room_beside.ensures.0 (λ g ok. meets_at_once can_read (λ b _. omega (arith, c.in_err-room_beside.ensures.1, c.args.base.in_step))) (omega (arith, c.args.base.in_step, c.in_err-room_beside.ensures.1)))
+
+pub levels::raised-returns-in_err-exponent-clause-failed : goal.levels::raised-returns-in_err-exponent-clause-failed
+levels::raised-returns-in_err-exponent-clause-failed t c =
+    let p = err_from_is_err_and c.from_residual-in_err-exponent.result c.from_residual-in_err-exponent.ensures.1 in
+    passed _ p.1 p.2 (record {
+      fails = λ g b. phrase_fails (c.in_err-exponent.ensures.failed.fails g b);
+      stands = c.in_err-exponent.ensures.failed.stands;
+      deep = λ h g ok. at_any (phrase_deepens (c.in_err-exponent.ensures.failed.deep h g ok) (λ b g. omega (arith, g, c.in_ok-room_beside.ensures.0)));
+      long = λ h. let l = c.in_err-exponent.ensures.failed.long h in omega (arith, l, c.in_ok-room_beside.ensures.0);
+    })
+
+pub levels::raised-returns-clause-read : goal.levels::raised-returns-clause-read
+levels::raised-returns-clause-read t c =
+    made c.args.place.names (λ g. raising c.args.place.inside (root c.args.base.tree)) c.args.room (c.args.base.height + 1) c.args.tokens.now c.power.new.tokens (tree.binary Power (root c.args.base.tree) (root c.in_ok-exponent.exponent.tree)) c.node_over.result c.node_over.ensures (λ g a. reads (c.in_ok-exponent.ensures.read.reads g a) gives) (omega (arith, c.in_ok-exponent.ensures.read.tokens, c.args.base.in_step))
+
+pub levels::raised-returns-clause-failed : goal.levels::raised-returns-clause-failed
+levels::raised-returns-clause-failed t c =
+    unmade c.args.place.names false (λ g. raising c.args.place.inside (root c.args.base.tree)) c.args.room (c.args.base.height + 1) c.args.tokens.now c.power.new.tokens (tree.binary Power (root c.args.base.tree) (root c.in_ok-exponent.exponent.tree)) c.node_over.result c.node_over.ensures (omega (arith, c.in_ok-room_beside.ensures.0, c.in_ok-room_beside.ensures.1, c.args.base.in_step, c.in_ok-exponent.ensures.read.fits))
 
 pub levels::unary-returns-in_err-operand-clause-failed : goal.levels::unary-returns-in_err-operand-clause-failed
 levels::unary-returns-in_err-operand-clause-failed t c =

@@ -60,6 +60,9 @@ decreases-postfix::postfix l = 40 * (length l.tokens.now.spots.now - l.tokens.no
 abbrev pub decreases-levels::power : goal.decreases-levels::power
 decreases-levels::power l = 40 * (length l.tokens.now.spots.now - l.tokens.now.at) + 14
 
+abbrev pub decreases-levels::raised : goal.decreases-levels::raised
+decreases-levels::raised l = 40 * (length l.tokens.now.spots.now - l.tokens.now.at) + 15
+
 abbrev pub decreases-primary::primary : goal.decreases-primary::primary
 decreases-primary::primary l = 40 * (length l.tokens.now.spots.now - l.tokens.now.at) + 10
 

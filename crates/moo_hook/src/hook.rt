@@ -94,11 +94,17 @@ pub(crate) fn through<'a>(
 ) -> Result<Called<'a>, AllocError>
     ensures { IfOk result (λ hooked. entered_of hooked ≡ through function.now (entered_of called.entry)) }
 {
-    let mut called = called;
+    let Called { stack, active } = called;
     let entry = TraceEntry::BuiltIn(text(alloc, function)?);
-    let callers = called.stack.callers.try_clone()?;
-    called.stack.callers = callers.with_nearest(alloc, entry)?;
-    Ok(called)
+    let callers = stack.callers.with_nearest(alloc, entry)?;
+    Ok(Called {
+        stack: CallStack {
+            running: stack.running,
+            callers,
+            surroundings: stack.surroundings,
+        },
+        active,
+    })
 }
 
 /// A string of these bytes.

@@ -1,6 +1,6 @@
 //! New objects.
 
-ghost use Rattle.std.specs.Prelude.{◌≡◌, ◌<◌, Option, Some, length, IfOk, OnOk, IsSome, pos};
+ghost use Rattle.std.specs.Prelude.{◌≡◌, take, ◌-◌, ◌<◌, Option, Some, length, IfOk, OnOk, IsSome, pos};
 ghost use Rattle.std.specs.Option.{ForSome};
 ghost use Rattle.moo_table.specs.World.{object_of, cells_of, most};
 ghost use Rattle.moo_table.specs.Changes.{after_create};
@@ -58,14 +58,21 @@ impl World {
         let object = Object::child(alloc, owner, cells_of(&self.objects, p))?;
         self.objects.push(Some(object))?;
         if self.containment.add(alloc).is_err() {
-            let _object = self.objects.pop();
+            pop_object(&mut self.objects);
             return Err(WorldFault::Memory);
         }
         if self.inheritance.add_below(alloc, p).is_err() {
             self.containment.remove_last();
-            let _object = self.objects.pop();
+            pop_object(&mut self.objects);
             return Err(WorldFault::Memory);
         }
         Ok(())
     }
+}
+
+// Takes the last object away.
+fn pop_object(objects: &mut Vec<Option<Object>>)
+    ensures { objects.new.items ≡ take (length objects.old.items - 1) objects.old.items }
+{
+    let _object = objects.pop();
 }

@@ -17,13 +17,13 @@ cells_of-requires c up is =
 
 pub invariant_of-self-then-is_err : goal.invariant_of-self-then-is_err
 invariant_of-self-then-is_err c =
-    let objects : c.pop-object.new.self.items ≡ c.self.inside.objects.items = grind (arith, common_steps) in
+    let objects : c.pop_object.new.objects.items ≡ c.self.inside.objects.items = grind (arith, common_steps) in
     let places : c.add.new.self ≡ c.self.inside.containment = grind (arith, common_steps) in
     rw (objects, places) c.self.invariant
 
 pub invariant_of-self-then-is_err-2 : goal.invariant_of-self-then-is_err-2
 invariant_of-self-then-is_err-2 c =
-    let objects : c.pop-object-then-is_err-2.new.self.items ≡ c.self.inside.objects.items = grind (arith, common_steps) in
+    let objects : c.pop_object-then-is_err-2.new.objects.items ≡ c.self.inside.objects.items = grind (arith, common_steps) in
     let parents : c.add_below.new.self ≡ c.self.inside.inheritance = grind (arith, common_steps) in
     let places : c.remove_last.new.self ≡ c.self.inside.containment = grind (arith, common_steps) in
     rw (objects, parents, places) c.self.invariant

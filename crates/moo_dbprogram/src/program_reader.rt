@@ -21,6 +21,7 @@ use moo_token::Known;
 use std::alloc::Global;
 
 /// Takes a line with its end, and tells the verb whose program it ends.
+#[inline(always)]
 fn take_line(
     alloc: Global,
     records: &mut DbReader,

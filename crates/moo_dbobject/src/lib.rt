@@ -4,6 +4,7 @@
 
 mod field;
 pub mod laws;
+mod met;
 mod object_reader;
 mod object_record;
 mod writing;

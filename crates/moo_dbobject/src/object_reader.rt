@@ -7,6 +7,7 @@ ghost use Rattle.moo_object.specs.Numbers.{preposition_specifier_number};
 ghost use Rattle.moo_dbobject.specs.ObjectReading.{draft_of, body_of, part_verb_of, fresh_draft, empty_body, is_clear, object_line, after_verb, after_name, after_cell, given_by, verbs_made, value_line_step};
 
 use crate::field::{VerbBits, flags, note, preposition, property_perms, verb_bits};
+use crate::met::Met;
 use crate::object_record::{ObjectRecord, PropertyRecord, VerbRecord};
 use moo_dbvalue::{Refusal, ValueReader, bounded_count, number, text};
 use moo_object::{Flags, ObjectSpecifier, PrepositionSpecifier, VerbArgs, VerbPerms};
@@ -78,6 +79,8 @@ pub struct ObjectReader {
     value: ValueReader,
     cell: Option<Value>,
     cell_owner: i32,
+    /// The names of the verbs of this object and those before it.
+    met: Met,
 }
 
 fn empty(alloc: Global) -> BodyDraft
@@ -156,6 +159,7 @@ impl ObjectReader {
             value: ValueReader::new(alloc),
             cell: None,
             cell_owner: 0,
+            met: Met::new(alloc),
         }
     }
 
@@ -197,7 +201,13 @@ impl ObjectReader {
     pub fn take_object(&mut self, alloc: Global) -> Option<ObjectRecord>
         ensures { (draft_of self.new, option_map object_of result) ≡ given_by true (draft_of self.old) }
     {
-        let ObjectReader { name, body, .. } = mem::replace(self, ObjectReader::new(alloc));
+        let ObjectReader {
+            name,
+            body,
+            met,
+            ..
+        } = mem::replace(self, ObjectReader::new(alloc));
+        self.met = met;
         match name {
             Some(name) => Some(named(name, body)),
             None => None,
@@ -306,7 +316,7 @@ impl ObjectReader {
                 Ok(false)
             }
             Awaited::VerbNames => {
-                self.verb.names = Some(text(alloc, line)?);
+                self.verb.names = Some(self.met.text(alloc, line)?);
                 self.awaited = Awaited::VerbOwner;
                 Ok(false)
             }

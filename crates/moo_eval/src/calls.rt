@@ -86,19 +86,24 @@ impl Task {
         ensures ticks { self.new.ticks_left ≤ self.old.ticks_left }
     {
         let args = values.into_arguments(self.alloc())?;
-        let mut called = enter_verb(self.alloc(), world, stack, active, base, name, args)?;
-        self.run_called(world, &mut called)
+        let called = enter_verb(self.alloc(), world, stack, active, base, name, args)?;
+        self.run_called(world, called)
     }
 
     // A verb that was entered runs to its end. It takes a tick where it has a statement.
     #[cycle(evaluation)]
-    fn run_called(&mut self, world: &mut World, called: &mut Called<'_>) -> Result<Value, Failure>
-        ensures meaning { (caller : Activation) → IsKnownFailure result → RunsCalled Faults (entered_of called.old) (state_of self.old world.old caller) (seen_answer result) (state_of self.new world.new caller) }
+    fn run_called(&mut self, world: &mut World, called: Called<'_>) -> Result<Value, Failure>
+        ensures meaning { (caller : Activation) → IsKnownFailure result → RunsCalled Faults (entered_of called.entry) (state_of self.old world.old caller) (seen_answer result) (state_of self.new world.new caller) }
         ensures ticks { self.new.ticks_left ≤ self.old.ticks_left }
-        ensures fewer { called.old.stack.running.program ≢ no_statement → OnOk result (self.new.ticks_left < self.old.ticks_left) }
+        ensures fewer { called.entry.stack.running.program ≢ no_statement → OnOk result (self.new.ticks_left < self.old.ticks_left) }
     {
-        let statements = called.stack.running.program.statements();
-        answered(self.run_all(world, &mut called.active, &called.stack, statements))
+        let Called {
+            stack: callee,
+            active: first,
+        } = called;
+        let mut running = first;
+        let statements = callee.running.program.statements();
+        answered(self.run_all(world, &mut running, &callee, statements))
     }
 
     #[cycle(evaluation)]
@@ -157,11 +162,11 @@ impl Task {
     {
         let mut pending = self.pass_over(world, active, stack, first)?;
         'verbs: loop {
-            let (mut called, stage) = match pending {
+            let (called, stage) = match pending {
                 Pending::Answer(value) => return Ok(value),
                 Pending::Verb(called, stage) => (called, stage),
             };
-            let answer = self.run_called(world, &mut called)?;
+            let answer = self.run_called(world, Box::into_inner(called))?;
             pending = self.resume(world, active, stack, stage, answer)?;
         }
     }

@@ -948,18 +948,18 @@ proceed-returns-in-Answer-clause-meaning t c =
 
 pub proceed-returns-in_err-answer-clause-meaning : goal.proceed-returns-in_err-answer-clause-meaning
 proceed-returns-in_err-answer-clause-meaning t c =
-    let p = err_from_is_err_and c.from_residual-in_err-answer.result c.from_residual-in_err-answer.ensures.1 in rw (p.1, p.2) (λ k. let h = c.in_err-answer.ensures.meaning c.args.active.now k in c.verbs.invariant.rest _ _ (rw c.in-Verb.is (hook_stops h.runs h.leaves h.gives)))
+    let p = err_from_is_err_and c.from_residual-in_err-answer.result c.from_residual-in_err-answer.ensures.1 in rw (p.1, p.2) (λ k. let h = rw c.into_inner.ensures at (c.in_err-answer.ensures.meaning c.args.active.now k) in c.verbs.invariant.rest _ _ (rw c.in-Verb.is (hook_stops h.runs h.leaves h.gives)))
 
 pub proceed-returns-in_err-pending-2-clause-meaning : goal.proceed-returns-in_err-pending-2-clause-meaning
 proceed-returns-in_err-pending-2-clause-meaning t c =
-    let p = err_from_is_err_and c.from_residual-in_err-pending-2.result c.from_residual-in_err-pending-2.ensures.1 in rw (p.1, p.2) (λ k. let h = c.in_ok-answer.ensures.meaning c.args.active.now tt in c.verbs.invariant.rest _ _ (rw c.in-Verb.is (hook_then h.runs h.leaves h.gives refl (c.in_err-pending-2.ensures.meaning k _ _ is_done))))
+    let p = err_from_is_err_and c.from_residual-in_err-pending-2.result c.from_residual-in_err-pending-2.ensures.1 in rw (p.1, p.2) (λ k. let h = rw c.into_inner.ensures at (c.in_ok-answer.ensures.meaning c.args.active.now tt) in c.verbs.invariant.rest _ _ (rw c.in-Verb.is (hook_then h.runs h.leaves h.gives refl (c.in_err-pending-2.ensures.meaning k _ _ is_done))))
 
 pub proceed-verbs-smaller : goal.proceed-verbs-smaller
 proceed-verbs-smaller t c =
     let some = rw c.in-Verb.is at c.verbs.invariant.statements in
-    let fewer = c.in_ok-answer.ensures.fewer some in
+    let fewer = c.in_ok-answer.ensures.fewer (rw c.into_inner.ensures some) in
     omega (arith, fewer, c.in_ok-pending-2.ensures.ticks)
 
 pub proceed-verbs-preserved : goal.proceed-verbs-preserved
 proceed-verbs-preserved t c =
-    record { ticks = omega (arith, c.in_ok-pending-2.ensures.ticks); statements = c.in_ok-pending-2.ensures.statements; rest = λ r u d. let h = c.in_ok-answer.ensures.meaning c.args.active.now tt in c.verbs.invariant.rest r u (rw c.in-Verb.is (hook_then h.runs h.leaves h.gives refl (c.in_ok-pending-2.ensures.meaning tt r u d))) }
+    record { ticks = omega (arith, c.in_ok-pending-2.ensures.ticks); statements = c.in_ok-pending-2.ensures.statements; rest = λ r u d. let h = rw c.into_inner.ensures at (c.in_ok-answer.ensures.meaning c.args.active.now tt) in c.verbs.invariant.rest r u (rw c.in-Verb.is (hook_then h.runs h.leaves h.gives refl (c.in_ok-pending-2.ensures.meaning tt r u d))) }

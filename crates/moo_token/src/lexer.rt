@@ -84,7 +84,7 @@ fn pass(
     Ok(Some(length))
 }
 
-#[inline]
+#[inline(always)]
 fn keep(spots: &mut Vec<Spot>, token: Token, line: usize) -> Result<(), AllocError>
     ensures { OnOk result (spots.new.items ≡ spots.old.items ++ record { token = token; line = line } ∷ []) }
 {

@@ -180,7 +180,6 @@ fn are_too_heavy(stretches: &[Stretch]) -> bool
 }
 
 // The values of stretches, and those behind them.
-#[inline(always)]
 fn joined(
     alloc: Global,
     stretches: &[Stretch],

@@ -277,7 +277,13 @@ fn puts_leaf(active: &mut Activation, left: &mut u32, name: &Name, number: i32) 
     }
 }
 
-/// Whether the worth of an expression that is no operator may be known at once.
+/// Whether the worth of an expression may be known at once.
+#[inline]
+pub(crate) fn may_have_worth(expr: &Expr) -> bool {
+    matches!(expr, Expr::Binary(..)) || may_be_known(expr)
+}
+
+/// The same of one that is no operator.
 #[inline]
 pub(crate) fn may_be_known(value: &Expr) -> bool {
     match value {

@@ -14,14 +14,15 @@ use crate::assignment::as_variable;
 use crate::growth::{as_element, is_same_name, set_longer, two_items};
 use crate::interpreter::Task;
 use moo_function::Function;
-use moo_outcome::{Activation, CallStack, Failure, Flow, Stop, settle};
+use moo_outcome::{Activation, CallStack, Failure, Flow, Stop};
 use moo_program::{Expr, Item, Name};
 use moo_value::{ErrorCode, MooStr, Value};
 use moo_world::World;
 
 impl Task {
-    /// `name = listappend(name, last)`, whose own value is not used.
+    /// `name = listappend(name, last)`, whose own value is not used. Not inlined, so that nested statements hold no room for it.
     #[cycle(evaluation)]
+    #[inline(never)]
     pub(crate) fn append(
         &mut self,
         world: &mut World,
@@ -38,7 +39,7 @@ impl Task {
         match self.put_appended(world, active, stack, name, last) {
             Ok(()) => Ok(Flow::Next),
             Err(failure) => {
-                let value = settle(self.alloc(), stack, active, Err(failure))?;
+                let value = self.settled(active, stack, failure)?;
                 active.variables.set(name, value)?;
                 Ok(Flow::Next)
             }

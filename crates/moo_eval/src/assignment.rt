@@ -1,12 +1,16 @@
 //! Assignments.
-ghost use Rattle.std.specs.Prelude.{◌≡◌, ◌≤◌, None, Err, IfSome, IfErr, OnOk, map};
+ghost use Rattle.std.specs.Prelude.{◌≡◌, ◌≤◌, None, Result, Err, IfOk, IfSome, IfErr, OnOk, map};
 ghost use Rattle.moo_program.specs.Tree.{variable, assign, performs, list, splice, element, no_items};
 ghost use Rattle.moo_program.specs.View.{tree, items_of};
 ghost use Rattle.moo_value.specs.View.{tree as value_tree};
-ghost use Rattle.moo_access.specs.Target.{Path, scattered};
+ghost use Rattle.moo_access.specs.Target.{Path, named, scattered};
 ghost use Rattle.moo_eval.specs.Meaning.{Computes, Does, Locates, Finds, Steps, Stores, Puts, SetsDefaults};
 ghost use Rattle.moo_outcome.specs.Seen.{context_of, failure_of, seen_answer, seen_by, seen_done, seen_flow, HadMemoryIn, IsKnown, IsKnownFailure};
 ghost use Rattle.moo_eval.specs.Growth.{IsLengthened};
+ghost use Rattle.moo_outcome.specs.Outcome.{Failure as Failed};
+ghost use Rattle.moo_outcome.specs.State.{Context};
+ghost use Rattle.moo_table.specs.World.{World as WorldModel};
+ghost use Rattle.moo_access.specs.State.{State};
 ghost use Rattle.moo_code_function.specs.Telling.{Faults};
 ghost use Rattle.moo_eval.specs.Seen.{state_of};
 ghost use Rattle.moo_access.specs.SeenTarget.{root_seen, step_of, steps_of, path_of, spot_of};
@@ -19,16 +23,15 @@ use moo_access::{
     taken_apart, write_property,
 };
 use moo_outcome::{
-    Activation, CallStack, Failure, Flow, LeftOut, Stop, dealt, missing, set_shares, settle,
+    Activation, CallStack, Failure, Flow, LeftOut, Stop, dealt, missing, set_shares,
 };
 use moo_program::{Expr, Item, Name};
 use moo_value::{ErrorCode, Value};
 use moo_world::World;
 
 impl Task {
-    // The target is found first, then the value is evaluated, then it is stored.
     #[cycle(evaluation)]
-    #[inline(never)]
+    #[inline(always)]
     pub(crate) fn assign(
         &mut self,
         world: &mut World,
@@ -44,8 +47,26 @@ impl Task {
         if let Some(name) = as_variable(target) {
             return self.assign_variable(world, active, stack, indexed, name, value);
         }
+        self.assign_path(world, active, stack, indexed, target, value)
+    }
+
+    // The target is found first, then the value is evaluated, then it is stored.
+    #[cycle(evaluation)]
+    #[inline(never)]
+    fn assign_path(
+        &mut self,
+        world: &mut World,
+        active: &mut Activation,
+        stack: &CallStack<'_>,
+        indexed: Option<&Value>,
+        target: &Expr,
+        value: &Expr,
+    ) -> Result<Value, Failure>
+        ensures meaning { IsKnownFailure result → Computes Faults (context_of stack.now indexed.entry) (assign (tree target.now) (tree value.now)) (state_of self.old world.old active.old) (seen_answer result) (state_of self.new world.new active.new) }
+        ensures ticks { self.new.ticks_left ≤ self.old.ticks_left }
+    {
         let path = self.locate(world, active, stack, indexed, target)?;
-        let value = self.evaluate(world, active, stack, indexed, value)?;
+        let value = self.evaluate_part(world, active, stack, indexed, value)?;
         self.store(world, active, stack, indexed, path, &value)?;
         Ok(value)
     }
@@ -65,7 +86,7 @@ impl Task {
         ensures meaning { IsKnownFailure result → Computes Faults (context_of stack.now indexed.entry) (assign (variable name.now) (tree value.now)) (state_of self.old world.old active.old) (seen_answer result) (state_of self.new world.new active.new) }
         ensures ticks { self.new.ticks_left ≤ self.old.ticks_left }
     {
-        let value = self.evaluate(world, active, stack, indexed, value)?;
+        let value = self.evaluate_part(world, active, stack, indexed, value)?;
         let copy = value.try_clone()?;
         active.variables.set(name, copy)?;
         Ok(value)
@@ -91,8 +112,9 @@ impl Task {
         Ok(Flow::Next)
     }
 
-    /// `name = {@name, last}`, whose own value is not used.
+    /// `name = {@name, last}`, whose own value is not used. Not inlined, so that nested statements hold no room for it.
     #[cycle(evaluation)]
+    #[inline(never)]
     pub(crate) fn lengthen(
         &mut self,
         world: &mut World,
@@ -109,7 +131,7 @@ impl Task {
         match self.put_behind(world, active, stack, name, last) {
             Ok(()) => Ok(Flow::Next),
             Err(failure) => {
-                let value = settle(self.alloc(), stack, active, Err(failure))?;
+                let value = self.settled(active, stack, failure)?;
                 active.variables.set(name, value)?;
                 Ok(Flow::Next)
             }
@@ -182,8 +204,8 @@ impl Task {
     {
         match as_property(root) {
             Some((base, name)) => {
-                let base = self.evaluate(world, active, stack, indexed, base)?;
-                let name = self.evaluate(world, active, stack, indexed, name)?;
+                let base = self.evaluate_part(world, active, stack, indexed, base)?;
+                let name = self.evaluate_part(world, active, stack, indexed, name)?;
                 Ok(Root::Property(base, name))
             }
             None => root_alone(root),
@@ -208,13 +230,13 @@ impl Task {
         let container = path.value(self.alloc(), world, active)?;
         match spot {
             Spot::Element(place) => {
-                let place = self.evaluate(world, active, stack, Some(&container), place)?;
+                let place = self.evaluate_part(world, active, stack, Some(&container), place)?;
                 let places = Places::Element(place);
                 Ok(Step { container, places })
             }
             Spot::Part(low, high) => {
-                let low = self.evaluate(world, active, stack, Some(&container), low)?;
-                let high = self.evaluate(world, active, stack, Some(&container), high)?;
+                let low = self.evaluate_part(world, active, stack, Some(&container), low)?;
+                let high = self.evaluate_part(world, active, stack, Some(&container), high)?;
                 let places = Places::Part(low, high);
                 Ok(Step { container, places })
             }
@@ -238,10 +260,7 @@ impl Task {
         let Path { root, steps } = path;
         let value = value.try_clone()?;
         match root {
-            Root::Variable(name) => {
-                set_variable(self.alloc(), &mut active.variables, name, steps, value)?;
-                Ok(())
-            }
+            Root::Variable(name) => self.store_variable(active, name, steps, value),
             Root::Property(base, name) => {
                 let whole = rebuilt(self.alloc(), steps, value)?;
                 write_property(world, active.programmer, &base, &name, whole)
@@ -251,6 +270,21 @@ impl Task {
                 self.scatter(world, active, stack, indexed, items, &whole)
             }
         }
+    }
+
+    // Sets a variable, or what the steps lead to in it. Not inlined, so that nested scatters hold no room for it.
+    #[inline(never)]
+    fn store_variable(
+        &self,
+        active: &mut Activation,
+        name: &Name,
+        steps: Vec<Step>,
+        value: Value,
+    ) -> Result<(), Failure>
+        ensures { (c : Context) (w : WorldModel) → IsKnownFailure result → Stores Faults c (named name.now) (steps_of steps.items) (value_tree value) (state_of self.now w active.old) (seen_done result) (state_of self.now w active.new) }
+    {
+        set_variable(self.alloc(), &mut active.variables, name, steps, value)?;
+        Ok(())
     }
 
     // Names that get an element are set first, then those with a default, from the left.
@@ -267,10 +301,24 @@ impl Task {
         ensures meaning { IsKnownFailure result → Puts Faults (context_of stack.now indexed.entry) (scattered (items_of items.now)) (value_tree value.now) (state_of self.old world.old active.old) (seen_done result) (state_of self.new world.new active.new) }
         ensures ticks { self.new.ticks_left ≤ self.old.ticks_left }
     {
+        let defaults = self.deal(active, items, value)?;
+        self.set_defaults(world, active, stack, indexed, &defaults)
+    }
+
+    // Sets the names that get an element: those with a default that get none. Not inlined, so that nested scatters hold no room for it.
+    #[inline(never)]
+    fn deal<'a>(
+        &self,
+        active: &mut Activation,
+        items: &'a [Item],
+        value: &Value,
+    ) -> Result<Vec<LeftOut<'a>>, Failure>
+        ensures ok { IfOk result (λ defaults. (c : Context) (w : WorldModel) (o : Result (Unit {0}) Failed) (s : State) → SetsDefaults Faults c (map left_out_of defaults.items) (state_of self.now w active.new) o s → Puts Faults c (scattered (items_of items.now)) (value_tree value.now) (state_of self.now w active.old) o s) }
+        ensures err { IfErr result (λ failure. HadMemoryIn failure → (c : Context) (w : WorldModel) → Puts Faults c (scattered (items_of items.now)) (value_tree value.now) (state_of self.now w active.old) (Err (failure_of failure)) (state_of self.now w active.new)) }
+    {
         let list = dealt(items, value)?;
         set_shares(self.alloc(), active, items, list)?;
-        let defaults = missing(self.alloc(), items, list)?;
-        self.set_defaults(world, active, stack, indexed, &defaults)
+        Ok(missing(self.alloc(), items, list)?)
     }
 
     #[cycle(evaluation)]

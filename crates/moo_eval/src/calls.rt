@@ -188,13 +188,13 @@ impl Task {
         ensures ticks { self.new.ticks_left ≤ self.old.ticks_left }
     {
         let values = self.guards(world, active, stack, indexed, codes)?;
-        let outcome = self.evaluate(world, active, stack, indexed, body);
+        let outcome = self.evaluate_part(world, active, stack, indexed, body);
         let Some(code) = caught(codes, &values, &outcome) else {
             return Ok(outcome?);
         };
         match other {
             None => Ok(Value::Err(code)),
-            Some(other) => Ok(self.evaluate(world, active, stack, indexed, other)?),
+            Some(other) => Ok(self.evaluate_part(world, active, stack, indexed, other)?),
         }
     }
 

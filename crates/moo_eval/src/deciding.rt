@@ -57,8 +57,8 @@ impl Task {
     {
         let passes = self.passes(world, active, stack, indexed, test)?;
         if passes {
-            return Ok(self.evaluate(world, active, stack, indexed, first)?);
+            return Ok(self.evaluate_part(world, active, stack, indexed, first)?);
         }
-        Ok(self.evaluate(world, active, stack, indexed, second)?)
+        Ok(self.evaluate_part(world, active, stack, indexed, second)?)
     }
 }

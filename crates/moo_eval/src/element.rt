@@ -20,15 +20,16 @@ use crate::interpreter::Task;
 use crate::leaves::held;
 use crate::worth::{Sight, worth};
 use moo_operation::{index_refusal, with_index};
-use moo_outcome::{Activation, CallStack, Failure, Flow, Stop, Variables, read_variable, settle};
+use moo_outcome::{Activation, CallStack, Failure, Flow, Stop, Variables, read_variable};
 use moo_program::{Expr, Name, Stmt};
 use moo_value::Value;
 use moo_world::World;
 use std::alloc::{AllocError, Global};
 
 impl Task {
-    /// `name[place] = value`, whose own value is not used.
+    /// `name[place] = value`, whose own value is not used. Not inlined, so that nested statements hold no room for it.
     #[cycle(evaluation)]
+    #[inline(never)]
     pub(crate) fn set_place(
         &mut self,
         world: &mut World,
@@ -45,7 +46,7 @@ impl Task {
         match self.put_at(world, active, stack, name, place, value) {
             Ok(()) => Ok(Flow::Next),
             Err(failure) => {
-                let _error = settle(self.alloc(), stack, active, Err(failure))?;
+                let _error = self.settled(active, stack, failure)?;
                 Ok(Flow::Next)
             }
         }

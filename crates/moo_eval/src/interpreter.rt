@@ -15,7 +15,7 @@ ghost use Rattle.moo_hook.specs.Seen.{progress_of, seen_progress};
 ghost use Rattle.moo_hook.specs.Turns.{stage_turns, progress_turns};
 ghost use Rattle.moo_eval.specs.Seen.{state_of};
 
-use crate::ahead::may_be_known;
+use crate::ahead::{may_be_known, may_have_worth};
 use moo_call::{Ticks, call_function};
 use moo_function::Function;
 use moo_hook::{Progress, Stage, resume_call};
@@ -119,6 +119,27 @@ impl Task {
         self.evaluate_node(world, active, stack, indexed, expr)
     }
 
+    /// The same of a part of an expression. Inlined: where its worth is never known at once, nested expressions hold no room for it but
+    /// that of `evaluate_node`.
+    #[cycle(evaluation)]
+    #[inline(always)]
+    pub(crate) fn evaluate_part(
+        &mut self,
+        world: &mut World,
+        active: &mut Activation,
+        stack: &CallStack<'_>,
+        indexed: Option<&Value>,
+        expr: &Expr,
+    ) -> Result<Value, Stop>
+        ensures meaning { IsKnown result → Evaluates Faults (context_of stack.now indexed.entry) (tree expr.now) (state_of self.old world.old active.old) (seen_value result) (state_of self.new world.new active.new) }
+        ensures ticks { self.new.ticks_left ≤ self.old.ticks_left }
+    {
+        if may_have_worth(expr) {
+            return self.evaluate(world, active, stack, indexed, expr);
+        }
+        self.evaluate_node(world, active, stack, indexed, expr)
+    }
+
     // An expression of any kind. Neither it nor what computes each kind is inlined: nested expressions would each hold the room of
     // all kinds on the stack.
     #[cycle(evaluation)]
@@ -141,9 +162,9 @@ impl Task {
         }
     }
 
-    // What a failure comes to. Not inlined, so that nested expressions hold no room for it.
+    /// What a failure comes to. Not inlined, so that nested expressions hold no room for it.
     #[inline(never)]
-    fn settled(
+    pub(crate) fn settled(
         &self,
         active: &Activation,
         stack: &CallStack<'_>,
@@ -256,8 +277,9 @@ impl Task {
         }
     }
 
-    /// Items from left to right.
+    /// Items from left to right. Inlined, so that nested lists and calls hold its room once.
     #[cycle(evaluation)]
+    #[inline(always)]
     pub(crate) fn evaluate_all(
         &mut self,
         world: &mut World,
@@ -273,11 +295,11 @@ impl Task {
         for item in items {
             match item {
                 Item::Element(expr) => {
-                    let value = self.evaluate(world, active, stack, indexed, expr)?;
+                    let value = self.evaluate_part(world, active, stack, indexed, expr)?;
                     values.push(value)?;
                 }
                 Item::Splice(expr) => {
-                    let value = self.evaluate(world, active, stack, indexed, expr)?;
+                    let value = self.evaluate_part(world, active, stack, indexed, expr)?;
                     values.splice(self.alloc, value)?;
                 }
                 Item::Optional(..) => return Err(Failure::Fails(ErrorCode::TypeMismatch)),

@@ -41,6 +41,7 @@ impl Task {
 
     // A turn of a `for`, which takes a tick before the variable is set.
     #[cycle(evaluation)]
+    #[inline(always)]
     fn visit(
         &mut self,
         world: &mut World,
@@ -103,7 +104,7 @@ impl Task {
         ensures meaning { IsKnown result → Does Faults (context_of stack.now None) (for_list name.now (tree list.now) (block body.now)) (state_of self.old world.old active.old) (seen_flow result) (state_of self.new world.new active.new) }
         ensures ticks { self.new.ticks_left ≤ self.old.ticks_left }
     {
-        let list = self.evaluate(world, active, stack, None, list)?;
+        let list = self.evaluate_part(world, active, stack, None, list)?;
         match spliced(&list) {
             Ok(values) => self.visit_all(world, active, stack, name, values, body),
             Err(code) => no_turn(self.alloc(), stack, active, code),
@@ -147,8 +148,8 @@ impl Task {
         ensures meaning { IsKnown result → Does Faults (context_of stack.now None) (for_range name.now (tree low.now) (tree high.now) (block body.now)) (state_of self.old world.old active.old) (seen_flow result) (state_of self.new world.new active.new) }
         ensures ticks { self.new.ticks_left ≤ self.old.ticks_left }
     {
-        let low = self.evaluate(world, active, stack, None, low)?;
-        let high = self.evaluate(world, active, stack, None, high)?;
+        let low = self.evaluate_part(world, active, stack, None, low)?;
+        let high = self.evaluate_part(world, active, stack, None, high)?;
         match Span::new(&low, &high) {
             Ok(span) => self.count(world, active, stack, name, span, body),
             Err(code) => no_turn(self.alloc(), stack, active, code),

@@ -1,7 +1,9 @@
 //! Operators, indexes, ranges and lists.
-ghost use Rattle.std.specs.Prelude.{◌≤◌};
+ghost use Rattle.std.specs.Prelude.{◌≡◌, ◌≤◌};
 ghost use Rattle.moo_program.specs.Tree.{unary, binary, index, range, list};
 ghost use Rattle.moo_program.specs.View.{tree, items_of};
+ghost use Rattle.moo_operation.specs.Places.{made_list};
+ghost use Rattle.moo_outcome.specs.Outcome.{answers};
 ghost use Rattle.moo_outcome.specs.Seen.{context_of, seen_answer, IsKnownFailure};
 ghost use Rattle.moo_code_function.specs.Telling.{Faults};
 ghost use Rattle.moo_eval.specs.Meaning.{Computes};
@@ -10,11 +12,12 @@ ghost use Rattle.moo_eval.specs.Seen.{state_of};
 use crate::integers;
 use crate::interpreter::Task;
 use moo_operation as operation;
-use moo_outcome::{Activation, CallStack, Failure};
+use moo_outcome::{Activation, CallStack, Failure, Gathered};
 use moo_program::operator::{BinaryOperator, UnaryOperator};
 use moo_program::{Expr, Item};
 use moo_value::Value;
 use moo_world::World;
+use std::alloc::Global;
 
 impl Task {
     #[cycle(evaluation)]
@@ -91,8 +94,8 @@ impl Task {
         ensures ticks { self.new.ticks_left ≤ self.old.ticks_left }
     {
         let base = self.evaluate(world, active, stack, indexed, base)?;
-        let low = self.evaluate(world, active, stack, Some(&base), low)?;
-        let high = self.evaluate(world, active, stack, Some(&base), high)?;
+        let low = self.evaluate_part(world, active, stack, Some(&base), low)?;
+        let high = self.evaluate_part(world, active, stack, Some(&base), high)?;
         Ok(operation::range(self.alloc, &base, &low, &high)?)
     }
 
@@ -110,7 +113,15 @@ impl Task {
         ensures ticks { self.new.ticks_left ≤ self.old.ticks_left }
     {
         let values = self.evaluate_all(world, active, stack, indexed, items)?;
-        let list = values.into_list(self.alloc)?;
-        Ok(Value::List(list))
+        listed(self.alloc, values)
     }
+}
+
+// The list of values. Not inlined: nested lists would each hold its room on the stack.
+#[inline(never)]
+fn listed(alloc: Global, values: Gathered) -> Result<Value, Failure>
+    ensures { IsKnownFailure result → answers (made_list values) ≡ seen_answer result }
+{
+    let list = values.into_list(alloc)?;
+    Ok(Value::List(list))
 }

@@ -93,7 +93,7 @@ impl Task {
     {
         match expr {
             None => Ok(Flow::Return(Value::Int(0))),
-            Some(expr) => Ok(Flow::Return(self.evaluate(world, active, stack, None, expr)?)),
+            Some(expr) => Ok(Flow::Return(self.evaluate_part(world, active, stack, None, expr)?)),
         }
     }
 
@@ -121,7 +121,7 @@ impl Task {
         if let Some((name, place, value)) = as_place_assignment(expr) {
             return self.set_place(world, active, stack, name, place, value);
         }
-        let _value = self.evaluate(world, active, stack, None, expr)?;
+        let _value = self.evaluate_part(world, active, stack, None, expr)?;
         Ok(Flow::Next)
     }
 
@@ -190,7 +190,7 @@ impl Task {
     }
 
     #[cycle(evaluation)]
-    #[inline(never)]
+    #[inline(always)]
     fn select(
         &mut self,
         world: &mut World,

@@ -1,12 +1,14 @@
 //! `try`, with handlers or with a cleanup.
-ghost use Rattle.std.specs.Prelude.{◌≡◌, ◌≤◌, None};
-ghost use Rattle.std.specs.Prelude.{map};
+ghost use Rattle.std.specs.Prelude.{◌≤◌, None, Result, Err, IfOk, IfErr, map};
 ghost use Rattle.moo_program.specs.Tree.{try_except, try_finally};
 ghost use Rattle.moo_program.specs.View.{block, handlers_of};
-ghost use Rattle.moo_eval.specs.Meaning.{Does, Prepares, Handles, Takes};
+ghost use Rattle.moo_eval.specs.Meaning.{Does, RunsAll, Prepares, Takes};
 ghost use Rattle.moo_outcome.specs.Handling.{chosen};
-ghost use Rattle.moo_outcome.specs.Seen.{context_of, raise_of, seen_flow, IsKnown};
+ghost use Rattle.moo_outcome.specs.Outcome.{Flow as Flowing, Stop as Stopped};
+ghost use Rattle.moo_outcome.specs.Seen.{context_of, raise_of, seen_flow, stop_of, HadMemory, IsKnown};
 ghost use Rattle.moo_outcome.specs.SeenHandling.{guarded_of, seen_guarded};
+ghost use Rattle.moo_table.specs.World.{World as WorldModel};
+ghost use Rattle.moo_access.specs.State.{State};
 ghost use Rattle.moo_code_function.specs.Telling.{Faults};
 ghost use Rattle.moo_eval.specs.Seen.{state_of};
 
@@ -65,9 +67,9 @@ impl Task {
         Ok(guarded)
     }
 
-    // The first handler that names the error runs, with its variable set, or the error goes on.
+    // The first handler that names the error runs, or the error goes on.
     #[cycle(evaluation)]
-    #[inline(never)]
+    #[inline(always)]
     fn handle(
         &mut self,
         world: &mut World,
@@ -79,11 +81,28 @@ impl Task {
         ensures meaning { IsKnown result → Takes Faults (context_of stack.now None) (chosen (map guarded_of guarded.now) raise.code) (raise_of raise) (state_of self.old world.old active.old) (seen_flow result) (state_of self.new world.new active.new) }
         ensures ticks { self.new.ticks_left ≤ self.old.ticks_left }
     {
+        let body = self.begin_handler(active, stack, guarded, raise)?;
+        self.run_all(world, active, stack, body)
+    }
+
+    // The statements of the first handler that names the error, whose variable is set. Not inlined, so that nested handlers hold no
+    // room for it.
+    #[inline(never)]
+    fn begin_handler<'a>(
+        &self,
+        active: &mut Activation,
+        stack: &CallStack<'_>,
+        guarded: &[Guarded<'a>],
+        raise: Raise,
+    ) -> Result<&'a [Stmt], Stop>
+        ensures ok { IfOk result (λ body. (w : WorldModel) (o : Result Flowing Stopped) (s : State) → RunsAll Faults (context_of stack.now None) (block body.now) (state_of self.now w active.new) o s → Takes Faults (context_of stack.now None) (chosen (map guarded_of guarded.now) raise.code) (raise_of raise) (state_of self.now w active.old) o s) }
+        ensures err { IfErr result (λ stop. HadMemory stop → (w : WorldModel) → Takes Faults (context_of stack.now None) (chosen (map guarded_of guarded.now) raise.code) (raise_of raise) (state_of self.now w active.old) (Err (stop_of stop)) (state_of self.now w active.new)) }
+    {
         let Some(taken) = chosen(guarded, raise.code) else {
             return Err(Stop::Raised(raise));
         };
         set_caught(self.alloc(), stack, active, taken.name, raise)?;
-        self.run_all(world, active, stack, taken.body)
+        Ok(taken.body)
     }
 
     // The cleanup runs after the statements, however they end, unless the ticks ran out.

@@ -130,15 +130,15 @@ logic-returns-in_err-evaluate-clause-meaning t c =
 
 pub conditional-returns-clause-meaning : goal.conditional-returns-clause-meaning
 conditional-returns-clause-meaning t c =
-    λ k. applies (element_then c.in_ok-passes.ensures.ok.1 no_more refl) no_more (conditional_false (c.in_ok-passes.ensures.ok.2 ∙ c.if-passes.false) (c.in_ok-evaluate-2.ensures.meaning tt) refl)
+    λ k. applies (element_then c.in_ok-passes.ensures.ok.1 no_more refl) no_more (conditional_false (c.in_ok-passes.ensures.ok.2 ∙ c.if-passes.false) (c.in_ok-evaluate_part-2.ensures.meaning tt) refl)
 
 pub conditional-returns-in_err-passes-clause-meaning : goal.conditional-returns-in_err-passes-clause-meaning
 conditional-returns-in_err-passes-clause-meaning t c =
     let p = err_from_is_err_and c.from_residual.result c.from_residual.ensures.1 in rw (p.1, p.2) (λ k. operands_end (element_stops (c.in_err-passes.ensures.err k)))
 
-pub conditional-returns-in_err-evaluate-clause-meaning : goal.conditional-returns-in_err-evaluate-clause-meaning
-conditional-returns-in_err-evaluate-clause-meaning t c =
-    let p = err_from_is_err_and c.from_residual-in_err-evaluate.result c.from_residual-in_err-evaluate.ensures.1 in rw (p.1, p.2) (λ k. applies (element_then c.in_ok-passes.ensures.ok.1 no_more refl) no_more (conditional_true (c.in_ok-passes.ensures.ok.2 ∙ c.if-passes.true) (c.in_err-evaluate.ensures.meaning k) refl))
+pub conditional-returns-in_err-evaluate_part-clause-meaning : goal.conditional-returns-in_err-evaluate_part-clause-meaning
+conditional-returns-in_err-evaluate_part-clause-meaning t c =
+    let p = err_from_is_err_and c.from_residual-in_err-evaluate_part.result c.from_residual-in_err-evaluate_part.ensures.1 in rw (p.1, p.2) (λ k. applies (element_then c.in_ok-passes.ensures.ok.1 no_more refl) no_more (conditional_true (c.in_ok-passes.ensures.ok.2 ∙ c.if-passes.true) (c.in_err-evaluate_part.ensures.meaning k) refl))
 
 pub index-returns-clause-meaning : goal.index-returns-clause-meaning
 index-returns-clause-meaning t c =
@@ -176,17 +176,9 @@ pub range-returns-in_err-range-clause-meaning : goal.range-returns-in_err-range-
 range-returns-in_err-range-clause-meaning t c =
     let p = err_from_is_err_and c.from_residual-in_err-range.result c.from_residual-in_err-range.ensures.1 in rw (p.1, p.2) (λ k. applies (element_then (c.in_ok-base.ensures.meaning tt) no_more refl) (element_then (c.in_ok-low.ensures.meaning tt) (element_then (c.in_ok-high.ensures.meaning tt) no_more refl) refl) (range_is (refused _ _ c.in_err-range.ensures k)))
 
-pub list-returns-clause-meaning : goal.list-returns-clause-meaning
-list-returns-clause-meaning t c =
-    λ k. applies (c.in_ok-values.ensures.meaning tt) no_more (list_is (ap answers c.in_ok-list.ensures.limits ∙ ap (λ ts. Ok (list_of ts)) (sym c.in_ok-list.ensures.ok)))
-
 pub list-returns-in_err-values-clause-meaning : goal.list-returns-in_err-values-clause-meaning
 list-returns-in_err-values-clause-meaning t c =
     let p = err_from_is_err_and c.from_residual.result c.from_residual.ensures.1 in rw (p.1, p.2) (λ k. operands_end (c.in_err-values.ensures.meaning k))
-
-pub list-returns-in_err-list-clause-meaning : goal.list-returns-in_err-list-clause-meaning
-list-returns-in_err-list-clause-meaning t c =
-    let p = err_from_is_err_and c.from_residual-in_err-list.result c.from_residual-in_err-list.ensures.1 in rw (p.1, p.2) (λ k. applies (c.in_ok-values.ensures.meaning tt) no_more (list_is (c.in_err-list.ensures.err k)))
 
 pub evaluate_all-loop-item-preserved : goal.evaluate_all-loop-item-preserved
 evaluate_all-loop-item-preserved t c =
@@ -229,28 +221,28 @@ pub evaluate_all-returns-in_err-splice-in-Splice-clause-meaning : goal.evaluate_
 evaluate_all-returns-in_err-splice-in-Splice-clause-meaning t c =
     let p = err_from_is_err_and c.from_residual-in_err-splice-in-Splice.result c.from_residual-in_err-splice-in-Splice.ensures.1 in rw (p.1, p.2) (λ k. c.loop-item.invariant.rest (Err (failure_of c.in_err-splice-in-Splice.field-0.0)) _ (rw (drop_next c.args.items.now c.loop-item.item-index c.item-item.result c.loop-item-test.true c.item-item.is, c.in-Splice.is, ← c.deref-in-Splice.ensures) (splice_fails (c.in_ok-value-in-Splice.ensures.meaning tt) (c.in_err-splice-in-Splice.ensures.err k))))
 
-pub conditional-returns-in_err-evaluate-2-clause-meaning : goal.conditional-returns-in_err-evaluate-2-clause-meaning
-conditional-returns-in_err-evaluate-2-clause-meaning t c =
-    let p = err_from_is_err_and c.from_residual-in_err-evaluate-2.result c.from_residual-in_err-evaluate-2.ensures.1 in rw (p.1, p.2) (λ k. applies (element_then c.in_ok-passes.ensures.ok.1 no_more refl) no_more (conditional_false (c.in_ok-passes.ensures.ok.2 ∙ c.if-passes.false) (c.in_err-evaluate-2.ensures.meaning k) refl))
+pub conditional-returns-in_err-evaluate_part-2-clause-meaning : goal.conditional-returns-in_err-evaluate_part-2-clause-meaning
+conditional-returns-in_err-evaluate_part-2-clause-meaning t c =
+    let p = err_from_is_err_and c.from_residual-in_err-evaluate_part-2.result c.from_residual-in_err-evaluate_part-2.ensures.1 in rw (p.1, p.2) (λ k. applies (element_then c.in_ok-passes.ensures.ok.1 no_more refl) no_more (conditional_false (c.in_ok-passes.ensures.ok.2 ∙ c.if-passes.false) (c.in_err-evaluate_part-2.ensures.meaning k) refl))
 
 pub conditional-returns-then-passes-clause-meaning : goal.conditional-returns-then-passes-clause-meaning
 conditional-returns-then-passes-clause-meaning t c =
-    λ k. applies (element_then c.in_ok-passes.ensures.ok.1 no_more refl) no_more (conditional_true (c.in_ok-passes.ensures.ok.2 ∙ c.if-passes.true) (c.in_ok-evaluate.ensures.meaning tt) refl)
+    λ k. applies (element_then c.in_ok-passes.ensures.ok.1 no_more refl) no_more (conditional_true (c.in_ok-passes.ensures.ok.2 ∙ c.if-passes.true) (c.in_ok-evaluate_part.ensures.meaning tt) refl)
 
-pub assign-returns-in_err-path-clause-meaning : goal.assign-returns-in_err-path-clause-meaning
-assign-returns-in_err-path-clause-meaning t c =
+pub assign_path-returns-in_err-path-clause-meaning : goal.assign_path-returns-in_err-path-clause-meaning
+assign_path-returns-in_err-path-clause-meaning t c =
     let p = err_from_is_err_and c.from_residual.result c.from_residual.ensures.1 in rw (p.1, p.2) (λ k. applies no_more no_more (assign_is (target_ends (c.in_err-path.ensures.meaning k))))
 
-pub assign-returns-in_err-value-clause-meaning : goal.assign-returns-in_err-value-clause-meaning
-assign-returns-in_err-value-clause-meaning t c =
+pub assign_path-returns-in_err-value-clause-meaning : goal.assign_path-returns-in_err-value-clause-meaning
+assign_path-returns-in_err-value-clause-meaning t c =
     let p = err_from_is_err_and c.from_residual-in_err-value.result c.from_residual-in_err-value.ensures.1 in rw (p.1, p.2) (λ k. applies no_more no_more (assign_is (value_stops (c.in_ok-path.ensures.meaning tt) (c.in_err-value.ensures.meaning k))))
 
-pub assign-returns-in_err-store-clause-meaning : goal.assign-returns-in_err-store-clause-meaning
-assign-returns-in_err-store-clause-meaning t c =
+pub assign_path-returns-in_err-store-clause-meaning : goal.assign_path-returns-in_err-store-clause-meaning
+assign_path-returns-in_err-store-clause-meaning t c =
     let p = err_from_is_err_and c.from_residual-in_err-store.result c.from_residual-in_err-store.ensures.1 in rw (p.1, p.2) (λ k. applies no_more no_more (assign_is (assigns (c.in_ok-path.ensures.meaning tt) (c.in_ok-value.ensures.meaning tt) (c.in_err-store.ensures.meaning k) refl)))
 
-pub assign-returns-clause-meaning : goal.assign-returns-clause-meaning
-assign-returns-clause-meaning t c =
+pub assign_path-returns-clause-meaning : goal.assign_path-returns-clause-meaning
+assign_path-returns-clause-meaning t c =
     λ k. applies no_more no_more (assign_is (assigns (c.in_ok-path.ensures.meaning tt) (c.in_ok-value.ensures.meaning tt) (c.in_ok-store.ensures.meaning tt) refl))
 
 pub call-returns-in_err-values-clause-meaning : goal.call-returns-in_err-values-clause-meaning
@@ -327,23 +319,23 @@ catch-returns-in_err-values-clause-meaning t c =
 
 pub catch-returns-in_err-outcome-clause-meaning : goal.catch-returns-in_err-outcome-clause-meaning
 catch-returns-in_err-outcome-clause-meaning t c =
-    let p = err_from_is_err_and c.from_residual-in_err-outcome.result c.from_residual-in_err-outcome.ensures.1 in rw (p.1, p.2) (λ k. passes_on (codes_of c.args.codes.now) c.args.other.now (c.in_ok-values.ensures.meaning tt) (c.evaluate-outcome.ensures.meaning (rw c.in_err-outcome.was k)) (rw c.deref.ensures.value at (sym c.caught.ensures ∙ none_left _ c.in_default.not-Some)) (ap (λ x. passes (seen_value x)) c.in_err-outcome.was))
+    let p = err_from_is_err_and c.from_residual-in_err-outcome.result c.from_residual-in_err-outcome.ensures.1 in rw (p.1, p.2) (λ k. passes_on (codes_of c.args.codes.now) c.args.other.now (c.in_ok-values.ensures.meaning tt) (c.evaluate_part-outcome.ensures.meaning (rw c.in_err-outcome.was k)) (rw c.deref.ensures.value at (sym c.caught.ensures ∙ none_left _ c.in_default.not-Some)) (ap (λ x. passes (seen_value x)) c.in_err-outcome.was))
 
 pub catch-returns-in_default-clause-meaning : goal.catch-returns-in_default-clause-meaning
 catch-returns-in_default-clause-meaning t c =
-    λ k. passes_on (codes_of c.args.codes.now) c.args.other.now (c.in_ok-values.ensures.meaning tt) (c.evaluate-outcome.ensures.meaning (rw c.in_ok-outcome.was tt)) (rw c.deref.ensures.value at (sym c.caught.ensures ∙ none_left _ c.in_default.not-Some)) (ap (λ x. passes (seen_value x)) c.in_ok-outcome.was)
+    λ k. passes_on (codes_of c.args.codes.now) c.args.other.now (c.in_ok-values.ensures.meaning tt) (c.evaluate_part-outcome.ensures.meaning (rw c.in_ok-outcome.was tt)) (rw c.deref.ensures.value at (sym c.caught.ensures ∙ none_left _ c.in_default.not-Some)) (ap (λ x. passes (seen_value x)) c.in_ok-outcome.was)
 
 pub catch-returns-in-None-clause-meaning : goal.catch-returns-in-None-clause-meaning
 catch-returns-in-None-clause-meaning t c =
-    λ k. rw c.in-None.is (applies (c.in_ok-values.ensures.meaning tt) no_more (catch_gives (c.evaluate-outcome.ensures.meaning (known_caught (codes_of c.args.codes.now) _ c.evaluate-outcome.result c.in-Some.code (sym c.caught.ensures ∙ c.in-Some.is))) (rw c.deref.ensures.value at (sym c.caught.ensures ∙ c.in-Some.is))))
+    λ k. rw c.in-None.is (applies (c.in_ok-values.ensures.meaning tt) no_more (catch_gives (c.evaluate_part-outcome.ensures.meaning (known_caught (codes_of c.args.codes.now) _ c.evaluate_part-outcome.result c.in-Some.code (sym c.caught.ensures ∙ c.in-Some.is))) (rw c.deref.ensures.value at (sym c.caught.ensures ∙ c.in-Some.is))))
 
-pub catch-returns-in_err-evaluate-in-Some-other-clause-meaning : goal.catch-returns-in_err-evaluate-in-Some-other-clause-meaning
-catch-returns-in_err-evaluate-in-Some-other-clause-meaning t c =
-    let p = err_from_is_err_and c.from_residual-in_err-evaluate-in-Some-other.result c.from_residual-in_err-evaluate-in-Some-other.ensures.1 in rw (p.1, p.2, c.in-Some-other.is, ← c.deref-in-Some-other.ensures) (λ k. applies (c.in_ok-values.ensures.meaning tt) no_more (catch_or_goes_on (c.evaluate-outcome.ensures.meaning (known_caught (codes_of c.args.codes.now) _ c.evaluate-outcome.result c.in-Some.code (sym c.caught.ensures ∙ c.in-Some.is))) (rw c.deref.ensures.value at (sym c.caught.ensures ∙ c.in-Some.is)) (c.in_err-evaluate-in-Some-other.ensures.meaning k) refl))
+pub catch-returns-in_err-evaluate_part-in-Some-other-clause-meaning : goal.catch-returns-in_err-evaluate_part-in-Some-other-clause-meaning
+catch-returns-in_err-evaluate_part-in-Some-other-clause-meaning t c =
+    let p = err_from_is_err_and c.from_residual-in_err-evaluate_part-in-Some-other.result c.from_residual-in_err-evaluate_part-in-Some-other.ensures.1 in rw (p.1, p.2, c.in-Some-other.is, ← c.deref-in-Some-other.ensures) (λ k. applies (c.in_ok-values.ensures.meaning tt) no_more (catch_or_goes_on (c.evaluate_part-outcome.ensures.meaning (known_caught (codes_of c.args.codes.now) _ c.evaluate_part-outcome.result c.in-Some.code (sym c.caught.ensures ∙ c.in-Some.is))) (rw c.deref.ensures.value at (sym c.caught.ensures ∙ c.in-Some.is)) (c.in_err-evaluate_part-in-Some-other.ensures.meaning k) refl))
 
 pub catch-returns-clause-meaning : goal.catch-returns-clause-meaning
 catch-returns-clause-meaning t c =
-    λ k. rw (c.in-Some-other.is, ← c.deref-in-Some-other.ensures) (applies (c.in_ok-values.ensures.meaning tt) no_more (catch_or_goes_on (c.evaluate-outcome.ensures.meaning (known_caught (codes_of c.args.codes.now) _ c.evaluate-outcome.result c.in-Some.code (sym c.caught.ensures ∙ c.in-Some.is))) (rw c.deref.ensures.value at (sym c.caught.ensures ∙ c.in-Some.is)) (c.in_ok-evaluate-in-Some-other.ensures.meaning tt) refl))
+    λ k. rw (c.in-Some-other.is, ← c.deref-in-Some-other.ensures) (applies (c.in_ok-values.ensures.meaning tt) no_more (catch_or_goes_on (c.evaluate_part-outcome.ensures.meaning (known_caught (codes_of c.args.codes.now) _ c.evaluate_part-outcome.result c.in-Some.code (sym c.caught.ensures ∙ c.in-Some.is))) (rw c.deref.ensures.value at (sym c.caught.ensures ∙ c.in-Some.is)) (c.in_ok-evaluate_part-in-Some-other.ensures.meaning tt) refl))
 
 pub compute-returns-in-VerbCall-clause-meaning : goal.compute-returns-in-VerbCall-clause-meaning
 compute-returns-in-VerbCall-clause-meaning t c =
@@ -388,14 +380,6 @@ locate-loop-spot-preserved t c =
 pub locate-returns-clause-meaning : goal.locate-returns-clause-meaning
 locate-returns-clause-meaning t c =
     λ k. c.loop-spot.invariant.rest (Ok (path_of c.loop-spot.path)) _ (rw (drop_of_length-le c.deref-spot-items.result.now c.loop-spot-test.false) inside)
-
-pub scatter-returns-in_err-list-clause-meaning : goal.scatter-returns-in_err-list-clause-meaning
-scatter-returns-in_err-list-clause-meaning t c =
-    let p = err_from_is_err_and c.from_residual.result c.from_residual.ensures.1 in rw (p.1, p.2) (λ k. scatter_fails (ap answers c.in_err-list.ensures.err))
-
-pub scatter-returns-clause-meaning : goal.scatter-returns-clause-meaning
-scatter-returns-clause-meaning t c =
-    λ k. scatters (ap answers c.in_ok-list.ensures.ok) (same_state (sym c.in_ok-set_shares.ensures.variables) (sym c.in_ok-set_shares.ensures.programmer)) (rw (c.deref.ensures.value, c.in_ok-defaults.ensures) at (c.set_defaults.ensures.meaning k))
 
 pub set_defaults-returns-in_err-value-clause-meaning : goal.set_defaults-returns-in_err-value-clause-meaning
 set_defaults-returns-in_err-value-clause-meaning t c =
@@ -448,16 +432,6 @@ find-returns-in_ok-name-in-Some-clause-meaning t c =
 pub find-returns-in-None-clause-meaning : goal.find-returns-in-None-clause-meaning
 find-returns-in-None-clause-meaning t c =
     λ k. finds (rw c.in-None.ensures.none no_more) c.root_alone.ensures
-
-pub store-returns-in_ok-set_variable-in-Variable-clause-meaning : goal.store-returns-in_ok-set_variable-in-Variable-clause-meaning
-store-returns-in_ok-set_variable-in-Variable-clause-meaning t c =
-    let h = c.in_ok-set_variable-in-Variable.ensures.ok in
-    λ k. rw c.in-Variable.is (stores (rw c.in_ok-value.ensures.value at h.1) (puts_variable (same_state (sym h.2) refl)))
-
-pub store-returns-in_err-set_variable-in-Variable-clause-meaning : goal.store-returns-in_err-set_variable-in-Variable-clause-meaning
-store-returns-in_err-set_variable-in-Variable-clause-meaning t c =
-    let p = err_from_is_err_and c.from_residual-in_err-set_variable-in-Variable.result c.from_residual-in_err-set_variable-in-Variable.ensures.1 in
-    rw (p.1, p.2, c.in-Variable.is) (λ k. subst (λ s. Stores Faults (context_of c.args.stack.now c.args.indexed) (named c.in-Variable.name.now) (steps_of c.args.path.steps.items) (tree c.args.value.now) (state_of c.args.self.now c.args.world.now c.args.active.now) (Err (failure_of c.in_err-set_variable-in-Variable.field-0.0)) s) (same_state (sym (c.in_err-set_variable-in-Variable.ensures.kept k)) refl) (no_store (rw c.in_ok-value.ensures.value at (c.in_err-set_variable-in-Variable.ensures.err k))))
 
 pub store-returns-in_ok-whole-in-Property-clause-meaning : goal.store-returns-in_ok-whole-in-Property-clause-meaning
 store-returns-in_ok-whole-in-Property-clause-meaning t c =
@@ -656,18 +630,6 @@ pub try_except-returns-in-Err-OutOfTicks-clause-meaning : goal.try_except-return
 try_except-returns-in-Err-OutOfTicks-clause-meaning t c =
     λ k. tries (c.in_ok-guarded.ensures.meaning tt) ((rw c.in-Err-OutOfTicks.field-0-is at c.in-Err-OutOfTicks.ensures.meaning) tt) ticks_out
 
-pub handle-returns-in_default-clause-meaning : goal.handle-returns-in_default-clause-meaning
-handle-returns-in_default-clause-meaning t c =
-    λ k. rw (sym c.chosen.ensures ∙ ap (λ o. option_map (λ g. guarded_of g.now) o) (none_left _ c.in_default.not-Some)) untaken
-
-pub handle-returns-clause-meaning : goal.handle-returns-clause-meaning
-handle-returns-clause-meaning t c =
-    λ k. rw (sym c.chosen.ensures ∙ ap (option_map (λ g. guarded_of g.now)) c.in-Some.is) (let h = c.in_ok-set_caught.ensures.ok in takes h.1 (same_state (sym h.2) (sym c.in_ok-set_caught.ensures.programmer)) (c.run_all.ensures.meaning k))
-
-pub handle-returns-in_err-set_caught-clause-meaning : goal.handle-returns-in_err-set_caught-clause-meaning
-handle-returns-in_err-set_caught-clause-meaning t c =
-    let p = err_from_is_err_and c.from_residual.result c.from_residual.ensures.1 in rw (p.1, p.2) (λ k. rw (sym c.chosen.ensures ∙ ap (option_map (λ g. guarded_of g.now)) c.in-Some.is) (let h = c.in_err-set_caught.ensures.err k in rw (h.2, c.in_err-set_caught.ensures.kept k) (untold h.1)))
-
 pub perform-returns-in-Return-clause-meaning : goal.perform-returns-in-Return-clause-meaning
 perform-returns-in-Return-clause-meaning t c =
     λ k. rw c.in-Return.is (c.give.ensures.meaning k)
@@ -770,14 +732,14 @@ prepare-returns-in_err-values-clause-meaning t c =
 pub give-returns-in-None-clause-meaning : goal.give-returns-in-None-clause-meaning
 give-returns-in-None-clause-meaning t c = rw c.in-None.is (λ k. gives_zero)
 
-pub give-returns-in_ok-evaluate-in-Some-clause-meaning : goal.give-returns-in_ok-evaluate-in-Some-clause-meaning
-give-returns-in_ok-evaluate-in-Some-clause-meaning t c =
-    rw (c.in-Some.is, ← c.deref.ensures) (λ k. gives (c.in_ok-evaluate-in-Some.ensures.meaning tt) refl)
+pub give-returns-in_ok-evaluate_part-in-Some-clause-meaning : goal.give-returns-in_ok-evaluate_part-in-Some-clause-meaning
+give-returns-in_ok-evaluate_part-in-Some-clause-meaning t c =
+    rw (c.in-Some.is, ← c.deref.ensures) (λ k. gives (c.in_ok-evaluate_part-in-Some.ensures.meaning tt) refl)
 
-pub give-returns-in_err-evaluate-in-Some-clause-meaning : goal.give-returns-in_err-evaluate-in-Some-clause-meaning
-give-returns-in_err-evaluate-in-Some-clause-meaning t c =
+pub give-returns-in_err-evaluate_part-in-Some-clause-meaning : goal.give-returns-in_err-evaluate_part-in-Some-clause-meaning
+give-returns-in_err-evaluate_part-in-Some-clause-meaning t c =
     let p = err_from_is_err_and c.from_residual.result c.from_residual.ensures.1 in
-    rw (p.1, p.2, c.in-Some.is, ← c.deref.ensures) (λ k. gives (c.in_err-evaluate-in-Some.ensures.meaning k) refl)
+    rw (p.1, p.2, c.in-Some.is, ← c.deref.ensures) (λ k. gives (c.in_err-evaluate_part-in-Some.ensures.meaning k) refl)
 
 pub assign-returns-in-Some-clause-meaning : goal.assign-returns-in-Some-clause-meaning
 assign-returns-in-Some-clause-meaning t c = λ k. rw c.in-Some.ensures (c.assign_variable.ensures.meaning k)
@@ -963,3 +925,27 @@ proceed-verbs-smaller t c =
 pub proceed-verbs-preserved : goal.proceed-verbs-preserved
 proceed-verbs-preserved t c =
     record { ticks = omega (arith, c.in_ok-pending-2.ensures.ticks); statements = c.in_ok-pending-2.ensures.statements; rest = λ r u d. let h = rw c.into_inner.ensures at (c.in_ok-answer.ensures.meaning c.args.active.now tt) in c.verbs.invariant.rest r u (rw c.in-Verb.is (hook_then h.runs h.leaves h.gives refl (c.in_ok-pending-2.ensures.meaning tt r u d))) }
+
+pub list-returns-clause-meaning : goal.list-returns-clause-meaning
+list-returns-clause-meaning t c =
+    λ k. applies (c.in_ok-values.ensures.meaning tt) no_more (list_is (c.listed.ensures k))
+
+pub scatter-returns-in_err-defaults-clause-meaning : goal.scatter-returns-in_err-defaults-clause-meaning
+scatter-returns-in_err-defaults-clause-meaning t c =
+    let p = err_from_is_err_and c.from_residual.result c.from_residual.ensures.1 in rw (p.1, p.2) (λ k. c.in_err-defaults.ensures.err k _ _)
+
+pub scatter-returns-clause-meaning : goal.scatter-returns-clause-meaning
+scatter-returns-clause-meaning t c =
+    λ k. c.in_ok-defaults.ensures.ok _ _ _ _ (rw c.deref.ensures.value at (c.set_defaults.ensures.meaning k))
+
+pub handle-returns-in_err-body-clause-meaning : goal.handle-returns-in_err-body-clause-meaning
+handle-returns-in_err-body-clause-meaning t c =
+    let p = err_from_is_err_and c.from_residual.result c.from_residual.ensures.1 in rw (p.1, p.2) (λ k. c.in_err-body.ensures.err k _)
+
+pub handle-returns-clause-meaning : goal.handle-returns-clause-meaning
+handle-returns-clause-meaning t c =
+    λ k. c.in_ok-body.ensures.ok _ _ _ (c.run_all.ensures.meaning k)
+
+pub store-returns-in-Variable-clause-meaning : goal.store-returns-in-Variable-clause-meaning
+store-returns-in-Variable-clause-meaning t c =
+    λ k. rw c.in-Variable.is (rw c.in_ok-value.ensures.value at (c.store_variable.ensures (context_of c.args.stack.now c.args.indexed) c.args.world.now k))

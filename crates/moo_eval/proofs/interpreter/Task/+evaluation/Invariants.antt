@@ -24,6 +24,9 @@ use Rattle.moo_eval.proofs.interpreter.Task.+evaluation.Given as goal
 abbrev pub decreases-evaluate : goal.decreases-evaluate
 decreases-evaluate l = 8 * l.self.now.ticks_left + 1
 
+abbrev pub decreases-evaluate_part : goal.decreases-evaluate_part
+decreases-evaluate_part l = 8 * l.self.now.ticks_left + 2
+
 abbrev pub decreases-passes : goal.decreases-passes
 decreases-passes l = 8 * l.self.now.ticks_left + 3
 
@@ -58,7 +61,7 @@ abbrev pub decreases-put_at : goal.decreases-put_at
 decreases-put_at l = 8 * l.self.now.ticks_left + 2
 
 abbrev pub decreases-evaluate_all : goal.decreases-evaluate_all
-decreases-evaluate_all l = 8 * l.self.now.ticks_left + 2
+decreases-evaluate_all l = 8 * l.self.now.ticks_left + 3
 
 abbrev pub decreases-unary : goal.decreases-unary
 decreases-unary l = 8 * l.self.now.ticks_left + 3
@@ -79,7 +82,7 @@ abbrev pub decreases-range : goal.decreases-range
 decreases-range l = 8 * l.self.now.ticks_left + 3
 
 abbrev pub decreases-list : goal.decreases-list
-decreases-list l = 8 * l.self.now.ticks_left + 3
+decreases-list l = 8 * l.self.now.ticks_left + 4
 
 abbrev pub decreases-compute : goal.decreases-compute
 decreases-compute l = 8 * l.self.now.ticks_left + 7
@@ -106,22 +109,25 @@ abbrev pub decreases-call_caller : goal.decreases-call_caller
 decreases-call_caller l = 8 * l.self.now.ticks_left + 5
 
 abbrev pub decreases-catch : goal.decreases-catch
-decreases-catch l = 8 * l.self.now.ticks_left + 4
+decreases-catch l = 8 * l.self.now.ticks_left + 5
 
 abbrev pub decreases-guards : goal.decreases-guards
-decreases-guards l = 8 * l.self.now.ticks_left + 3
+decreases-guards l = 8 * l.self.now.ticks_left + 4
 
 abbrev pub decreases-assign : goal.decreases-assign
-decreases-assign l = 8 * l.self.now.ticks_left + 5
+decreases-assign l = 8 * l.self.now.ticks_left + 6
+
+abbrev pub decreases-assign_path : goal.decreases-assign_path
+decreases-assign_path l = 8 * l.self.now.ticks_left + 5
 
 abbrev pub decreases-locate : goal.decreases-locate
-decreases-locate l = 8 * l.self.now.ticks_left + 3
+decreases-locate l = 8 * l.self.now.ticks_left + 4
 
 abbrev pub decreases-find : goal.decreases-find
-decreases-find l = 8 * l.self.now.ticks_left + 2
+decreases-find l = 8 * l.self.now.ticks_left + 3
 
 abbrev pub decreases-step : goal.decreases-step
-decreases-step l = 8 * l.self.now.ticks_left + 2
+decreases-step l = 8 * l.self.now.ticks_left + 3
 
 abbrev pub decreases-store : goal.decreases-store
 decreases-store l = 8 * l.self.now.ticks_left + 4
@@ -196,19 +202,19 @@ abbrev pub decreases-branch : goal.decreases-branch
 decreases-branch l = 8 * l.self.now.ticks_left + 5
 
 abbrev pub decreases-try_except : goal.decreases-try_except
-decreases-try_except l = 8 * l.self.now.ticks_left + 5
+decreases-try_except l = 8 * l.self.now.ticks_left + 6
 
 abbrev pub decreases-perform : goal.decreases-perform
-decreases-perform l = 8 * l.self.now.ticks_left + 6
+decreases-perform l = 8 * l.self.now.ticks_left + 7
 
 abbrev pub decreases-prepare : goal.decreases-prepare
-decreases-prepare l = 8 * l.self.now.ticks_left + 4
+decreases-prepare l = 8 * l.self.now.ticks_left + 5
 
 abbrev pub decreases-give : goal.decreases-give
-decreases-give l = 8 * l.self.now.ticks_left + 2
+decreases-give l = 8 * l.self.now.ticks_left + 3
 
 abbrev pub decreases-evaluate_alone : goal.decreases-evaluate_alone
-decreases-evaluate_alone l = 8 * l.self.now.ticks_left + 2
+decreases-evaluate_alone l = 8 * l.self.now.ticks_left + 3
 
 -- what the rest does is what all statements do
 abbrev pub invariant-run_all-loop-statement : goal.invariant-run_all-loop-statement

@@ -12,7 +12,8 @@ use std::io::Read;
 /// How many bytes are read at once.
 const PIECE: usize = 65_536;
 
-/// The saved world of all that the input still gives, or why it is none.
+/// The saved world of all that the input still gives, or why it is none. The memory of the records that
+/// it is made from is left to the end of the process.
 pub fn load<I: Read>(
     alloc: Global,
     input: &mut I,
@@ -26,7 +27,7 @@ pub fn load<I: Read>(
         return Err(watch.lack());
     };
     match feed_all(alloc, input, watch, &mut reader, &mut buffer)? {
-        Ok(()) => Ok(reader.finish(alloc)),
+        Ok(()) => Ok(reader.finish_leaving(alloc)),
         Err(fault) => Ok(Err(fault)),
     }
 }

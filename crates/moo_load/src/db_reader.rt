@@ -56,11 +56,11 @@ impl DbReader {
         self.reader.feed(alloc, piece)
     }
 
-    fn end(self, alloc: Global) -> Result<Saved, DbFault>
+    fn end(self, alloc: Global, is_left: bool) -> Result<Saved, DbFault>
         ensures answer { (bytes : List ℕ) → HasFed self bytes → LoadAnswers result bytes }
         ensures again { (e : DbFault) → HasRefused self e → IsErrOf result e }
     {
-        self.reader.finish(alloc)
+        self.reader.finish(alloc, is_left)
     }
 
     /// The saved world of the whole text, once all of it has been fed.
@@ -73,6 +73,20 @@ impl DbReader {
         ensures answer { (bytes : List ℕ) → HasFed self bytes → LoadAnswers result bytes }
         ensures again { (e : DbFault) → HasRefused self e → IsErrOf result e }
     {
-        self.end(alloc)
+        self.end(alloc, false)
+    }
+
+    /// The same, for a process that ends soon: the memory of the records that the world is made from is
+    /// left to its end.
+    pub fn finish_leaving(self, alloc: Global) -> Result<Saved, DbFault>
+        // What is read is spelled so, within the limits.
+        ensures found { (bytes : List ℕ) → HasFed self bytes → IfOk result (λ s. SpellsSavedWithin bytes (saved_of s)) }
+        // What is told where the text is refused says why.
+        ensures refused { (bytes : List ℕ) → HasFed self bytes → IfErr result (Refuses bytes) }
+        // The answer that `read_db` gives for the same bytes.
+        ensures answer { (bytes : List ℕ) → HasFed self bytes → LoadAnswers result bytes }
+        ensures again { (e : DbFault) → HasRefused self e → IsErrOf result e }
+    {
+        self.end(alloc, true)
     }
 }

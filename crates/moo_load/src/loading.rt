@@ -17,6 +17,7 @@ use moo_restore::{RestoreFault, restore_checked};
 use moo_saved::Saved;
 use moo_world::World;
 use std::alloc::{AllocError, Global};
+use std::mem::forget;
 
 /// Who was connected.
 fn connected(alloc: Global, connections: &[Connection]) -> Result<Vec<i32>, AllocError>
@@ -106,8 +107,14 @@ fn world_of(
     }
 }
 
-/// The saved world of what is kept of a text of so many lines, of which no object is at fault.
-pub(crate) fn load(alloc: Global, lines: u64, database: Database) -> Result<Saved, DbFault>
+/// The saved world of what is kept of a text of so many lines, of which no object is at fault. The
+/// memory of the records is given back, or left to the end of the process.
+pub(crate) fn load(
+    alloc: Global,
+    lines: u64,
+    database: Database,
+    is_left: bool,
+) -> Result<Saved, DbFault>
     requires limits { AreWithinLimits (records_kept database) }
     requires faultless { AreFaultless (records_kept database).objects }
     ensures saved { IfOk result (IsSavedFrom database) }
@@ -123,5 +130,9 @@ pub(crate) fn load(alloc: Global, lines: u64, database: Database) -> Result<Save
         return Err(without_memory(lines));
     };
     let world = world_of(alloc, lines, &objects, &programs, players)?;
+    if is_left {
+        forget(objects);
+        forget(programs);
+    }
     Ok(Saved { world, connected })
 }

@@ -123,7 +123,9 @@ impl WorldReader {
         taken
     }
 
-    pub(crate) fn finish(self, alloc: Global) -> Result<Saved, DbFault>
+    /// The saved world of all that was taken. The memory of its records is given back, or left to the
+    /// end of the process.
+    pub(crate) fn finish(self, alloc: Global, is_left: bool) -> Result<Saved, DbFault>
         requires { (bytes : List ℕ) × HasTaken self bytes }
         ensures answer { (bytes : List ℕ) → HasTaken self bytes → LoadAnswers result bytes }
         ensures again { (e : DbFault) → HasFailed self e → IsErrOf result e }
@@ -133,6 +135,6 @@ impl WorldReader {
         }
         let lines = self.programs.lines();
         let database = self.programs.finish()?;
-        load(alloc, lines, database)
+        load(alloc, lines, database, is_left)
     }
 }

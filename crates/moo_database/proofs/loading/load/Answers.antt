@@ -8,7 +8,7 @@ pub returns-in-Ok-2-clause-answer : goal.returns-in-Ok-2-clause-answer
 returns-in-Ok-2-clause-answer g c =
     let known = g.I.Read.remaining c.args.input.now in
     let reader = c.feed_all.new.reader in
-    if_some (λ (b : List ℕ). HasFed reader b) (λ (b : List ℕ). LoadAnswers c.finish.result b) known (λ b h. c.finish.ensures.answer b h)
+    if_some (λ (b : List ℕ). HasFed reader b) (λ (b : List ℕ). LoadAnswers c.finish_leaving.result b) known (λ b h. c.finish_leaving.ensures.answer b h)
     (subst (λ r. IfSome known (λ (b : List ℕ). MatchResult r (λ _. HasFed reader b) (λ e. LoadAnswers (Err e) b))) c.in-Ok-2.is c.in_ok-feed_all.ensures.fed)
 
 pub returns-in-Err-clause-answer : goal.returns-in-Err-clause-answer

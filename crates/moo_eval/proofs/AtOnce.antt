@@ -7,7 +7,7 @@ use Rattle.std.specs.Borrow.{Bor}
 use Rattle.std.specs.Slice.{IsItemAt}
 use Rattle.std.proofs.lemmas.Option.{slice_get-map, slice_get_read}
 use Rattle.moo_value.specs.declared.value.Value.{Value}
-use Rattle.moo_value.specs.Tree.{Tree, integer, object, list_of}
+use Rattle.moo_value.specs.Tree.{Tree, integer, object, string, list_of}
 use Rattle.moo_value.specs.View.{tree, trees}
 use Rattle.moo_value.specs.TreeCode.{trees_of-elements_of}
 use Rattle.moo_value.specs.Compare.{folded}
@@ -59,6 +59,11 @@ element_there vs ts k (Some v) e h = element_found vs ts k v.now e (slice_get_re
 pub object_leaf : (variables : List ℕ → Option Tree) (l : Literal) (r : Option ℤ) → IfSome r (λ o. literal_value l ≡ object o) → IfSome r (λ o. IsLeaf variables (literal l) (object o))
 object_leaf variables l None h = tt
 object_leaf variables l (Some o) h = rw (sym h) literal_leaf
+
+-- a string that is written out
+pub text_leaf : (variables : List ℕ → Option Tree) (l : Literal) (r : Option (Bor (List ℕ))) → IfSome r (λ s. literal_value l ≡ string s.now) → IfSome r (λ s. IsLeaf variables (literal l) (string s.now))
+text_leaf variables l None h = tt
+text_leaf variables l (Some s) h = rw (sym h) literal_leaf
 
 -- a literal
 pub written_leaf : (variables : List ℕ → Option Tree) (l : Literal) (v : Tree) → literal_value l ≡ v → IsLeaf variables (literal l) v

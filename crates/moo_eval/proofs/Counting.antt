@@ -6,7 +6,7 @@ use Rattle.std.proofs.Math.Facts.{sfits_widen}
 use mir.Syntax.{w32, w64}
 use mir.Val.{SFits, to_z, of_z}
 
-between : (low high n : ℤ) → SFits w32 low → SFits w32 high → low ≤ℤ n → int_le n high ≡ true → SFits w32 n
+pub between : (low high n : ℤ) → SFits w32 low → SFits w32 high → low ≤ℤ n → int_le n high ≡ true → SFits w32 n
 between (pos a) (pos b) (pos n) f g h k = grind (arith, ints)
 between (pos a) (negsuc b) (pos n) f g h k = grind (arith, ints)
 between (negsuc a) (pos b) (pos n) f g h k = grind (arith, ints)
@@ -16,7 +16,7 @@ between (pos a) (negsuc b) (negsuc n) f g h k = grind (arith, ints)
 between (negsuc a) (pos b) (negsuc n) f g h k = grind (arith, ints)
 between (negsuc a) (negsuc b) (negsuc n) f g h k = grind (arith, ints)
 
-after : (n : ℤ) → SFits w32 n → SFits w64 (n +ℤ pos 1)
+pub after : (n : ℤ) → SFits w32 n → SFits w64 (n +ℤ pos 1)
 after (pos n) f = record { sfits = omega (arith, ints, f) }
 after (negsuc n) f = grind (arith, ints)
 
@@ -32,3 +32,11 @@ not_below low n h = omega (arith, ints)
 -- the test that the loop makes, in the wider type
 pub reached : (n m high : ℤ) (b : Bool) → SFits w32 high → m ≡ to_z w32 (of_z w32 high) → int_le n (to_z w64 (of_z w64 m)) ≡ b → int_le n high ≡ b
 reached n m high b g q t = sym (ap (λ x. int_le n (to_z w64 (of_z w64 x))) (q ∙ to_z-of_z w32 high g) ∙ ap (int_le n) (to_z-of_z w64 high (sfits_widen tt g))) ∙ t
+
+-- an integer of the language is no less than the least
+pub least : (n : ℤ) → SFits w32 n → negsuc 2147483647 ≤ℤ n
+least (pos n) f = grind (arith, ints)
+least (negsuc n) f = grind (arith, ints)
+
+pub not_before : (low n m : ℤ) → low ≤ℤ n → n ≤ℤ m → low ≤ℤ m
+not_before low n m h k = omega (arith, ints, h, k)

@@ -1,5 +1,5 @@
 -- Statements that are known at once.
-use Rattle.std.proofs.Common.{◌≡◌, ℕ, ℤ, suc, pos, ◌<◌, ◌-◌, true, List, [], ◌∷◌, Result, Ok, Err, is_ok, length, refl, sym, ap, ◌∙◌, arith}
+use Rattle.std.proofs.Common.{◌≡◌, ℕ, ℤ, suc, pos, ◌<◌, ◌-◌, Bool, true, false, Option, List, [], ◌∷◌, ◌++◌, Result, Ok, Err, is_ok, length, refl, sym, ap, ◌∙◌, arith}
 use Rattle.std.proofs.lemmas.Bool.{false≢true}
 use Rattle.std.proofs.lemmas.Int.{to_z-of_z}
 use mir.Syntax.{w32}
@@ -7,22 +7,31 @@ use mir.Val.{SFits, to_z, of_z}
 use lib.IntN.{nat_abs}
 use Rattle.moo_value.specs.declared.error_code.ErrorCode.{ErrorCode}
 use Rattle.moo_value.specs.declared.error_code.ErrorCode.TheVariants.{VariableNotFound}
+use Rattle.moo_value.specs.Tree.{Tree, list_of}
 use Rattle.moo_program.specs.declared.tree.Stmt.{Stmt}
 use Rattle.moo_program.specs.Tree.{Expr, variable, property, assign, performs, no_statement}
 use Rattle.moo_program.specs.View.{block}
+use Rattle.moo_operation.specs.Places.{made_list}
 use Rattle.moo_table.specs.World.{World}
 use Rattle.moo_outcome.specs.declared.frame.Activation.{Activation}
 use Rattle.moo_outcome.specs.declared.notice.Notice.{Notice}
 use Rattle.moo_outcome.specs.Outcome.{answers, or_error, next}
-use Rattle.moo_outcome.specs.declared.outcome.Failure as code_failure
-use Rattle.moo_outcome.specs.Seen.{seen_by}
 use Rattle.moo_outcome.specs.State.{Context, within}
-use Rattle.moo_code_function.specs.Telling.{Faults}
+use Rattle.moo_outcome.specs.Variables.{bind}
+use Rattle.moo_access.specs.State.{State, bound}
+use Rattle.moo_code_function.specs.Telling.{Telling, Faults}
 use Rattle.moo_call.specs.Seen.{state_at}
+use Rattle.moo_world.specs.Calls.{Changes}
+use Rattle.moo_world.specs.declared.fault.WorldFault.{WorldFault}
+use Rattle.moo_access.proofs.Written.{raises_with, world_with, set_to}
 use Rattle.moo_eval.specs.Element.{sets_place}
-use Rattle.moo_eval.specs.Worth.{IsSet, IsWritten, IsPlaced}
-use Rattle.moo_eval.specs.Meaning.{Runs, statement_begins, applies, no_more, element_then, assign_is, assigns, locates, finds, inside, stores, puts_property}
-use Rattle.moo_eval.proofs.Direct.{assigned, performed}
+use Rattle.moo_eval.specs.Growth.{IsLengthened, Lengthens, splices, calls}
+use Rattle.moo_eval.specs.Leaves.{variable_leaf}
+use Rattle.moo_eval.specs.Worth.{IsSet, IsWritten, IsPlaced, IsGrown}
+use Rattle.moo_eval.specs.Meaning.{Evaluates, Runs, statement_begins, applies, no_more, element_then, assign_is, assigns, locates, finds, inside, stores, puts_property}
+use Rattle.moo_eval.proofs.Appended.{appended}
+use Rattle.moo_eval.proofs.Direct.{assigned, performed, leaf_gives}
+use Rattle.moo_eval.proofs.Lengthened.{lengthened, set_longer}
 use Rattle.moo_eval.proofs.Placed.{put, put_alone}
 use Rattle.moo_eval.proofs.Exits.{same_state}
 
@@ -44,6 +53,16 @@ placed_ahead {n = n} {notices = notices} c h p =
     let two : n - 2 ≡ n - 1 - 1 = omega arith in
     statement_begins (omega (arith, h)) (put_alone (omega (arith, h)) (put (ap (λ o. answers (or_error o VariableNotFound)) p.holds) (rw two at p.gives_place (within c (p.container ∷ [])) notices) (p.gives_value c notices) p.is (same_state (sym p.sets) (sym p.keeps))))
 
+-- what is known at once is put behind the list in a variable
+longer : {T : Telling} {c : Context} {x : List ℕ} {e longer : Expr} {s s1 s2 t : State} {v w : Tree} (vs : List Tree) → Lengthens x e longer → Evaluates T c (variable x) s (Ok (list_of vs)) s1 → Evaluates T c e s1 (Ok v) s2 → made_list (vs ++ v ∷ []) ≡ Ok w → bound (bind x w ∷ []) s2 ≡ t → IsLengthened T c x longer s t
+longer vs splices d g made sets = lengthened vs d g made sets
+longer vs (calls a) d g made sets = appended vs a d g made sets
+
+pub grown_ahead : {w : World} {active active' : Activation} {n m : ℕ} {notices : List Notice} {x : List ℕ} {last e : Expr} (c : Context) → 3 < n → Lengthens x last e → IsGrown w active active' (n - 4) m x last → Runs Faults c (performs (assign (variable x) e)) (state_at n notices w active) (Ok next) (state_at m notices w active')
+grown_ahead {n = n} {notices = notices} c h l p =
+    let four : n - 4 ≡ n - 1 - 1 - 1 - 1 = omega arith in
+    statement_begins (omega (arith, h)) (set_longer (omega (arith, h)) (omega (arith, h)) (longer p.elements l (leaf_gives (omega (arith, h)) (variable_leaf p.holds)) (rw four at p.gives c notices) p.is (same_state (sym p.sets) (sym p.keeps))))
+
 pub nothing_left : (ss : List Stmt) → length ss ≡ 0 → block ss ≡ no_statement
 nothing_left [] h = refl
 nothing_left (s ∷ ss) h = let more : suc (length ss) ≡ 0 = h in absurd (omega (arith, more))
@@ -57,6 +76,6 @@ unanswered {x = x} (Ok y) e = let same : y ≡ x = cc in ap (λ z. Ok z) same
 unanswered (Err code) e = absurd cc
 
 -- a property was set, where setting it went well
-pub written : (w' : World) (made : Result World ErrorCode) (r : Result (Unit {0}) code_failure.Failure) → answers made ≡ seen_by (λ done. w') r → is_ok r ≡ true → made ≡ Ok w'
-written w' made (Ok done) e h = unanswered made e
-written w' made (Err failure) e h = absurd (false≢true h)
+pub set_there : (first : Option ErrorCode) (may : Bool) (old new after : World) (r : Result (Unit {0}) WorldFault) → Changes r old new (raises_with first may) after → is_ok r ≡ true → world_with first may after ≡ Ok new
+set_there first may old new after (Ok done) h t = unanswered _ (set_to first may after new h.0 h.1)
+set_there first may old new after (Err fault) h t = absurd (false≢true t)

@@ -25,4 +25,7 @@ mod AtOnce
 mod Appended
 mod Placed
 mod Foreseen
+mod InPlace
 mod Measuring
+mod Turned
+mod Returned

@@ -14,3 +14,4 @@ pub mod Leaves
 pub mod Worth
 pub mod Growth
 pub mod Element
+pub mod Turning

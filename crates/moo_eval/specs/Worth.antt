@@ -1,8 +1,9 @@
 -- Expressions whose worth is known at once.
-use Rattle.std.specs.Prelude.{◌≡◌, ℕ, List, Some, Ok}
-use Rattle.moo_value.specs.Tree.{Tree}
+use Rattle.std.specs.Prelude.{◌≡◌, ℕ, List, [], ◌∷◌, ◌++◌, Some, Ok}
+use Rattle.moo_value.specs.Tree.{Tree, list_of}
 use Rattle.moo_value.specs.Compare.{folded}
 use Rattle.moo_operation.specs.Assignment.{with_index_of}
+use Rattle.moo_operation.specs.Places.{made_list}
 use Rattle.moo_program.specs.Tree.{Expr}
 use Rattle.moo_table.specs.World.{World}
 use Rattle.moo_outcome.specs.State.{Context}
@@ -51,5 +52,16 @@ pub record IsPlaced (w : World) (active active' : Activation) (before after : �
   pub gives_place : IsWorth w active before place at found
   pub gives_value : IsWorth w active found e value after
   pub is : with_index_of container at value ≡ Ok whole
+  pub sets : variables_of active'.variables ≡ with_variable (variables_of active.variables) (bind name whole)
+  pub keeps : active'.programmer ≡ active.programmer
+
+-- the list in a variable gets what an expression gives so behind it, and nothing else changes but the ticks
+pub record IsGrown (w : World) (active active' : Activation) (before after : ℕ) (name : List ℕ) (e : Expr) : Type 0 where
+  pub elements : List Tree
+  pub value : Tree
+  pub whole : Tree
+  pub holds : variables_of active.variables (folded name) ≡ Some (list_of elements)
+  pub gives : IsWorth w active before e value after
+  pub is : made_list (elements ++ value ∷ []) ≡ Ok whole
   pub sets : variables_of active'.variables ≡ with_variable (variables_of active.variables) (bind name whole)
   pub keeps : active'.programmer ≡ active.programmer

@@ -1,17 +1,16 @@
 //! What is known at once, so that nothing can stop it: values of expressions, tests, and statements that set a variable to such a value.
-ghost use Rattle.std.specs.Prelude.{◌≡◌, ◌<◌, ◌≤◌, Result, Ok, Err, IfSome, IfNone, IfOk, IfErr, IsTrue, IsFalse};
+ghost use Rattle.std.specs.Prelude.{◌≡◌, ◌<◌, ◌≤◌, Ok, Err, IfSome, IfNone, IfOk, IfErr, IsTrue, IsFalse};
 ghost use Rattle.moo_program.specs.Tree.{Expr as ExprTree, assign, binary, performs, variable};
-ghost use Rattle.moo_program.specs.View.{tree, statement as statement_of, block};
+ghost use Rattle.moo_program.specs.View.{tree, statement as statement_of};
 ghost use Rattle.moo_value.specs.Tree.{Tree, integer};
 ghost use Rattle.moo_value.specs.View.{tree as tree_of};
 ghost use Rattle.moo_operation.specs.Truth.{is_true};
-ghost use Rattle.moo_outcome.specs.Outcome.{Flow, Stop as Stopped, next};
+ghost use Rattle.moo_outcome.specs.Outcome.{next};
 ghost use Rattle.moo_outcome.specs.State.{Context};
-ghost use Rattle.moo_access.specs.State.{State};
 ghost use Rattle.moo_outcome.specs.Seen.{context_of, stop_of, variables_of, HadMemory};
 ghost use Rattle.moo_table.specs.World.{World as WorldModel};
 ghost use Rattle.moo_code_function.specs.Telling.{Faults};
-ghost use Rattle.moo_eval.specs.Meaning.{Evaluates, Runs, RunsAll};
+ghost use Rattle.moo_eval.specs.Meaning.{Evaluates, Runs};
 ghost use Rattle.moo_eval.specs.Seen.{state_of};
 ghost use Rattle.moo_eval.specs.Leaves.{IsLeaf};
 ghost use Rattle.moo_eval.specs.Worth.{IsSet};
@@ -20,7 +19,7 @@ use crate::assignment::as_assignment;
 use crate::interpreter::Task;
 use crate::leaves::integer_leaf;
 use crate::lengths::may_be_length;
-use crate::worth::{Sight, number_worth, take, worth};
+use crate::worth::{Sight, joined_worth, number_worth, take, worth};
 use moo_operation as operation;
 use moo_outcome::{Activation, CallStack, Stop};
 use moo_program::operator::BinaryOperator;
@@ -122,40 +121,6 @@ impl Task {
         Ok(operation::is_true(&value))
     }
 
-    /// Runs the first statements, as far as they are known at once: those that are left.
-    pub(crate) fn run_ahead<'a>(
-        &mut self,
-        world: &mut World,
-        active: &mut Activation,
-        statements: &'a [Stmt],
-    ) -> &'a [Stmt]
-        ensures rest { (c : Context) (o : Result Flow Stopped) (s : State) → RunsAll Faults c (block result.now) (state_of self.new world.new active.new) o s → RunsAll Faults c (block statements.now) (state_of self.old world.old active.old) o s }
-        ensures ticks { self.new.ticks_left ≤ self.old.ticks_left }
-    {
-        let mut rest = statements;
-        while let Some((first, others)) = rest.split_first() {
-            if !self.runs_at_once(world, active, first) {
-                return rest;
-            }
-            rest = others;
-        }
-        rest
-    }
-
-    // Runs a statement that sets a variable or a property to what is known at once, and tells whether it was one. Else nothing has
-    // begun.
-    #[inline(always)]
-    fn runs_at_once(&mut self, world: &mut World, active: &mut Activation, statement: &Stmt) -> bool
-        ensures done { IsTrue result → (c : Context) → Runs Faults c (statement_of statement.now) (state_of self.old world.old active.old) (Ok next) (state_of self.new world.new active.new) }
-        ensures fewer { IsTrue result → self.new.ticks_left < self.old.ticks_left }
-        ensures kept { IsFalse result → (self.new ≡ self.old) × (world.new ≡ world.old) × (active.new ≡ active.old) }
-    {
-        if self.sets_at_once(world, active, statement) {
-            return true;
-        }
-        self.writes_at_once(world, active, statement)
-    }
-
     /// Runs a statement that sets a variable to what is known at once, and tells whether it was one and all its ticks were left. Else
     /// nothing has begun.
     #[inline(always)]
@@ -178,10 +143,66 @@ impl Task {
         }
         left -= 2;
         if !self.puts(world, active, &mut left, name, value) {
+            if !sets_operator(statement) {
+                return false;
+            }
+            return self.sets_joined(world, active, statement);
+        }
+        self.ticks_left.leave(left);
+        true
+    }
+
+    // The same where the value is an operator between values that aren't both integers. Not inlined, so that what sets integers pays
+    // nothing for it.
+    #[inline(never)]
+    fn sets_joined(&mut self, world: &World, active: &mut Activation, statement: &Stmt) -> bool
+        ensures done { IsTrue result → (c : Context) → Runs Faults c (statement_of statement.now) (state_of self.old world.now active.old) (Ok next) (state_of self.new world.now active.new) }
+        ensures fewer { IsTrue result → self.new.ticks_left < self.old.ticks_left }
+        ensures kept { IsFalse result → (self.new ≡ self.old) × (active.new ≡ active.old) }
+    {
+        let Some((name, value)) = as_setting(statement) else {
+            return false;
+        };
+        let Expr::Binary(operator, first, second) = value else {
+            return false;
+        };
+        let mut left = self.ticks_left.left() as u32;
+        if left < 2 {
+            return false;
+        }
+        left -= 2;
+        if !self.puts_joined(world, active, &mut left, name, *operator, first, second) {
             return false;
         }
         self.ticks_left.leave(left);
         true
+    }
+
+    // Sets a variable to what such an operator gives, where it is known at once. The ticks are taken of those that are left.
+    #[inline(always)]
+    fn puts_joined(
+        &self,
+        world: &World,
+        active: &mut Activation,
+        left: &mut u32,
+        name: &Name,
+        operator: BinaryOperator,
+        first: &Expr,
+        second: &Expr,
+    ) -> bool
+        ensures put { IsTrue result → IsSet world.now active.old active.new left.old left.new name.now (binary operator (tree first.now) (tree second.now)) }
+        ensures kept { IsFalse result → active.new ≡ active.old }
+        ensures ticks { left.new ≤ left.old }
+    {
+        let sight = Sight {
+            world,
+            active,
+            alloc: self.alloc,
+        };
+        match joined_worth(&sight, left, operator, first, second) {
+            Some(value) => active.variables.put(name, value),
+            None => false,
+        }
     }
 
     // Sets a variable to what is known at once. The ticks are taken of those that are left.
@@ -293,9 +314,9 @@ pub(crate) fn may_be_known(value: &Expr) -> bool {
     }
 }
 
-// The variable and the value of a statement that sets one.
+/// The variable and the value of a statement that sets one.
 #[inline]
-fn as_setting(statement: &Stmt) -> Option<(&Name, &Expr)>
+pub(crate) fn as_setting(statement: &Stmt) -> Option<(&Name, &Expr)>
     ensures { IfSome result (λ p. statement_of statement.now ≡ performs (assign (variable p.0.now) (tree p.1.now))) }
 {
     match statement {
@@ -304,9 +325,15 @@ fn as_setting(statement: &Stmt) -> Option<(&Name, &Expr)>
     }
 }
 
-// Whether an integer counts as true.
+// Whether a statement sets a variable to what an operator gives.
 #[inline]
-fn is_other_than_0(number: i32) -> bool
+fn sets_operator(statement: &Stmt) -> bool {
+    matches!(as_setting(statement), Some((_, Expr::Binary(..))))
+}
+
+/// Whether an integer counts as true.
+#[inline]
+pub(crate) fn is_other_than_0(number: i32) -> bool
     ensures { result ≡ is_true (integer number) }
 {
     number != 0

@@ -103,8 +103,17 @@ fn behind<'a>(name: &Name, items: &'a [Item]) -> Option<&'a Expr>
 fn is_list_append(name: &MooStr) -> bool
     ensures { IsTrue result → function_of name.now ≡ Some ListAppend }
 {
+    if name.as_bytes() == b"listappend".as_slice() {
+        return true;
+    }
     matches!(
         Function::from_name(name.as_bytes()),
         Some(Function::ListAppend)
     )
+}
+
+/// Whether a name may be that of `listappend`: one of another beginning or with more or fewer letters is looked at no further.
+#[inline]
+pub(crate) fn may_be_list_append(name: &MooStr) -> bool {
+    matches!(name.as_bytes(), [b'l' | b'L', _, _, _, _, _, _, _, _, _])
 }

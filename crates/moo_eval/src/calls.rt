@@ -103,6 +103,9 @@ impl Task {
         } = called;
         let mut running = first;
         let statements = callee.running.program.statements();
+        if let Some(value) = self.returns_at_once(world, &running, statements) {
+            return Ok(value);
+        }
         answered(self.run_all(world, &mut running, &callee, statements))
     }
 

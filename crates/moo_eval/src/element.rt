@@ -16,9 +16,10 @@ ghost use Rattle.moo_eval.specs.Seen.{state_of};
 ghost use Rattle.moo_eval.specs.Worth.{IsPlaced};
 
 use crate::assignment::as_variable;
+use crate::in_place::put_at;
 use crate::interpreter::Task;
-use crate::leaves::held;
-use crate::worth::{Sight, worth};
+use crate::parts::{integer_part, value_part};
+use crate::worth::Sight;
 use moo_operation::{index_refusal, with_index};
 use moo_outcome::{Activation, CallStack, Failure, Flow, Stop, Variables, read_variable};
 use moo_program::{Expr, Name, Stmt};
@@ -80,8 +81,10 @@ impl Task {
         )?;
         Ok(())
     }
+
     /// Runs `name[place] = value` where place and value are known at once and nothing is raised, and tells whether it did. Else nothing
     /// has begun.
+    #[inline]
     pub(crate) fn places_at_once(
         &mut self,
         world: &World,
@@ -128,23 +131,13 @@ impl Task {
             active,
             alloc: self.alloc,
         };
-        let Some(container) = held(active, name) else {
+        let Some(place) = integer_part(&sight, left, place) else {
             return Ok(false);
         };
-        let Some(place) = worth(&sight, left, place) else {
+        let Some(value) = value_part(&sight, left, value) else {
             return Ok(false);
         };
-        let Some(value) = worth(&sight, left, value) else {
-            return Ok(false);
-        };
-        if index_refusal(&container, &place, &value).is_some() {
-            return Ok(false);
-        }
-        let variables = &mut active.variables;
-        match replace_at(self.alloc, variables, name, container, &place, value) {
-            Ok(()) => Ok(true),
-            Err(_) => Err(AllocError),
-        }
+        put_at(self.alloc, &mut active.variables, name, place, value)
     }
 }
 
@@ -168,8 +161,8 @@ fn set_at(
     replace_at(alloc, variables, name, container, place, value)
 }
 
-// The same, where the value isn't refused at the place.
-fn replace_at(
+/// The same, where the value isn't refused at the place.
+pub(crate) fn replace_at(
     alloc: Global,
     variables: &mut Variables,
     name: &Name,

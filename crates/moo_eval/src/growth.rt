@@ -38,8 +38,8 @@ pub(crate) fn set_longer(
     Ok(())
 }
 
-// Whether the list with this value at its end is within the limits of weight and depth.
-fn fits_behind(list: &MooList, value: &Value) -> bool
+/// Whether the list with this value at its end is within the limits of weight and depth.
+pub(crate) fn fits_behind(list: &MooList, value: &Value) -> bool
     ensures { IsTrue result ↔ IsWithinLimits (list_of (list.now ++ value_tree value.now ∷ [])) }
 {
     let weight = list.weight() + value.weight();
@@ -50,8 +50,8 @@ fn fits_behind(list: &MooList, value: &Value) -> bool
     depth <= DEPTH_LIMIT
 }
 
-// The list with this value at its end, which has to be within the limits.
-fn pushed(alloc: Global, list: MooList, value: Value) -> Result<MooList, AllocError>
+/// The list with this value at its end, which has to be within the limits.
+pub(crate) fn pushed(alloc: Global, list: MooList, value: Value) -> Result<MooList, AllocError>
     requires { IsWithinLimits (list_of (list ++ value_tree value ∷ [])) }
     ensures { IfOk result (λ longer. longer ≡ list ++ value_tree value ∷ []) }
 {
@@ -84,7 +84,7 @@ pub(crate) fn as_longer<'a>(name: &Name, value: &'a Expr) -> Option<&'a Expr>
 pub(crate) fn is_same_name(own: &Name, name: &Name) -> bool
     ensures { IsTrue result → own.now ≡ name.now }
 {
-    own.as_bytes() == name.as_bytes()
+    own.is_spelled_as(name)
 }
 
 #[inline]

@@ -41,6 +41,9 @@ pub(crate) fn length_worth(
 fn is_length(name: &MooStr) -> bool
     ensures { IsTrue result → function_of name.now ≡ Some Length }
 {
+    if name.as_bytes() == b"length".as_slice() {
+        return true;
+    }
     matches!(Function::from_name(name.as_bytes()), Some(Function::Length))
 }
 

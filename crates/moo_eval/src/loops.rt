@@ -1,9 +1,10 @@
 //! Loops.
-ghost use Rattle.std.specs.Prelude.{◌≡◌, ◌≤◌, ◌<◌, ◌∷◌, [], None, Some, OnOk};
+ghost use Rattle.std.specs.Prelude.{◌≡◌, ◌≤◌, ◌<◌, ◌∷◌, [], None, Some, OnOk, option_copied};
 ghost use Rattle.moo_value.specs.View.{tree as value_tree, trees};
 ghost use Rattle.moo_program.specs.Tree.{for_list, for_range};
 ghost use Rattle.moo_program.specs.View.{tree, block};
 ghost use Rattle.moo_eval.specs.Meaning.{Does, Turns, Loops, Visits, Counts};
+ghost use Rattle.moo_eval.specs.Turning.{EndsTurn};
 ghost use Rattle.moo_outcome.specs.Variables.{bind};
 ghost use Rattle.moo_outcome.specs.Seen.{context_of, seen_flow, seen_turn, IsKnown};
 ghost use Rattle.moo_code_function.specs.Telling.{Faults};
@@ -37,6 +38,27 @@ impl Task {
             return Ok(None);
         }
         Ok(after_turn(own.as_ref(), flow))
+    }
+
+    // What is left of a turn: how the loop ends, or `None` where it goes on.
+    #[cycle(evaluation)]
+    #[inline(always)]
+    fn end_turn(
+        &mut self,
+        world: &mut World,
+        active: &mut Activation,
+        stack: &CallStack<'_>,
+        own: Option<&MooStr>,
+        left: &[Stmt],
+    ) -> Result<Option<Flow>, Stop>
+        ensures meaning { IsKnown result → EndsTurn Faults (context_of stack.now None) (option_copied own.entry) (block left.now) (state_of self.old world.old active.old) (seen_turn result) (state_of self.new world.new active.new) }
+        ensures ticks { self.new.ticks_left ≤ self.old.ticks_left }
+    {
+        let flow = self.run_all(world, active, stack, left)?;
+        if let Flow::Next = flow {
+            return Ok(None);
+        }
+        Ok(after_turn(own, flow))
     }
 
     // A turn of a `for`, which takes a tick before the variable is set.
@@ -80,6 +102,12 @@ impl Task {
         ensures ticks { self.new.ticks_left ≤ self.old.ticks_left }
     {
         'turns: loop {
+            if let Some(left) = self.turns_ahead(world, active, test, body)? {
+                if let Some(flow) = self.end_turn(world, active, stack, own.as_ref(), left)? {
+                    return Ok(flow);
+                }
+                continue 'turns;
+            }
             let passes = self.passes(world, active, stack, None, test)?;
             if !passes {
                 return Ok(Flow::Next);
@@ -124,13 +152,22 @@ impl Task {
         ensures meaning { IsKnown result → Visits Faults (context_of stack.now None) name.now (trees values.now) (block body.now) (state_of self.old world.old active.old) (seen_flow result) (state_of self.new world.new active.new) }
         ensures ticks { self.new.ticks_left ≤ self.old.ticks_left }
     {
-        for value in values {
-            let value = value.try_clone()?;
-            if let Some(flow) = self.visit(world, active, stack, name, value, body)? {
+        let mut next = 0;
+        'values: loop {
+            let left = self.values_ahead(world, active, name, values, &mut next, body)?;
+            let flow = if let Some(left) = left {
+                self.end_turn(world, active, stack, Some(name.text()), left)?
+            } else if let Some(value) = values.get(next) {
+                let value = value.try_clone()?;
+                self.visit(world, active, stack, name, value, body)?
+            } else {
+                return Ok(Flow::Next);
+            };
+            if let Some(flow) = flow {
                 return Ok(flow);
             }
+            next += 1;
         }
-        Ok(Flow::Next)
     }
 
     #[cycle(evaluation)]
@@ -171,13 +208,20 @@ impl Task {
         ensures ticks { self.new.ticks_left ≤ self.old.ticks_left }
     {
         let mut number = i64::from(span.low);
-        'numbers: while number <= i64::from(span.high) {
-            let value = span.value(number as i32);
-            if let Some(flow) = self.visit(world, active, stack, name, value, body)? {
+        'numbers: loop {
+            let left = self.numbers_ahead(world, active, name, &span, &mut number, body)?;
+            let flow = if let Some(left) = left {
+                self.end_turn(world, active, stack, Some(name.text()), left)?
+            } else if number <= i64::from(span.high) {
+                let value = span.value(number as i32);
+                self.visit(world, active, stack, name, value, body)?
+            } else {
+                return Ok(Flow::Next);
+            };
+            if let Some(flow) = flow {
                 return Ok(flow);
             }
             number += 1;
         }
-        Ok(Flow::Next)
     }
 }

@@ -32,14 +32,8 @@ impl Task {
         ensures ticks { self.new.ticks_left ≤ self.old.ticks_left }
         ensures fewer { OnOk result (self.new.ticks_left < self.old.ticks_left) }
     {
-        if self.sets_at_once(world, active, statement) {
-            return Ok(Flow::Next);
-        }
-        if self.writes_at_once(world, active, statement) {
-            return Ok(Flow::Next);
-        }
-        let placed = self.places_at_once(world, active, statement)?;
-        if placed {
+        let completed = self.completes_at_once(world, active, statement)?;
+        if completed {
             return Ok(Flow::Next);
         }
         self.take_tick(active, stack)?;
@@ -160,7 +154,7 @@ impl Task {
         ensures meaning { IsKnown result → RunsAll Faults (context_of stack.now None) (block body.now) (state_of self.old world.old active.old) (seen_flow result) (state_of self.new world.new active.new) }
         ensures ticks { self.new.ticks_left ≤ self.old.ticks_left }
     {
-        let rest = self.run_ahead(world, active, body);
+        let rest = self.run_ahead(world, active, body)?;
         if rest.is_empty() {
             return Ok(Flow::Next);
         }

@@ -1,30 +1,32 @@
 //! Expressions that are whose worth is known at once, since nothing can stop them and they change nothing: numbers, variables that hold
 //! one, operators between these, elements and lengths of what stands in a variable, and properties.
 ghost use Rattle.std.specs.Prelude.{◌≡◌, ◌-◌, ◌<◌, ◌≤◌, suc, pos, Ok, Some, IfSome};
-ghost use Rattle.moo_value.specs.Tree.{integer, object, string};
+ghost use Rattle.moo_value.specs.Tree.{integer};
 ghost use Rattle.moo_value.specs.View.{tree as value_tree};
-ghost use Rattle.moo_program.specs.declared.tree.Literal.TheVariants.{Str};
-ghost use Rattle.moo_program.specs.Tree.{literal, literal_value as value_of_literal, binary, index, property};
+ghost use Rattle.moo_program.specs.Tree.{literal_value as value_of_literal, binary, index, property};
 ghost use Rattle.moo_program.specs.View.{tree};
+ghost use Rattle.moo_operation.specs.Operators.{binary_of};
 ghost use Rattle.moo_operation.specs.Places.{index_of};
 ghost use Rattle.moo_outcome.specs.Seen.{indexed_of, variables_of};
-ghost use Rattle.moo_access.specs.Calls.{read_property};
 ghost use Rattle.moo_eval.specs.Leaves.{IsLeaf};
 ghost use Rattle.moo_eval.specs.Worth.{IsWorth};
 
 use crate::integers::number_of;
 use crate::leaves::{held, integer_leaf, is_leaf, written_out};
 use crate::lengths::length_worth;
+use crate::properties::{property_copied, property_number};
+use crate::strings::sum_worth;
+use moo_operation as operation;
 use moo_outcome::Activation;
 use moo_program::operator::BinaryOperator;
 use moo_program::{Expr, Literal};
-use moo_value::{MooStr, Value};
-use moo_world::{Rights, World};
+use moo_value::Value;
+use moo_world::World;
 use std::alloc::Global;
 
 /// How many operators and indexes may stand in each other. What is deeper is evaluated part by part, so that no part is
 /// looked at more often than this.
-const DEEPEST: u8 = 4;
+pub(crate) const DEEPEST: u8 = 4;
 
 /// What is looked at.
 #[derive(Drop)]
@@ -36,6 +38,7 @@ pub(crate) struct Sight<'a> {
 
 /// The value of a literal, of a variable, of an operator between integers, of an element, of a property or of `length`, where it is
 /// known at once. Its ticks are taken of those that are left, where they are so many.
+#[inline(always)]
 pub(crate) fn worth(sight: &Sight<'_>, left: &mut u32, expr: &Expr) -> Option<Value>
     ensures value { IfSome result (λ v. IsWorth sight.now.world.now sight.now.active.now left.old (tree expr.now) (value_tree v) left.new) }
     ensures ticks { left.new ≤ left.old }
@@ -55,9 +58,9 @@ pub(crate) fn worth(sight: &Sight<'_>, left: &mut u32, expr: &Expr) -> Option<Va
         }
         Expr::Index(base, place) => {
             let element = element_worth(sight, left, base, place, DEEPEST)?;
-            element.try_clone().ok()
+            copied(element)
         }
-        Expr::Property(base, name) => property_worth(sight, left, base, name),
+        Expr::Property(base, name) => property_copied(sight, left, base, name),
         Expr::Call(name, items) => {
             let number = length_worth(sight, left, name, items)?;
             Some(Value::Int(number))
@@ -66,7 +69,7 @@ pub(crate) fn worth(sight: &Sight<'_>, left: &mut u32, expr: &Expr) -> Option<Va
     }
 }
 
-/// The integer of an operator, where it is known at once, and its ticks as above. One between leaves is looked at where it stands.
+/// The integer of an operator, where it is known at once, and its ticks as above.
 #[inline(always)]
 pub(crate) fn number_worth(
     sight: &Sight<'_>,
@@ -78,10 +81,27 @@ pub(crate) fn number_worth(
     ensures value { IfSome result (λ n. IsWorth sight.now.world.now sight.now.active.now left.old (binary operator (tree first.now) (tree second.now)) (integer n) left.new) }
     ensures ticks { left.new ≤ left.old }
 {
+    nested_worth(sight, left, operator, first, second, DEEPEST)
+}
+
+// The same of one that may stand in others. One between leaves is looked at where it stands.
+#[cycle(worth)]
+#[inline(always)]
+fn nested_worth(
+    sight: &Sight<'_>,
+    left: &mut u32,
+    operator: BinaryOperator,
+    first: &Expr,
+    second: &Expr,
+    deep: u8,
+) -> Option<i32>
+    ensures value { IfSome result (λ n. IsWorth sight.now.world.now sight.now.active.now left.old (binary operator (tree first.now) (tree second.now)) (integer n) left.new) }
+    ensures ticks { left.new ≤ left.old }
+{
     if is_leaf(first) && is_leaf(second) {
         return leaves_worth(sight, left, operator, first, second);
     }
-    operator_worth(sight, left, operator, first, second, DEEPEST)
+    operator_worth(sight, left, operator, first, second, deep)
 }
 
 // The integer of an operator between leaves, whose three ticks are taken together.
@@ -106,6 +126,44 @@ fn leaves_worth(
     Some(number)
 }
 
+/// The value of an operator between values that are known at once, where it can't fail, and its ticks as above.
+pub(crate) fn joined_worth<'a>(
+    sight: &Sight<'a>,
+    left: &mut u32,
+    operator: BinaryOperator,
+    first: &'a Expr,
+    second: &'a Expr,
+) -> Option<Value>
+    ensures value { IfSome result (λ v. IsWorth sight.now.world.now sight.now.active.now left.old (binary operator (tree first.now) (tree second.now)) (value_tree v) left.new) }
+    ensures ticks { left.new ≤ left.old }
+{
+    if let BinaryOperator::Add = operator {
+        let joined = sum_worth(sight, left, first, second, DEEPEST)?;
+        return Some(Value::Str(joined));
+    }
+    take(left)?;
+    let first = operand(sight, left, first)?;
+    let second = operand(sight, left, second)?;
+    applied(sight.alloc, operator, &first, &second)
+}
+
+// What an operator gives for two values, where it doesn't fail.
+#[inline(always)]
+fn applied(alloc: Global, operator: BinaryOperator, a: &Value, b: &Value) -> Option<Value>
+    ensures { IfSome result (λ v. binary_of operator (value_tree a.now) (value_tree b.now) ≡ Ok (value_tree v)) }
+{
+    operation::binary(alloc, operator, a, b).ok()
+}
+
+// The value of an operand, likewise: a function of its own, for both operands.
+#[inline(never)]
+fn operand(sight: &Sight<'_>, left: &mut u32, expr: &Expr) -> Option<Value>
+    ensures value { IfSome result (λ v. IsWorth sight.now.world.now sight.now.active.now left.old (tree expr.now) (value_tree v) left.new) }
+    ensures ticks { left.new ≤ left.old }
+{
+    worth(sight, left, expr)
+}
+
 // The integer of an operand. A number or a variable is looked at where the operand stands, so that it needs no call.
 #[cycle(worth)]
 #[inline(always)]
@@ -124,7 +182,7 @@ fn operand_worth(sight: &Sight<'_>, left: &mut u32, expr: &Expr, deep: u8) -> Op
             sight.active.variables.get_integer(name)
         }
         Expr::Binary(operator, first, second) => {
-            operator_worth(sight, left, *operator, first, second, deep.checked_sub(1)?)
+            nested_worth(sight, left, *operator, first, second, deep.checked_sub(1)?)
         }
         _ => part_worth(sight, left, expr, deep.checked_sub(1)?),
     }
@@ -157,10 +215,7 @@ fn part_worth(sight: &Sight<'_>, left: &mut u32, expr: &Expr, deep: u8) -> Optio
 {
     match expr {
         Expr::Index(base, place) => { integer_of(element_worth(sight, left, base, place, deep)) }
-        Expr::Property(base, name) => {
-            let value = property_worth(sight, left, base, name)?;
-            integer_of(Some(&value))
-        }
+        Expr::Property(base, name) => property_number(sight, left, base, name),
         Expr::Call(name, items) => length_worth(sight, left, name, items),
         _ => None,
     }
@@ -168,7 +223,7 @@ fn part_worth(sight: &Sight<'_>, left: &mut u32, expr: &Expr, deep: u8) -> Optio
 
 // An element of a list that stands in a variable, which stays where it is.
 #[cycle(worth)]
-fn element_worth<'a>(
+pub(crate) fn element_worth<'a>(
     sight: &Sight<'a>,
     left: &mut u32,
     base: &Expr,
@@ -185,19 +240,6 @@ fn element_worth<'a>(
     element_at(list, place)
 }
 
-// A property of an object that is written out or stands in a variable, by a name that is written out.
-fn property_worth(sight: &Sight<'_>, left: &mut u32, base: &Expr, name: &Expr) -> Option<Value>
-    ensures value { IfSome result (λ v. IsWorth sight.now.world.now sight.now.active.now left.old (property (tree base.now) (tree name.now)) (value_tree v) left.new) }
-    ensures ticks { left.new ≤ left.old }
-{
-    let name = text_leaf(name)?;
-    let o = object_leaf(sight.active, base)?;
-    take(left)?;
-    take(left)?;
-    take(left)?;
-    property_of(sight.alloc, sight.world, sight.active.programmer, o, name)
-}
-
 /// A tick, where one is left.
 #[inline]
 pub(crate) fn take(left: &mut u32) -> Option<()>
@@ -211,41 +253,6 @@ pub(crate) fn take(left: &mut u32) -> Option<()>
     Some(())
 }
 
-// The value that the programmer reads of a property.
-fn property_of(
-    alloc: Global,
-    world: &World,
-    programmer: i32,
-    o: i32,
-    name: &MooStr,
-) -> Option<Value>
-    ensures { IfSome result (λ v. read_property world.now programmer (object o) (string name.now) ≡ Ok (value_tree v)) }
-{
-    match world.readable_value(programmer, o, name.as_bytes()) {
-        Some(value) => value.try_clone().ok(),
-        None => property_in_order(alloc, world, programmer, o, name),
-    }
-}
-
-// The same of any property, the built-in ones among them.
-#[inline(never)]
-fn property_in_order(
-    alloc: Global,
-    world: &World,
-    programmer: i32,
-    o: i32,
-    name: &MooStr,
-) -> Option<Value>
-    ensures { IfSome result (λ v. read_property world.now programmer (object o) (string name.now) ≡ Ok (value_tree v)) }
-{
-    let value = world.get(alloc, o, name.as_bytes()).ok()?;
-    if Rights::may_read_property(world, programmer, o, name.as_bytes()) {
-        Some(value)
-    } else {
-        None
-    }
-}
-
 // The element at a place of a list.
 #[inline]
 fn element_at(list: &Value, place: i32) -> Option<&Value>
@@ -257,9 +264,9 @@ fn element_at(list: &Value, place: i32) -> Option<&Value>
     }
 }
 
-// How many stand before a place, which is counted from 1.
+/// How many stand before a place, which is counted from 1.
 #[inline]
-fn places_before(place: i32) -> Option<usize>
+pub(crate) fn places_before(place: i32) -> Option<usize>
     ensures { IfSome result (λ k. place ≡ pos (suc k)) }
 {
     if place < 1 {
@@ -269,7 +276,7 @@ fn places_before(place: i32) -> Option<usize>
 }
 
 // The value of a variable, where the expression is one that is set.
-#[inline]
+#[inline(always)]
 pub(crate) fn variable_of<'a>(active: &'a Activation, expr: &Expr) -> Option<&'a Value>
     ensures { IfSome result (λ v. IsLeaf (variables_of active.now.variables) (tree expr.now) (value_tree v.now)) }
 {
@@ -279,45 +286,22 @@ pub(crate) fn variable_of<'a>(active: &'a Activation, expr: &Expr) -> Option<&'a
     }
 }
 
-// The object that is written out, or that stands in a variable.
-#[inline]
-fn object_leaf(active: &Activation, expr: &Expr) -> Option<i32>
-    ensures { IfSome result (λ o. IsLeaf (variables_of active.now.variables) (tree expr.now) (object o)) }
+/// The same by a call, where what is written out is looked at first and needs no room for it.
+#[inline(never)]
+pub(crate) fn variable_found<'a>(active: &'a Activation, expr: &Expr) -> Option<&'a Value>
+    ensures { IfSome result (λ v. IsLeaf (variables_of active.now.variables) (tree expr.now) (value_tree v.now)) }
 {
-    match expr {
-        Expr::Literal(literal) => object_literal(literal),
-        _ => object_of(variable_of(active, expr)?),
-    }
+    variable_of(active, expr)
 }
 
-#[inline]
-fn object_literal(literal: &Literal) -> Option<i32>
-    ensures { IfSome result (λ o. value_of_literal literal.now ≡ object o) }
-{
-    match literal {
-        Literal::Object(number) => Some(*number),
-        _ => None,
-    }
-}
-
-#[inline]
-fn object_of(value: &Value) -> Option<i32>
-    ensures { IfSome result (λ o. value_tree value.now ≡ object o) }
+/// The same value, where there is memory for it. An integer is looked at where it stands.
+#[inline(always)]
+pub(crate) fn copied(value: &Value) -> Option<Value>
+    ensures { IfSome result (λ v. value_tree v ≡ value_tree value.now) }
 {
     match value {
-        Value::Obj(number) => Some(*number),
-        _ => None,
-    }
-}
-
-// The text that is written out.
-#[inline]
-fn text_leaf(expr: &Expr) -> Option<&MooStr>
-    ensures { IfSome result (λ s. tree expr.now ≡ literal (Str s.now)) }
-{
-    match expr {
-        Expr::Literal(Literal::Str(text)) => Some(text),
-        _ => None,
+        Value::Int(number) => Some(Value::Int(*number)),
+        _ => value.try_clone().ok(),
     }
 }
 

@@ -1,4 +1,4 @@
-use Rattle.std.proofs.Common.{◌∷◌, [], Ok, Err, refl, sym, ap, subst, ◌∙◌, arith, rules, Some, None, ◌+◌, drop, map}
+use Rattle.std.proofs.Common.{◌∷◌, [], Ok, Err, refl, sym, ap, subst, ◌∙◌, arith, rules, Some, None, ◌+◌, drop, map, pos, ◌+ℤ◌}
 use Rattle.std.proofs.lemmas.Result.{err_from_is_err_and}
 use Rattle.std.proofs.lemmas.List.{append-nil}
 use Rattle.std.proofs.lemmas.Int.{to_z-of_z}
@@ -17,6 +17,7 @@ use Rattle.moo_access.specs.Target.{named}
 use Rattle.moo_eval.specs.Meaning.{Computes, EvaluatesAll, Stores, spent, begins, operands_end, places_end, applies, no_more, element_stops, element_then, splice_stops, splice_fails, splice_then, literal_is, variable_is, length_is, unary_is, binary_is, logic_decides, logic_goes_on, conditional_true, conditional_false, index_is, range_is, list_is, property_is, verb_fails, verb_runs, call_is, call_runs, is_done, hook_stops, hook_then, assign_is, catch_gives, catch_or_goes_on, target_ends, value_stops, assigns, root_ends, locates, parts_end, finds, inside, step_ends, enters, unread, spot_ends, steps_in, no_store, stores, puts_variable, scatter_fails, scatters, none_missing, default_stops, default_then, Counts, statement_spent, statement_begins, selects, list_stops, list_fails, visits, span_stops, span_fails, counts, loops, breaks_out, continues_on, unprepared, tries, finally_skipped, finally_runs, ends, leaves, proceeds, none_selected, else_runs, test_stops, arm_runs, arm_passed, turn_spent, turns, loop_stops, loop_ends, loop_left, loop_then, all_visited, visit_left, visit_then, all_counted, count_left, count_then, nothing_raised, ticks_out, handles, untaken, untold, takes, Prepares, no_codes, codes_stop, codes_then, gives_zero, gives, evaluates}
 use Rattle.moo_value.specs.declared.error_code.ErrorCode.TheVariants.{TypeMismatch}
 use Rattle.moo_access.specs.SeenTarget.{path_of, steps_of}
+use Rattle.moo_access.specs.SeenCalled.{entered_of}
 use Rattle.moo_eval.proofs.Caught.{guards_end, passes_on, none_left, known_caught}
 use Rattle.moo_program.specs.Tree as program
 use Rattle.moo_program.specs.Tree.{variable, splice, element, no_items}
@@ -34,10 +35,12 @@ use Rattle.moo_program.proofs.Rows.{row_items, row_block, row_arms, row_handlers
 use Rattle.std.specs.Option.{option_map}
 use Rattle.std.specs.Prelude.{◌≤ℤ◌, true, false, option_copied}
 use mir.Syntax.{w32, w64}
-use mir.Val.{SFits, to_z}
+use mir.Val.{SFits, to_z, of_z}
 use Rattle.moo_outcome.specs.Leading.{after_turn, numbered}
 use Rattle.moo_outcome.specs.SeenHandling.{guarded_of}
-use Rattle.moo_eval.proofs.Counting.{narrow, next_number, not_below, reached}
+use Rattle.moo_eval.proofs.Counting.{after, between, narrow, next_number, not_before, not_below, reached}
+use Rattle.moo_eval.specs.Turning.{turn_left, turn_done}
+use Rattle.moo_eval.proofs.interpreter.Task.+evaluation.Goals.{visit_all-in-Some+in_ok-flow, visit_all-in_default+in-Some-get+in_ok-value+in_ok-flow-2, count-in-Some+in_ok-flow, count-in_default+then-number-from+in_ok-flow-2}
 use Rattle.moo_outcome.specs.Handling.{guarded}
 use Rattle.moo_eval.specs.Operands.{before}
 use Rattle.moo_eval.proofs.interpreter.Task.+evaluation.Goals as goal
@@ -309,9 +312,13 @@ pub call_verb-returns-in_err-called-clause-meaning : goal.call_verb-returns-in_e
 call_verb-returns-in_err-called-clause-meaning t c =
     let p = err_from_is_err_and c.from_residual-in_err-called.result c.from_residual-in_err-called.ensures.1 in rw (p.1, p.2) (λ indexed a b items k. verb_fails (rw c.in_ok-args.ensures.ok at (c.in_err-called.ensures k)))
 
+pub run_called-returns-in-Some-clause-meaning : goal.run_called-returns-in-Some-clause-meaning
+run_called-returns-in-Some-clause-meaning t c =
+    λ caller k. record { outcome = _; last = _; runs = runs_at c.statements-statements.ensures.statements (c.in-Some.ensures.some (entered_of c.args.called).context); leaves = refl; gives = refl }
+
 pub run_called-returns-clause-meaning : goal.run_called-returns-clause-meaning
 run_called-returns-clause-meaning t c =
-    λ caller k. record { outcome = _; last = _; runs = runs_at c.statements-statements.ensures.statements (c.run_all.ensures.meaning (c.answered.ensures.known k)); leaves = refl; gives = c.answered.ensures.answer }
+    λ caller k. record { outcome = _; last = _; runs = runs_at c.statements-statements.ensures.statements (rw c.in_default.ensures.none at (c.run_all.ensures.meaning (c.answered.ensures.known k))); leaves = refl; gives = c.answered.ensures.answer }
 
 pub catch-returns-in_err-values-clause-meaning : goal.catch-returns-in_err-values-clause-meaning
 catch-returns-in_err-values-clause-meaning t c =
@@ -451,32 +458,17 @@ store-returns-in_err-whole-in-Scatter-clause-meaning t c =
 
 pub run-returns-clause-meaning : goal.run-returns-clause-meaning
 run-returns-clause-meaning t c =
-    let kept = c.sets_at_once.ensures.kept c.if-sets_at_once.false in
-    let same = c.writes_at_once.ensures.kept c.if-writes_at_once.false in
-    let stays = c.in_ok-placed.ensures.kept c.if-placed.false in
-    λ k. statement_begins (rw (stays.0, same.0, kept.0) at c.in_ok-take_tick.ensures.taken) (rw (c.in_ok-take_tick.ensures.left, stays.0, stays.1, same.0, same.1, kept.0, kept.1) at (c.perform.ensures.meaning k))
+    let kept = c.in_ok-completed.ensures.kept c.if-completed.false in
+    λ k. statement_begins (rw kept.0 at c.in_ok-take_tick.ensures.taken) (rw (c.in_ok-take_tick.ensures.left, kept.0, kept.1, kept.2) at (c.perform.ensures.meaning k))
 
-pub run-returns-then-sets_at_once-clause-meaning : goal.run-returns-then-sets_at_once-clause-meaning
-run-returns-then-sets_at_once-clause-meaning t c =
-    λ k. c.sets_at_once.ensures.done c.if-sets_at_once.true (context_of c.args.stack.now None)
-
-pub run-returns-then-writes_at_once-clause-meaning : goal.run-returns-then-writes_at_once-clause-meaning
-run-returns-then-writes_at_once-clause-meaning t c =
-    let kept = c.sets_at_once.ensures.kept c.if-sets_at_once.false in
-    λ k. rw (← kept.0, ← kept.1) (c.writes_at_once.ensures.done c.if-writes_at_once.true (context_of c.args.stack.now None))
-
-pub run-returns-then-placed-clause-meaning : goal.run-returns-then-placed-clause-meaning
-run-returns-then-placed-clause-meaning t c =
-    let kept = c.sets_at_once.ensures.kept c.if-sets_at_once.false in
-    let same = c.writes_at_once.ensures.kept c.if-writes_at_once.false in
-    λ k. rw same.1 (rw (same.0, same.1, kept.0, kept.1) at (c.in_ok-placed.ensures.done c.if-placed.true (context_of c.args.stack.now None)))
+pub run-returns-then-completed-clause-meaning : goal.run-returns-then-completed-clause-meaning
+run-returns-then-completed-clause-meaning t c =
+    λ k. c.in_ok-completed.ensures.done c.if-completed.true (context_of c.args.stack.now None)
 
 pub run-returns-in_err-take_tick-clause-meaning : goal.run-returns-in_err-take_tick-clause-meaning
 run-returns-in_err-take_tick-clause-meaning t c =
-    let kept = c.sets_at_once.ensures.kept c.if-sets_at_once.false in
-    let same = c.writes_at_once.ensures.kept c.if-writes_at_once.false in
-    let stays = c.in_ok-placed.ensures.kept c.if-placed.false in
-    let p = err_from_is_err_and c.from_residual-in_err-take_tick.result c.from_residual-in_err-take_tick.ensures.1 in rw (p.1, p.2) (λ k. let h = rw (stays.0, stays.1, same.0, kept.0, kept.1) at (c.in_err-take_tick.ensures.spent k) in rw (c.in_err-take_tick.ensures.kept, stays.0, stays.1, same.0, same.1, kept.0, kept.1, h.1) (statement_spent h.0))
+    let kept = c.in_ok-completed.ensures.kept c.if-completed.false in
+    let p = err_from_is_err_and c.from_residual-in_err-take_tick.result c.from_residual-in_err-take_tick.ensures.1 in rw (p.1, p.2) (λ k. let h = rw (kept.0, kept.2) at (c.in_err-take_tick.ensures.spent k) in rw (c.in_err-take_tick.ensures.kept, kept.0, kept.1, kept.2, h.1) (statement_spent h.0))
 
 pub run_all-returns-in_err-flow-clause-meaning : goal.run_all-returns-in_err-flow-clause-meaning
 run_all-returns-in_err-flow-clause-meaning t c =
@@ -492,11 +484,11 @@ run_all-returns-clause-meaning t c =
 
 pub run_body-returns-clause-meaning : goal.run_body-returns-clause-meaning
 run_body-returns-clause-meaning t c =
-    λ k. c.run_ahead-rest.ensures.rest _ _ _ (c.run_all.ensures.meaning k)
+    λ k. c.in_ok-rest.ensures.rest _ _ _ (c.run_all.ensures.meaning k)
 
 pub run_body-returns-then-is_empty-clause-meaning : goal.run_body-returns-then-is_empty-clause-meaning
 run_body-returns-then-is_empty-clause-meaning t c =
-    λ k. c.run_ahead-rest.ensures.rest (context_of c.args.stack.now None) (Ok next) _ (rw (nothing_left c.run_ahead-rest.result.now (eqb-true _ _ (sym c.is_empty.ensures ∙ c.if-is_empty.true))) ends)
+    λ k. c.in_ok-rest.ensures.rest (context_of c.args.stack.now None) (Ok next) _ (rw (nothing_left c.in_ok-rest.rest.now (eqb-true _ _ (sym c.is_empty.ensures ∙ c.if-is_empty.true))) ends)
 
 pub branch-returns-clause-meaning : goal.branch-returns-clause-meaning
 branch-returns-clause-meaning t c =
@@ -558,22 +550,6 @@ pub visit-returns-in_err-flow-clause-meaning : goal.visit-returns-in_err-flow-cl
 visit-returns-in_err-flow-clause-meaning t c =
     let p = err_from_is_err_and c.from_residual-in_err-flow.result c.from_residual-in_err-flow.ensures.1 in rw (p.1, p.2) (λ k. turns c.in_ok-take_tick.ensures.taken (let left = sym c.in_ok-take_tick.ensures.left in state_at (ap (λ (x : Task). x.ticks_left) left) (ap (λ (x : Task). x.notices.items) left) (sym c.in_ok-set.ensures)) (c.in_err-flow.ensures.meaning k) refl)
 
-pub repeat-returns-then-not-passes-clause-meaning : goal.repeat-returns-then-not-passes-clause-meaning
-repeat-returns-then-not-passes-clause-meaning t c =
-    λ k. c.turns.invariant.rest (Ok next) _ (loop_ends c.in_ok-passes.ensures.ok.1 (c.in_ok-passes.ensures.ok.2 ∙ c.if-not-passes.true))
-
-pub repeat-returns-in-Some-clause-meaning : goal.repeat-returns-in-Some-clause-meaning
-repeat-returns-in-Some-clause-meaning t c =
-    λ k. c.turns.invariant.rest (Ok (flow_of c.in-Some.flow)) _ (loop_left c.in_ok-passes.ensures.ok.1 (c.in_ok-passes.ensures.ok.2 ∙ c.if-not-passes.false) (rw c.in-Some.is at (c.in_ok-flow.ensures.meaning tt)))
-
-pub repeat-returns-in_err-passes-clause-meaning : goal.repeat-returns-in_err-passes-clause-meaning
-repeat-returns-in_err-passes-clause-meaning t c =
-    let p = err_from_is_err_and c.from_residual.result c.from_residual.ensures.1 in rw (p.1, p.2) (λ k. c.turns.invariant.rest (Err (stop_of c.in_err-passes.field-0.0)) _ (loop_stops (c.in_err-passes.ensures.err k)))
-
-pub repeat-turns-preserved : goal.repeat-turns-preserved
-repeat-turns-preserved t c =
-    record { ticks = omega arith; rest = λ o s d. c.turns.invariant.rest o s (loop_then c.in_ok-passes.ensures.ok.1 (c.in_ok-passes.ensures.ok.2 ∙ c.if-not-passes.false) (rw (no_flow c.in_ok-flow.field-0 c.in_default.not-Some) at (c.in_ok-flow.ensures.meaning tt)) d) }
-
 pub for_list-returns-in-Ok-clause-meaning : goal.for_list-returns-in-Ok-clause-meaning
 for_list-returns-in-Ok-clause-meaning t c =
     λ k. visits (c.in_ok-list.ensures.meaning tt) c.in-Ok.ensures.ok (c.visit_all.ensures.meaning k)
@@ -581,18 +557,6 @@ for_list-returns-in-Ok-clause-meaning t c =
 pub for_list-returns-in_err-list-clause-meaning : goal.for_list-returns-in_err-list-clause-meaning
 for_list-returns-in_err-list-clause-meaning t c =
     let p = err_from_is_err_and c.from_residual.result c.from_residual.ensures.1 in rw (p.1, p.2) (λ k. list_stops (c.in_err-list.ensures.meaning k))
-
-pub visit_all-returns-clause-meaning : goal.visit_all-returns-clause-meaning
-visit_all-returns-clause-meaning t c =
-    λ k. c.loop-value.invariant.rest (Ok next) _ (rw (drop_of_length-le c.args.values.now c.loop-value-test.false) all_visited)
-
-pub visit_all-returns-in-Some-clause-meaning : goal.visit_all-returns-in-Some-clause-meaning
-visit_all-returns-in-Some-clause-meaning t c =
-    λ k. c.loop-value.invariant.rest (Ok (flow_of c.in-Some.flow)) _ (rw (drop_next c.args.values.now c.loop-value.value-index c.value-item.result c.loop-value-test.true c.value-item.is) (visit_left (rw (c.in-Some.is, c.in_ok-value.ensures.value) at (c.in_ok-flow.ensures.meaning tt))))
-
-pub visit_all-loop-value-preserved : goal.visit_all-loop-value-preserved
-visit_all-loop-value-preserved t c =
-    record { ticks = omega arith; rest = λ o s d. c.loop-value.invariant.rest o s (rw (drop_next c.args.values.now c.loop-value.value-index c.value-item.result c.loop-value-test.true c.value-item.is) (visit_then (rw ((no_flow c.in_ok-flow.field-0 c.in_default.not-Some), c.in_ok-value.ensures.value) at (c.in_ok-flow.ensures.meaning tt)) d)) }
 
 pub for_range-returns-in_err-low-clause-meaning : goal.for_range-returns-in_err-low-clause-meaning
 for_range-returns-in_err-low-clause-meaning t c =
@@ -678,10 +642,6 @@ pub select-returns-then-passes-clause-meaning : goal.select-returns-then-passes-
 select-returns-then-passes-clause-meaning t c =
     λ k. c.loop-arm.invariant.rest _ _ (rw (drop_next c.args.arms.now c.loop-arm.arm-index c.arm-item.result c.loop-arm-test.true c.arm-item.is, c.in-ElseIf.is, row_block, ← c.deref.ensures, ← c.deref-then-passes.ensures.value) (arm_runs c.in_ok-passes-in-ElseIf.ensures.ok.1 (c.in_ok-passes-in-ElseIf.ensures.ok.2 ∙ c.if-passes.true) (c.run_body.ensures.meaning k)))
 
-pub repeat-returns-in_err-flow-clause-meaning : goal.repeat-returns-in_err-flow-clause-meaning
-repeat-returns-in_err-flow-clause-meaning t c =
-    let p = err_from_is_err_and c.from_residual-in_err-flow.result c.from_residual-in_err-flow.ensures.1 in rw (p.1, p.2) (λ k. c.turns.invariant.rest (Err (stop_of c.in_err-flow.field-0.0)) _ (loop_left c.in_ok-passes.ensures.ok.1 (c.in_ok-passes.ensures.ok.2 ∙ c.if-not-passes.false) (c.in_err-flow.ensures.meaning k)))
-
 pub for_list-returns-clause-meaning : goal.for_list-returns-clause-meaning
 for_list-returns-clause-meaning t c =
     λ k. list_fails (c.in_ok-list.ensures.meaning tt) c.in-Err.ensures.err (c.no_turn.ensures.flow k)
@@ -689,26 +649,6 @@ for_list-returns-clause-meaning t c =
 pub for_range-returns-clause-meaning : goal.for_range-returns-clause-meaning
 for_range-returns-clause-meaning t c =
     λ k. span_fails (element_then (c.in_ok-low.ensures.meaning tt) (element_then (c.in_ok-high.ensures.meaning tt) no_more refl) refl) c.in-Err.ensures.err (c.no_turn.ensures.flow k)
-
-pub visit_all-returns-in_err-flow-clause-meaning : goal.visit_all-returns-in_err-flow-clause-meaning
-visit_all-returns-in_err-flow-clause-meaning t c =
-    let p = err_from_is_err_and c.from_residual-in_err-flow.result c.from_residual-in_err-flow.ensures.1 in rw (p.1, p.2) (λ k. c.loop-value.invariant.rest (Err (stop_of c.in_err-flow.field-0.0)) _ (rw (drop_next c.args.values.now c.loop-value.value-index c.value-item.result c.loop-value-test.true c.value-item.is) (visit_left (rw c.in_ok-value.ensures.value at (c.in_err-flow.ensures.meaning k)))))
-
-pub count-returns-in_err-flow-clause-meaning : goal.count-returns-in_err-flow-clause-meaning
-count-returns-in_err-flow-clause-meaning t c =
-    let p = err_from_is_err_and c.from_residual.result c.from_residual.ensures.1 in rw (p.1, p.2) (λ k. let f : SFits w32 c.args.span.low = search rules in let g : SFits w32 c.args.span.high = search rules in let h = reached (to_z w64 c.numbers.number-bits) c.from.result c.args.span.high true g c.from.ensures c.numbers-test.true in let e = c.value-value.ensures ∙ ap (numbered c.args.span.are_objects) (narrow c.args.span.low c.args.span.high (to_z w64 c.numbers.number-bits) f g c.numbers.invariant.low h) in c.numbers.invariant.rest (Err (stop_of c.in_err-flow.field-0.0)) _ (count_left h (rw e at (c.in_err-flow.ensures.meaning k))))
-
-pub count-returns-in-Some-clause-meaning : goal.count-returns-in-Some-clause-meaning
-count-returns-in-Some-clause-meaning t c =
-    λ k. let f : SFits w32 c.args.span.low = search rules in let g : SFits w32 c.args.span.high = search rules in let h = reached (to_z w64 c.numbers.number-bits) c.from.result c.args.span.high true g c.from.ensures c.numbers-test.true in let e = c.value-value.ensures ∙ ap (numbered c.args.span.are_objects) (narrow c.args.span.low c.args.span.high (to_z w64 c.numbers.number-bits) f g c.numbers.invariant.low h) in c.numbers.invariant.rest (Ok (flow_of c.in-Some.flow)) _ (count_left h (rw (c.in-Some.is, e) at (c.in_ok-flow.ensures.meaning tt)))
-
-pub count-numbers-preserved : goal.count-numbers-preserved
-count-numbers-preserved t c =
-    let f : SFits w32 c.args.span.low = search rules in let g : SFits w32 c.args.span.high = search rules in let h = reached (to_z w64 c.numbers.number-bits) c.from.result c.args.span.high true g c.from.ensures c.numbers-test.true in let e = c.value-value.ensures ∙ ap (numbered c.args.span.are_objects) (narrow c.args.span.low c.args.span.high (to_z w64 c.numbers.number-bits) f g c.numbers.invariant.low h) in let q = next_number c.args.span.low c.args.span.high (to_z w64 c.numbers.number-bits) f g c.numbers.invariant.low h in record { ticks = omega arith; low = subst (λ x. c.args.span.low ≤ℤ x) (sym q) (not_below c.args.span.low (to_z w64 c.numbers.number-bits) c.numbers.invariant.low); rest = λ o s d. c.numbers.invariant.rest o s (count_then h (rw (c.in_default.is, e) at (c.in_ok-flow.ensures.meaning tt)) (subst (λ x. Counts Faults (context_of c.args.stack.now None) c.args.name.now c.args.span x (block c.args.body.now) (state_of c.visit.new.self c.visit.new.world c.visit.new.active) o s) q d)) }
-
-pub count-returns-clause-meaning : goal.count-returns-clause-meaning
-count-returns-clause-meaning t c =
-    λ k. let g : SFits w32 c.args.span.high = search rules in let h = reached (to_z w64 c.numbers.number-bits) c.from.result c.args.span.high false g c.from.ensures c.numbers-test.false in c.numbers.invariant.rest (Ok next) _ (all_counted h)
 
 pub prepare-loop-handler-preserved : goal.prepare-loop-handler-preserved
 prepare-loop-handler-preserved t c = record {
@@ -949,3 +889,169 @@ handle-returns-clause-meaning t c =
 pub store-returns-in-Variable-clause-meaning : goal.store-returns-in-Variable-clause-meaning
 store-returns-in-Variable-clause-meaning t c =
     λ k. rw c.in-Variable.is (rw c.in_ok-value.ensures.value at (c.store_variable.ensures (context_of c.args.stack.now c.args.indexed) c.args.world.now k))
+
+pub end_turn-returns-clause-meaning : goal.end_turn-returns-clause-meaning
+end_turn-returns-clause-meaning t c =
+    λ k. record { outcome = Ok (flow_of c.in_ok-flow.flow); runs = c.in_ok-flow.ensures.meaning tt; leads = sym c.after_turn.ensures }
+
+pub end_turn-returns-in-Next-clause-meaning : goal.end_turn-returns-in-Next-clause-meaning
+end_turn-returns-in-Next-clause-meaning t c =
+    λ k. record { outcome = Ok next; runs = rw c.in-Next.is at (c.in_ok-flow.ensures.meaning tt); leads = refl }
+
+pub end_turn-returns-in_err-flow-clause-meaning : goal.end_turn-returns-in_err-flow-clause-meaning
+end_turn-returns-in_err-flow-clause-meaning t c =
+    let p = err_from_is_err_and c.from_residual.result c.from_residual.ensures.1 in rw (p.1, p.2) (λ k. record { outcome = Err (stop_of c.in_err-flow.field-0.0); runs = c.in_err-flow.ensures.meaning k; leads = refl })
+
+pub repeat-returns-in_err-flow-clause-meaning : goal.repeat-returns-in_err-flow-clause-meaning
+repeat-returns-in_err-flow-clause-meaning t c =
+    let p = err_from_is_err_and c.from_residual-in_err-flow.result c.from_residual-in_err-flow.ensures.1 in rw (p.1, p.2) (λ k. c.turns.invariant.rest (Err (stop_of c.in_err-flow.field-0.0)) _ ((rw c.in-Some.is at c.in_ok-left.ensures.within) (context_of c.args.stack.now None) c.args.own.now _ _ (turn_left (rw c.as_ref.ensures.value at (c.in_err-flow.ensures.meaning k)))))
+
+pub repeat-returns-in-Some-2-clause-meaning : goal.repeat-returns-in-Some-2-clause-meaning
+repeat-returns-in-Some-2-clause-meaning t c =
+    λ k. c.turns.invariant.rest (Ok (flow_of c.in-Some-2.flow)) _ ((rw c.in-Some.is at c.in_ok-left.ensures.within) (context_of c.args.stack.now None) c.args.own.now _ _ (turn_left (rw (c.in-Some-2.is, c.as_ref.ensures.value) at (c.in_ok-flow.ensures.meaning tt))))
+
+pub repeat-turns-preserved-in-Some : goal.repeat-turns-preserved-in-Some
+repeat-turns-preserved-in-Some t c =
+    record { ticks = omega arith; rest = λ o s d. c.turns.invariant.rest o s ((rw c.in-Some.is at c.in_ok-left.ensures.within) (context_of c.args.stack.now None) c.args.own.now o s (turn_done (rw (c.in_default-2.is, c.as_ref.ensures.value) at (c.in_ok-flow.ensures.meaning tt)) d)) }
+
+pub repeat-returns-in_err-passes-clause-meaning : goal.repeat-returns-in_err-passes-clause-meaning
+repeat-returns-in_err-passes-clause-meaning t c =
+    let p = err_from_is_err_and c.from_residual-in_err-passes.result c.from_residual-in_err-passes.ensures.1 in rw (p.1, p.2) (λ k. c.turns.invariant.rest (Err (stop_of c.in_err-passes.field-0.0)) _ ((rw c.in_default.is at c.in_ok-left.ensures.before) (context_of c.args.stack.now None) c.args.own.now _ _ (loop_stops (c.in_err-passes.ensures.err k))))
+
+pub repeat-returns-then-not-passes-clause-meaning : goal.repeat-returns-then-not-passes-clause-meaning
+repeat-returns-then-not-passes-clause-meaning t c =
+    λ k. c.turns.invariant.rest (Ok next) _ ((rw c.in_default.is at c.in_ok-left.ensures.before) (context_of c.args.stack.now None) c.args.own.now _ _ (loop_ends c.in_ok-passes.ensures.ok.1 (c.in_ok-passes.ensures.ok.2 ∙ c.if-not-passes.true)))
+
+pub repeat-returns-in_err-flow-2-clause-meaning : goal.repeat-returns-in_err-flow-2-clause-meaning
+repeat-returns-in_err-flow-2-clause-meaning t c =
+    let p = err_from_is_err_and c.from_residual-in_err-flow-2.result c.from_residual-in_err-flow-2.ensures.1 in rw (p.1, p.2) (λ k. c.turns.invariant.rest (Err (stop_of c.in_err-flow-2.field-0.0)) _ ((rw c.in_default.is at c.in_ok-left.ensures.before) (context_of c.args.stack.now None) c.args.own.now _ _ (loop_left c.in_ok-passes.ensures.ok.1 (c.in_ok-passes.ensures.ok.2 ∙ c.if-not-passes.false) (c.in_err-flow-2.ensures.meaning k))))
+
+pub repeat-returns-in-Some-3-clause-meaning : goal.repeat-returns-in-Some-3-clause-meaning
+repeat-returns-in-Some-3-clause-meaning t c =
+    λ k. c.turns.invariant.rest (Ok (flow_of c.in-Some-3.flow)) _ ((rw c.in_default.is at c.in_ok-left.ensures.before) (context_of c.args.stack.now None) c.args.own.now _ _ (loop_left c.in_ok-passes.ensures.ok.1 (c.in_ok-passes.ensures.ok.2 ∙ c.if-not-passes.false) (rw c.in-Some-3.is at (c.in_ok-flow-2.ensures.meaning tt))))
+
+pub repeat-turns-preserved : goal.repeat-turns-preserved
+repeat-turns-preserved t c =
+    record { ticks = omega arith; rest = λ o s d. c.turns.invariant.rest o s ((rw c.in_default.is at c.in_ok-left.ensures.before) (context_of c.args.stack.now None) c.args.own.now o s (loop_then c.in_ok-passes.ensures.ok.1 (c.in_ok-passes.ensures.ok.2 ∙ c.if-not-passes.false) (rw c.in_default-3.is at (c.in_ok-flow-2.ensures.meaning tt)) d)) }
+
+pub visit_all-returns-in_err-flow-clause-meaning : goal.visit_all-returns-in_err-flow-clause-meaning
+visit_all-returns-in_err-flow-clause-meaning t c =
+    let p = err_from_is_err_and c.from_residual-in_err-flow.result c.from_residual-in_err-flow.ensures.1 in rw (p.1, p.2) (λ k. c.values.invariant.rest (Err (stop_of c.in_err-flow.field-0.0)) _ ((rw c.in-Some.is at c.in_ok-left.ensures.within) (context_of c.args.stack.now None) _ _ (turn_left (rw c.text.ensures at (c.in_err-flow.ensures.meaning k)))))
+
+pub visit_all-returns-in_err-flow-2-clause-meaning : goal.visit_all-returns-in_err-flow-2-clause-meaning
+visit_all-returns-in_err-flow-2-clause-meaning t c =
+    let found = c.in-Some-get.ensures.lookup in
+    let p = err_from_is_err_and c.from_residual-in_err-flow-2.result c.from_residual-in_err-flow-2.ensures.1 in rw (p.1, p.2) (λ k. c.values.invariant.rest (Err (stop_of c.in_err-flow-2.field-0.0)) _ ((rw c.in_default.is at c.in_ok-left.ensures.before) (context_of c.args.stack.now None) _ _ (rw (drop_next c.args.values.now c.values_ahead.new.next c.in-Some-get.value.now found.3.0 found.1) (visit_left (rw c.in_ok-value.ensures.value at (c.in_err-flow-2.ensures.meaning k))))))
+
+pub visit_all-returns-in_default-get-clause-meaning : goal.visit_all-returns-in_default-get-clause-meaning
+visit_all-returns-in_default-get-clause-meaning t c =
+    λ k. c.values.invariant.rest (Ok next) _ ((rw c.in_default.is at c.in_ok-left.ensures.before) (context_of c.args.stack.now None) _ _ (rw (drop_of_length-le c.args.values.now c.in_default-get.ensures.lookup.3) all_visited))
+
+pub visit_all-returns-in-Some-flow-clause-meaning : goal.visit_all-returns-in-Some-flow-clause-meaning
+visit_all-returns-in-Some-flow-clause-meaning t c =
+    elim c.match-left.branch [
+      | visit_all-in-Some+in_ok-flow w ↦ λ k. rw (w.self-is, w.world-is, w.active-is) (c.values.invariant.rest (Ok (flow_of c.in-Some-flow.flow)) _ ((rw w.in-Some.is at c.in_ok-left.ensures.within) (context_of c.args.stack.now None) _ _ (turn_left (rw (sym w.flow-is ∙ c.in-Some-flow.is, w.text.ensures) at (w.in_ok-flow.ensures.meaning tt)))))
+      | visit_all-in_default+in-Some-get+in_ok-value+in_ok-flow-2 w ↦ λ k.
+          let found = w.in-Some-get.ensures.lookup in
+          rw (w.self-is, w.world-is, w.active-is) (c.values.invariant.rest (Ok (flow_of c.in-Some-flow.flow)) _ ((rw w.in_default.is at c.in_ok-left.ensures.before) (context_of c.args.stack.now None) _ _ (rw (drop_next c.args.values.now c.values_ahead.new.next w.in-Some-get.value.now found.3.0 found.1) (visit_left (rw (sym w.flow-is ∙ c.in-Some-flow.is, w.in_ok-value.ensures.value) at (w.in_ok-flow-2.ensures.meaning tt))))))
+    ]
+
+pub visit_all-values-preserved : goal.visit_all-values-preserved
+visit_all-values-preserved t c =
+    elim c.match-left.branch [
+      | visit_all-in-Some+in_ok-flow w ↦ record {
+        ticks = omega (arith, ap (λ (x : Task). x.ticks_left) w.self-is);
+        rest = λ o s d. c.values.invariant.rest o s ((rw w.in-Some.is at c.in_ok-left.ensures.within) (context_of c.args.stack.now None) o s (turn_done (rw (sym w.flow-is ∙ c.in_default-flow.is, w.text.ensures) at (w.in_ok-flow.ensures.meaning tt)) (rw (w.self-is, w.world-is, w.active-is) at d)));
+      }
+      | visit_all-in_default+in-Some-get+in_ok-value+in_ok-flow-2 w ↦ record {
+        ticks = omega (arith, ap (λ (x : Task). x.ticks_left) w.self-is);
+        rest = λ o s d.
+            let found = w.in-Some-get.ensures.lookup in
+            c.values.invariant.rest o s ((rw w.in_default.is at c.in_ok-left.ensures.before) (context_of c.args.stack.now None) o s (rw (drop_next c.args.values.now c.values_ahead.new.next w.in-Some-get.value.now found.3.0 found.1) (visit_then (rw (sym w.flow-is ∙ c.in_default-flow.is, w.in_ok-value.ensures.value) at (w.in_ok-flow-2.ensures.meaning tt)) (rw (w.self-is, w.world-is, w.active-is) at d))));
+      }
+    ]
+
+pub count-returns-in_err-flow-clause-meaning : goal.count-returns-in_err-flow-clause-meaning
+count-returns-in_err-flow-clause-meaning t c =
+    let p = err_from_is_err_and c.from_residual-in_err-flow.result c.from_residual-in_err-flow.ensures.1 in rw (p.1, p.2) (λ k. c.numbers.invariant.rest (Err (stop_of c.in_err-flow.field-0.0)) _ ((rw c.in-Some.is at c.in_ok-left.ensures.within) (context_of c.args.stack.now None) _ _ (turn_left (rw c.text.ensures at (c.in_err-flow.ensures.meaning k)))))
+
+pub count-overflow_cast-number : goal.count-overflow_cast-number
+count-overflow_cast-number t c =
+    let f : SFits w32 c.args.span.low = search rules in
+    let g : SFits w32 c.args.span.high = search rules in
+    let wide : SFits w64 c.numbers_ahead.new.next = c.numbers_ahead.ensures.fits in
+    let same = to_z-of_z w64 c.numbers_ahead.new.next wide in
+    let low = not_before c.args.span.low _ c.numbers_ahead.new.next c.numbers.invariant.low c.in_ok-left.ensures.later in
+    rw same (between c.args.span.low c.args.span.high c.numbers_ahead.new.next f g low (reached c.numbers_ahead.new.next c.from.result c.args.span.high true g c.from.ensures (rw same at c.if-number-from.true)))
+
+pub count-returns-in_err-flow-2-clause-meaning : goal.count-returns-in_err-flow-2-clause-meaning
+count-returns-in_err-flow-2-clause-meaning t c =
+    let f : SFits w32 c.args.span.low = search rules in
+    let g : SFits w32 c.args.span.high = search rules in
+    let wide : SFits w64 c.numbers_ahead.new.next = c.numbers_ahead.ensures.fits in
+    let same = to_z-of_z w64 c.numbers_ahead.new.next wide in
+    let low = not_before c.args.span.low _ c.numbers_ahead.new.next c.numbers.invariant.low c.in_ok-left.ensures.later in
+    let h = reached c.numbers_ahead.new.next c.from.result c.args.span.high true g c.from.ensures (rw same at c.if-number-from.true) in
+    let e = c.value-value.ensures ∙ ap (λ x. numbered c.args.span.are_objects (to_z w32 (of_z w32 x))) same ∙ ap (numbered c.args.span.are_objects) (narrow c.args.span.low c.args.span.high c.numbers_ahead.new.next f g low h) in
+    let p = err_from_is_err_and c.from_residual-in_err-flow-2.result c.from_residual-in_err-flow-2.ensures.1 in rw (p.1, p.2) (λ k. c.numbers.invariant.rest (Err (stop_of c.in_err-flow-2.field-0.0)) _ ((rw c.in_default.is at c.in_ok-left.ensures.before) (context_of c.args.stack.now None) _ _ (count_left h (rw e at (c.in_err-flow-2.ensures.meaning k)))))
+
+pub count-returns-else-number-from-clause-meaning : goal.count-returns-else-number-from-clause-meaning
+count-returns-else-number-from-clause-meaning t c =
+    let g : SFits w32 c.args.span.high = search rules in
+    let wide : SFits w64 c.numbers_ahead.new.next = c.numbers_ahead.ensures.fits in
+    let same = to_z-of_z w64 c.numbers_ahead.new.next wide in
+    λ k. c.numbers.invariant.rest (Ok next) _ ((rw c.in_default.is at c.in_ok-left.ensures.before) (context_of c.args.stack.now None) _ _ (all_counted (reached c.numbers_ahead.new.next c.from.result c.args.span.high false g c.from.ensures (rw same at c.if-number-from.false))))
+
+pub count-returns-in-Some-flow-clause-meaning : goal.count-returns-in-Some-flow-clause-meaning
+count-returns-in-Some-flow-clause-meaning t c =
+    let f : SFits w32 c.args.span.low = search rules in
+    let g : SFits w32 c.args.span.high = search rules in
+    let wide : SFits w64 c.numbers_ahead.new.next = c.numbers_ahead.ensures.fits in
+    let same = to_z-of_z w64 c.numbers_ahead.new.next wide in
+    let low = not_before c.args.span.low _ c.numbers_ahead.new.next c.numbers.invariant.low c.in_ok-left.ensures.later in
+    elim c.match-left.branch [
+      | count-in-Some+in_ok-flow w ↦ λ k. rw (w.self-is, w.world-is, w.active-is) (c.numbers.invariant.rest (Ok (flow_of c.in-Some-flow.flow)) _ ((rw w.in-Some.is at c.in_ok-left.ensures.within) (context_of c.args.stack.now None) _ _ (turn_left (rw (sym w.flow-is ∙ c.in-Some-flow.is, w.text.ensures) at (w.in_ok-flow.ensures.meaning tt)))))
+      | count-in_default+then-number-from+in_ok-flow-2 w ↦ λ k.
+          let h = reached c.numbers_ahead.new.next w.from.result c.args.span.high true g w.from.ensures (rw same at w.if-number-from.true) in
+          let e = w.value-value.ensures ∙ ap (λ x. numbered c.args.span.are_objects (to_z w32 (of_z w32 x))) same ∙ ap (numbered c.args.span.are_objects) (narrow c.args.span.low c.args.span.high c.numbers_ahead.new.next f g low h) in
+          rw (w.self-is, w.world-is, w.active-is) (c.numbers.invariant.rest (Ok (flow_of c.in-Some-flow.flow)) _ ((rw w.in_default.is at c.in_ok-left.ensures.before) (context_of c.args.stack.now None) _ _ (count_left h (rw (sym w.flow-is ∙ c.in-Some-flow.is, e) at (w.in_ok-flow-2.ensures.meaning tt)))))
+    ]
+
+pub count-overflow_add-number : goal.count-overflow_add-number
+count-overflow_add-number t c =
+    let f : SFits w32 c.args.span.low = search rules in
+    let g : SFits w32 c.args.span.high = search rules in
+    let wide : SFits w64 c.numbers_ahead.new.next = c.numbers_ahead.ensures.fits in
+    let same = to_z-of_z w64 c.numbers_ahead.new.next wide in
+    let low = not_before c.args.span.low _ c.numbers_ahead.new.next c.numbers.invariant.low c.in_ok-left.ensures.later in
+    elim c.match-left.branch [
+      | count-in-Some+in_ok-flow w ↦ rw same (after c.numbers_ahead.new.next (between c.args.span.low c.args.span.high c.numbers_ahead.new.next f g low (rw w.in-Some.is at c.in_ok-left.ensures.high)))
+      | count-in_default+then-number-from+in_ok-flow-2 w ↦ rw same (after c.numbers_ahead.new.next (between c.args.span.low c.args.span.high c.numbers_ahead.new.next f g low (reached c.numbers_ahead.new.next w.from.result c.args.span.high true g w.from.ensures (rw same at w.if-number-from.true))))
+    ]
+
+pub count-numbers-preserved : goal.count-numbers-preserved
+count-numbers-preserved t c =
+    let f : SFits w32 c.args.span.low = search rules in
+    let g : SFits w32 c.args.span.high = search rules in
+    let wide : SFits w64 c.numbers_ahead.new.next = c.numbers_ahead.ensures.fits in
+    let same = to_z-of_z w64 c.numbers_ahead.new.next wide in
+    let low = not_before c.args.span.low _ c.numbers_ahead.new.next c.numbers.invariant.low c.in_ok-left.ensures.later in
+    elim c.match-left.branch [
+      | count-in-Some+in_ok-flow w ↦
+          let h = rw w.in-Some.is at c.in_ok-left.ensures.high in
+          let q = ap (λ x. to_z w64 (of_z w64 (x +ℤ pos 1))) same ∙ next_number c.args.span.low c.args.span.high c.numbers_ahead.new.next f g low h in
+          record {
+            ticks = omega (arith, ap (λ (x : Task). x.ticks_left) w.self-is);
+            low = subst (λ x. c.args.span.low ≤ℤ x) (sym q) (not_below c.args.span.low c.numbers_ahead.new.next low);
+            rest = λ o s d. c.numbers.invariant.rest o s ((rw w.in-Some.is at c.in_ok-left.ensures.within) (context_of c.args.stack.now None) o s (turn_done (rw (sym w.flow-is ∙ c.in_default-flow.is, w.text.ensures) at (w.in_ok-flow.ensures.meaning tt)) (subst (λ x. Counts Faults (context_of c.args.stack.now None) c.args.name.now c.args.span x (block c.args.body.now) (state_of w.end_turn.new.self w.end_turn.new.world w.end_turn.new.active) o s) q (rw (w.self-is, w.world-is, w.active-is) at d))));
+          }
+      | count-in_default+then-number-from+in_ok-flow-2 w ↦
+          let h = reached c.numbers_ahead.new.next w.from.result c.args.span.high true g w.from.ensures (rw same at w.if-number-from.true) in
+          let e = w.value-value.ensures ∙ ap (λ x. numbered c.args.span.are_objects (to_z w32 (of_z w32 x))) same ∙ ap (numbered c.args.span.are_objects) (narrow c.args.span.low c.args.span.high c.numbers_ahead.new.next f g low h) in
+          let q = ap (λ x. to_z w64 (of_z w64 (x +ℤ pos 1))) same ∙ next_number c.args.span.low c.args.span.high c.numbers_ahead.new.next f g low h in
+          record {
+            ticks = omega (arith, ap (λ (x : Task). x.ticks_left) w.self-is);
+            low = subst (λ x. c.args.span.low ≤ℤ x) (sym q) (not_below c.args.span.low c.numbers_ahead.new.next low);
+            rest = λ o s d. c.numbers.invariant.rest o s ((rw w.in_default.is at c.in_ok-left.ensures.before) (context_of c.args.stack.now None) o s (count_then h (rw (sym w.flow-is ∙ c.in_default-flow.is, e) at (w.in_ok-flow-2.ensures.meaning tt)) (subst (λ x. Counts Faults (context_of c.args.stack.now None) c.args.name.now c.args.span x (block c.args.body.now) (state_of w.visit.new.self w.visit.new.world w.visit.new.active) o s) q (rw (w.self-is, w.world-is, w.active-is) at d))));
+          }
+    ]

@@ -165,6 +165,9 @@ decreases-run l = 8 * l.self.now.ticks_left + 1
 abbrev pub decreases-turn : goal.decreases-turn
 decreases-turn l = 8 * l.self.now.ticks_left + 1
 
+abbrev pub decreases-end_turn : goal.decreases-end_turn
+decreases-end_turn l = 8 * l.self.now.ticks_left + 3
+
 abbrev pub decreases-visit : goal.decreases-visit
 decreases-visit l = 8 * l.self.now.ticks_left + 1
 
@@ -242,11 +245,14 @@ abbrev pub decreases-repeat-turns : goal.decreases-repeat-turns
 decreases-repeat-turns l = l.self.ticks_left
 
 -- what the rest of the values does is what all do
-abbrev pub invariant-visit_all-loop-value : goal.invariant-visit_all-loop-value
-invariant-visit_all-loop-value l = record {
+abbrev pub invariant-visit_all-values : goal.invariant-visit_all-values
+invariant-visit_all-values l = record {
   ticks : l.self.ticks_left ≤ l.fn.self.ticks_left;
-  rest : (o : Result Flow Stop) (s : State) → Visits Faults (context_of l.stack None) l.name (trees (drop l.value-index l.values)) (block l.body) (state_of l.self l.world l.active) o s → Visits Faults (context_of l.stack None) l.name (trees l.values) (block l.body) (state_of l.fn.self l.fn.world l.fn.active) o s;
+  rest : (o : Result Flow Stop) (s : State) → Visits Faults (context_of l.stack None) l.name (trees (drop l.next l.values)) (block l.body) (state_of l.self l.world l.active) o s → Visits Faults (context_of l.stack None) l.name (trees l.values) (block l.body) (state_of l.fn.self l.fn.world l.fn.active) o s;
 }
+
+abbrev pub decreases-visit_all-values : goal.decreases-visit_all-values
+decreases-visit_all-values l = l.self.ticks_left
 
 -- what the loop does from here is what it does from its start
 abbrev pub invariant-count-numbers : goal.invariant-count-numbers

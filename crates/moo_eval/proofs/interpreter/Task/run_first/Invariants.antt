@@ -6,7 +6,7 @@ use Rattle.moo_access.specs.State.{State}
 use Rattle.moo_code_function.specs.Telling.{Faults}
 use Rattle.moo_eval.specs.Meaning.{RunsAll}
 use Rattle.moo_eval.specs.Seen.{state_of}
-use Rattle.moo_eval.proofs.interpreter.Task.run_ahead.Given as goal
+use Rattle.moo_eval.proofs.interpreter.Task.run_first.Given as goal
 
 -- where the rest leads, all statements lead
 abbrev pub invariant-loop-first : goal.invariant-loop-first

@@ -1,0 +1,36 @@
+-- Loops from within a turn on.
+use Rattle.std.proofs.Common.{◌≡◌, ℕ, ℤ, pos, ◌+ℤ◌, ◌<◌, List, [], ◌∷◌, true, Option, Some, None, Result, Ok, refl, int_le}
+use Rattle.moo_value.specs.Tree.{Tree}
+use Rattle.moo_program.specs.Tree.{Expr, Block, no_statement}
+use Rattle.moo_outcome.specs.Outcome.{Flow, Stop, next}
+use Rattle.moo_outcome.specs.Leading.{numbered}
+use Rattle.moo_outcome.specs.declared.leading.Span.{Span}
+use Rattle.moo_outcome.specs.State.{Context}
+use Rattle.moo_outcome.specs.Variables.{Binding, bind}
+use Rattle.moo_access.specs.State.{State}
+use Rattle.moo_code_function.specs.Telling.{Telling}
+use Rattle.moo_eval.specs.Meaning.{RunsAll, Turns, Loops, Visits, Counts, ends, turns, loop_left, loop_then, visit_left, visit_then, count_left, count_then}
+use Rattle.moo_eval.specs.Turning.{EndsTurn, Within, turn_left, turn_done, IsTested, IsBegun}
+
+-- where the statements that are left lead, all of the turn's lead
+abbrev pub IsAhead : Telling → Context → Block → State → Block → State → Type 0
+IsAhead T c left s' b s = (o : Result Flow Stop) (z : State) → RunsAll T c left s' o z → RunsAll T c b s o z
+
+turn_within : {T : Telling} {c : Context} {own : Option (List ℕ)} {bindings : List Binding} {b left : Block} {s s' s'' s3 : State} {r : Option (Result Flow Stop)} → IsBegun bindings s s' → IsAhead T c left s'' b s' → EndsTurn T c own left s'' r s3 → Turns T c own bindings b s r s3
+turn_within g f h = turns g.one_left g.sets (f _ _ h.runs) h.leads
+
+-- a turn of which nothing is left
+pub turn_over : {T : Telling} {c : Context} {own : Option (List ℕ)} {s : State} → EndsTurn T c own no_statement s None s
+turn_over = record { outcome = Ok next; runs = ends; leads = refl }
+
+pub loops_within : {T : Telling} {c : Context} {own : Option (List ℕ)} {e : Expr} {b left : Block} {s s' s'' s3 : State} {o : Result Flow Stop} → IsTested T c e s s' → IsAhead T c left s'' b s' → Within T c own left (Loops T c own e b) s'' o s3 → Loops T c own e b s o s3
+loops_within t f (turn_left h) = loop_left t.gives t.passes (turn_within (record { one_left = t.one_left; sets = t.taken }) f h)
+loops_within t f (turn_done h d) = loop_then t.gives t.passes (turn_within (record { one_left = t.one_left; sets = t.taken }) f h) d
+
+pub visits_within : {T : Telling} {c : Context} {x : List ℕ} {v : Tree} {vs : List Tree} {b left : Block} {s s' s'' s3 : State} {o : Result Flow Stop} → IsBegun (bind x v ∷ []) s s' → IsAhead T c left s'' b s' → Within T c (Some x) left (Visits T c x vs b) s'' o s3 → Visits T c x (v ∷ vs) b s o s3
+visits_within g f (turn_left h) = visit_left (turn_within g f h)
+visits_within g f (turn_done h d) = visit_then (turn_within g f h) d
+
+pub counts_within : {T : Telling} {c : Context} {x : List ℕ} {span : Span} {n : ℤ} {b left : Block} {s s' s'' s3 : State} {o : Result Flow Stop} → int_le n span.high ≡ true → IsBegun (bind x (numbered span.are_objects n) ∷ []) s s' → IsAhead T c left s'' b s' → Within T c (Some x) left (Counts T c x span (n +ℤ pos 1) b) s'' o s3 → Counts T c x span n b s o s3
+counts_within z g f (turn_left h) = count_left z (turn_within g f h)
+counts_within z g f (turn_done h d) = count_then z (turn_within g f h) d

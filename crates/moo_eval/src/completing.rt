@@ -1,0 +1,140 @@
+//! Statements that are run ahead, since nothing can stop them.
+ghost use Rattle.std.specs.Prelude.{◌≡◌, ◌<◌, ◌≤◌, Result, Ok, IfOk, IsTrue, IsFalse};
+ghost use Rattle.moo_program.specs.View.{statement as statement_of, block};
+ghost use Rattle.moo_outcome.specs.Outcome.{Flow, Stop as Stopped, next};
+ghost use Rattle.moo_outcome.specs.State.{Context};
+ghost use Rattle.moo_access.specs.State.{State};
+ghost use Rattle.moo_code_function.specs.Telling.{Faults};
+ghost use Rattle.moo_eval.specs.Meaning.{Runs, RunsAll};
+ghost use Rattle.moo_eval.specs.Seen.{state_of};
+
+use crate::ahead::may_have_worth;
+use crate::appending::may_be_list_append;
+use crate::interpreter::Task;
+use moo_outcome::Activation;
+use moo_program::{Expr, Stmt};
+use moo_world::World;
+use std::alloc::AllocError;
+
+impl Task {
+    /// Runs the first statements, as far as they are known at once: those that are left. Memory may be wanting where a list
+    /// is shared.
+    #[inline(never)]
+    pub(crate) fn run_ahead<'a>(
+        &mut self,
+        world: &mut World,
+        active: &mut Activation,
+        statements: &'a [Stmt],
+    ) -> Result<&'a [Stmt], AllocError>
+        ensures rest { IfOk result (λ rest. (c : Context) (o : Result Flow Stopped) (s : State) → RunsAll Faults c (block rest.now) (state_of self.new world.new active.new) o s → RunsAll Faults c (block statements.now) (state_of self.old world.old active.old) o s) }
+        ensures ticks { self.new.ticks_left ≤ self.old.ticks_left }
+    {
+        self.run_first(world, active, statements)
+    }
+
+    /// The same, inlined into the turns of loops that are run ahead.
+    #[inline(always)]
+    pub(crate) fn run_first<'a>(
+        &mut self,
+        world: &mut World,
+        active: &mut Activation,
+        statements: &'a [Stmt],
+    ) -> Result<&'a [Stmt], AllocError>
+        ensures rest { IfOk result (λ rest. (c : Context) (o : Result Flow Stopped) (s : State) → RunsAll Faults c (block rest.now) (state_of self.new world.new active.new) o s → RunsAll Faults c (block statements.now) (state_of self.old world.old active.old) o s) }
+        ensures ticks { self.new.ticks_left ≤ self.old.ticks_left }
+    {
+        let mut rest = statements;
+        while let Some((first, others)) = rest.split_first() {
+            let completed = self.completes_at_once(world, active, first)?;
+            if !completed {
+                return Ok(rest);
+            }
+            rest = others;
+        }
+        Ok(rest)
+    }
+
+    /// Runs a statement that sets a variable, a property or a place of a list to what is known at once, or puts that behind a list, and
+    /// tells whether it was one. Else nothing has begun. Memory may be wanting where a list is shared.
+    #[inline(always)]
+    pub(crate) fn completes_at_once(
+        &mut self,
+        world: &mut World,
+        active: &mut Activation,
+        statement: &Stmt,
+    ) -> Result<bool, AllocError>
+        ensures done { IfOk result (λ b. IsTrue b → (c : Context) → Runs Faults c (statement_of statement.now) (state_of self.old world.old active.old) (Ok next) (state_of self.new world.new active.new)) }
+        ensures fewer { IfOk result (λ b. IsTrue b → self.new.ticks_left < self.old.ticks_left) }
+        ensures kept { IfOk result (λ b. IsFalse b → (self.new ≡ self.old) × (world.new ≡ world.old) × (active.new ≡ active.old)) }
+        ensures ticks { self.new.ticks_left ≤ self.old.ticks_left }
+    {
+        if self.runs_at_once(world, active, statement) {
+            return Ok(true);
+        }
+        if !may_change_a_list(statement) {
+            return Ok(false);
+        }
+        self.changes_at_once(world, active, statement)
+    }
+
+    // Runs a statement that sets a place of a list to what is known at once, or puts that behind a list, likewise. Not inlined, so that
+    // what sets variables pays nothing for it.
+    #[inline(never)]
+    fn changes_at_once(
+        &mut self,
+        world: &World,
+        active: &mut Activation,
+        statement: &Stmt,
+    ) -> Result<bool, AllocError>
+        ensures done { IfOk result (λ b. IsTrue b → (c : Context) → Runs Faults c (statement_of statement.now) (state_of self.old world.now active.old) (Ok next) (state_of self.new world.now active.new)) }
+        ensures fewer { IfOk result (λ b. IsTrue b → self.new.ticks_left < self.old.ticks_left) }
+        ensures kept { IfOk result (λ b. IsFalse b → (self.new ≡ self.old) × (active.new ≡ active.old)) }
+        ensures ticks { self.new.ticks_left ≤ self.old.ticks_left }
+    {
+        let placed = self.places_at_once(world, active, statement)?;
+        if placed {
+            return Ok(true);
+        }
+        self.grows_at_once(world, active, statement)
+    }
+
+    // Runs a statement that sets a variable or a property to what is known at once, and tells whether it was one. Else nothing has
+    // begun.
+    #[inline(always)]
+    fn runs_at_once(&mut self, world: &mut World, active: &mut Activation, statement: &Stmt) -> bool
+        ensures done { IsTrue result → (c : Context) → Runs Faults c (statement_of statement.now) (state_of self.old world.old active.old) (Ok next) (state_of self.new world.new active.new) }
+        ensures fewer { IsTrue result → self.new.ticks_left < self.old.ticks_left }
+        ensures kept { IsFalse result → (self.new ≡ self.old) × (world.new ≡ world.old) × (active.new ≡ active.old) }
+    {
+        if self.sets_at_once(world, active, statement) {
+            return true;
+        }
+        self.writes_at_once(world, active, statement)
+    }
+}
+
+// Whether a statement may be one that sets a place of a list, or puts something behind a list.
+#[inline(always)]
+fn may_change_a_list(statement: &Stmt) -> bool {
+    let Stmt::Expression(expr) = statement else {
+        return false;
+    };
+    let Expr::Assign(target, value) = &**expr else {
+        return false;
+    };
+    match &**target {
+        Expr::Index(..) => may_have_worth(value),
+        Expr::Variable(_) => may_lengthen(value),
+        _ => false,
+    }
+}
+
+// Whether an expression may be that of a longer list.
+#[inline(always)]
+fn may_lengthen(value: &Expr) -> bool {
+    match value {
+        Expr::List(_) => true,
+        Expr::Call(name, _) => may_be_list_append(name),
+        _ => false,
+    }
+}

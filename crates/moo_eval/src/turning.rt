@@ -1,0 +1,173 @@
+//! Turns of loops that are run ahead, as far as nothing can stop them.
+ghost use Rattle.std.specs.Prelude.{◌≡◌, ◌<◌, ◌≤◌, ◌≤ℤ◌, ◌+◌, ◌+ℤ◌, ◌∷◌, [], ℕ, pos, negsuc, List, Option, Some, Result, IfOk, IfSome, IfNone, IsTrue, IsFalse, length, drop, int_le, true, FitsSigned};
+ghost use Rattle.std.specs.Int.{w64};
+ghost use Rattle.moo_value.specs.Tree.{integer};
+ghost use Rattle.moo_value.specs.View.{tree as value_tree, trees};
+ghost use Rattle.moo_program.specs.View.{tree, block};
+ghost use Rattle.moo_outcome.specs.Outcome.{Flow, Stop};
+ghost use Rattle.moo_outcome.specs.State.{Context};
+ghost use Rattle.moo_outcome.specs.Variables.{bind};
+ghost use Rattle.moo_table.specs.World.{World as WorldModel};
+ghost use Rattle.moo_access.specs.State.{State};
+ghost use Rattle.moo_code_function.specs.Telling.{Faults};
+ghost use Rattle.moo_eval.specs.Meaning.{Loops, Visits, Counts};
+ghost use Rattle.moo_eval.specs.Turning.{Within, IsTested, IsBegun};
+ghost use Rattle.moo_eval.specs.Worth.{IsWorth};
+ghost use Rattle.moo_eval.specs.Seen.{state_of};
+
+use crate::ahead::is_other_than_0;
+use crate::interpreter::Task;
+use crate::leaves::integer_leaf;
+use crate::worth::{Sight, number_worth, take};
+use moo_outcome::{Activation, Span};
+use moo_program::{Expr, Name, Stmt};
+use moo_value::Value;
+use moo_world::World;
+use std::alloc::AllocError;
+
+impl Task {
+    /// Runs turns of a `while`, as far as its test and the statements are known at once: the statements that are left of the turn in which
+    /// it stands then, or `None` where it stands before a test. Not inlined: nested loops would each hold its room on the stack.
+    #[inline(never)]
+    pub(crate) fn turns_ahead<'a>(
+        &mut self,
+        world: &mut World,
+        active: &mut Activation,
+        test: &Expr,
+        body: &'a [Stmt],
+    ) -> Result<Option<&'a [Stmt]>, AllocError>
+        ensures within { IfOk result (λ r. IfSome r (λ left. (c : Context) (own : Option (List ℕ)) (o : Result Flow Stop) (s : State) → Within Faults c own (block left.now) (Loops Faults c own (tree test.now) (block body.now)) (state_of self.new world.new active.new) o s → Loops Faults c own (tree test.now) (block body.now) (state_of self.old world.old active.old) o s)) }
+        ensures before { IfOk result (λ r. IfNone r ((c : Context) (own : Option (List ℕ)) (o : Result Flow Stop) (s : State) → Loops Faults c own (tree test.now) (block body.now) (state_of self.new world.new active.new) o s → Loops Faults c own (tree test.now) (block body.now) (state_of self.old world.old active.old) o s)) }
+        ensures fewer { IfOk result (λ r. IfSome r (λ _. self.new.ticks_left < self.old.ticks_left)) }
+        ensures ticks { self.new.ticks_left ≤ self.old.ticks_left }
+    {
+        'turns: loop {
+            if !self.begins_turn(world, active, test) {
+                return Ok(None);
+            }
+            let left = self.run_first(world, active, body)?;
+            if !left.is_empty() {
+                return Ok(Some(left));
+            }
+        }
+    }
+
+    // Whether a test is known at once to be true and a tick is left for the turn, which is taken then. Else nothing has begun.
+    #[inline(always)]
+    fn begins_turn(&mut self, world: &World, active: &Activation, test: &Expr) -> bool
+        ensures tested { IsTrue result → (c : Context) → IsTested Faults c (tree test.now) (state_of self.old world.now active.now) (state_of self.new world.now active.now) }
+        ensures fewer { IsTrue result → self.new.ticks_left < self.old.ticks_left }
+        ensures kept { IsFalse result → self.new ≡ self.old }
+    {
+        let mut left = self.ticks_left.left() as u32;
+        let sight = Sight {
+            world,
+            active,
+            alloc: self.alloc,
+        };
+        let Some(number) = test_worth(&sight, &mut left, test) else {
+            return false;
+        };
+        if !is_other_than_0(number) || left == 0 {
+            return false;
+        }
+        self.ticks_left.leave(left - 1);
+        true
+    }
+
+    /// Runs turns of a `for` over values, from the next one on, likewise: the statements that are left of the turn of the value that is
+    /// next then, or `None` where it stands before that value's turn or all have had theirs.
+    #[inline(never)]
+    pub(crate) fn values_ahead<'a>(
+        &mut self,
+        world: &mut World,
+        active: &mut Activation,
+        name: &Name,
+        values: &[Value],
+        next: &mut usize,
+        body: &'a [Stmt],
+    ) -> Result<Option<&'a [Stmt]>, AllocError>
+        ensures within { IfOk result (λ r. IfSome r (λ left. (c : Context) (o : Result Flow Stop) (s : State) → Within Faults c (Some name.now) (block left.now) (Visits Faults c name.now (trees (drop (next.new + 1) values.now)) (block body.now)) (state_of self.new world.new active.new) o s → Visits Faults c name.now (trees (drop next.old values.now)) (block body.now) (state_of self.old world.old active.old) o s)) }
+        ensures before { IfOk result (λ r. IfNone r ((c : Context) (o : Result Flow Stop) (s : State) → Visits Faults c name.now (trees (drop next.new values.now)) (block body.now) (state_of self.new world.new active.new) o s → Visits Faults c name.now (trees (drop next.old values.now)) (block body.now) (state_of self.old world.old active.old) o s)) }
+        ensures there { IfOk result (λ r. IfSome r (λ _. next.new < length values.now)) }
+        ensures fewer { IfOk result (λ r. IfSome r (λ _. self.new.ticks_left < self.old.ticks_left)) }
+        ensures ticks { self.new.ticks_left ≤ self.old.ticks_left }
+    {
+        'values: while let Some(value) = values.get(*next) {
+            let value = value.try_clone()?;
+            if !self.begins_visit(active, name, value) {
+                return Ok(None);
+            }
+            let left = self.run_first(world, active, body)?;
+            if !left.is_empty() {
+                return Ok(Some(left));
+            }
+            *next += 1;
+        }
+        Ok(None)
+    }
+
+    /// Runs turns of a `for` over numbers, from the next one on, likewise.
+    #[inline(never)]
+    pub(crate) fn numbers_ahead<'a>(
+        &mut self,
+        world: &mut World,
+        active: &mut Activation,
+        name: &Name,
+        span: &Span,
+        next: &mut i64,
+        body: &'a [Stmt],
+    ) -> Result<Option<&'a [Stmt]>, AllocError>
+        requires { negsuc 2147483647 ≤ℤ next.old }
+        ensures within { IfOk result (λ r. IfSome r (λ left. (c : Context) (o : Result Flow Stop) (s : State) → Within Faults c (Some name.now) (block left.now) (Counts Faults c name.now span.now (next.new +ℤ pos 1) (block body.now)) (state_of self.new world.new active.new) o s → Counts Faults c name.now span.now next.old (block body.now) (state_of self.old world.old active.old) o s)) }
+        ensures before { IfOk result (λ r. IfNone r ((c : Context) (o : Result Flow Stop) (s : State) → Counts Faults c name.now span.now next.new (block body.now) (state_of self.new world.new active.new) o s → Counts Faults c name.now span.now next.old (block body.now) (state_of self.old world.old active.old) o s)) }
+        ensures later { next.old ≤ℤ next.new }
+        ensures fits { FitsSigned w64 next.new }
+        ensures high { IfOk result (λ r. IfSome r (λ _. int_le next.new span.now.high ≡ true)) }
+        ensures fewer { IfOk result (λ r. IfSome r (λ _. self.new.ticks_left < self.old.ticks_left)) }
+        ensures ticks { self.new.ticks_left ≤ self.old.ticks_left }
+    {
+        'numbers: while *next <= i64::from(span.high) {
+            let value = span.value(*next as i32);
+            if !self.begins_visit(active, name, value) {
+                return Ok(None);
+            }
+            let left = self.run_first(world, active, body)?;
+            if !left.is_empty() {
+                return Ok(Some(left));
+            }
+            *next += 1;
+        }
+        Ok(None)
+    }
+
+    // Whether a tick is left for a turn of a `for` and its variable has a place: then the one is taken and the other set. Else nothing has
+    // begun.
+    #[inline(always)]
+    fn begins_visit(&mut self, active: &mut Activation, name: &Name, value: Value) -> bool
+        ensures begun { IsTrue result → (w : WorldModel) → IsBegun (bind name.now (value_tree value) ∷ []) (state_of self.old w active.old) (state_of self.new w active.new) }
+        ensures fewer { IsTrue result → self.new.ticks_left < self.old.ticks_left }
+        ensures kept { IsFalse result → (self.new ≡ self.old) × (active.new ≡ active.old) }
+    {
+        let left = self.ticks_left.left() as u32;
+        if left == 0 || !active.variables.put(name, value) {
+            return false;
+        }
+        self.ticks_left.leave(left - 1);
+        true
+    }
+}
+
+// The integer of a test that is an operator, a number or a variable, where it is known at once, and its ticks as those of worths.
+#[inline(always)]
+fn test_worth(sight: &Sight<'_>, left: &mut u32, test: &Expr) -> Option<i32>
+    ensures value { IfSome result (λ n. IsWorth sight.now.world.now sight.now.active.now left.old (tree test.now) (integer n) left.new) }
+    ensures ticks { left.new ≤ left.old }
+{
+    if let Expr::Binary(operator, first, second) = test {
+        return number_worth(sight, left, *operator, first, second);
+    }
+    let number = integer_leaf(sight.active, test)?;
+    take(left)?;
+    Some(number)
+}

@@ -116,6 +116,7 @@ fn enter_found<'a>(
 }
 
 // The list of the arguments.
+#[inline(always)]
 fn arguments(alloc: Global, args: Vec<Value>) -> Result<MooList, Failure>
     ensures ok { OnOk result (made_list (trees args.items) ≡ Ok (list_of (trees args.items))) }
     ensures same { IfOk result (λ list. list ≡ trees args.items) }
@@ -129,6 +130,7 @@ fn arguments(alloc: Global, args: Vec<Value>) -> Result<MooList, Failure>
 }
 
 // The first verb that fits, of those that can be executed.
+#[inline(always)]
 fn found_verb<'a>(world: &'a World, this: i32, name: &MooStr) -> Result<Found<'a>, ErrorCode>
     ensures ok { IfOk result (λ found. found_verb world.now this name.now ≡ Ok (found_of found)) }
     ensures err { IfErr result (λ code. found_verb world.now this name.now ≡ Err code) }
@@ -144,6 +146,7 @@ fn found_verb<'a>(world: &'a World, this: i32, name: &MooStr) -> Result<Found<'a
 
 /// The verb that an object is called by this name with, of those that can be executed: the first that fits of its own,
 /// and then of its ancestors'. An object that isn't valid has none.
+#[inline(always)]
 pub fn called_verb<'a>(world: &'a World, object: i32, name: &[u8]) -> Option<Found<'a>>
     ensures { option_map found_of result ≡ called_verb world.now object name.now }
 {
@@ -170,6 +173,7 @@ pub fn has_frame_left(stack: &CallStack<'_>) -> bool
 }
 
 // The player of a called verb: a wizard may have put another into the variable.
+#[inline(always)]
 fn player_of_call(world: &World, caller: &Frame, active: &Activation) -> i32
     ensures { result ≡ player_of_call world.now caller.now (variables_of active.now.variables) active.now.programmer }
 {
@@ -182,6 +186,7 @@ fn player_of_call(world: &World, caller: &Frame, active: &Activation) -> i32
     }
 }
 
+#[inline(always)]
 fn called_frame(
     alloc: Global,
     caller: &Frame,
@@ -247,6 +252,7 @@ pub fn program_of(alloc: Global, verb: &Verb) -> Result<Program, AllocError>
 }
 
 // The verb of a frame begins. It answers as who calls it does, so that what was entered is not moved.
+#[inline(always)]
 fn entered<'a>(
     alloc: Global,
     stack: &CallStack<'a>,
@@ -272,6 +278,7 @@ fn entered<'a>(
 }
 
 // The variables of a frame, with what tells of the command as it stands with the caller.
+#[inline(always)]
 fn called_variables(
     alloc: Global,
     frame: &Frame,

@@ -1,5 +1,5 @@
 -- Statements that are known at once.
-use Rattle.std.proofs.Common.{◌≡◌, ℕ, ℤ, suc, pos, ◌<◌, ◌-◌, Bool, true, false, Option, List, [], ◌∷◌, ◌++◌, Result, Ok, Err, is_ok, length, refl, sym, ap, ◌∙◌, arith}
+use Rattle.std.proofs.Common.{◌≡◌, ℕ, ℤ, suc, pos, ◌<◌, ◌-◌, Bool, true, Option, List, [], ◌∷◌, ◌++◌, Result, Ok, Err, is_ok, length, refl, sym, ap, ◌∙◌, arith}
 use Rattle.std.proofs.lemmas.Bool.{false≢true}
 use Rattle.std.proofs.lemmas.Int.{to_z-of_z}
 use mir.Syntax.{w32}

@@ -1,5 +1,5 @@
 -- Lists that are changed in the variable that holds them.
-use Rattle.std.proofs.Common.{◌≡◌, ℕ, suc, ◌<◌, ltb, ℤ, pos, List, length, set, Option, Some, Result, Ok, Err, IfOk, IfSome, true, cond, refl, sym, ap, ◌∙◌, arith}
+use Rattle.std.proofs.Common.{◌≡◌, ℕ, suc, ◌<◌, ltb, ℤ, pos, List, length, set, Some, Result, Ok, Err, IfOk, true, refl, sym, ap, ◌∙◌, arith}
 use Rattle.std.proofs.lemmas.Bool.Decides.{nat_tests}
 use Rattle.moo_value.specs.Tree.{Tree, integer, list_of}
 use Rattle.moo_value.specs.Size.{IsWithinLimits}

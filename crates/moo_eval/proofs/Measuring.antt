@@ -1,6 +1,5 @@
 -- Lengths that are known at once.
-use Rattle.std.proofs.Common.{◌≡◌, ℕ, ◌<◌, ◌-◌, ℤ, List, [], ◌∷◌, Bool, Some, None, Result, Ok, Err, refl, sym, ap, subst}
-use Rattle.moo_value.specs.declared.error_code.ErrorCode.{ErrorCode}
+use Rattle.std.proofs.Common.{◌≡◌, ℕ, ◌<◌, ◌-◌, ℤ, List, [], ◌∷◌, Bool, Some, None, Result, Ok, refl, sym, ap, subst}
 use Rattle.moo_value.specs.Tree.{Tree, integer, object, error, string, list}
 use Rattle.moo_program.specs.Tree.{Expr, call, element, no_items}
 use Rattle.moo_operation.specs.Places.{length_of}

@@ -1,5 +1,5 @@
 -- Loops from within a turn on.
-use Rattle.std.proofs.Common.{◌≡◌, ℕ, ℤ, pos, ◌+ℤ◌, ◌<◌, List, [], ◌∷◌, true, Option, Some, None, Result, Ok, refl, int_le}
+use Rattle.std.proofs.Common.{◌≡◌, ℕ, ℤ, pos, ◌+ℤ◌, List, [], ◌∷◌, true, Option, Some, None, Result, Ok, refl, int_le}
 use Rattle.moo_value.specs.Tree.{Tree}
 use Rattle.moo_program.specs.Tree.{Expr, Block, no_statement}
 use Rattle.moo_outcome.specs.Outcome.{Flow, Stop, next}

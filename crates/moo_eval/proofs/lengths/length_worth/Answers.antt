@@ -1,5 +1,3 @@
-use Rattle.std.proofs.Common.{rules}
-use Rattle.std.proofs.lemmas.Int.{to_z-of_z}
 use Rattle.moo_eval.proofs.AtOnce.{leaf_worth, map_some}
 use Rattle.moo_eval.proofs.Measuring.{length_worth}
 use Rattle.moo_eval.proofs.lengths.length_worth.Goals as goal

@@ -1,4 +1,4 @@
-use Rattle.std.proofs.Common.{arith, rules, sym, ap, subst, ◌∙◌, true, Some, negsuc, pos, ◌+ℤ◌}
+use Rattle.std.proofs.Common.{arith, rules, sym, ap, subst, ◌∙◌, true, negsuc, pos, ◌+ℤ◌}
 use Rattle.std.proofs.lemmas.Bool.{eqb-true}
 use Rattle.std.proofs.lemmas.Int.{to_z-of_z}
 use Rattle.std.proofs.Math.Facts.{sfits_lit}

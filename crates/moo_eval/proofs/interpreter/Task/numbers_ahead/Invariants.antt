@@ -1,4 +1,4 @@
-use Rattle.std.proofs.Common.{◌≤◌, ℕ, negsuc, Result}
+use Rattle.std.proofs.Common.{◌≤◌, negsuc, Result}
 use Rattle.std.specs.Prelude.{◌≤ℤ◌}
 use Rattle.moo_program.specs.View.{block}
 use Rattle.moo_outcome.specs.Outcome.{Flow, Stop}

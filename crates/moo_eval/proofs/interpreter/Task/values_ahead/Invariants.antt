@@ -1,4 +1,4 @@
-use Rattle.std.proofs.Common.{◌≤◌, ℕ, Result, drop}
+use Rattle.std.proofs.Common.{◌≤◌, Result, drop}
 use Rattle.moo_value.specs.View.{trees}
 use Rattle.moo_program.specs.View.{block}
 use Rattle.moo_outcome.specs.Outcome.{Flow, Stop}

@@ -10,6 +10,7 @@ mod frame;
 mod gathered;
 mod given_values;
 mod handling;
+mod integers;
 pub mod laws;
 mod leading;
 mod notice;

@@ -12,6 +12,7 @@ ghost use Rattle.moo_outcome.specs.Seen.{value_among, own_variables, slot_value,
 
 use crate::frame::Frame;
 use crate::given_values::GivenValues;
+use crate::integers::{integer_in, integer_of, set_integer};
 use moo_grammar::Program;
 use moo_program::{Given, Name};
 use moo_value::{MooStr, Value};
@@ -114,12 +115,65 @@ impl Variables {
         ensures given { self.new.given ≡ self.old.given }
         ensures kept { IsFalse result → self.new ≡ self.old }
     {
+        match self.known_slot(name) {
+            Some(slot) => {
+                self.values[slot] = Some(value);
+                true
+            }
+            None => self.put_searched(name, value),
+        }
+    }
+
+    // The same by a search: a function of its own, so that what is known without one pays nothing for it.
+    #[inline(never)]
+    fn put_searched(&mut self, name: &Name, value: Value) -> bool
+        ensures own { IsTrue result → own_variables self.new ≡ with_variable (own_variables self.old) (bind name.now (tree value)) }
+        ensures given { self.new.given ≡ self.old.given }
+        ensures kept { IsFalse result → self.new ≡ self.old }
+    {
         match self.slot(name) {
             Some(slot) => {
                 self.values[slot] = Some(value);
                 true
             }
             None => false,
+        }
+    }
+
+    /// Sets a variable that has a slot to an integer, likewise. One that holds an integer is changed where it stands.
+    #[inline(always)]
+    pub fn put_integer(&mut self, name: &Name, number: i32) -> bool
+        ensures put { IsTrue result → variables_of self.new ≡ with_variable (variables_of self.old) (bind name.now (integer number)) }
+        ensures kept { IsFalse result → self.new ≡ self.old }
+    {
+        match name.given() {
+            Some(_) => self.put_anywhere(name, Value::Int(number)),
+            None => self.put_own_integer(name, number),
+        }
+    }
+
+    // The same, wherever the name stands: a function of its own, for what is set seldom.
+    #[inline(never)]
+    fn put_anywhere(&mut self, name: &Name, value: Value) -> bool
+        ensures put { IsTrue result → variables_of self.new ≡ with_variable (variables_of self.old) (bind name.now (tree value)) }
+        ensures kept { IsFalse result → self.new ≡ self.old }
+    {
+        self.put(name, value)
+    }
+
+    // The same of one that not every frame has.
+    #[inline(always)]
+    fn put_own_integer(&mut self, name: &Name, number: i32) -> bool
+        ensures own { IsTrue result → own_variables self.new ≡ with_variable (own_variables self.old) (bind name.now (integer number)) }
+        ensures given { self.new.given ≡ self.old.given }
+        ensures kept { IsFalse result → self.new ≡ self.old }
+    {
+        match self.known_slot(name) {
+            Some(slot) => {
+                set_integer(&mut self.values[slot], number);
+                true
+            }
+            None => self.put_searched(name, Value::Int(number)),
         }
     }
 
@@ -145,6 +199,17 @@ impl Variables {
     fn own(&self, name: &Name) -> Option<&Value>
         ensures { option_map (λ v. tree v.now) result ≡ own_variables self.now (folded name.now) }
     {
+        match self.known_slot(name) {
+            Some(slot) => self.values[slot].as_ref(),
+            None => self.searched(name),
+        }
+    }
+
+    // The same by a search.
+    #[inline(never)]
+    fn searched(&self, name: &Name) -> Option<&Value>
+        ensures { option_map (λ v. tree v.now) result ≡ own_variables self.now (folded name.now) }
+    {
         match self.slot(name) {
             Some(slot) => self.values[slot].as_ref(),
             None => self.other(name.as_bytes()),
@@ -157,9 +222,17 @@ impl Variables {
         ensures { IfSome result (λ n. variables_of self.now (folded name.now) ≡ Some (integer n)) }
     {
         match name.given() {
-            Some(given) => integer_in(self.get_given(given)),
+            Some(given) => self.given_integer(given),
             None => self.own_integer(name),
         }
+    }
+
+    // The same of a variable that every frame has.
+    #[inline(never)]
+    fn given_integer(&self, given: Given) -> Option<i32>
+        ensures { IfSome result (λ n. variables_of self.now (folded (given_name given)) ≡ Some (integer n)) }
+    {
+        integer_in(self.get_given(given))
     }
 
     // The same of a variable that not every frame has.
@@ -167,9 +240,43 @@ impl Variables {
     fn own_integer(&self, name: &Name) -> Option<i32>
         ensures { IfSome result (λ n. own_variables self.now (folded name.now) ≡ Some (integer n)) }
     {
+        match self.known_slot(name) {
+            Some(slot) => integer_of(&self.values[slot]),
+            None => self.searched_integer(name),
+        }
+    }
+
+    // The same by a search.
+    #[inline(never)]
+    fn searched_integer(&self, name: &Name) -> Option<i32>
+        ensures { IfSome result (λ n. own_variables self.now (folded name.now) ≡ Some (integer n)) }
+    {
         match self.slot(name) {
             Some(slot) => integer_of(&self.values[slot]),
             None => None,
+        }
+    }
+
+    // The hint at the slot of a name, where the numbers tell that the program's name there is spelled so and a value stands there.
+    #[inline(always)]
+    fn known_slot(&self, name: &Name) -> Option<usize>
+        ensures { IfSome result (λ i. (position (λ own. bytes_eq (folded own) (folded name.now)) (slots self.now.program) ≡ Some i) × (i < length self.now.values.items)) }
+    {
+        let hint = name.hint();
+        if self.is_known(hint, name) && hint < self.values.len() {
+            return Some(hint);
+        }
+        None
+    }
+
+    // Whether the program's name in this slot is known to be spelled so.
+    #[inline(always)]
+    fn is_known(&self, slot: usize, name: &Name) -> bool
+        ensures { IsTrue result → (slot < length (slots self.now.program)) × (get_or (slots self.now.program) slot [] ≡ name.now) }
+    {
+        match self.program.slots().get(slot) {
+            Some(own) => own.is_known_as(name),
+            None => false,
         }
     }
 
@@ -258,28 +365,6 @@ fn has_own(names: &[Name]) -> bool {
         }
     }
     false
-}
-
-// The integer that a value is.
-#[inline(always)]
-fn integer_in(value: Option<&Value>) -> Option<i32>
-    ensures { IfSome result (λ n. option_map (λ v. tree v.now) value.entry ≡ Some (integer n)) }
-{
-    match value {
-        Some(Value::Int(number)) => Some(*number),
-        _ => None,
-    }
-}
-
-// The integer in a slot.
-#[inline(always)]
-fn integer_of(value: &Option<Value>) -> Option<i32>
-    ensures { IfSome result (λ n. option_map (λ v. tree v) value.now ≡ Some (integer n)) }
-{
-    match value {
-        Some(Value::Int(number)) => Some(*number),
-        _ => None,
-    }
 }
 
 // No value for each of these names.

@@ -75,10 +75,18 @@ impl Name {
     pub fn is_spelled_as(&self, other: &Name) -> bool
         ensures { IsTrue result ↔ (self.now ≡ other.now) }
     {
-        if self.number == other.number && self.number != 0 {
+        if self.is_known_as(other) {
             return true;
         }
         self.has_bytes_of(other)
+    }
+
+    /// Whether the numbers of the two spellings tell that they are the same, so that no byte needs to be looked at.
+    #[inline(always)]
+    pub fn is_known_as(&self, other: &Name) -> bool
+        ensures { IsTrue result → (self.now ≡ other.now) }
+    {
+        self.number != 0 && self.number == other.number
     }
 
     // The same, byte by byte. Not inlined, so that what is known by the numbers pays nothing for it.

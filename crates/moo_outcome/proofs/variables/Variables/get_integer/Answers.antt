@@ -1,4 +1,4 @@
-use Rattle.std.proofs.Common.{sym, ap, ◌∙◌}
+use Rattle.std.proofs.Common.{sym, ap}
 use Rattle.moo_program.specs.Given.{all_given, is_given}
 use Rattle.moo_program.proofs.GivenNames.{passes, same_name}
 use Rattle.moo_outcome.specs.Seen.{own_variables, variables_of}
@@ -8,8 +8,8 @@ use Rattle.moo_outcome.proofs.variables.Variables.get_integer.Goals as goal
 pub returns-in-Some : goal.returns-in-Some
 returns-in-Some c =
     let is = passes (is_given c.args.name.now) c.in-Some.given all_given (sym c.in-Some.ensures) in
-    let value = sym (c.get_given.ensures ∙ ap (variables_of c.args.self.now) (same_name c.args.name.now c.in-Some.given is)) in
-    rw value c.integer_in.ensures
+    let value = sym (ap (variables_of c.args.self.now) (same_name c.args.name.now c.in-Some.given is)) in
+    rw value c.given_integer.ensures
 
 pub returns-in-None : goal.returns-in-None
 unfolding variables_of

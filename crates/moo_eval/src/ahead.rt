@@ -19,6 +19,8 @@ use crate::assignment::as_assignment;
 use crate::interpreter::Task;
 use crate::leaves::integer_leaf;
 use crate::lengths::may_be_length;
+use crate::numbers::{put_number, put_value};
+use crate::parts::part_copied;
 use crate::worth::{Sight, joined_worth, number_worth, take, worth};
 use moo_operation as operation;
 use moo_outcome::{Activation, CallStack, Stop};
@@ -228,6 +230,9 @@ impl Task {
         if !may_be_known(value) {
             return false;
         }
+        if let Expr::Call(function, items) = value {
+            return self.puts_length(world, active, left, name, function, items);
+        }
         self.puts_value(world, active, left, name, value)
     }
 
@@ -255,13 +260,42 @@ impl Task {
         let Some(number) = number_worth(&sight, left, operator, first, second) else {
             return false;
         };
-        active.variables.put(name, Value::Int(number))
+        put_number(active, name, number)
     }
 
-    // The same for what is no integer, or neither an operator, a literal nor a variable. Not inlined, so that what sets integers pays
-    // nothing for it.
-    #[inline(never)]
+    // The same for what is no integer, or neither an operator, a literal nor a variable. An element or a property is looked at where it
+    // stands.
+    #[inline(always)]
     fn puts_value(
+        &self,
+        world: &World,
+        active: &mut Activation,
+        left: &mut u32,
+        name: &Name,
+        value: &Expr,
+    ) -> bool
+        ensures put { IsTrue result → IsSet world.now active.old active.new left.old left.new name.now (tree value.now) }
+        ensures kept { IsFalse result → active.new ≡ active.old }
+        ensures ticks { left.new ≤ left.old }
+    {
+        let all = *left;
+        let sight = Sight {
+            world,
+            active,
+            alloc: self.alloc,
+        };
+        match part_copied(&sight, left, value) {
+            Some(value) => put_value(active, name, value),
+            None => {
+                *left = all;
+                self.puts_worth(world, active, left, name, value)
+            }
+        }
+    }
+
+    // The same by its worth. Not inlined, so that what is looked at where it stands pays nothing for it.
+    #[inline(never)]
+    fn puts_worth(
         &self,
         world: &World,
         active: &mut Activation,
@@ -293,7 +327,7 @@ fn puts_leaf(active: &mut Activation, left: &mut u32, name: &Name, number: i32) 
     ensures ticks { left.new ≤ left.old }
 {
     match take(left) {
-        Some(()) => active.variables.put(name, Value::Int(number)),
+        Some(()) => put_number(active, name, number),
         None => false,
     }
 }

@@ -45,9 +45,11 @@ impl Task {
     {
         let mut rest = statements;
         while let Some((first, others)) = rest.split_first() {
-            let completed = self.completes_at_once(world, active, first)?;
-            if !completed {
-                return Ok(rest);
+            if !self.sets_number(active, first) {
+                let completed = self.completes_otherwise(world, active, first)?;
+                if !completed {
+                    return Ok(rest);
+                }
             }
             rest = others;
         }
@@ -58,6 +60,44 @@ impl Task {
     /// tells whether it was one. Else nothing has begun. Memory may be wanting where a list is shared.
     #[inline(always)]
     pub(crate) fn completes_at_once(
+        &mut self,
+        world: &mut World,
+        active: &mut Activation,
+        statement: &Stmt,
+    ) -> Result<bool, AllocError>
+        ensures done { IfOk result (λ b. IsTrue b → (c : Context) → Runs Faults c (statement_of statement.now) (state_of self.old world.old active.old) (Ok next) (state_of self.new world.new active.new)) }
+        ensures fewer { IfOk result (λ b. IsTrue b → self.new.ticks_left < self.old.ticks_left) }
+        ensures kept { IfOk result (λ b. IsFalse b → (self.new ≡ self.old) × (world.new ≡ world.old) × (active.new ≡ active.old)) }
+        ensures ticks { self.new.ticks_left ≤ self.old.ticks_left }
+    {
+        if self.sets_number(active, statement) {
+            return Ok(true);
+        }
+        self.completes_otherwise(world, active, statement)
+    }
+
+    // The same of one that doesn't set a variable to a number that is known at a glance.
+    #[inline(always)]
+    fn completes_otherwise(
+        &mut self,
+        world: &mut World,
+        active: &mut Activation,
+        statement: &Stmt,
+    ) -> Result<bool, AllocError>
+        ensures done { IfOk result (λ b. IsTrue b → (c : Context) → Runs Faults c (statement_of statement.now) (state_of self.old world.old active.old) (Ok next) (state_of self.new world.new active.new)) }
+        ensures fewer { IfOk result (λ b. IsTrue b → self.new.ticks_left < self.old.ticks_left) }
+        ensures kept { IfOk result (λ b. IsFalse b → (self.new ≡ self.old) × (world.new ≡ world.old) × (active.new ≡ active.old)) }
+        ensures ticks { self.new.ticks_left ≤ self.old.ticks_left }
+    {
+        if !may_complete(statement) {
+            return Ok(false);
+        }
+        self.completes(world, active, statement)
+    }
+
+    // The same of one that may be so. Not inlined, so that what sets variables to numbers pays nothing for it.
+    #[inline(never)]
+    fn completes(
         &mut self,
         world: &mut World,
         active: &mut Activation,
@@ -110,6 +150,22 @@ impl Task {
             return true;
         }
         self.writes_at_once(world, active, statement)
+    }
+}
+
+// Whether a statement may be one that is known at once.
+#[inline(always)]
+fn may_complete(statement: &Stmt) -> bool {
+    let Stmt::Expression(expr) = statement else {
+        return false;
+    };
+    let Expr::Assign(target, value) = &**expr else {
+        return false;
+    };
+    match &**target {
+        Expr::Index(..) | Expr::Property(..) => may_have_worth(value),
+        Expr::Variable(_) => may_have_worth(value) || may_lengthen(value),
+        _ => false,
     }
 }
 

@@ -1,6 +1,6 @@
 //! Lengths of what stands in variables, as in `length(l)`, which are known at once: 'Manipulating List Values' of the LambdaMOO
 //! Programmer's Manual, docs/LANGUAGE.md.
-ghost use Rattle.std.specs.Prelude.{◌≡◌, ◌≤◌, Ok, Some, IsTrue, IfSome};
+ghost use Rattle.std.specs.Prelude.{◌≡◌, ◌≤◌, Ok, Some, IsTrue, IsFalse, IfSome};
 ghost use Rattle.moo_value.specs.Tree.{integer};
 ghost use Rattle.moo_value.specs.View.{tree as value_tree};
 ghost use Rattle.moo_operation.specs.Places.{length_of};
@@ -8,14 +8,46 @@ ghost use Rattle.moo_function.specs.declared.function.Function.TheVariants.{Leng
 ghost use Rattle.moo_function.specs.Names.{function_of};
 ghost use Rattle.moo_program.specs.Tree.{call, element, no_items};
 ghost use Rattle.moo_program.specs.View.{tree, items_of};
-ghost use Rattle.moo_eval.specs.Worth.{IsWorth};
+ghost use Rattle.moo_eval.specs.Worth.{IsWorth, IsSet};
 
 use crate::growth::as_element;
+use crate::interpreter::Task;
+use crate::numbers::put_number;
 use crate::worth::{Sight, take, variable_of};
 use moo_function::Function;
 use moo_operation as operation;
-use moo_program::{Expr, Item};
+use moo_outcome::Activation;
+use moo_program::{Expr, Item, Name};
 use moo_value::{MooStr, Value};
+use moo_world::World;
+
+impl Task {
+    /// Sets a variable to such a length. Its ticks are taken of those that are left.
+    #[inline(always)]
+    pub(crate) fn puts_length(
+        &self,
+        world: &World,
+        active: &mut Activation,
+        left: &mut u32,
+        name: &Name,
+        function: &MooStr,
+        items: &[Item],
+    ) -> bool
+        ensures put { IsTrue result → IsSet world.now active.old active.new left.old left.new name.now (call function.now (items_of items.now)) }
+        ensures kept { IsFalse result → active.new ≡ active.old }
+        ensures ticks { left.new ≤ left.old }
+    {
+        let sight = Sight {
+            world,
+            active,
+            alloc: self.alloc,
+        };
+        let Some(number) = length_worth(&sight, left, function, items) else {
+            return false;
+        };
+        put_number(active, name, number)
+    }
+}
 
 /// The length of a list or of a string that stands in a variable, where a call asks for it. Its ticks are taken of those that are left,
 /// where they are so many.

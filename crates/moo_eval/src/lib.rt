@@ -19,6 +19,7 @@ mod leaves;
 mod lengths;
 mod line;
 mod loops;
+mod numbers;
 mod operators;
 mod parts;
 mod properties;

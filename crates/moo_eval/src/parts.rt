@@ -7,7 +7,8 @@ ghost use Rattle.moo_program.specs.View.{tree};
 ghost use Rattle.moo_eval.specs.Worth.{IsWorth};
 
 use crate::leaves::integer_leaf;
-use crate::worth::{Sight, integer_of, number_worth, take, worth};
+use crate::properties::property_seen;
+use crate::worth::{DEEPEST, Sight, copied, element_worth, integer_of, number_worth, take, worth};
 use moo_program::Expr;
 use moo_value::Value;
 
@@ -43,4 +44,26 @@ pub(crate) fn value_part(sight: &Sight<'_>, left: &mut u32, expr: &Expr) -> Opti
         return Some(Value::Int(number));
     }
     worth(sight, left, expr)
+}
+
+/// The value of an element or of a property that isn't built in, likewise.
+#[inline(always)]
+pub(crate) fn part_copied(sight: &Sight<'_>, left: &mut u32, expr: &Expr) -> Option<Value>
+    ensures value { IfSome result (λ v. IsWorth sight.now.world.now sight.now.active.now left.old (tree expr.now) (value_tree v) left.new) }
+    ensures ticks { left.new ≤ left.old }
+{
+    copied(part_seen(sight, left, expr)?)
+}
+
+// The same, where it stands.
+#[inline(always)]
+fn part_seen<'a>(sight: &Sight<'a>, left: &mut u32, expr: &Expr) -> Option<&'a Value>
+    ensures value { IfSome result (λ v. IsWorth sight.now.world.now sight.now.active.now left.old (tree expr.now) (value_tree v.now) left.new) }
+    ensures ticks { left.new ≤ left.old }
+{
+    match expr {
+        Expr::Index(base, place) => element_worth(sight, left, base, place, DEEPEST),
+        Expr::Property(base, name) => property_seen(sight, left, base, name),
+        _ => None,
+    }
 }

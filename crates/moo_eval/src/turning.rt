@@ -18,6 +18,7 @@ ghost use Rattle.moo_eval.specs.Seen.{state_of};
 use crate::ahead::is_other_than_0;
 use crate::interpreter::Task;
 use crate::leaves::integer_leaf;
+use crate::numbers::{at_a_glance, put_value};
 use crate::worth::{Sight, number_worth, take};
 use moo_outcome::{Activation, Span};
 use moo_program::{Expr, Name, Stmt};
@@ -55,6 +56,24 @@ impl Task {
     // Whether a test is known at once to be true and a tick is left for the turn, which is taken then. Else nothing has begun.
     #[inline(always)]
     fn begins_turn(&mut self, world: &World, active: &Activation, test: &Expr) -> bool
+        ensures tested { IsTrue result → (c : Context) → IsTested Faults c (tree test.now) (state_of self.old world.now active.now) (state_of self.new world.now active.now) }
+        ensures fewer { IsTrue result → self.new.ticks_left < self.old.ticks_left }
+        ensures kept { IsFalse result → self.new ≡ self.old }
+    {
+        let Some(glance) = at_a_glance(active, test) else {
+            return self.begins_other_turn(world, active, test);
+        };
+        let left = self.ticks_left.left() as u32;
+        if left <= glance.ticks || !is_other_than_0(glance.number) {
+            return false;
+        }
+        self.ticks_left.leave(left - glance.ticks - 1);
+        true
+    }
+
+    // The same of a test that isn't known at a glance.
+    #[inline(never)]
+    fn begins_other_turn(&mut self, world: &World, active: &Activation, test: &Expr) -> bool
         ensures tested { IsTrue result → (c : Context) → IsTested Faults c (tree test.now) (state_of self.old world.now active.now) (state_of self.new world.now active.now) }
         ensures fewer { IsTrue result → self.new.ticks_left < self.old.ticks_left }
         ensures kept { IsFalse result → self.new ≡ self.old }
@@ -150,7 +169,7 @@ impl Task {
         ensures kept { IsFalse result → (self.new ≡ self.old) × (active.new ≡ active.old) }
     {
         let left = self.ticks_left.left() as u32;
-        if left == 0 || !active.variables.put(name, value) {
+        if left == 0 || !put_value(active, name, value) {
             return false;
         }
         self.ticks_left.leave(left - 1);

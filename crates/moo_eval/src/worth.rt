@@ -1,6 +1,6 @@
 //! Expressions that are whose worth is known at once, since nothing can stop them and they change nothing: numbers, variables that hold
 //! one, operators between these, elements and lengths of what stands in a variable, and properties.
-ghost use Rattle.std.specs.Prelude.{◌≡◌, ◌-◌, ◌<◌, ◌≤◌, suc, pos, Ok, Some, IfSome};
+ghost use Rattle.std.specs.Prelude.{◌≡◌, ◌-◌, ◌<◌, ◌≤◌, ℕ, suc, pos, Ok, Some, IfSome};
 ghost use Rattle.moo_value.specs.Tree.{integer};
 ghost use Rattle.moo_value.specs.View.{tree as value_tree};
 ghost use Rattle.moo_program.specs.Tree.{literal_value as value_of_literal, binary, index, property};
@@ -8,6 +8,7 @@ ghost use Rattle.moo_program.specs.View.{tree};
 ghost use Rattle.moo_operation.specs.Operators.{binary_of};
 ghost use Rattle.moo_operation.specs.Places.{index_of};
 ghost use Rattle.moo_outcome.specs.Seen.{indexed_of, variables_of};
+ghost use Rattle.moo_table.specs.World.{World as WorldModel};
 ghost use Rattle.moo_eval.specs.Leaves.{IsLeaf};
 ghost use Rattle.moo_eval.specs.Worth.{IsWorth};
 
@@ -116,14 +117,27 @@ fn leaves_worth(
     ensures value { IfSome result (λ n. IsWorth sight.now.world.now sight.now.active.now left.old (binary operator (tree first.now) (tree second.now)) (integer n) left.new) }
     ensures ticks { left.new ≤ left.old }
 {
-    let a = integer_leaf(sight.active, first)?;
-    let b = integer_leaf(sight.active, second)?;
-    let number = number_of(operator, a, b)?;
+    let number = leaves_integer(sight.active, operator, first, second)?;
     if *left < 3 {
         return None;
     }
     *left -= 3;
     Some(number)
+}
+
+/// The integer of an operator between leaves, whose three ticks have to be left.
+#[inline(always)]
+pub(crate) fn leaves_integer(
+    active: &Activation,
+    operator: BinaryOperator,
+    first: &Expr,
+    second: &Expr,
+) -> Option<i32>
+    ensures { IfSome result (λ n. (w : WorldModel) (k : ℕ) → 3 ≤ k → IsWorth w active.now k (binary operator (tree first.now) (tree second.now)) (integer n) (k - 3)) }
+{
+    let a = integer_leaf(active, first)?;
+    let b = integer_leaf(active, second)?;
+    number_of(operator, a, b)
 }
 
 /// The value of an operator between values that are known at once, where it can't fail, and its ticks as above.

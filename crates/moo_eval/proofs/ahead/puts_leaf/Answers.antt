@@ -1,4 +1,4 @@
-use Rattle.std.proofs.Common.{refl, rules}
+use Rattle.std.proofs.Common.{rules}
 use Rattle.std.proofs.lemmas.Int.{to_z-of_z}
 use mir.Syntax.{w32}
 use mir.Val.{SFits}
@@ -8,4 +8,6 @@ use Rattle.moo_eval.proofs.ahead.puts_leaf.Goals as goal
 pub returns-in-Some-clause-put : goal.returns-in-Some-clause-put
 returns-in-Some-clause-put c =
     let fits : SFits w32 c.args.number = search rules in
-    λ t w e l. record { value = _; gives = leaf_worth w c.args.active.now c.in-Some.ensures.taken l; sets = rw (to_z-of_z w32 c.args.number fits) at (c.put.ensures.put t); keeps = refl }
+    λ t w e l.
+    let put = rw (to_z-of_z w32 c.args.number fits) at (c.put_number.ensures.put t) in
+    record { value = _; gives = leaf_worth w c.args.active.now c.in-Some.ensures.taken l; sets = put.0; keeps = put.1 }

@@ -1,5 +1,4 @@
-use Rattle.std.proofs.Common.{w32, refl, sym, ◌∙◌, arith, rules}
-use Rattle.std.proofs.lemmas.Bool.Decides.{nat_tests}
+use Rattle.std.proofs.Common.{◌-◌, w32, refl, sym, ◌∙◌, arith, rules}
 use Rattle.std.proofs.lemmas.Int.{to_z-of_z}
 use mir.Val.{SFits}
 use Rattle.moo_value.specs.Tree.{integer}
@@ -9,7 +8,9 @@ use Rattle.moo_eval.proofs.interpreter.Task.begins_turn.Goals as goal
 
 pub returns-clause-tested : goal.returns-clause-tested
 returns-clause-tested c =
-    let fits : SFits w32 c.left.result = search rules in
-    let ticks = ticks_seen c.left.result c.args.self.now.ticks_left fits c.left.ensures in
-    let number : SFits w32 c.in-Some.number = search rules in
-    λ t k. record { value = integer c.in-Some.number; middle = state_at c.test_worth.new.left c.args.self.now.notices.items c.args.world.now c.args.active.now; gives = (rw ticks at c.in-Some.ensures.value) k _; passes = sym (rw (to_z-of_z w32 c.in-Some.number number) at c.is_other_than_0.ensures) ∙ c.if-not-is_other_than_0.false; one_left = grind (arith, nat_tests, c.if-left-eq0.false); taken = rw c.leave.ensures refl }
+    let fits : SFits w32 c.left-left.result = search rules in
+    let ticks = ticks_seen c.left-left.result c.args.self.now.ticks_left fits c.left-left.ensures in
+    let glance = c.in-Some.glance in
+    let number : SFits w32 glance.number = search rules in
+    let n = c.args.self.now.ticks_left in
+    λ t k. record { value = integer glance.number; middle = state_at (n - glance.ticks) c.args.self.now.notices.items c.args.world.now c.args.active.now; gives = c.in-Some.ensures.worth c.args.world.now n (omega (arith, c.if-left-glance.false, ticks)) k _; passes = sym (rw (to_z-of_z w32 glance.number number) at c.is_other_than_0.ensures) ∙ c.if-not-is_other_than_0.false; one_left = omega (arith, c.if-left-glance.false, ticks); taken = rw (c.leave.ensures, ticks) refl }

@@ -1,5 +1,5 @@
 use Rattle.std.proofs.Common.{refl}
-use Rattle.moo_eval.proofs.interpreter.Task.puts_value.Goals as goal
+use Rattle.moo_eval.proofs.interpreter.Task.puts_worth.Goals as goal
 
 pub returns-in-Some-clause-put : goal.returns-in-Some-clause-put
 returns-in-Some-clause-put c =

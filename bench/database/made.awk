@@ -1,6 +1,7 @@
 # Prints a database of `many` objects in a tree of ten children each, a hundred in a place: five properties on each of the first eleven, a cell for
-# each definition above an object, two verbs on each and a program for one of them. About 2,700 bytes an object.
+# each definition above an object, two verbs on each and a program for one of them. About 2,500 bytes an object. With `apart` no two strings of cells are alike.
 function first(o, step, n) { n = step * o + 1; return n < many ? n : -1 }
+function text(o, p) { return apart ? line " " o "." p : line }
 BEGIN {
     line = "The quick brown fox jumps over the lazy dog, and once again, and then it looks back at the dog that is still lying there."
     print "** LambdaMOO Database, Format Version 4 **"
@@ -24,8 +25,8 @@ BEGIN {
         print cells
         for (p = 0; p < cells; p++) {
             if (p >= own && p % 3 == 0) print 5
-            else if (p % 3 == 1) { print 2; print line }
-            else { print 4; print 4; print 1; print o; print 2; print line; print 0; print p; print 2; print line line line }
+            else if (p % 3 == 1) { print 2; print text(o, p) }
+            else { print 4; print 4; print 1; print o; print 2; print text(o, p); print 0; print p; print 2; print text(o, p) line line }
             print 0; print 5
         }
     }

@@ -4,7 +4,6 @@
 
 mod field;
 pub mod laws;
-mod met;
 mod object_reader;
 mod object_record;
 mod writing;

@@ -7,9 +7,8 @@ ghost use Rattle.moo_object.specs.Numbers.{preposition_specifier_number};
 ghost use Rattle.moo_dbobject.specs.ObjectReading.{draft_of, body_of, part_verb_of, fresh_draft, empty_body, is_clear, object_line, after_verb, after_name, after_cell, given_by, verbs_made, value_line_step};
 
 use crate::field::{VerbBits, flags, note, preposition, property_perms, verb_bits};
-use crate::met::Met;
 use crate::object_record::{ObjectRecord, PropertyRecord, VerbRecord};
-use moo_dbvalue::{Refusal, ValueReader, bounded_count, number, text};
+use moo_dbvalue::{MetStrings, Refusal, ValueReader, bounded_count, number, text};
 use moo_object::{Flags, ObjectSpecifier, PrepositionSpecifier, VerbArgs, VerbPerms};
 use moo_value::{MooStr, Value};
 use std::alloc::{AllocError, Global};
@@ -80,7 +79,7 @@ pub struct ObjectReader {
     cell: Option<Value>,
     cell_owner: i32,
     /// The names of the verbs of this object and those before it.
-    met: Met,
+    met: MetStrings,
 }
 
 fn empty(alloc: Global) -> BodyDraft
@@ -159,7 +158,7 @@ impl ObjectReader {
             value: ValueReader::new(alloc),
             cell: None,
             cell_owner: 0,
-            met: Met::new(alloc),
+            met: MetStrings::new(alloc),
         }
     }
 
@@ -204,9 +203,11 @@ impl ObjectReader {
         let ObjectReader {
             name,
             body,
+            value,
             met,
             ..
         } = mem::replace(self, ObjectReader::new(alloc));
+        self.value = value.restarted(alloc);
         self.met = met;
         match name {
             Some(name) => Some(named(name, body)),

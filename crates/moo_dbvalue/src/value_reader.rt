@@ -9,7 +9,8 @@ ghost use Rattle.moo_value.specs.Size.{depth_limit};
 ghost use Rattle.moo_dbvalue.specs.Reading.{type_of, error_of, take_room, closed, after_value, after_count, value_line, begun, partial_of, innermost_first, ended_by, IsPutDown};
 
 use crate::fault::{LineFault, Refusal};
-use crate::line::{count, number, small, text};
+use crate::line::{count, number, small};
+use crate::met::MetStrings;
 use moo_value::{DEPTH_LIMIT, ErrorCode, ListFault, MooList, Value};
 use std::alloc::Global;
 
@@ -40,6 +41,8 @@ pub struct ValueReader {
     room: u32,
     /// The lists round the value that is read now, the innermost last.
     lists: Vec<OpenList>,
+    /// The strings of this value and those before it.
+    met: MetStrings,
 }
 
 /// What a value may weigh more than 1.
@@ -107,6 +110,19 @@ impl ValueReader {
             expected: Expected::Type,
             room: FULL_ROOM,
             lists: Vec::new(alloc),
+            met: MetStrings::new(alloc),
+        }
+    }
+
+    /// The reader before the first line of another value. It keeps the strings that it has met.
+    pub fn restarted(self, alloc: Global) -> ValueReader
+        ensures { partial_of result ≡ begun }
+    {
+        ValueReader {
+            expected: Expected::Type,
+            room: FULL_ROOM,
+            lists: Vec::new(alloc),
+            met: self.met,
         }
     }
 
@@ -204,7 +220,7 @@ impl ValueReader {
             Expected::Obj => self.complete(alloc, Value::Obj(number(line)?), whole),
             Expected::Error => self.complete(alloc, Value::Err(error(line)?), whole),
             Expected::Str => {
-                let string = text(alloc, line)?;
+                let string = self.met.text(alloc, line)?;
                 self.room = left_of(self.room, string.len() as u32)?;
                 self.complete(alloc, Value::Str(string), whole)
             }

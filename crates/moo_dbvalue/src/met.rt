@@ -1,34 +1,35 @@
-//! The names of verbs that were met: objects whose verbs are named alike share one string.
+//! Strings of a text that were met: those that are spelled alike share their bytes.
 ghost use Rattle.moo_dbvalue.specs.Lines.{Gives, limited, text_of};
 
-use moo_dbvalue::{Refusal, text};
+use crate::fault::Refusal;
+use crate::line::text;
 use moo_value::MooStr;
 use std::alloc::{AllocError, Global};
 
 const ROWS: usize = 512;
 
-/// The number of no name.
+/// The number of no string.
 const NONE: u16 = u16::MAX;
 
-/// Names that have been met, one in each row.
+/// Strings that have been met, the last one of each row.
 #[derive(Drop)]
-pub(crate) struct Met {
-    names: Vec<MooStr>,
-    /// The number of the name in each row, once there is one.
+pub struct MetStrings {
+    strings: Vec<MooStr>,
+    /// The number of the string in each row, once there is one.
     rows: Vec<u16>,
 }
 
-impl Met {
-    /// No names.
-    pub(crate) fn new(alloc: Global) -> Met {
-        Met {
-            names: Vec::new(alloc),
+impl MetStrings {
+    /// No strings.
+    pub fn new(alloc: Global) -> MetStrings {
+        MetStrings {
+            strings: Vec::new(alloc),
             rows: Vec::new(alloc),
         }
     }
 
     /// The string that a line is: the one that it was before, if that is still known, or a new one.
-    pub(crate) fn text(&mut self, alloc: Global, line: &[u8]) -> Result<MooStr, Refusal>
+    pub fn text(&mut self, alloc: Global, line: &[u8]) -> Result<MooStr, Refusal>
         ensures { Gives (λ s. s) result (text_of limited line.now) }
     {
         let row = row(line);
@@ -42,39 +43,39 @@ impl Met {
         Ok(string)
     }
 
-    // The name in a row.
+    // The string in a row.
     fn known(&self, row: usize) -> Option<&MooStr> {
         let number = self.rows.get(row)?;
-        self.names.get(usize::from(*number))
+        self.strings.get(usize::from(*number))
     }
 
-    // Puts a name into a row, in place of the one that is there.
+    // Puts a string into a row, in place of the one that is there.
     #[inline(never)]
-    fn note(&mut self, alloc: Global, row: usize, name: MooStr) -> Result<(), AllocError> {
+    fn note(&mut self, alloc: Global, row: usize, string: MooStr) -> Result<(), AllocError> {
         if self.rows.is_empty() {
             self.rows = vec![in alloc; NONE; ROWS]?;
         }
         let Some(number) = self.rows.get_mut(row) else {
             return Ok(());
         };
-        if let Some(place) = self.names.get_mut(usize::from(*number)) {
-            *place = name;
+        if let Some(place) = self.strings.get_mut(usize::from(*number)) {
+            *place = string;
             return Ok(());
         }
-        if let Ok(last) = u16::try_from(self.names.len()) {
-            self.names.push(name)?;
+        if let Ok(last) = u16::try_from(self.strings.len()) {
+            self.strings.push(string)?;
             *number = last;
         }
         Ok(())
     }
 }
 
-// The row of a name, by its length and three of its letters.
-fn row(name: &[u8]) -> usize {
-    match (name.first(), name.get(name.len() / 2), name.last()) {
+// The row of a string, by its length and three of its letters.
+fn row(string: &[u8]) -> usize {
+    match (string.first(), string.get(string.len() / 2), string.last()) {
         (Some(first), Some(middle), Some(last)) => {
             let letters = 5 * usize::from(*first) + 11 * usize::from(*middle);
-            (name.len() % ROWS + letters + 29 * usize::from(*last)) % ROWS
+            (string.len() % ROWS + letters + 29 * usize::from(*last)) % ROWS
         }
         _ => 0,
     }

@@ -3,7 +3,7 @@ use Rattle.std.proofs.lemmas.Slice.Eq.{bytes_eq-Decides}
 use Rattle.moo_value.specs.Size.{IsString}
 use Rattle.moo_dbvalue.specs.Lines.{limited}
 use Rattle.moo_dbvalue.proofs.TextLaws.{text_again}
-use Rattle.moo_dbobject.proofs.met.Met.text.Goals as goal
+use Rattle.moo_dbvalue.proofs.met.MetStrings.text.Goals as goal
 
 pub returns-then-eq : goal.returns-then-eq
 returns-then-eq c =

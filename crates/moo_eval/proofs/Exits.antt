@@ -8,8 +8,7 @@ use Rattle.moo_operation.specs.Answer.{IsRefused}
 use Rattle.moo_outcome.specs.declared.outcome.Flow as code_flow
 use Rattle.moo_outcome.specs.declared.outcome.Flow.TheVariants as flow_case
 use Rattle.moo_value.specs.declared.error_code.ErrorCode.TheVariants.{TypeMismatch}
-use Rattle.moo_program.specs.declared.tree.Expr.{None', Some'}
-use Rattle.moo_program.specs.declared.tree.Item.{Item, Element', Splice', Optional'}
+use Rattle.moo_program.specs.declared.tree.Item.{Item, Element', Splice', Optional, Defaulted'}
 use Rattle.moo_program.specs.Tree.{Items, Block}
 use Rattle.moo_program.specs.View.{with_item}
 use Rattle.moo_outcome.specs.declared.outcome.Failure as code_failure
@@ -61,13 +60,14 @@ same_state {n = n} {w = w} {ns = ns} e h = λ i. record { ticks = n; world = w; 
 abbrev pub IsOptional : Item → Type 0
 IsOptional (Element' p e) = ⊥
 IsOptional (Splice' p e) = ⊥
-IsOptional (Optional' x d) = Unit {0}
+IsOptional (Optional x) = Unit {0}
+IsOptional (Defaulted' x p e) = Unit {0}
 
 pub optional_ends : {T : Telling} {c : Context} {s : State} (item : Item) (xs : Items) → IsOptional item → EvaluatesAll T c (with_item item xs) s (Err (fails TypeMismatch)) s
 optional_ends (Element' p e) xs h = absurd h
 optional_ends (Splice' p e) xs h = absurd h
-optional_ends (Optional' x None') xs h = optional_fails
-optional_ends (Optional' x (Some' p e)) xs h = defaulted_fails
+optional_ends (Optional x) xs h = optional_fails
+optional_ends (Defaulted' x p e) xs h = defaulted_fails
 
 -- the handlers so far before one more
 pub guarded_on : (gs us : List Guarded) (g : Guarded) (o : Result (List Guarded) Stop) → us ≡ gs ++ g ∷ [] → guarded_before gs (guarded_before (g ∷ []) o) ≡ guarded_before us o

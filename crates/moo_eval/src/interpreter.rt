@@ -302,7 +302,7 @@ impl Task {
                     let value = self.evaluate_part(world, active, stack, indexed, expr)?;
                     values.splice(self.alloc, value)?;
                 }
-                Item::Optional(..) => return Err(Failure::Fails(ErrorCode::TypeMismatch)),
+                Item::Optional(_) | Item::Defaulted(_, _) => return Err(Failure::Fails(ErrorCode::TypeMismatch)),
             }
         }
         Ok(values)

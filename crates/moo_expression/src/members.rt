@@ -100,16 +100,16 @@ fn behind_question(
         return Err(Fault::Unexpected);
     };
     below(room)?;
-    let variable = Name::new(name);
+    let variable = Box::new(alloc, Name::new(name))?;
     if !tokens.take(Sign::Assign) {
         return Ok(Member {
-            item: Item::Optional(variable, None),
+            item: Item::Optional(variable),
             height: 1,
         });
     }
     let Node { tree, height } = expression(alloc, tokens, place, room)?;
     Ok(Member {
-        item: Item::Optional(variable, Some(tree)),
+        item: Item::Defaulted(variable, tree),
         height,
     })
 }

@@ -89,6 +89,6 @@ fn optional_with(optional: bool, item: &Item) -> bool
 {
     match item {
         Item::Element(_) | Item::Splice(_) => optional,
-        Item::Optional(_, _) => true,
+        Item::Optional(_) | Item::Defaulted(_, _) => true,
     }
 }

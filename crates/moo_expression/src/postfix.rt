@@ -92,9 +92,10 @@ fn behind_colon(
     let members = arguments(alloc, tokens, place, false, room_beside)?;
     tokens.expect(Sign::RightParen)?;
     let height = base.height.max(name.height).max(members.height);
+    let items = Box::new(alloc, members.items)?;
     let base = node_over(
         alloc,
-        Expr::VerbCall(base.tree, name.tree, members.items),
+        Expr::VerbCall(base.tree, name.tree, items),
         height,
         room,
     )?;

@@ -111,9 +111,10 @@ fn behind_dollar(alloc: Global, tokens: &mut Cursor, place: Place, room: u32) ->
     let members = arguments(alloc, tokens, place, false, beside(1, room)?)?;
     tokens.expect(Sign::RightParen)?;
     let height = members.height.max(1);
+    let items = Box::new(alloc, members.items)?;
     node_over(
         alloc,
-        Expr::VerbCall(object.tree, name.tree, members.items),
+        Expr::VerbCall(object.tree, name.tree, items),
         height,
         room,
     )
@@ -130,22 +131,18 @@ fn guarded(alloc: Global, tokens: &mut Cursor, place: Place, room: u32) -> Resul
     let tried = expression(alloc, tokens, place, room_below)?;
     tokens.expect(Sign::Bang)?;
     let caught = codes(alloc, tokens, place, room_below)?;
+    let codes = Box::new(alloc, caught.codes)?;
     if !tokens.take(Sign::Arrow) {
         tokens.expect(Sign::Quote)?;
         let height = tried.height.max(caught.height);
-        return node_over(
-            alloc,
-            Expr::Catch(tried.tree, caught.codes, None),
-            height,
-            room,
-        );
+        return node_over(alloc, Expr::Catch(tried.tree, codes, None), height, room);
     }
     let instead = expression(alloc, tokens, place, room_below)?;
     tokens.expect(Sign::Quote)?;
     let height = tried.height.max(caught.height).max(instead.height);
     node_over(
         alloc,
-        Expr::Catch(tried.tree, caught.codes, Some(instead.tree)),
+        Expr::Catch(tried.tree, codes, Some(instead.tree)),
         height,
         room,
     )

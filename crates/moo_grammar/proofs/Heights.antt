@@ -1,7 +1,6 @@
 -- The height of a list's items, one item more.
 use Rattle.std.proofs.Common.{ℕ, zero, suc, ◌+◌, ◌≤◌, List, [], ◌∷◌, ◌++◌, ◌≡◌, refl, subst, ◌-◌, zero-add, suc-add, max, arith}
-use Rattle.moo_program.specs.declared.tree.Item.{Item, Element', Splice', Optional'}
-use Rattle.moo_program.specs.declared.tree.Expr.{None', Some'}
+use Rattle.moo_program.specs.declared.tree.Item.{Item, Element', Splice', Optional, Defaulted'}
 use Rattle.moo_program.specs.Tree.{Expr, Items, literal, variable, length_mark, unary, binary, logic, conditional, index, range, list, property, verb_call, call, assign, catch, catch_or, no_items}
 use Rattle.moo_program.specs.declared.tree.Literal.TheVariants.{Integer}
 use Rattle.moo_program.specs.Limits.{height, items_height}
@@ -15,8 +14,8 @@ use Rattle.moo_grammar.specs.Minuses.{negations}
 pub item_in_front : (x : Item) (xs : Items) → items_height (with_item x xs) ≡ max (item_height x) (items_height xs)
 item_in_front (Element' p e) xs = refl
 item_in_front (Splice' p e) xs = refl
-item_in_front (Optional' s None') xs = refl
-item_in_front (Optional' s (Some' p e)) xs = refl
+item_in_front (Optional s) xs = refl
+item_in_front (Defaulted' s p e) xs = refl
 
 pub items_height_push : (xs : List Item) (x : Item) → items_height (items_of (xs ++ x ∷ [])) ≡ max (items_height (items_of xs)) (item_height x)
 items_height_push [] x = omega (arith, item_in_front x no_items)

@@ -55,7 +55,7 @@ fn is_required(item: &Item) -> bool
 fn is_optional(item: &Item) -> bool
     ensures { (xs : Items) → optionals (with_item item.now xs) ≡ cond result 1 0 + optionals xs }
 {
-    matches!(item, Item::Optional(..))
+    matches!(item, Item::Optional(_) | Item::Defaulted(_, _))
 }
 
 fn is_rest(item: &Item) -> bool
@@ -156,7 +156,7 @@ impl<'a> Dealing<'a> {
         match item {
             Item::Element(target) => self.one(target),
             Item::Splice(target) => self.others(alloc, target),
-            Item::Optional(name, _) => self.spared(name),
+            Item::Optional(name) | Item::Defaulted(name, _) => self.spared(name),
         }
     }
 
@@ -246,17 +246,16 @@ pub fn missing<'a>(
 fn left_out<'a>(spare: &mut usize, item: &'a Item) -> Option<LeftOut<'a>>
     ensures { (xs : Items) → lacking (with_item item.now xs) spare.old ≡ left_out_by result ++ lacking xs spare.new }
 {
-    let Item::Optional(name, default) = item else {
-        return None;
+    let default = match item {
+        Item::Element(_) | Item::Splice(_) => return None,
+        Item::Optional(_) => None,
+        Item::Defaulted(name, value) => Some(LeftOut { name, value }),
     };
     if *spare > 0 {
         *spare -= 1;
         return None;
     }
-    match default {
-        Some(value) => Some(LeftOut { name, value }),
-        None => None,
-    }
+    default
 }
 
 fn push_left_out<'a>(

@@ -10,8 +10,7 @@ use Rattle.moo_program.specs.declared.operator.UnaryOperator.{UnaryOperator}
 use Rattle.moo_program.specs.declared.operator.UnaryOperator.TheVariants.{Not, Negate}
 use Rattle.moo_program.specs.declared.operator.LogicOperator.{LogicOperator}
 use Rattle.moo_program.specs.declared.operator.LogicOperator.TheVariants.{And, Or}
-use Rattle.moo_program.specs.declared.tree.Expr.{None', Some'}
-use Rattle.moo_program.specs.declared.tree.Item.{Item, Element', Splice', Optional'}
+use Rattle.moo_program.specs.declared.tree.Item.{Item, Element', Splice', Optional, Defaulted'}
 use Rattle.moo_program.specs.Tree.{Expr, literal, variable, length_mark, unary, binary, logic, conditional, index, range, list, property, verb_call, call, assign, catch, catch_or, Items, no_items, element, splice, optional, defaulted, Codes, any_error, listed_errors, literal_value}
 use Rattle.moo_program.specs.View.{with_item, items_of}
 use Rattle.moo_program.specs.Listing.{unary_sign, binary_sign, logic_sign, is_compound, is_compound_base, in_parentheses, constant_name, is_system_object, selected, further, listed, listed_items, listed_codes}
@@ -100,14 +99,14 @@ mutual
 item_in_front : (x : Item) (xs : Items) → items_length (with_item x xs) ≡ item_length x + further_length xs (items_length xs)
 item_in_front (Element' p e) xs = refl
 item_in_front (Splice' p e) xs = refl
-item_in_front (Optional' s None') xs = refl
-item_in_front (Optional' s (Some' p e)) xs = refl
+item_in_front (Optional s) xs = refl
+item_in_front (Defaulted' s p e) xs = refl
 
 further_items : (x : Item) (ys : Items) (n : ℕ) → further_length (with_item x ys) n ≡ 2 + n
 further_items (Element' p e) ys n = refl
 further_items (Splice' p e) ys n = refl
-further_items (Optional' s None') ys n = refl
-further_items (Optional' s (Some' p e)) ys n = refl
+further_items (Optional s) ys n = refl
+further_items (Defaulted' s p e) ys n = refl
 
 -- the length of items, counted one by one
 pub items_length_sum : (x : Item) (ys : List Item) → items_length (items_of (x ∷ ys)) ≡ item_length x + sum_by further_item_length ys

@@ -3,8 +3,7 @@ use Rattle.std.proofs.Common.{ℕ, zero, suc, List, [], ◌∷◌, ◌≡◌, �
 use Rattle.moo_program.specs.Tree
 use Rattle.moo_program.specs.Tree.{Expr, Items, Codes}
 use Rattle.moo_program.specs.View.{tree, items_of}
-use Rattle.moo_program.specs.declared.tree.Item.{Item, Element', Splice', Optional'}
-use Rattle.moo_program.specs.declared.tree.Expr.{None', Some'}
+use Rattle.moo_program.specs.declared.tree.Item.{Item, Element', Splice', Optional, Defaulted'}
 
 abbrev mutual
   pub size : Expr → ℕ
@@ -39,14 +38,14 @@ abbrev mutual
 abbrev pub item_size : Item → ℕ
 item_size (Element' p e) = 1 + size (tree e)
 item_size (Splice' p e) = 1 + size (tree e)
-item_size (Optional' s None') = 1
-item_size (Optional' s (Some' p e)) = 1 + size (tree e)
+item_size (Optional s) = 1
+item_size (Defaulted' s p e) = 1 + size (tree e)
 
 pub size_of_first : (x : Item) (xs : List Item) → items_size (items_of (x ∷ xs)) ≡ item_size x + items_size (items_of xs)
 size_of_first (Element' p e) xs = refl
 size_of_first (Splice' p e) xs = refl
-size_of_first (Optional' s None') xs = refl
-size_of_first (Optional' s (Some' p e)) xs = refl
+size_of_first (Optional s) xs = refl
+size_of_first (Defaulted' s p e) xs = refl
 
 within : (xs : List Item) (k : ℕ) (d : Item) → k < length xs → item_size (get_or xs k d) ≤ items_size (items_of xs)
 within [] k d h = absurd (omega arith)

@@ -5,8 +5,7 @@ use Rattle.moo_value.specs.Errors.{error_name}
 use Rattle.moo_value.specs.Size.{weight_limit}
 use Rattle.moo_program.specs.declared.tree.Literal.{Literal}
 use Rattle.moo_program.specs.declared.tree.Literal.TheVariants.{Integer, Object, Error, Str}
-use Rattle.moo_program.specs.declared.tree.Expr.{None', Some'}
-use Rattle.moo_program.specs.declared.tree.Item.{Item, Element', Splice', Optional'}
+use Rattle.moo_program.specs.declared.tree.Item.{Item, Element', Splice', Optional, Defaulted'}
 use Rattle.moo_program.specs.Tree.{Expr, literal, variable, length_mark, unary, binary, logic, conditional, index, range, list, property, verb_call, call, assign, catch, catch_or, Items, no_items, element, splice, optional, defaulted, Codes, any_error, listed_errors, Stmt, return_nothing, returns, performs, branches, for_list, for_range, while_loop, breaks, continues, try_except, try_finally, Arms, no_else, otherwise, elseif, Handlers, no_handler, handler, Block, no_statement, then}
 use Rattle.moo_program.specs.declared.tree.Handler.{Handler, Except', ExceptAs'}
 use Rattle.moo_program.specs.View.{tree, codes_of, statements}
@@ -79,8 +78,8 @@ abbrev mutual
 abbrev pub item_length : Item → ℕ
 item_length (Element' p e) = listed_length (tree e)
 item_length (Splice' p e) = 1 + listed_length (tree e)
-item_length (Optional' s None') = 1 + length s
-item_length (Optional' s (Some' p e)) = 4 + length s + listed_length (tree e)
+item_length (Optional s) = 1 + length s.value
+item_length (Defaulted' s p e) = 4 + length s.value + listed_length (tree e)
 
 -- an item that stands behind a comma and a blank
 abbrev pub further_item_length : Item → ℕ

@@ -2,8 +2,7 @@
 use Rattle.std.specs.Prelude.{ℕ, List, [], ◌∷◌, ◌++◌, map, Bool, false, ◌||◌, Option, Some, None, cond}
 use Rattle.std.specs.Str.{bytes_eq}
 use Rattle.moo_value.specs.Compare.{folded}
-use Rattle.moo_program.specs.declared.tree.Item.{Item, Element', Splice', Optional'}
-use Rattle.moo_program.specs.declared.tree.Expr.{None', Some'}
+use Rattle.moo_program.specs.declared.tree.Item.{Item, Element', Splice', Optional, Defaulted'}
 use Rattle.moo_program.specs.declared.tree.Handler.{Handler, Except', ExceptAs'}
 use Rattle.moo_program.specs.Tree.{Expr, literal, variable, length_mark, unary, binary, logic, conditional, index, range, list, property, verb_call, call, assign, catch, catch_or, Items, no_items, element, splice, optional, defaulted, Codes, any_error, listed_errors, Stmt, return_nothing, returns, performs, branches, for_list, for_range, while_loop, breaks, continues, try_except, try_finally, Arms, no_else, otherwise, elseif, Handlers, no_handler, handler, Block, no_statement, then}
 use Rattle.moo_program.specs.View.{tree, codes_of, statements}
@@ -85,8 +84,8 @@ slots b = firsts (λ _. false) (map folded (block_variables b))
 abbrev pub item_variables : Item → List (List ℕ)
 item_variables (Element' p e) = variables (tree e)
 item_variables (Splice' p e) = variables (tree e)
-item_variables (Optional' s None') = s ∷ []
-item_variables (Optional' s (Some' p e)) = s ∷ variables (tree e)
+item_variables (Optional s) = s.value ∷ []
+item_variables (Defaulted' s p e) = s.value ∷ variables (tree e)
 
 abbrev pub handler_variables : Handler → List (List ℕ)
 handler_variables (Except' c shape ss) = codes_variables (codes_of c) ++ block_variables (statements ss)

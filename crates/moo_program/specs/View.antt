@@ -4,7 +4,7 @@ use Rattle.std.specs.Global.{Global}
 use Rattle.moo_program.specs.Tree
 use Rattle.moo_program.specs.Tree.{Items, Block}
 use Rattle.moo_program.specs.declared.tree.Expr.{Expr, Literal, Variable, Length, Unary', Binary', Logic', Conditional', Index', Range', List', Property', VerbCall', Call', Assign', Catch', Row_of-Item, end_of-Item, more_of-Item, None', Some'}
-use Rattle.moo_program.specs.declared.tree.Item.{Item, Element', Splice', Optional'}
+use Rattle.moo_program.specs.declared.tree.Item.{Item, Element', Splice', Optional, Defaulted'}
 use Rattle.moo_program.specs.declared.tree.Codes.{Codes, Any, Listed'}
 use Rattle.moo_program.specs.declared.tree.Stmt.{Stmt, Return, Expression, If', ForList', ForRange', While', Break, Continue, TryExcept', TryFinally', Row_of-Stmt, end_of-Stmt, more_of-Stmt, Row_of-Arm, end_of-Arm, more_of-Arm, Row_of-Handler, end_of-Handler, more_of-Handler}
 use Rattle.moo_program.specs.declared.tree.Arm.{Arm, ElseIf', Else'}
@@ -23,11 +23,11 @@ abbrev mutual
   tree (Range' p a q b r c) = Tree.range (tree a) (tree b) (tree c)
   tree (List' shape xs) = Tree.list (row xs)
   tree (Property' p a q b) = Tree.property (tree a) (tree b)
-  tree (VerbCall' p a q b shape xs) = Tree.verb_call (tree a) (tree b) (row xs)
+  tree (VerbCall' p a q b r shape xs) = Tree.verb_call (tree a) (tree b) (row xs)
   tree (Call' s shape xs) = Tree.call s (row xs)
   tree (Assign' p a q b) = Tree.assign (tree a) (tree b)
-  tree (Catch' p a c None') = Tree.catch (tree a) (codes_of c)
-  tree (Catch' p a c (Some' q b)) = Tree.catch_or (tree a) (codes_of c) (tree b)
+  tree (Catch' p a r c None') = Tree.catch (tree a) (codes_of c)
+  tree (Catch' p a r c (Some' q b)) = Tree.catch_or (tree a) (codes_of c) (tree b)
 
   pub codes_of : Codes → Tree.Codes
   codes_of Any = Tree.any_error
@@ -40,8 +40,8 @@ abbrev mutual
   pub with_item : Item → Items → Items
   with_item (Element' p e) xs = Tree.element (tree e) xs
   with_item (Splice' p e) xs = Tree.splice (tree e) xs
-  with_item (Optional' s None') xs = Tree.optional s xs
-  with_item (Optional' s (Some' p e)) xs = Tree.defaulted s (tree e) xs
+  with_item (Optional s) xs = Tree.optional s.value xs
+  with_item (Defaulted' s p e) xs = Tree.defaulted s.value (tree e) xs
 
 -- the items, in front of others
 abbrev pub in_front : List Item → Items → Items

@@ -138,8 +138,8 @@ fn item_rest(item: &Item, room: usize) -> Option<usize>
     match item {
         Item::Element(value) => expression(value, room),
         Item::Splice(value) => expression(value, room.checked_sub(1)?),
-        Item::Optional(name, None) => room.checked_sub(1)?.checked_sub(name.len()),
-        Item::Optional(name, Some(value)) => {
+        Item::Optional(name) => room.checked_sub(1)?.checked_sub(name.len()),
+        Item::Defaulted(name, value) => {
             expression(value, room.checked_sub(4)?.checked_sub(name.len())?)
         }
     }

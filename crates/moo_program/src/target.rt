@@ -41,7 +41,7 @@ fn are_names(items: &[Item]) -> bool
         let named = match item {
             Item::Element(value) => is_variable(value),
             Item::Splice(value) => !spliced && is_variable(value),
-            Item::Optional(..) => true,
+            Item::Optional(_) | Item::Defaulted(_, _) => true,
         };
         if !named {
             return false;

@@ -35,13 +35,13 @@ pub enum Expr {
     /// `a.(b)`; `a.n` is `a.("n")`.
     Property(Box<Expr>, Box<Expr>),
     /// `a:(b)(..)`; `a:n(..)` is `a:("n")(..)`.
-    VerbCall(Box<Expr>, Box<Expr>, Vec<Item>),
+    VerbCall(Box<Expr>, Box<Expr>, Box<Vec<Item>>),
     /// `f(..)`, a call of a built-in function by its name, as it is spelled.
     Call(MooStr, Vec<Item>),
     /// `a = b`
     Assign(Box<Expr>, Box<Expr>),
     /// `` `a ! codes' `` or `` `a ! codes => b' ``
-    Catch(Box<Expr>, Codes, Option<Box<Expr>>),
+    Catch(Box<Expr>, Box<Codes>, Option<Box<Expr>>),
 }
 
 /// An item of a list, of a call's arguments, of the errors that a catch names, or of the target of a scatter.
@@ -51,8 +51,10 @@ pub enum Item {
     Element(Box<Expr>),
     /// `@a`
     Splice(Box<Expr>),
-    /// `?a` or `?a = b`, in the target of a scatter alone: a variable's name and its default.
-    Optional(Name, Option<Box<Expr>>),
+    /// `?a`, in the target of a scatter alone: a variable's name.
+    Optional(Box<Name>),
+    /// `?a = b`, there too: a variable's name and its default.
+    Defaulted(Box<Name>, Box<Expr>),
 }
 
 /// The errors that a catch answers for.

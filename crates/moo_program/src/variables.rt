@@ -106,8 +106,8 @@ fn add_item(item: &Item, names: &mut Vec<MooStr>) -> Result<(), AllocError>
 {
     match item {
         Item::Element(value) | Item::Splice(value) => add_expression(value, names),
-        Item::Optional(name, None) => add_name(name, names),
-        Item::Optional(name, Some(default)) => {
+        Item::Optional(name) => add_name(name, names),
+        Item::Defaulted(name, default) => {
             add_name(name, names)?;
             add_expression(default, names)
         }

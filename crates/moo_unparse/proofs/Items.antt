@@ -1,7 +1,6 @@
 -- The texts of items, one behind another.
 use Rattle.std.proofs.Common.{ℕ, List, ◌∷◌, ◌++◌, ◌≡◌, refl, codes}
-use Rattle.moo_program.specs.declared.tree.Item.{Item, Element', Splice', Optional'}
-use Rattle.moo_program.specs.declared.tree.Expr.{None', Some'}
+use Rattle.moo_program.specs.declared.tree.Item.{Item, Element', Splice', Optional, Defaulted'}
 use Rattle.moo_program.specs.View.{items_of}
 use Rattle.moo_program.specs.Listing.{further}
 use Rattle.moo_unparse.specs.declared.form.Parentheses.{Parentheses}
@@ -15,11 +14,11 @@ rest f xs = further (items_of xs) (listed_items f (items_of xs))
 pub first_item : (f : Parentheses) (x : Item) (xs : List Item) → listed_items f (items_of (x ∷ xs)) ≡ listed_item f x ++ rest f xs
 first_item f (Element' p e) xs = refl
 first_item f (Splice' p e) xs = refl
-first_item f (Optional' s None') xs = refl
-first_item f (Optional' s (Some' p e)) xs = refl
+first_item f (Optional s) xs = refl
+first_item f (Defaulted' s p e) xs = refl
 
 pub next_item : (f : Parentheses) (x : Item) (xs : List Item) → rest f (x ∷ xs) ≡ codes ", " ++ listed_item f x ++ rest f xs
 next_item f (Element' p e) xs = refl
 next_item f (Splice' p e) xs = refl
-next_item f (Optional' s None') xs = refl
-next_item f (Optional' s (Some' p e)) xs = refl
+next_item f (Optional s) xs = refl
+next_item f (Defaulted' s p e) xs = refl

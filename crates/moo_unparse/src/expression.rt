@@ -377,8 +377,8 @@ fn write_item(parentheses: Parentheses, item: &Item, line: &mut Line) -> Result<
             line.sign(Sign::At)?;
             write_expression(parentheses, expr, line)
         }
-        Item::Optional(name, None) => write_optional(name, line),
-        Item::Optional(name, Some(default)) => {
+        Item::Optional(name) => write_optional(name, line),
+        Item::Defaulted(name, default) => {
             write_optional(name, line)?;
             line.spaced_sign(Sign::Assign)?;
             write_expression(parentheses, default, line)

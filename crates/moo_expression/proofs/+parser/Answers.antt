@@ -9,7 +9,7 @@ use Rattle.moo_program.specs.declared.tree.Literal.TheVariants as literal
 use Rattle.moo_program.specs.Tree as tree
 use Rattle.moo_program.specs.Tree.{property, assign, call, element}
 use Rattle.moo_program.specs.Target.{is_target}
-use Rattle.moo_program.specs.Limits.{height, items_height}
+use Rattle.moo_program.specs.Limits.{height, items_height, codes_height}
 use Rattle.moo_program.specs.View.{root, items_of, codes_of}
 use Rattle.moo_program.proofs.Rows.{row_of, row_items}
 use Rattle.moo_grammar.specs.declared.level.Level.TheVariants.{Logic, Relation, Sum, Product}
@@ -792,16 +792,16 @@ postfix::behind_colon-returns-in_err-expect-2-clause-failed t c =
 pub postfix::behind_colon-returns-in_err-base-clause-failed : goal.postfix::behind_colon-returns-in_err-base-clause-failed
 postfix::behind_colon-returns-in_err-base-clause-failed t c =
     let p = err_from_is_err_and c.from_residual-in_err-base.result c.from_residual-in_err-base.ensures.1 in
-    passed _ p.1 p.2 (not_made (tree.verb_call (root c.args.base.tree) (root c.in_ok-name.name.tree) (row_of c.in_ok-members.members.items)) c.in_err-base.ensures (omega (arith, c.in_ok-room_beside.ensures.0, c.in_ok-room_beside.ensures.1, c.args.base.in_step, height_positive (root c.args.base.tree), c.in_ok-name.ensures.read.fits, c.in_ok-members.ensures.read.fits, ap items_height (row_items c.in_ok-members.members.items))))
+    passed _ p.1 p.2 (not_made (tree.verb_call (root c.args.base.tree) (root c.in_ok-name.name.tree) (row_of c.in_ok-items.items.value)) c.in_err-base.ensures (omega (arith, c.in_ok-room_beside.ensures.0, c.in_ok-room_beside.ensures.1, c.args.base.in_step, height_positive (root c.args.base.tree), c.in_ok-name.ensures.read.fits, c.in_ok-members.ensures.read.fits, ap items_height (row_items c.in_ok-items.items.value ∙ ap (λ v. items_of v.items) c.in_ok-items.ensures.ok))))
 
 pub postfix::behind_colon-returns-clause-read : goal.postfix::behind_colon-returns-clause-read
 unfolding grammar
 postfix::behind_colon-returns-clause-read t c =
     if_ok (λ n. IsReadBy c.args.place.names Sort.expr (λ g. grammar g (suffixes c.args.place.inside (root c.in_ok-base.base.tree))) c.args.room (height (root c.in_ok-base.base.tree)) c.expect-2.new.self c.suffixes.new.tokens (root n.tree)) (λ n. IsReadBy c.args.place.names Sort.expr (λ g. behind_colon c.args.place.inside (root c.args.base.tree)) c.args.room (height (root c.args.base.tree) + 1) c.args.tokens.now c.suffixes.new.tokens (root n.tree)) c.suffixes.result c.suffixes.ensures.read
     (λ n v. record {
-      reads = λ g a. (c.in_ok-name.ensures.read.leads (λ b. verb_arguments c.args.place.inside (root c.args.base.tree) b)).reads g a _ _ (took c.in_ok-expect.ensures refl (reads (c.in_ok-members.ensures.read.reads g a) (took c.in_ok-expect-2.ensures refl (reads (rw (c.in_ok-base.ensures.0, row_items c.in_ok-members.members.items) at (v.reads g a)) gives))));
+      reads = λ g a. (c.in_ok-name.ensures.read.leads (λ b. verb_arguments c.args.place.inside (root c.args.base.tree) b)).reads g a _ _ (took c.in_ok-expect.ensures refl (reads (c.in_ok-members.ensures.read.reads g a) (took c.in_ok-expect-2.ensures refl (reads (rw (c.in_ok-base.ensures.0, row_items c.in_ok-items.items.value, c.in_ok-items.ensures.ok) at (v.reads g a)) gives))));
       fits = v.fits;
-      tokens = omega (arith, v.tokens, c.in_ok-name.ensures.read.tokens, height_positive (root c.in_ok-name.name.tree), c.in_ok-expect.ensures.at, c.in_ok-members.ensures.read.tokens, c.in_ok-expect-2.ensures.at, c.in_ok-base.ensures.2, c.in_ok-base.base.in_step, c.args.base.in_step, height_positive (root c.args.base.tree), ap items_height (row_items c.in_ok-members.members.items));
+      tokens = omega (arith, v.tokens, c.in_ok-name.ensures.read.tokens, height_positive (root c.in_ok-name.name.tree), c.in_ok-expect.ensures.at, c.in_ok-members.ensures.read.tokens, c.in_ok-expect-2.ensures.at, c.in_ok-base.ensures.2, c.in_ok-base.base.in_step, c.args.base.in_step, height_positive (root c.args.base.tree), ap items_height (row_items c.in_ok-items.items.value ∙ ap (λ v. items_of v.items) c.in_ok-items.ensures.ok));
     })
 
 pub postfix::behind_colon-returns-clause-failed : goal.postfix::behind_colon-returns-clause-failed
@@ -809,15 +809,15 @@ unfolding grammar
 postfix::behind_colon-returns-clause-failed t c =
     if_err (λ f. HasFailedBy c.args.place.names true Sort.expr (λ g. grammar g (suffixes c.args.place.inside (root c.in_ok-base.base.tree))) c.args.room (height (root c.in_ok-base.base.tree)) c.expect-2.new.self c.suffixes.new.tokens f) (λ f. HasFailedBy c.args.place.names false Sort.expr (λ g. behind_colon c.args.place.inside (root c.args.base.tree)) c.args.room (height (root c.args.base.tree) + 1) c.args.tokens.now c.suffixes.new.tokens f) c.suffixes.result c.suffixes.ensures.failed
     (λ f w. record {
-      fails = λ g b. (c.in_ok-name.ensures.read.leads (λ b. verb_arguments c.args.place.inside (root c.args.base.tree) b)).fails g (told_admits _ c.args.place.names g b) _ (took_fails c.in_ok-expect.ensures refl (then_fails (c.in_ok-members.ensures.read.reads g (told_admits _ c.args.place.names g b)) (took_fails c.in_ok-expect-2.ensures refl (phrase_fails (rw (c.in_ok-base.ensures.0, row_items c.in_ok-members.members.items) at (w.fails g b))))));
+      fails = λ g b. (c.in_ok-name.ensures.read.leads (λ b. verb_arguments c.args.place.inside (root c.args.base.tree) b)).fails g (told_admits _ c.args.place.names g b) _ (took_fails c.in_ok-expect.ensures refl (then_fails (c.in_ok-members.ensures.read.reads g (told_admits _ c.args.place.names g b)) (took_fails c.in_ok-expect-2.ensures refl (phrase_fails (rw (c.in_ok-base.ensures.0, row_items c.in_ok-items.items.value, c.in_ok-items.ensures.ok) at (w.fails g b))))));
       stands = w.stands;
-      deep = λ h g ok. at_any ((c.in_ok-name.ensures.read.leads (λ b. verb_arguments c.args.place.inside (root c.args.base.tree) b)).deep g ok _ _ (took_deepens c.in_ok-expect.ensures refl (then_deepens (c.in_ok-members.ensures.read.reads g ok) (took_deepens c.in_ok-expect-2.ensures refl (phrase_deepens (rw (c.in_ok-base.ensures.0, row_items c.in_ok-members.members.items) at (w.deep h g ok)) (λ e g. g))))));
-      long = λ h. let l = w.long h in omega (arith, l, c.in_ok-name.ensures.read.tokens, height_positive (root c.in_ok-name.name.tree), c.in_ok-expect.ensures.at, c.in_ok-members.ensures.read.tokens, c.in_ok-expect-2.ensures.at, c.in_ok-base.ensures.2, c.in_ok-base.base.in_step, c.args.base.in_step, height_positive (root c.args.base.tree), ap items_height (row_items c.in_ok-members.members.items));
+      deep = λ h g ok. at_any ((c.in_ok-name.ensures.read.leads (λ b. verb_arguments c.args.place.inside (root c.args.base.tree) b)).deep g ok _ _ (took_deepens c.in_ok-expect.ensures refl (then_deepens (c.in_ok-members.ensures.read.reads g ok) (took_deepens c.in_ok-expect-2.ensures refl (phrase_deepens (rw (c.in_ok-base.ensures.0, row_items c.in_ok-items.items.value, c.in_ok-items.ensures.ok) at (w.deep h g ok)) (λ e g. g))))));
+      long = λ h. let l = w.long h in omega (arith, l, c.in_ok-name.ensures.read.tokens, height_positive (root c.in_ok-name.name.tree), c.in_ok-expect.ensures.at, c.in_ok-members.ensures.read.tokens, c.in_ok-expect-2.ensures.at, c.in_ok-base.ensures.2, c.in_ok-base.base.in_step, c.args.base.in_step, height_positive (root c.args.base.tree), ap items_height (row_items c.in_ok-items.items.value ∙ ap (λ v. items_of v.items) c.in_ok-items.ensures.ok));
     })
 
 pub postfix::behind_colon-node_over-requires : goal.postfix::behind_colon-node_over-requires
 postfix::behind_colon-node_over-requires t c =
-    omega (arith, ap items_height (row_items c.in_ok-members.members.items), c.in_ok-members.members.in_step, c.args.base.in_step, c.in_ok-name.name.in_step)
+    omega (arith, ap items_height (row_items c.in_ok-items.items.value ∙ ap (λ v. items_of v.items) c.in_ok-items.ensures.ok), c.in_ok-members.members.in_step, c.args.base.in_step, c.in_ok-name.name.in_step)
 
 pub postfix::member_name-returns-in_err-name-clause-failed : goal.postfix::member_name-returns-in_err-name-clause-failed
 postfix::member_name-returns-in_err-name-clause-failed t c =
@@ -1353,13 +1353,13 @@ pub primary::behind_dollar-returns-clause-read : goal.primary::behind_dollar-ret
 unfolding grammar
 primary::behind_dollar-returns-clause-read t c =
     let k = rw c.in-Some.is at c.in_ok-name.ensures in
-    made c.args.place.names (λ g. behind_dollar c.args.place.inside) c.args.room 1 c.args.tokens.now c.expect.new.self (tree.verb_call (root c.in_ok-object.object.tree) (root c.in_ok-name-2.name.tree) (row_of c.in_ok-members.members.items)) c.node_over-2.result c.node_over-2.ensures (λ g a. rw (c.in_ok-object.ensures, c.in_ok-name-2.ensures, row_items c.in_ok-members.members.items) (took k refl (took c.if-not-take.ensures refl (reads (c.in_ok-members.ensures.read.reads g a) (took c.in_ok-expect.ensures refl gives))))) (omega (arith, k.at, c.if-not-take.ensures.at, c.in_ok-members.ensures.read.tokens, c.in_ok-expect.ensures.at, ap height c.in_ok-object.ensures, ap height c.in_ok-name-2.ensures, ap items_height (row_items c.in_ok-members.members.items)))
+    made c.args.place.names (λ g. behind_dollar c.args.place.inside) c.args.room 1 c.args.tokens.now c.expect.new.self (tree.verb_call (root c.in_ok-object.object.tree) (root c.in_ok-name-2.name.tree) (row_of c.in_ok-items.items.value)) c.node_over-2.result c.node_over-2.ensures (λ g a. rw (c.in_ok-object.ensures, c.in_ok-name-2.ensures, row_items c.in_ok-items.items.value, c.in_ok-items.ensures.ok) (took k refl (took c.if-not-take.ensures refl (reads (c.in_ok-members.ensures.read.reads g a) (took c.in_ok-expect.ensures refl gives))))) (omega (arith, k.at, c.if-not-take.ensures.at, c.in_ok-members.ensures.read.tokens, c.in_ok-expect.ensures.at, ap height c.in_ok-object.ensures, ap height c.in_ok-name-2.ensures, ap items_height (row_items c.in_ok-items.items.value ∙ ap (λ v. items_of v.items) c.in_ok-items.ensures.ok)))
 
 pub primary::behind_dollar-returns-clause-failed : goal.primary::behind_dollar-returns-clause-failed
 unfolding grammar
 primary::behind_dollar-returns-clause-failed t c =
     let k = rw c.in-Some.is at c.in_ok-name.ensures in
-    unmade c.args.place.names false (λ g. behind_dollar c.args.place.inside) c.args.room 1 c.args.tokens.now c.expect.new.self (tree.verb_call (root c.in_ok-object.object.tree) (root c.in_ok-name-2.name.tree) (row_of c.in_ok-members.members.items)) c.node_over-2.result c.node_over-2.ensures (omega (arith, c.in_ok-beside.ensures.0, c.in_ok-beside.ensures.1, c.in_ok-members.ensures.read.fits, ap height c.in_ok-object.ensures, ap height c.in_ok-name-2.ensures, ap items_height (row_items c.in_ok-members.members.items)))
+    unmade c.args.place.names false (λ g. behind_dollar c.args.place.inside) c.args.room 1 c.args.tokens.now c.expect.new.self (tree.verb_call (root c.in_ok-object.object.tree) (root c.in_ok-name-2.name.tree) (row_of c.in_ok-items.items.value)) c.node_over-2.result c.node_over-2.ensures (omega (arith, c.in_ok-beside.ensures.0, c.in_ok-beside.ensures.1, c.in_ok-members.ensures.read.fits, ap height c.in_ok-object.ensures, ap height c.in_ok-name-2.ensures, ap items_height (row_items c.in_ok-items.items.value ∙ ap (λ v. items_of v.items) c.in_ok-items.ensures.ok)))
 
 pub primary::behind_dollar-node_over-requires-then-not-take : goal.primary::behind_dollar-node_over-requires-then-not-take
 primary::behind_dollar-node_over-requires-then-not-take t c =
@@ -1367,7 +1367,7 @@ primary::behind_dollar-node_over-requires-then-not-take t c =
 
 pub primary::behind_dollar-node_over-requires-2 : goal.primary::behind_dollar-node_over-requires-2
 primary::behind_dollar-node_over-requires-2 t c =
-    omega (arith, ap height c.in_ok-object.ensures, ap height c.in_ok-name-2.ensures, ap items_height (row_items c.in_ok-members.members.items), c.in_ok-members.members.in_step)
+    omega (arith, ap height c.in_ok-object.ensures, ap height c.in_ok-name-2.ensures, ap items_height (row_items c.in_ok-items.items.value ∙ ap (λ v. items_of v.items) c.in_ok-items.ensures.ok), c.in_ok-members.members.in_step)
 
 pub primary::guarded-returns-in_err-expect-clause-failed : goal.primary::guarded-returns-in_err-expect-clause-failed
 unfolding grammar
@@ -1418,12 +1418,12 @@ primary::guarded-returns-in_err-expect-3-clause-failed t c =
 pub primary::guarded-returns-then-not-take-clause-read : goal.primary::guarded-returns-then-not-take-clause-read
 unfolding grammar
 primary::guarded-returns-then-not-take-clause-read t c =
-    made c.args.place.names (λ g. guarded c.args.place.inside) c.args.room 0 c.args.tokens.now c.expect-then-not-take.new.self (tree.catch (root c.in_ok-tried.tried.tree) (codes_of c.in_ok-caught.caught.codes)) c.node_over.result c.node_over.ensures (λ g a. took c.in_ok-expect.ensures refl (reads (c.in_ok-tried.ensures.read.reads g a) (took c.in_ok-expect-2.ensures refl (reads (c.in_ok-caught.ensures.read.reads g a) (stayed c.if-not-take.ensures (took c.in_ok-expect-3.ensures refl gives)))))) (omega (arith, c.in_ok-expect.ensures.at, c.in_ok-tried.ensures.read.tokens, c.in_ok-expect-2.ensures.at, c.in_ok-caught.ensures.read.tokens, c.if-not-take.ensures.at, c.in_ok-expect-3.ensures.at))
+    made c.args.place.names (λ g. guarded c.args.place.inside) c.args.room 0 c.args.tokens.now c.expect-then-not-take.new.self (tree.catch (root c.in_ok-tried.tried.tree) (codes_of c.in_ok-codes.codes.value)) c.node_over.result c.node_over.ensures (λ g a. rw c.in_ok-codes.ensures.ok (took c.in_ok-expect.ensures refl (reads (c.in_ok-tried.ensures.read.reads g a) (took c.in_ok-expect-2.ensures refl (reads (c.in_ok-caught.ensures.read.reads g a) (stayed c.if-not-take.ensures (took c.in_ok-expect-3.ensures refl gives))))))) (omega (arith, ap (λ x. codes_height (codes_of x)) c.in_ok-codes.ensures.ok, c.in_ok-expect.ensures.at, c.in_ok-tried.ensures.read.tokens, c.in_ok-expect-2.ensures.at, c.in_ok-caught.ensures.read.tokens, c.if-not-take.ensures.at, c.in_ok-expect-3.ensures.at))
 
 pub primary::guarded-returns-then-not-take-clause-failed : goal.primary::guarded-returns-then-not-take-clause-failed
 unfolding grammar
 primary::guarded-returns-then-not-take-clause-failed t c =
-    unmade c.args.place.names true (λ g. guarded c.args.place.inside) c.args.room 0 c.args.tokens.now c.expect-then-not-take.new.self (tree.catch (root c.in_ok-tried.tried.tree) (codes_of c.in_ok-caught.caught.codes)) c.node_over.result c.node_over.ensures (omega (arith, c.in_ok-room_below.ensures, c.in_ok-tried.ensures.read.fits, c.in_ok-caught.ensures.read.fits))
+    unmade c.args.place.names true (λ g. guarded c.args.place.inside) c.args.room 0 c.args.tokens.now c.expect-then-not-take.new.self (tree.catch (root c.in_ok-tried.tried.tree) (codes_of c.in_ok-codes.codes.value)) c.node_over.result c.node_over.ensures (omega (arith, ap (λ x. codes_height (codes_of x)) c.in_ok-codes.ensures.ok, c.in_ok-room_below.ensures, c.in_ok-tried.ensures.read.fits, c.in_ok-caught.ensures.read.fits))
 
 pub primary::guarded-returns-in_err-instead-clause-failed : goal.primary::guarded-returns-in_err-instead-clause-failed
 unfolding grammar
@@ -1445,12 +1445,12 @@ primary::guarded-returns-in_err-expect-4-clause-failed t c =
 pub primary::guarded-returns-clause-read : goal.primary::guarded-returns-clause-read
 unfolding grammar
 primary::guarded-returns-clause-read t c =
-    made c.args.place.names (λ g. guarded c.args.place.inside) c.args.room 0 c.args.tokens.now c.expect-3.new.self (tree.catch_or (root c.in_ok-tried.tried.tree) (codes_of c.in_ok-caught.caught.codes) (root c.in_ok-instead.instead.tree)) c.node_over-2.result c.node_over-2.ensures (λ g a. took c.in_ok-expect.ensures refl (reads (c.in_ok-tried.ensures.read.reads g a) (took c.in_ok-expect-2.ensures refl (reads (c.in_ok-caught.ensures.read.reads g a) (took c.if-not-take.ensures refl (reads (c.in_ok-instead.ensures.read.reads g a) (took c.in_ok-expect-4.ensures refl gives))))))) (omega (arith, c.in_ok-expect.ensures.at, c.in_ok-tried.ensures.read.tokens, c.in_ok-expect-2.ensures.at, c.in_ok-caught.ensures.read.tokens, c.if-not-take.ensures.at, c.in_ok-instead.ensures.read.tokens, c.in_ok-expect-4.ensures.at))
+    made c.args.place.names (λ g. guarded c.args.place.inside) c.args.room 0 c.args.tokens.now c.expect-3.new.self (tree.catch_or (root c.in_ok-tried.tried.tree) (codes_of c.in_ok-codes.codes.value) (root c.in_ok-instead.instead.tree)) c.node_over-2.result c.node_over-2.ensures (λ g a. rw c.in_ok-codes.ensures.ok (took c.in_ok-expect.ensures refl (reads (c.in_ok-tried.ensures.read.reads g a) (took c.in_ok-expect-2.ensures refl (reads (c.in_ok-caught.ensures.read.reads g a) (took c.if-not-take.ensures refl (reads (c.in_ok-instead.ensures.read.reads g a) (took c.in_ok-expect-4.ensures refl gives)))))))) (omega (arith, ap (λ x. codes_height (codes_of x)) c.in_ok-codes.ensures.ok, c.in_ok-expect.ensures.at, c.in_ok-tried.ensures.read.tokens, c.in_ok-expect-2.ensures.at, c.in_ok-caught.ensures.read.tokens, c.if-not-take.ensures.at, c.in_ok-instead.ensures.read.tokens, c.in_ok-expect-4.ensures.at))
 
 pub primary::guarded-returns-clause-failed : goal.primary::guarded-returns-clause-failed
 unfolding grammar
 primary::guarded-returns-clause-failed t c =
-    unmade c.args.place.names true (λ g. guarded c.args.place.inside) c.args.room 0 c.args.tokens.now c.expect-3.new.self (tree.catch_or (root c.in_ok-tried.tried.tree) (codes_of c.in_ok-caught.caught.codes) (root c.in_ok-instead.instead.tree)) c.node_over-2.result c.node_over-2.ensures (omega (arith, c.in_ok-room_below.ensures, c.in_ok-tried.ensures.read.fits, c.in_ok-caught.ensures.read.fits, c.in_ok-instead.ensures.read.fits))
+    unmade c.args.place.names true (λ g. guarded c.args.place.inside) c.args.room 0 c.args.tokens.now c.expect-3.new.self (tree.catch_or (root c.in_ok-tried.tried.tree) (codes_of c.in_ok-codes.codes.value) (root c.in_ok-instead.instead.tree)) c.node_over-2.result c.node_over-2.ensures (omega (arith, ap (λ x. codes_height (codes_of x)) c.in_ok-codes.ensures.ok, c.in_ok-room_below.ensures, c.in_ok-tried.ensures.read.fits, c.in_ok-caught.ensures.read.fits, c.in_ok-instead.ensures.read.fits))
 
 pub primary::codes-returns-then-take_keyword-clause-read : goal.primary::codes-returns-then-take_keyword-clause-read
 unfolding grammar
@@ -1648,15 +1648,15 @@ pub members::behind_question-returns-then-not-take-clause-read : goal.members::b
 unfolding grammar
 members::behind_question-returns-then-not-take-clause-read t c =
     let k = rw c.in-Some.is at c.in_ok-name.ensures in
-    rw c.new-variable.ensures (record {
-      leads = record {
+    record {
+      leads = rw (c.in_ok-variable.ensures.ok, c.new.ensures) (record {
         reads = λ g a e u d. took k refl (stayed c.if-not-take.ensures (d));
         fails = λ g a u d. took_fails k refl (stayed_fails c.if-not-take.ensures (d));
         deep = λ g ok n r d. took_deepens k refl (stayed_deepens c.if-not-take.ensures (d));
-      };
+      });
       fits = omega (arith, c.in_ok-below.ensures);
       tokens = omega (arith, k.at, c.if-not-take.ensures.at);
-    })
+    }
 
 pub members::behind_question-returns-in_err-tree-clause-failed : goal.members::behind_question-returns-in_err-tree-clause-failed
 unfolding grammar
@@ -1674,12 +1674,12 @@ pub members::behind_question-returns-clause-read : goal.members::behind_question
 unfolding grammar
 members::behind_question-returns-clause-read t c =
     let k = rw c.in-Some.is at c.in_ok-name.ensures in
-    rw c.new-variable.ensures (record {
-      leads = record {
+    record {
+      leads = rw (c.in_ok-variable.ensures.ok, c.new.ensures) (record {
         reads = λ g a e u d. took k refl (took c.if-not-take.ensures refl (reads (c.in_ok-tree.ensures.read.reads g a) (d)));
         fails = λ g a u d. took_fails k refl (took_fails c.if-not-take.ensures refl (then_fails (c.in_ok-tree.ensures.read.reads g a) (d)));
         deep = λ g ok n r d. took_deepens k refl (took_deepens c.if-not-take.ensures refl (then_deepens (c.in_ok-tree.ensures.read.reads g ok) (d)));
-      };
+      });
       fits = omega (arith, c.in_ok-tree.ensures.read.fits);
       tokens = omega (arith, k.at, c.in_ok-tree.ensures.read.tokens, c.if-not-take.ensures.at);
-    })
+    }

@@ -17,17 +17,17 @@ expression-returns-in_ok-checked_sub-in-List t c =
 pub expression-returns-in_err-room-in-VerbCall : goal.expression-returns-in_err-room-in-VerbCall
 expression-returns-in_err-room-in-VerbCall t c =
     let rest = c.in_ok-checked_sub-in-VerbCall in
-    rw (c.from_residual-in_err-room-in-VerbCall.ensures, c.in-VerbCall.is, row_items) (omega (arith, rest.ensures.0, rest.ensures.1, rw c.deref-in-VerbCall.ensures.value at c.in_err-room-in-VerbCall.ensures))
+    rw (c.from_residual-in_err-room-in-VerbCall.ensures, c.in-VerbCall.is, row_items) (omega (arith, rest.ensures.0, rest.ensures.1, rw (c.deref-in-VerbCall-2.ensures.value, c.deref-in-VerbCall.ensures) at c.in_err-room-in-VerbCall.ensures))
 
 pub expression-returns-in_err-selector_rest-in-VerbCall : goal.expression-returns-in_err-selector_rest-in-VerbCall
 expression-returns-in_err-selector_rest-in-VerbCall t c =
     let rest = c.in_ok-checked_sub-in-VerbCall in
-    rw (c.from_residual-in_err-selector_rest-in-VerbCall.ensures, c.in-VerbCall.is, row_items) (omega (arith, rest.ensures.0, rest.ensures.1, rw c.deref-in-VerbCall.ensures.value at c.in_ok-room-in-VerbCall.ensures, rw c.deref-in-VerbCall-4.ensures at c.in_err-selector_rest-in-VerbCall.ensures))
+    rw (c.from_residual-in_err-selector_rest-in-VerbCall.ensures, c.in-VerbCall.is, row_items) (omega (arith, rest.ensures.0, rest.ensures.1, rw (c.deref-in-VerbCall-2.ensures.value, c.deref-in-VerbCall.ensures) at c.in_ok-room-in-VerbCall.ensures, rw c.deref-in-VerbCall-5.ensures at c.in_err-selector_rest-in-VerbCall.ensures))
 
 pub expression-returns-in_ok-selector_rest-in-VerbCall : goal.expression-returns-in_ok-selector_rest-in-VerbCall
 expression-returns-in_ok-selector_rest-in-VerbCall t c =
     let rest = c.in_ok-checked_sub-in-VerbCall in
-    rw (c.in-VerbCall.is, row_items) (leaves_behind c.args.room c.in_ok-selector_rest-in-VerbCall.field-0 (shown_base_length (constant_name (tree c.in-VerbCall.name.value)) (is_system_object (tree c.in-VerbCall.base.value)) (length_in_parentheses (is_compound_base (tree c.in-VerbCall.base.value)) (listed_length (tree c.in-VerbCall.base.value)))) _ c.shown_base_rest-in-VerbCall.result (omega (arith, rest.ensures.0, rest.ensures.1, rw c.deref-in-VerbCall.ensures.value at c.in_ok-room-in-VerbCall.ensures, rw c.deref-in-VerbCall-4.ensures at c.in_ok-selector_rest-in-VerbCall.ensures)) (rw (c.deref-in-VerbCall-2.ensures, c.deref-in-VerbCall-3.ensures) at c.shown_base_rest-in-VerbCall.ensures))
+    rw (c.in-VerbCall.is, row_items) (leaves_behind c.args.room c.in_ok-selector_rest-in-VerbCall.field-0 (shown_base_length (constant_name (tree c.in-VerbCall.name.value)) (is_system_object (tree c.in-VerbCall.base.value)) (length_in_parentheses (is_compound_base (tree c.in-VerbCall.base.value)) (listed_length (tree c.in-VerbCall.base.value)))) _ c.shown_base_rest-in-VerbCall.result (omega (arith, rest.ensures.0, rest.ensures.1, rw (c.deref-in-VerbCall-2.ensures.value, c.deref-in-VerbCall.ensures) at c.in_ok-room-in-VerbCall.ensures, rw c.deref-in-VerbCall-5.ensures at c.in_ok-selector_rest-in-VerbCall.ensures)) (rw (c.deref-in-VerbCall-3.ensures, c.deref-in-VerbCall-4.ensures) at c.shown_base_rest-in-VerbCall.ensures))
 
 pub expression-returns-in_ok-checked_sub-in-Call : goal.expression-returns-in_ok-checked_sub-in-Call
 expression-returns-in_ok-checked_sub-in-Call t c =

@@ -14,11 +14,11 @@ add_expression-returns-in-List t c = rw (c.in-List.is, row_items, ← c.deref-in
 
 pub add_expression-add_verb_call-requires : goal.add_expression-add_verb_call-requires
 add_expression-add_verb_call-requires t c =
-    let same : size (tree c.args.value.now) ≡ 1 + size (tree c.in-VerbCall.base.value) + size (tree c.in-VerbCall.name.value) + items_size (items_of c.deref-in-VerbCall-3.result.now) = rw (c.in-VerbCall.is, row_items, c.deref-in-VerbCall-3.ensures.value) refl in
+    let same : size (tree c.args.value.now) ≡ 1 + size (tree c.in-VerbCall.base.value) + size (tree c.in-VerbCall.name.value) + items_size (items_of c.deref-in-VerbCall-4.result.now) = rw (c.in-VerbCall.is, row_items, c.deref-in-VerbCall-4.ensures.value, c.deref-in-VerbCall-3.ensures) refl in
     (omega (arith, same, ap (λ e. size (tree e)) c.deref-in-VerbCall.ensures, ap (λ e. size (tree e)) c.deref-in-VerbCall-2.ensures), tt)
 
 pub add_expression-returns-in-VerbCall : goal.add_expression-returns-in-VerbCall
-add_expression-returns-in-VerbCall t c = rw (c.in-VerbCall.is, row_items, ← c.deref-in-VerbCall.ensures, ← c.deref-in-VerbCall-2.ensures, ← c.deref-in-VerbCall-3.ensures.value) c.add_verb_call.ensures
+add_expression-returns-in-VerbCall t c = rw (c.in-VerbCall.is, row_items, ← c.deref-in-VerbCall.ensures, ← c.deref-in-VerbCall-2.ensures, ← c.deref-in-VerbCall-3.ensures, ← c.deref-in-VerbCall-4.ensures.value) c.add_verb_call.ensures
 
 pub add_expression-add_items-requires-in-Call : goal.add_expression-add_items-requires-in-Call
 add_expression-add_items-requires-in-Call t c =

@@ -26,12 +26,12 @@ write_items-write_item-requires-in-loop-item t c = (
 
 pub write_expression-write_verb_call-requires : goal.write_expression-write_verb_call-requires
 write_expression-write_verb_call-requires t c =
-    let same : size (tree c.args.expr.now) ≡ 1 + size (tree c.in-VerbCall.base.value) + size (tree c.in-VerbCall.name.value) + items_size (items_of c.deref-in-VerbCall-3.result.now) = rw (c.in-VerbCall.is, row_items, c.deref-in-VerbCall-3.ensures.value) refl in
+    let same : size (tree c.args.expr.now) ≡ 1 + size (tree c.in-VerbCall.base.value) + size (tree c.in-VerbCall.name.value) + items_size (items_of c.deref-in-VerbCall-4.result.now) = rw (c.in-VerbCall.is, row_items, c.deref-in-VerbCall-4.ensures.value, c.deref-in-VerbCall-3.ensures) refl in
     (omega (arith, same, ap (λ e. size (tree e)) c.deref-in-VerbCall.ensures, ap (λ e. size (tree e)) c.deref-in-VerbCall-2.ensures), tt)
 
 pub write_expression-returns-in-VerbCall : goal.write_expression-returns-in-VerbCall
 write_expression-returns-in-VerbCall t c =
-    rw (c.in-VerbCall.is, row_items, ← c.deref-in-VerbCall.ensures, ← c.deref-in-VerbCall-2.ensures, ← c.deref-in-VerbCall-3.ensures.value) c.write_verb_call.ensures
+    rw (c.in-VerbCall.is, row_items, ← c.deref-in-VerbCall.ensures, ← c.deref-in-VerbCall-2.ensures, ← c.deref-in-VerbCall-3.ensures, ← c.deref-in-VerbCall-4.ensures.value) c.write_verb_call.ensures
 
 pub write_expression-write_call-requires : goal.write_expression-write_call-requires
 write_expression-write_call-requires t c =

@@ -344,7 +344,7 @@ catch-returns-clause-meaning t c =
 
 pub compute-returns-in-VerbCall-clause-meaning : goal.compute-returns-in-VerbCall-clause-meaning
 compute-returns-in-VerbCall-clause-meaning t c =
-    λ k. rw (c.in-VerbCall.is, row_items, ← c.deref-in-VerbCall.ensures, ← c.deref-in-VerbCall-2.ensures, ← c.deref-in-VerbCall-3.ensures.value) (c.verb_call.ensures.meaning k)
+    λ k. rw (c.in-VerbCall.is, row_items, ← c.deref-in-VerbCall.ensures, ← c.deref-in-VerbCall-2.ensures, ← c.deref-in-VerbCall-3.ensures, ← c.deref-in-VerbCall-4.ensures.value) (c.verb_call.ensures.meaning k)
 
 pub compute-returns-in-Call-clause-meaning : goal.compute-returns-in-Call-clause-meaning
 compute-returns-in-Call-clause-meaning t c =

@@ -57,6 +57,7 @@ impl Callers {
     }
 
     /// The same entries, shared.
+    #[inline(always)]
     pub fn try_clone(&self) -> Result<Callers, AllocError>
         ensures { IfOk result (λ copy. copy ≡ self.now) }
     {
@@ -71,6 +72,7 @@ impl Callers {
     }
 
     /// These with a nearer one before them.
+    #[inline(always)]
     pub fn with_nearest(self, alloc: Global, entry: TraceEntry) -> Result<Callers, AllocError>
         ensures { IfOk result (λ all. all ≡ entry ∷ self) }
     {

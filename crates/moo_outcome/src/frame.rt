@@ -110,6 +110,7 @@ impl TraceEntry {
 
 impl Frame {
     /// What is told of the frame while it runs for this programmer.
+    #[inline(always)]
     fn trace_frame(&self, programmer: i32) -> Result<TraceFrame, AllocError>
         ensures { IfOk result (λ told. told ≡ trace_frame self.now programmer) }
     {
@@ -137,6 +138,7 @@ impl CallStack<'_> {
     }
 
     /// What a verb is called from that the running frame calls.
+    #[inline(always)]
     pub fn callers_of_called(
         &self,
         alloc: Global,

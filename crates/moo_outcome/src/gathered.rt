@@ -112,16 +112,16 @@ impl Gathered {
 
     /// The values, for the arguments of a verb, which have to make a list: E_QUOTA, before an element is copied, where the
     /// lists that were spliced in are too heavy together.
-    #[inline]
+    #[inline(always)]
     pub fn into_arguments(self, alloc: Global) -> Result<Vec<Value>, Failure>
         ensures ok { IfOk result (λ values. trees values.items ≡ self) }
         ensures err { IfErr result (λ failure. HadMemoryIn failure → answers (made_list self) ≡ Err (failure_of failure)) }
     {
         let Gathered { stretches, last } = self;
-        if are_too_heavy(&stretches) {
-            return Err(Failure::Fails(ErrorCode::Quota));
+        if stretches.is_empty() {
+            return Ok(last);
         }
-        Ok(joined(alloc, &stretches, last)?)
+        spliced_arguments(alloc, stretches, last)
     }
 
     /// The list of the values: E_QUOTA past the limits of weight and depth, before an element is copied where the lists
@@ -149,6 +149,22 @@ impl Gathered {
         let values = joined(alloc, &stretches, last)?;
         Ok(MooList::try_from_vec(alloc, values)?)
     }
+}
+
+// The same with lists that were spliced in.
+#[inline(never)]
+fn spliced_arguments(
+    alloc: Global,
+    stretches: Vec<Stretch>,
+    last: Vec<Value>,
+) -> Result<Vec<Value>, Failure>
+    ensures ok { IfOk result (λ values. trees values.items ≡ in_a_row stretches.items ++ trees last.items) }
+    ensures err { IfErr result (λ failure. HadMemoryIn failure → answers (made_list (in_a_row stretches.items ++ trees last.items)) ≡ Err (failure_of failure)) }
+{
+    if are_too_heavy(&stretches) {
+        return Err(Failure::Fails(ErrorCode::Quota));
+    }
+    Ok(joined(alloc, &stretches, last)?)
 }
 
 // Takes out the only stretch, where it is a list alone.

@@ -54,8 +54,18 @@ impl GivenValues {
         if self.shared.has_types() {
             self.shared.clone()
         } else {
-            Ok(Rc::new(self.alloc, self.shared.with_types()?)?)
+            self.fresh_shared()
         }
+    }
+
+    // A block with the same of the command, where the names of types don't have it. Not inlined, so that other calls hold no room for it.
+    #[cold]
+    #[inline(never)]
+    fn fresh_shared(&self) -> Result<Rc<SharedValues>, AllocError>
+        ensures types { IfOk result (λ shared. types_of shared.value ≡ types) }
+        ensures command { IfOk result (λ shared. command_of shared.value ≡ command_of self.now.shared.value) }
+    {
+        Ok(Rc::new(self.alloc, self.shared.with_types()?)?)
     }
 
     // Those of a frame, with these shared ones.

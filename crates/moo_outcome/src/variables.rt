@@ -44,24 +44,35 @@ impl Variables {
         ensures { IfOk result (λ v. variables_of v ≡ value_of_name (first_bindings frame.now)) }
     {
         let given = GivenValues::first(alloc, frame)?;
-        Variables::with_given(alloc, frame, given)
+        let program = frame.program.try_clone()?;
+        Variables::with_given(alloc, program, given)
     }
 
-    /// The variables that the frame of a called verb begins with: what tells of the command stands as with the caller, if
-    /// it is set there.
-    pub fn handed(alloc: Global, frame: &Frame, caller: &Variables) -> Result<Variables, AllocError>
+    /// The variables that the frame of a called verb begins with, with a slot for each name of its program: what tells of the
+    /// command stands as with the caller, if it is set there. The program is shared before the frame is made, so that the frame
+    /// is made in its place.
+    #[inline(always)]
+    pub fn handed(
+        alloc: Global,
+        program: Program,
+        frame: &Frame,
+        caller: &Variables,
+    ) -> Result<Variables, AllocError>
         ensures { IfOk result (λ v. variables_of v ≡ value_of_name (handed_bindings frame.now (variables_of caller.now))) }
     {
         let given = caller.given.handed(frame)?;
-        Variables::with_given(alloc, frame, given)
+        Variables::with_given(alloc, program, given)
     }
 
-    // The variables of a frame that has these values.
+    // The variables of a frame that has these values, with a slot for each name of a program.
     #[inline(always)]
-    fn with_given(alloc: Global, frame: &Frame, given: GivenValues) -> Result<Variables, AllocError>
+    fn with_given(
+        alloc: Global,
+        program: Program,
+        given: GivenValues,
+    ) -> Result<Variables, AllocError>
         ensures { IfOk result (λ v. variables_of v ≡ slot_value given_names (given_values given) (value_of_name [])) }
     {
-        let program = frame.program.try_clone()?;
         let values = own_values(alloc, program.slots())?;
         Ok(Variables {
             program,

@@ -55,7 +55,9 @@ pub struct Call {
 
 /// Enters the verb that a call names, with its owner's rights: E_QUOTA for a list of arguments past
 /// the limits, E_TYPE for what is no object or no name, E_INVIND where the object isn't valid,
-/// E_VERBNF where it has no such verb that can be executed, E_MAXREC where no frame is left.
+/// E_VERBNF where it has no such verb that can be executed, E_MAXREC where no frame is left. Inlined, so that what is entered
+/// is made where it runs.
+#[inline(always)]
 pub fn enter_verb<'a>(
     alloc: Global,
     world: &World,
@@ -112,7 +114,8 @@ fn enter_found<'a>(
     }
     let player = player_of_call(world, &stack.running, active);
     let frame = called_frame(alloc, &stack.running, player, this, found, name, args)?;
-    entered(alloc, stack, active, frame)
+    let program = program_of(alloc, found.verb)?;
+    entered(alloc, stack, active, frame, program)
 }
 
 // The list of the arguments.
@@ -155,6 +158,7 @@ pub fn called_verb<'a>(world: &'a World, object: i32, name: &[u8]) -> Option<Fou
 }
 
 /// The verb at a place, if there is one.
+#[inline(always)]
 pub fn verb_there(world: &World, place: VerbAt) -> Option<Found<'_>>
     ensures { option_map found_of result ≡ verb_there world.now place }
 {
@@ -242,6 +246,7 @@ pub fn verb_frame(alloc: Global, found: Found<'_>, call: Call) -> Result<Frame, 
 }
 
 /// The program of a verb, an empty one where it has none. It is shared: it goes on as it is when the verb gets another.
+#[inline(always)]
 pub fn program_of(alloc: Global, verb: &Verb) -> Result<Program, AllocError>
     ensures { IfOk result (λ program. program ≡ unwrap_or verb.now.program no_statement) }
 {
@@ -251,18 +256,20 @@ pub fn program_of(alloc: Global, verb: &Verb) -> Result<Program, AllocError>
     }
 }
 
-// The verb of a frame begins. It answers as who calls it does, so that what was entered is not moved.
+// The verb of a frame begins, with a slot for each name of its program. It answers as who calls it does, so that what was entered
+// is not moved.
 #[inline(always)]
 fn entered<'a>(
     alloc: Global,
     stack: &CallStack<'a>,
     active: &Activation,
     frame: Frame,
+    program: Program,
 ) -> Result<Called<'a>, Failure>
     ensures { IsKnownFailure result → Ok (entered (context_of stack.now None) (variables_of active.now.variables) active.now.programmer frame) ≡ seen_by entered_of result }
 {
     let callers = stack.callers_of_called(alloc, active)?;
-    let variables = called_variables(alloc, &frame, &active.variables)?;
+    let variables = called_variables(alloc, program, &frame, &active.variables)?;
     let programmer = frame.programmer;
     Ok(Called {
         stack: CallStack {
@@ -281,10 +288,11 @@ fn entered<'a>(
 #[inline(always)]
 fn called_variables(
     alloc: Global,
+    program: Program,
     frame: &Frame,
     caller: &Variables,
 ) -> Result<Variables, AllocError>
     ensures { IfOk result (λ variables. variables_of variables ≡ called_variables frame.now (variables_of caller.now)) }
 {
-    Variables::handed(alloc, frame, caller)
+    Variables::handed(alloc, program, frame, caller)
 }

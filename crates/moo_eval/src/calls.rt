@@ -90,8 +90,9 @@ impl Task {
         self.run_called(world, called)
     }
 
-    // A verb that was entered runs to its end. It takes a tick where it has a statement.
+    // A verb that was entered runs to its end. It takes a tick where it has a statement. Inlined, so that what was entered is not moved.
     #[cycle(evaluation)]
+    #[inline(always)]
     fn run_called(&mut self, world: &mut World, called: Called<'_>) -> Result<Value, Failure>
         ensures meaning { (caller : Activation) → IsKnownFailure result → RunsCalled Faults (entered_of called.entry) (state_of self.old world.old caller) (seen_answer result) (state_of self.new world.new caller) }
         ensures ticks { self.new.ticks_left ≤ self.old.ticks_left }

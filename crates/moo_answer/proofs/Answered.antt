@@ -3,7 +3,7 @@ use Rattle.std.proofs.Common.{◌≡◌, ℕ, ◌≤◌, ◌⊎◌, inl, inr, Li
 use Rattle.std.specs.Prelude.{Option}
 use Rattle.std.specs.Io.KnownBytes.{Appends}
 use Rattle.moo_value.specs.Size.{IsString}
-use Rattle.moo_eval.specs.Line.{AnswersLine, bad_byte, too_long, refused, runs, program_text}
+use Rattle.moo_semantics.specs.Line.{AnswersLine, bad_byte, too_long, refused, runs, program_text}
 use Rattle.moo_eval.proofs.Held.{held_bad_byte, held_too_long}
 use Rattle.moo_report.specs.GivingUp.{HasGivenUp}
 use Rattle.moo_report.specs.declared.watch.Watch.{Watch}

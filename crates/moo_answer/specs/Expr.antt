@@ -2,7 +2,7 @@
 use Rattle.std.specs.Prelude.{◌≡◌, ◌⊎◌, ℕ, List, ◌++◌, codes, Option, IfSome}
 use Rattle.std.specs.List.{flat_map}
 use Rattle.std.specs.Io.KnownBytes.{Appends}
-use Rattle.moo_eval.specs.Line.{AnswersLine}
+use Rattle.moo_semantics.specs.Line.{AnswersLine}
 use Rattle.moo_report.specs.GivingUp.{IsGivenUp}
 use Rattle.moo_answer.specs.FirstLine.{first_line}
 

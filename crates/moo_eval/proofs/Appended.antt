@@ -27,8 +27,9 @@ use Rattle.moo_builtin.specs.Calls.{raising, given, CallsPlain, refused, follows
 use Rattle.moo_call.specs.Tasks.{replied}
 use Rattle.moo_call.specs.Calls.{caller, task_function, CallsAs, CallsFunction}
 use Rattle.moo_hook.specs.Calls.{caller_of, verb_caller}
-use Rattle.moo_eval.specs.Growth.{Appends, appends, IsLengthened, SettlesAs}
-use Rattle.moo_eval.specs.Meaning.{Evaluates, Computes, operands_end, applies, no_more, element_stops, element_then, call_is}
+use Rattle.moo_fast_path.specs.Growth.{Appends, appends}
+use Rattle.moo_eval.specs.Growth.{IsLengthened, SettlesAs}
+use Rattle.moo_semantics.specs.Meaning.{Evaluates, Computes, operands_end, applies, no_more, element_stops, element_then, call_is}
 
 -- what stands behind the last element
 behind_all : (vs : List Tree) (v : Tree) → list_append (list_of vs ∷ v ∷ []) ≡ made_list (vs ++ v ∷ [])

@@ -1,5 +1,5 @@
 -- A catch, with or without what it goes on to.
-use Rattle.std.proofs.Common.{◌≡◌, Box, Option, Some, None, List, Result, Ok, Err, refl}
+use Rattle.std.proofs.Common.{◌≡◌, Box, Option, Some, None, List, Result, Ok, Err}
 use Rattle.std.specs.Global.{Global}
 use Rattle.moo_value.specs.declared.error_code.ErrorCode.{ErrorCode}
 use Rattle.moo_value.specs.Tree.{Tree}
@@ -10,7 +10,7 @@ use Rattle.moo_outcome.specs.State.{Context}
 use Rattle.moo_access.specs.State.{State}
 use Rattle.moo_code_function.specs.Telling.{Telling}
 use Rattle.moo_outcome.specs.Catching.{guards, caught}
-use Rattle.moo_eval.specs.Meaning.{Evaluates, EvaluatesAll, Computes, operands_end, applies, no_more, catch_passes, catch_or_passes}
+use Rattle.moo_semantics.specs.Meaning.{Evaluates, EvaluatesAll, Computes, operands_end, applies, no_more, catch_passes, catch_or_passes}
 use Rattle.moo_value.specs.declared.value.Value.{Value}
 use Rattle.moo_outcome.specs.declared.outcome.Stop as code_stop
 use Rattle.moo_outcome.specs.declared.outcome.Stop.TheVariants as stop_case
@@ -23,11 +23,6 @@ guards_end a codes (Some b) d = operands_end d
 pub passes_on : {T : Telling} {c : Context} {a : Expr} {s s' s'' : State} {vs : List Tree} {o : Result Tree Stop} {r : Result Tree Failure} (codes : Codes) (x : Option (Box code_expr.Expr Global)) → EvaluatesAll T c (guards codes) s (Ok vs) s' → Evaluates T c a s' o s'' → caught codes vs o ≡ None → passes o ≡ r → Computes T c (catch_of a codes x) s r s''
 passes_on codes None g d f e = applies g no_more (catch_passes d f e)
 passes_on codes (Some b) g d f e = applies g no_more (catch_or_passes d f e)
-
--- what is none of the errors there are is none
-pub none_left : {X : Type 0} (o : Option X) → ((x : X) → o ≡ Some x → ⊥) → o ≡ None
-none_left None h = refl
-none_left (Some x) h = absurd (h x refl)
 
 -- an error that is caught was raised with memory enough
 pub known_caught : (codes : Codes) (vs : List Tree) (r : Result Value code_stop.Stop) (code : ErrorCode) → caught codes vs (seen_value r) ≡ Some code → IsKnown r

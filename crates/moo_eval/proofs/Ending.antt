@@ -15,9 +15,9 @@ use Rattle.moo_code_function.specs.Telling.{Faults}
 use Rattle.moo_call.specs.Tasks.{most_ticks}
 use Rattle.moo_eval.specs.declared.task.Ended as code
 use Rattle.moo_eval.specs.declared.task.Ended.TheVariants as ended
-use Rattle.moo_eval.specs.Meaning.{RunsAll}
+use Rattle.moo_semantics.specs.Meaning.{RunsAll}
 use Rattle.moo_eval.specs.Ends.{IfEnded, LeavesNotices, IsBegunBy}
-use Rattle.moo_eval.specs.Task.{TaskEnds, first_context, first_state, end_of}
+use Rattle.moo_semantics.specs.Task.{TaskEnds, first_context, first_state, end_of}
 
 pub task_ends : (around : Surroundings) (start : Frame) (before : World) (old new : List Notice) (result : code.Ended) (last : State) (outcome : Result Flow Stop) (Known : Type 0)
     → IfEnded result (λ end. end_of outcome ≡ end) → IfEnded result (λ end. Known)

@@ -22,8 +22,8 @@ use Rattle.moo_access.specs.Target.{owned}
 use Rattle.moo_access.specs.Entering.{after_list}
 use Rattle.moo_outcome.specs.Handling.{Guarded, guarded_before}
 use Rattle.moo_outcome.specs.Outcome.{Stop, Failure, Flow, fails, answers, goes_on}
-use Rattle.moo_eval.specs.Operands.{before}
-use Rattle.moo_eval.specs.Meaning.{EvaluatesAll, optional_fails, defaulted_fails, Puts, property_unset, puts_property, RunsAll}
+use Rattle.moo_semantics.specs.Operands.{before}
+use Rattle.moo_semantics.specs.Meaning.{EvaluatesAll, optional_fails, defaulted_fails, Puts, property_unset, puts_property, RunsAll}
 use Rattle.moo_outcome.specs.Seen.{failure_of, flow_of, seen_by, seen_done, HadMemoryIn}
 use Rattle.moo_outcome.specs.Fault.{failed}
 

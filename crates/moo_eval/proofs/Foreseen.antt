@@ -1,11 +1,9 @@
 -- Statements that are known at once.
-use Rattle.std.proofs.Common.{◌≡◌, ℕ, ℤ, suc, pos, ◌<◌, ◌-◌, Bool, true, Option, List, [], ◌∷◌, ◌++◌, Result, Ok, Err, is_ok, length, refl, sym, ap, ◌∙◌, arith}
-use Rattle.std.proofs.lemmas.Bool.{false≢true}
+use Rattle.std.proofs.Common.{◌≡◌, ℕ, ℤ, suc, pos, ◌<◌, ◌-◌, List, [], ◌∷◌, ◌++◌, Ok, length, refl, sym, ap, ◌∙◌, arith}
 use Rattle.std.proofs.lemmas.Int.{to_z-of_z}
 use mir.Syntax.{w32}
 use mir.Val.{SFits, to_z, of_z}
 use lib.IntN.{nat_abs}
-use Rattle.moo_value.specs.declared.error_code.ErrorCode.{ErrorCode}
 use Rattle.moo_value.specs.declared.error_code.ErrorCode.TheVariants.{VariableNotFound}
 use Rattle.moo_value.specs.Tree.{Tree, list_of}
 use Rattle.moo_program.specs.declared.tree.Stmt.{Stmt}
@@ -21,16 +19,15 @@ use Rattle.moo_outcome.specs.Variables.{bind}
 use Rattle.moo_access.specs.State.{State, bound}
 use Rattle.moo_code_function.specs.Telling.{Telling, Faults}
 use Rattle.moo_call.specs.Seen.{state_at}
-use Rattle.moo_world.specs.Calls.{Changes}
-use Rattle.moo_world.specs.declared.fault.WorldFault.{WorldFault}
-use Rattle.moo_access.proofs.Written.{raises_with, world_with, set_to}
-use Rattle.moo_eval.specs.Element.{sets_place}
-use Rattle.moo_eval.specs.Growth.{IsLengthened, Lengthens, splices, calls}
-use Rattle.moo_eval.specs.Leaves.{variable_leaf}
-use Rattle.moo_eval.specs.Worth.{IsSet, IsWritten, IsPlaced, IsGrown}
-use Rattle.moo_eval.specs.Meaning.{Evaluates, Runs, statement_begins, applies, no_more, element_then, assign_is, assigns, locates, finds, inside, stores, puts_property}
+use Rattle.moo_worth.specs.Leaves.{variable_leaf}
+use Rattle.moo_fast_path.specs.Element.{sets_place}
+use Rattle.moo_fast_path.specs.Growth.{Lengthens, splices, calls}
+use Rattle.moo_fast_path.specs.Changes.{IsSet, IsWritten, IsPlaced, IsGrown}
+use Rattle.moo_semantics.specs.Meaning.{Evaluates, Runs, statement_begins, applies, no_more, element_then, assign_is, assigns, locates, finds, inside, stores, puts_property}
+use Rattle.moo_eval.specs.Growth.{IsLengthened}
 use Rattle.moo_eval.proofs.Appended.{appended}
 use Rattle.moo_eval.proofs.Direct.{assigned, performed, leaf_gives}
+use Rattle.moo_eval.proofs.Known.{worth_gives}
 use Rattle.moo_eval.proofs.Lengthened.{lengthened, set_longer}
 use Rattle.moo_eval.proofs.Placed.{put, put_alone}
 use Rattle.moo_eval.proofs.Exits.{same_state}
@@ -39,19 +36,19 @@ use Rattle.moo_eval.proofs.Exits.{same_state}
 pub set_ahead : {w : World} {active active' : Activation} {n m : ℕ} {notices : List Notice} {x : List ℕ} {e : Expr} (c : Context) → 1 < n → IsSet w active active' (n - 2) m x e → Runs Faults c (performs (assign (variable x) e)) (state_at n notices w active) (Ok next) (state_at m notices w active')
 set_ahead {n = n} {notices = notices} c h p =
     let two : n - 2 ≡ n - 1 - 1 = omega arith in
-    statement_begins (omega (arith, h)) (performed (omega (arith, h)) (assigned (rw two at p.gives c notices) (same_state (sym p.sets) (sym p.keeps))))
+    statement_begins (omega (arith, h)) (performed (omega (arith, h)) (assigned (worth_gives (rw two at p.gives) c notices) (same_state (sym p.sets) (sym p.keeps))))
 
 -- a property is set to what is known at once
 pub written_ahead : {w w' : World} {active : Activation} {n m : ℕ} {notices : List Notice} {a b e : Expr} (c : Context) → 1 < n → IsWritten w w' active (n - 2) m a b e → Runs Faults c (performs (assign (property a b) e)) (state_at n notices w active) (Ok next) (state_at m notices w' active)
 written_ahead {n = n} {notices = notices} c h p =
     let two : n - 2 ≡ n - 1 - 1 = omega arith in
-    statement_begins (omega (arith, h)) (performed (omega (arith, h)) (applies no_more no_more (assign_is (assigns (locates (finds (element_then (rw two at p.gives_base c notices) (element_then (p.gives_name c notices) no_more refl) refl) refl) inside) (p.gives_value c notices) (stores refl (puts_property (ap answers p.writes) refl)) refl))))
+    statement_begins (omega (arith, h)) (performed (omega (arith, h)) (applies no_more no_more (assign_is (assigns (locates (finds (element_then (worth_gives (rw two at p.gives_base) c notices) (element_then (worth_gives p.gives_name c notices) no_more refl) refl) refl) inside) (worth_gives p.gives_value c notices) (stores refl (puts_property (ap answers p.writes) refl)) refl))))
 
 -- a place of a variable is set to what is known at once
 pub placed_ahead : {w : World} {active active' : Activation} {n m : ℕ} {notices : List Notice} {x : List ℕ} {i e : Expr} (c : Context) → 1 < n → IsPlaced w active active' (n - 2) m x i e → Runs Faults c (performs (sets_place x i e)) (state_at n notices w active) (Ok next) (state_at m notices w active')
 placed_ahead {n = n} {notices = notices} c h p =
     let two : n - 2 ≡ n - 1 - 1 = omega arith in
-    statement_begins (omega (arith, h)) (put_alone (omega (arith, h)) (put (ap (λ o. answers (or_error o VariableNotFound)) p.holds) (rw two at p.gives_place (within c (p.container ∷ [])) notices) (p.gives_value c notices) p.is (same_state (sym p.sets) (sym p.keeps))))
+    statement_begins (omega (arith, h)) (put_alone (omega (arith, h)) (put (ap (λ o. answers (or_error o VariableNotFound)) p.holds) (worth_gives (rw two at p.gives_place) (within c (p.container ∷ [])) notices) (worth_gives p.gives_value c notices) p.is (same_state (sym p.sets) (sym p.keeps))))
 
 -- what is known at once is put behind the list in a variable
 longer : {T : Telling} {c : Context} {x : List ℕ} {e longer : Expr} {s s1 s2 t : State} {v w : Tree} (vs : List Tree) → Lengthens x e longer → Evaluates T c (variable x) s (Ok (list_of vs)) s1 → Evaluates T c e s1 (Ok v) s2 → made_list (vs ++ v ∷ []) ≡ Ok w → bound (bind x w ∷ []) s2 ≡ t → IsLengthened T c x longer s t
@@ -61,7 +58,7 @@ longer vs (calls a) d g made sets = appended vs a d g made sets
 pub grown_ahead : {w : World} {active active' : Activation} {n m : ℕ} {notices : List Notice} {x : List ℕ} {last e : Expr} (c : Context) → 3 < n → Lengthens x last e → IsGrown w active active' (n - 4) m x last → Runs Faults c (performs (assign (variable x) e)) (state_at n notices w active) (Ok next) (state_at m notices w active')
 grown_ahead {n = n} {notices = notices} c h l p =
     let four : n - 4 ≡ n - 1 - 1 - 1 - 1 = omega arith in
-    statement_begins (omega (arith, h)) (set_longer (omega (arith, h)) (omega (arith, h)) (longer p.elements l (leaf_gives (omega (arith, h)) (variable_leaf p.holds)) (rw four at p.gives c notices) p.is (same_state (sym p.sets) (sym p.keeps))))
+    statement_begins (omega (arith, h)) (set_longer (omega (arith, h)) (omega (arith, h)) (longer p.elements l (leaf_gives (omega (arith, h)) (variable_leaf p.holds)) (worth_gives (rw four at p.gives) c notices) p.is (same_state (sym p.sets) (sym p.keeps))))
 
 pub nothing_left : (ss : List Stmt) → length ss ≡ 0 → block ss ≡ no_statement
 nothing_left [] h = refl
@@ -70,12 +67,3 @@ nothing_left (s ∷ ss) h = let more : suc (length ss) ≡ 0 = h in absurd (omeg
 -- the ticks that are left, as they are counted
 pub ticks_seen : (z : ℤ) (n : ℕ) → SFits w32 z → z ≡ pos n → nat_abs (to_z w32 (of_z w32 z)) ≡ n
 ticks_seen z n f e = ap nat_abs (to_z-of_z w32 z f ∙ e)
-
-unanswered : {A : Type 0} {x : A} (r : Result A ErrorCode) → answers r ≡ Ok x → r ≡ Ok x
-unanswered {x = x} (Ok y) e = let same : y ≡ x = cc in ap (λ z. Ok z) same
-unanswered (Err code) e = absurd cc
-
--- a property was set, where setting it went well
-pub set_there : (first : Option ErrorCode) (may : Bool) (old new after : World) (r : Result (Unit {0}) WorldFault) → Changes r old new (raises_with first may) after → is_ok r ≡ true → world_with first may after ≡ Ok new
-set_there first may old new after (Ok done) h t = unanswered _ (set_to first may after new h.0 h.1)
-set_there first may old new after (Err fault) h t = absurd (false≢true t)

@@ -16,7 +16,7 @@ use Rattle.moo_hook.specs.Progressing.{Progress}
 use Rattle.moo_hook.specs.Seen.{progress_of}
 use Rattle.moo_hook.specs.Stages.{resumed}
 use Rattle.moo_eval.specs.Hooks.{IsIdle}
-use Rattle.moo_eval.specs.Meaning.{Proceeds, ends, hook_then, at_once}
+use Rattle.moo_semantics.specs.Meaning.{Proceeds, ends, hook_then, at_once}
 use Rattle.moo_eval.proofs.Exits.{runs_at}
 
 -- a program with a statement is not an empty one

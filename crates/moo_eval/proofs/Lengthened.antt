@@ -1,26 +1,22 @@
 -- Lists that grow in the variable that they stand in.
-use Rattle.std.proofs.Common.{◌≡◌, ℕ, ◌+◌, ◌≤◌, ◌<◌, max, List, [], ◌∷◌, ◌++◌, false, IsTrue, leb, Result, Ok, Err, refl, ap, arith}
+use Rattle.std.proofs.Common.{◌≡◌, ℕ, ◌+◌, ◌<◌, List, [], ◌∷◌, ◌++◌, Result, Ok, Err, refl, ap}
 use Rattle.std.proofs.lemmas.Bool.{false≢true}
-use Rattle.std.proofs.lemmas.Bool.Decides.{nat_tests}
 use Rattle.moo_value.specs.Tree.{Tree, list_of}
 use Rattle.moo_value.specs.View.{tree}
 use Rattle.moo_value.specs.declared.value.Value.{Value}
 use Rattle.moo_value.specs.declared.value.Value.TheVariants.{Int, Obj, Err as ErrorOf, Str, List as ListOf}
 use Rattle.moo_value.specs.TreeCode.{trees_of-elements_of}
-use Rattle.moo_value.specs.Size.{weight, depth, list_weight, list_depth, weight_limit, depth_limit, IsWithinLimits}
-use Rattle.moo_value.proofs.Lists.{list_weight-push, list_depth-push}
 use Rattle.moo_program.specs.Tree as program
-use Rattle.moo_program.specs.Tree.{Expr, Items, variable, splice, element, no_items, assign, performs}
+use Rattle.moo_program.specs.Tree.{Expr, variable, splice, element, no_items, assign, performs}
 use Rattle.moo_operation.specs.Places.{made_list, spliced_of}
-use Rattle.moo_operation.proofs.Lawful.{limited_past}
 use Rattle.moo_outcome.specs.Variables.{bind}
 use Rattle.moo_outcome.specs.Outcome.{Stop, Failure, stops, fails, next, answers, settled}
 use Rattle.moo_outcome.specs.State.{Context}
 use Rattle.moo_access.specs.State.{State, ticked, bound, trace}
 use Rattle.moo_code_function.specs.Telling.{Telling}
-use Rattle.moo_value.specs.declared.error_code.ErrorCode.TheVariants.{Quota, TypeMismatch}
+use Rattle.moo_value.specs.declared.error_code.ErrorCode.TheVariants.{TypeMismatch}
 use Rattle.moo_eval.specs.Growth.{IsLengthened}
-use Rattle.moo_eval.specs.Meaning.{Evaluates, Computes, Does, begins, applies, operands_end, no_more, element_stops, element_then, splice_stops, splice_fails, splice_then, list_is}
+use Rattle.moo_semantics.specs.Meaning.{Evaluates, Computes, Does, begins, applies, operands_end, no_more, element_stops, element_then, splice_stops, splice_fails, splice_then, list_is}
 use Rattle.moo_eval.proofs.Direct.{assigned, unassigned, performed, unperformed}
 
 -- the elements of a list with one more behind them
@@ -64,19 +60,3 @@ set_error z z' d f b = performed z (assigned (begins z' d f) b)
 
 pub not_set : {T : Telling} {c : Context} {x : List ℕ} {e : Expr} {s s' : State} {o : Result Tree Failure} {stop : Stop} → 0 < s.ticks → 0 < (ticked s).ticks → Computes T c e (ticked (ticked s)) o s' → settled c.frame.d (trace c s') o ≡ Err stop → Does T c (performs (assign (variable x) e)) s (Err stop) s'
 not_set z z' d f = unperformed z (unassigned (begins z' d f))
-
--- what a list may hold
-pub within : (a b : ℕ) → (IsTrue (leb a b) → a ≤ b) × (a ≤ b → IsTrue (leb a b))
-within a b = (λ h. grind (arith, nat_tests), λ h. grind (arith, nat_tests))
-
-pub fits_push : (ts : List Tree) (t : Tree) (w d : ℕ) → w ≡ list_weight ts + weight t → d ≡ max (list_depth ts) (depth t + 1) → w ≤ weight_limit → (IsTrue (leb d depth_limit) → IsWithinLimits (list_of (ts ++ t ∷ []))) × (IsWithinLimits (list_of (ts ++ t ∷ [])) → IsTrue (leb d depth_limit))
-fits_push ts t w d e f h = (
-  (λ k. let l = (within d depth_limit).0 k in record { weight = omega (arith, e, h, list_weight-push ts t); depth = omega (arith, f, l, list_depth-push ts t) }),
-  (λ limits. let l = limits.depth in (within d depth_limit).1 (omega (arith, f, l, list_depth-push ts t))),
-)
-
-pub too_heavy_push : (ts : List Tree) (t : Tree) (w : ℕ) → w ≡ list_weight ts + weight t → weight_limit < w → (IsTrue false → IsWithinLimits (list_of (ts ++ t ∷ []))) × (IsWithinLimits (list_of (ts ++ t ∷ [])) → IsTrue false)
-too_heavy_push ts t w e h = ((λ never. absurd (false≢true never)), (λ limits. let l = limits.weight in absurd (omega (arith, e, h, l, list_weight-push ts t))))
-
-pub is_quota : (ts : List Tree) → (¬ IsWithinLimits (list_of ts)) → answers (made_list ts) ≡ Err (fails Quota)
-is_quota ts h = ap answers (limited_past (list_of ts) h)

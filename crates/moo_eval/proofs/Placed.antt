@@ -1,25 +1,20 @@
 -- Assignments to a place of the list or string in a variable.
-use Rattle.std.proofs.Common.{◌≡◌, ℕ, ◌<◌, List, [], ◌∷◌, Option, Some, None, Result, Ok, Err, IfErr, refl, sym, ap, ◌∙◌}
-use Rattle.std.specs.Result.{result_err}
-use Rattle.moo_value.specs.declared.error_code.ErrorCode.{ErrorCode}
+use Rattle.std.proofs.Common.{◌≡◌, ℕ, ◌<◌, List, [], ◌∷◌, Result, Ok, Err, refl, ap}
 use Rattle.moo_value.specs.declared.error_code.ErrorCode.TheVariants.{VariableNotFound}
 use Rattle.moo_value.specs.Tree.{Tree}
 use Rattle.moo_value.specs.Compare.{folded}
 use Rattle.moo_program.specs.Tree.{Expr, performs}
-use Rattle.moo_operation.specs.Answer.{IsRefused}
 use Rattle.moo_operation.specs.Assignment.{with_index_of}
-use Rattle.moo_operation.specs.declared.fault.OperationFault.{OperationFault}
 use Rattle.moo_operation.specs.declared.fault.OperationFault.TheVariants as fault
-use Rattle.moo_outcome.specs.Fault.{failed}
-use Rattle.moo_outcome.specs.Outcome.{Stop, Failure, stops, fails, next, or_error, answers, settled}
+use Rattle.moo_outcome.specs.Outcome.{Stop, Failure, stops, next, or_error, answers, settled}
 use Rattle.moo_outcome.specs.declared.outcome.Failure as code_failure
-use Rattle.moo_outcome.specs.Seen.{HadMemoryIn, failure_of}
 use Rattle.moo_outcome.specs.State.{Context, within}
 use Rattle.moo_outcome.specs.Variables.{bind}
 use Rattle.moo_access.specs.State.{State, ticked, bound, trace}
 use Rattle.moo_code_function.specs.Telling.{Telling}
-use Rattle.moo_eval.specs.Element.{sets_place, IsPut}
-use Rattle.moo_eval.specs.Meaning.{Evaluates, Computes, Does, begins, applies, no_more, element_stops, element_then, assign_is, target_ends, value_stops, assigns, locates, finds, inside, step_ends, enters, unread, spot_ends, steps_in, no_store, stores, puts_variable, evaluates}
+use Rattle.moo_fast_path.specs.Element.{sets_place}
+use Rattle.moo_eval.specs.Element.{IsPut}
+use Rattle.moo_semantics.specs.Meaning.{Evaluates, Computes, Does, begins, applies, no_more, element_stops, element_then, assign_is, target_ends, value_stops, assigns, locates, finds, inside, step_ends, enters, unread, spot_ends, steps_in, no_store, stores, puts_variable, evaluates}
 use Rattle.moo_eval.proofs.Direct.{performed}
 
 -- the container with the value at the place
@@ -51,24 +46,3 @@ passed_over z d f = evaluates (begins z d f) refl
 
 pub stopped : {T : Telling} {c : Context} {e : Expr} {s s' : State} {o : Result Tree Failure} {stop : Stop} → 0 < s.ticks → Computes T c e (ticked s) o s' → settled c.frame.d (trace c s') o ≡ Err stop → Does T c (performs e) s (Err stop) s'
 stopped z d f = evaluates (begins z d f) refl
-
--- what is refused beforehand, and what is not
-pub refused_before : (r : Result Tree ErrorCode) (code : ErrorCode) → Some code ≡ result_err r → answers r ≡ Err (fails code)
-refused_before (Ok w) code h = absurd cc
-refused_before (Err e) code h =
-    let q : ◌≡◌ {A = Option ErrorCode} (Some code) (Some e) = h in
-    let same : e ≡ code = cc in
-    ap (λ x. Err (fails x)) same
-
-pub not_refused : (f : OperationFault) (r : Result Tree ErrorCode) → IsRefused f r → result_err r ≡ None → HadMemoryIn (failed f) → ⊥
-not_refused (fault.Raise code) r h n k = let q : ◌≡◌ {A = Option ErrorCode} (Some code) None = sym (ap result_err h) ∙ n in absurd cc
-not_refused fault.Memory r h n k = k
-
-unrefused : (made : Result Tree ErrorCode) {f : Failure} → result_err made ≡ None → answers made ≡ Err f → ⊥
-unrefused (Ok w) {f = f} n e = let q : ◌≡◌ {A = Result Tree Failure} (Ok w) (Err f) = e in absurd cc
-unrefused (Err code) n e = let q : ◌≡◌ {A = Option ErrorCode} (Some code) None = n in absurd cc
-
--- what isn't refused doesn't fail but for want of memory
-pub never_refused : {A : Type 0} (Q : Type 0) (r : Result A code_failure.Failure) (made : Result Tree ErrorCode) → result_err made ≡ None → IfErr r (λ f. HadMemoryIn f → answers made ≡ Err (failure_of f)) → IfErr r (λ f. HadMemoryIn f → Q)
-never_refused Q (Ok x) made n h = tt
-never_refused Q (Err f) made n h = λ k. absurd (unrefused made n (h k))

@@ -9,7 +9,7 @@ use Rattle.moo_outcome.specs.State.{Context}
 use Rattle.moo_outcome.specs.Variables.{Binding, bind}
 use Rattle.moo_access.specs.State.{State}
 use Rattle.moo_code_function.specs.Telling.{Telling}
-use Rattle.moo_eval.specs.Meaning.{RunsAll, Turns, Loops, Visits, Counts, ends, turns, loop_left, loop_then, visit_left, visit_then, count_left, count_then}
+use Rattle.moo_semantics.specs.Meaning.{RunsAll, Turns, Loops, Visits, Counts, ends, turns, loop_left, loop_then, visit_left, visit_then, count_left, count_then}
 use Rattle.moo_eval.specs.Turning.{EndsTurn, Within, turn_left, turn_done, IsTested, IsBegun}
 
 -- where the statements that are left lead, all of the turn's lead

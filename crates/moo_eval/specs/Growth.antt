@@ -1,28 +1,13 @@
 -- Lists that grow in the variable that they stand in.
-use Rattle.std.specs.Prelude.{◌≡◌, ℕ, List, [], ◌∷◌, Some, Result, Ok, Err}
+use Rattle.std.specs.Prelude.{◌≡◌, ℕ, List, [], ◌∷◌, Result, Ok, Err}
 use Rattle.moo_value.specs.Tree.{Tree}
-use Rattle.moo_program.specs.Tree.{Expr, variable, call, list, splice, element, no_items}
-use Rattle.moo_function.specs.declared.function.Function.TheVariants.{ListAppend}
-use Rattle.moo_function.specs.Names.{function_of}
+use Rattle.moo_program.specs.Tree.{Expr}
 use Rattle.moo_outcome.specs.Variables.{bind}
 use Rattle.moo_outcome.specs.Outcome.{Failure, settled}
 use Rattle.moo_outcome.specs.State.{Context}
 use Rattle.moo_access.specs.State.{State, bound, trace}
 use Rattle.moo_code_function.specs.Telling.{Telling}
-use Rattle.moo_eval.specs.Meaning.{Computes}
-
--- a call of `listappend`, in any case of its letters, with a variable and one expression more
-pub data Appends (name : List ℕ) (last : Expr) : Expr → Type 0 where
-  appends : {function : List ℕ} →
-      function_of function ≡ Some ListAppend →
-      Appends name last (call function (element (variable name) (element last no_items)))
-
--- an expression that makes a variable's list longer by one
-pub data Lengthens (name : List ℕ) (last : Expr) : Expr → Type 0 where
-  splices : Lengthens name last (list (splice (variable name) (element last no_items)))
-  calls : {e : Expr} →
-      Appends name last e →
-      Lengthens name last e
+use Rattle.moo_semantics.specs.Meaning.{Computes}
 
 -- an expression that makes a variable's list longer has a value, and then the variable is set to it
 pub record IsLengthened (T : Telling) (c : Context) (name : List ℕ) (longer : Expr) (s t : State) : Type 0 where

@@ -17,8 +17,8 @@ use Rattle.moo_hook.specs.declared.progress.Progress.TheVariants as progress_cas
 use Rattle.moo_hook.specs.Progressing.{Progress, done, verb_next}
 use Rattle.moo_eval.specs.declared.hooks.Pending.{Pending}
 use Rattle.moo_eval.specs.declared.hooks.Pending.TheVariants as pending_case
-use Rattle.moo_eval.specs.Operands.{answered, begun, left}
-use Rattle.moo_eval.specs.Meaning.{RunsAll, Proceeds}
+use Rattle.moo_semantics.specs.Operands.{answered, begun, left}
+use Rattle.moo_semantics.specs.Meaning.{RunsAll, Proceeds}
 
 -- a verb that was entered runs to its end, and its caller goes on in this state
 pub record RunsCalled (T : Telling) (e : Entered) (s : State) (r : Result Tree Failure) (s' : State) : Type 0 where

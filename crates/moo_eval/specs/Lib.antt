@@ -1,17 +1,6 @@
-pub mod Operands
-pub mod Meaning
-pub mod Frames
-pub mod Task
 pub mod Seen
 pub mod Hooks
 pub mod Ends
-pub mod Typed
-pub mod Line
-pub mod Laws
-pub mod HookLaws
-pub mod Functions
-pub mod Leaves
-pub mod Worth
 pub mod Growth
 pub mod Element
 pub mod Turning

@@ -9,7 +9,7 @@ use Rattle.moo_outcome.specs.State.{Context}
 use Rattle.moo_outcome.specs.Variables.{Binding}
 use Rattle.moo_access.specs.State.{State, ticked, bound}
 use Rattle.moo_code_function.specs.Telling.{Telling}
-use Rattle.moo_eval.specs.Meaning.{Evaluates, RunsAll}
+use Rattle.moo_semantics.specs.Meaning.{Evaluates, RunsAll}
 
 -- the statements that are left of a turn run, and how the loop ends with them: `None` is on to the next turn
 pub record EndsTurn (T : Telling) (c : Context) (own : Option (List ℕ)) (left : Block) (s : State) (r : Option (Result Flow Stop)) (s' : State) : Type 0 where

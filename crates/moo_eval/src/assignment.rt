@@ -1,10 +1,10 @@
 //! Assignments.
-ghost use Rattle.std.specs.Prelude.{◌≡◌, ◌≤◌, None, Result, Err, IfOk, IfSome, IfErr, OnOk, map};
+ghost use Rattle.std.specs.Prelude.{◌≤◌, None, Result, Err, IfOk, IfErr, OnOk, map};
 ghost use Rattle.moo_program.specs.Tree.{variable, assign, performs, list, splice, element, no_items};
 ghost use Rattle.moo_program.specs.View.{tree, items_of};
 ghost use Rattle.moo_value.specs.View.{tree as value_tree};
 ghost use Rattle.moo_access.specs.Target.{Path, named, scattered};
-ghost use Rattle.moo_eval.specs.Meaning.{Computes, Does, Locates, Finds, Steps, Stores, Puts, SetsDefaults};
+ghost use Rattle.moo_semantics.specs.Meaning.{Computes, Does, Locates, Finds, Steps, Stores, Puts, SetsDefaults};
 ghost use Rattle.moo_outcome.specs.Seen.{context_of, failure_of, seen_answer, seen_by, seen_done, seen_flow, HadMemoryIn, IsKnown, IsKnownFailure};
 ghost use Rattle.moo_eval.specs.Growth.{IsLengthened};
 ghost use Rattle.moo_outcome.specs.Outcome.{Failure as Failed};
@@ -16,12 +16,12 @@ ghost use Rattle.moo_eval.specs.Seen.{state_of};
 ghost use Rattle.moo_access.specs.SeenTarget.{root_seen, step_of, steps_of, path_of, spot_of};
 ghost use Rattle.moo_outcome.specs.SeenScatter.{left_out_of};
 
-use crate::growth::set_longer;
 use crate::interpreter::Task;
 use moo_access::{
     Path, Places, Root, Spot, Step, as_property, push_step, rebuilt, root_alone, set_variable,
     taken_apart, write_property,
 };
+use moo_fast_path::{as_variable, set_longer};
 use moo_outcome::{
     Activation, CallStack, Failure, Flow, LeftOut, Stop, dealt, missing, set_shares,
 };
@@ -338,28 +338,5 @@ impl Task {
             active.variables.set(default.name, value)?;
         }
         Ok(())
-    }
-}
-
-/// The name and the value of an assignment to a variable alone.
-#[inline]
-pub(crate) fn as_assignment(expr: &Expr) -> Option<(&Name, &Expr)>
-    ensures { IfSome result (λ p. tree expr.now ≡ assign (variable p.0.now) (tree p.1.now)) }
-{
-    let Expr::Assign(target, value) = expr else {
-        return None;
-    };
-    let name = as_variable(target)?;
-    Some((name, value))
-}
-
-/// The name of a variable.
-#[inline]
-pub(crate) fn as_variable(expr: &Expr) -> Option<&Name>
-    ensures { IfSome result (λ name. tree expr.now ≡ variable name.now) }
-{
-    match expr {
-        Expr::Variable(name) => Some(name),
-        _ => None,
     }
 }

@@ -12,9 +12,9 @@ ghost use Rattle.moo_access.specs.SeenCalled.{entered_of};
 ghost use Rattle.moo_hook.specs.Calls.{caller_of};
 ghost use Rattle.moo_hook.specs.Seen.{progress_of};
 ghost use Rattle.moo_eval.specs.Hooks.{RunsCalled};
-ghost use Rattle.moo_eval.specs.Meaning.{Applies, Computes, EvaluatesAll, Proceeds};
+ghost use Rattle.moo_semantics.specs.Meaning.{Applies, Computes, EvaluatesAll, Proceeds};
 ghost use Rattle.moo_outcome.specs.Seen.{context_of, seen_answer, seen_answers, seen_flow, catch_of, IsKnown, IsKnownFailure};
-ghost use Rattle.moo_eval.specs.Operands.{answered};
+ghost use Rattle.moo_semantics.specs.Operands.{answered};
 ghost use Rattle.moo_code_function.specs.Telling.{Faults};
 ghost use Rattle.moo_eval.specs.Seen.{state_of};
 

@@ -5,14 +5,13 @@ ghost use Rattle.moo_outcome.specs.Outcome.{Flow, Stop as Stopped, next};
 ghost use Rattle.moo_outcome.specs.State.{Context};
 ghost use Rattle.moo_access.specs.State.{State};
 ghost use Rattle.moo_code_function.specs.Telling.{Faults};
-ghost use Rattle.moo_eval.specs.Meaning.{Runs, RunsAll};
+ghost use Rattle.moo_semantics.specs.Meaning.{Runs, RunsAll};
 ghost use Rattle.moo_eval.specs.Seen.{state_of};
 
-use crate::ahead::may_have_worth;
-use crate::appending::may_be_list_append;
 use crate::interpreter::Task;
+use moo_fast_path::{may_change_a_list, may_complete};
 use moo_outcome::Activation;
-use moo_program::{Expr, Stmt};
+use moo_program::Stmt;
 use moo_world::World;
 use std::alloc::AllocError;
 
@@ -150,47 +149,5 @@ impl Task {
             return true;
         }
         self.writes_at_once(world, active, statement)
-    }
-}
-
-// Whether a statement may be one that is known at once.
-#[inline(always)]
-fn may_complete(statement: &Stmt) -> bool {
-    let Stmt::Expression(expr) = statement else {
-        return false;
-    };
-    let Expr::Assign(target, value) = &**expr else {
-        return false;
-    };
-    match &**target {
-        Expr::Index(..) | Expr::Property(..) => may_have_worth(value),
-        Expr::Variable(_) => may_have_worth(value) || may_lengthen(value),
-        _ => false,
-    }
-}
-
-// Whether a statement may be one that sets a place of a list, or puts something behind a list.
-#[inline(always)]
-fn may_change_a_list(statement: &Stmt) -> bool {
-    let Stmt::Expression(expr) = statement else {
-        return false;
-    };
-    let Expr::Assign(target, value) = &**expr else {
-        return false;
-    };
-    match &**target {
-        Expr::Index(..) => may_have_worth(value),
-        Expr::Variable(_) => may_lengthen(value),
-        _ => false,
-    }
-}
-
-// Whether an expression may be that of a longer list.
-#[inline(always)]
-fn may_lengthen(value: &Expr) -> bool {
-    match value {
-        Expr::List(_) => true,
-        Expr::Call(name, _) => may_be_list_append(name),
-        _ => false,
     }
 }

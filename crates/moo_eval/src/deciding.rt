@@ -4,7 +4,7 @@ ghost use Rattle.moo_program.specs.Tree.{logic, conditional};
 ghost use Rattle.moo_program.specs.View.{tree};
 ghost use Rattle.moo_outcome.specs.Seen.{context_of, seen_answer, IsKnownFailure};
 ghost use Rattle.moo_code_function.specs.Telling.{Faults};
-ghost use Rattle.moo_eval.specs.Meaning.{Computes};
+ghost use Rattle.moo_semantics.specs.Meaning.{Computes};
 ghost use Rattle.moo_eval.specs.Seen.{state_of};
 
 use crate::interpreter::Task;

@@ -1,10 +1,9 @@
 //! Expressions.
-ghost use Rattle.std.specs.Prelude.{◌≡◌, ◌-◌, ◌<◌, ◌≤◌, ℕ, List, [], ◌++◌, None, Ok, Err, IfSome, IfNone, IfOk, IfErr, OnOk, OnErr, IsTrue, IsFalse};
+ghost use Rattle.std.specs.Prelude.{◌≡◌, ◌-◌, ◌<◌, ◌≤◌, ℕ, List, [], ◌++◌, None, Ok, Err, IfOk, IfErr, OnOk, OnErr};
 ghost use Rattle.moo_program.specs.View.{tree, items_of};
-ghost use Rattle.moo_value.specs.Tree.{Tree, integer};
 ghost use Rattle.moo_value.specs.View.{tree as tree_of};
 ghost use Rattle.moo_outcome.specs.Outcome.{out_of_ticks, settled};
-ghost use Rattle.moo_eval.specs.Meaning.{Evaluates, Computes, EvaluatesAll};
+ghost use Rattle.moo_semantics.specs.Meaning.{Evaluates, Computes, EvaluatesAll};
 ghost use Rattle.moo_outcome.specs.Seen.{context_of, trace_of, stop_of, failure_of, seen_value, seen_answer, seen_by, HadMemory, HadMemoryIn, IsKnown, IsKnownFailure};
 ghost use Rattle.moo_function.specs.Names.{function_of};
 ghost use Rattle.moo_call.specs.Tasks.{most_ticks};
@@ -15,7 +14,6 @@ ghost use Rattle.moo_hook.specs.Seen.{progress_of, seen_progress};
 ghost use Rattle.moo_hook.specs.Turns.{stage_turns, progress_turns};
 ghost use Rattle.moo_eval.specs.Seen.{state_of};
 
-use crate::ahead::{may_be_known, may_have_worth};
 use moo_call::{Ticks, call_function};
 use moo_function::Function;
 use moo_hook::{Progress, Stage, resume_call};
@@ -26,6 +24,7 @@ use moo_outcome::{
 use moo_program::{Expr, Item};
 use moo_value::{ErrorCode, Value};
 use moo_world::World;
+use moo_worth::{may_be_known, may_have_worth};
 use std::alloc::{AllocError, Global};
 
 /// What a task may still use, and what it has asked for so far.
@@ -302,7 +301,9 @@ impl Task {
                     let value = self.evaluate_part(world, active, stack, indexed, expr)?;
                     values.splice(self.alloc, value)?;
                 }
-                Item::Optional(_) | Item::Defaulted(_, _) => return Err(Failure::Fails(ErrorCode::TypeMismatch)),
+                Item::Optional(_) | Item::Defaulted(_, _) => return Err(Failure::Fails(
+                    ErrorCode::TypeMismatch,
+                )),
             }
         }
         Ok(values)

@@ -1,26 +1,19 @@
 //! Expressions without parts.
-ghost use Rattle.std.specs.Prelude.{◌≡◌, ◌≤◌, Option, Some, Err, IfSome};
+ghost use Rattle.std.specs.Prelude.{◌≡◌, ◌≤◌, Option, Err};
 ghost use Rattle.std.specs.Borrow.{Bor};
-ghost use Rattle.moo_value.specs.Tree.{integer};
-ghost use Rattle.moo_value.specs.Compare.{folded};
-ghost use Rattle.moo_value.specs.View.{tree as value_tree};
 ghost use Rattle.moo_value.specs.declared.value.Value.{Value as ValueModel};
 ghost use Rattle.moo_value.specs.declared.error_code.ErrorCode.TheVariants.{VariableNotFound};
-ghost use Rattle.moo_program.specs.Tree.{literal as literal_node, literal_value as value_of_literal, variable};
-ghost use Rattle.moo_program.specs.View.{tree};
+ghost use Rattle.moo_program.specs.Tree.{literal as literal_node, variable};
 ghost use Rattle.moo_outcome.specs.Outcome.{fails, settled};
-ghost use Rattle.moo_outcome.specs.State.{Context};
-ghost use Rattle.moo_outcome.specs.Seen.{context_of, seen_value, trace_of, variables_of, IsKnown};
+ghost use Rattle.moo_outcome.specs.Seen.{context_of, seen_value, trace_of, IsKnown};
 ghost use Rattle.moo_table.specs.World.{World};
 ghost use Rattle.moo_code_function.specs.Telling.{Faults};
-ghost use Rattle.moo_eval.specs.Leaves.{IsLeaf};
-ghost use Rattle.moo_eval.specs.Meaning.{Evaluates};
+ghost use Rattle.moo_semantics.specs.Meaning.{Evaluates};
 ghost use Rattle.moo_eval.specs.Seen.{state_of};
 
 use crate::interpreter::Task;
-use crate::worth::integer_literal;
 use moo_outcome::{Activation, CallStack, Failure, Stop, literal_value, settle};
-use moo_program::{Expr, Literal, Name};
+use moo_program::{Literal, Name};
 use moo_value::{ErrorCode, Value};
 
 impl Task {
@@ -64,36 +57,4 @@ impl Task {
         self.take_tick(active, stack)?;
         Ok(literal_value(literal)?)
     }
-}
-
-// The integer of a number, or of a variable that holds one.
-#[inline(always)]
-pub(crate) fn integer_leaf(active: &Activation, expr: &Expr) -> Option<i32>
-    ensures { IfSome result (λ n. IsLeaf (variables_of active.now.variables) (tree expr.now) (integer n)) }
-{
-    match expr {
-        Expr::Literal(literal) => integer_literal(literal),
-        Expr::Variable(name) => active.variables.get_integer(name),
-        _ => None,
-    }
-}
-
-/// Whether an expression is a number, another literal or a variable.
-#[inline]
-pub(crate) fn is_leaf(expr: &Expr) -> bool {
-    matches!(expr, Expr::Literal(_) | Expr::Variable(_))
-}
-
-/// The value of a variable that is set, where there is memory for its copy.
-pub(crate) fn held(active: &Activation, name: &Name) -> Option<Value>
-    ensures { IfSome result (λ v. variables_of active.now.variables (folded name.now) ≡ Some (value_tree v)) }
-{
-    active.variables.get(name)?.try_clone().ok()
-}
-
-/// The value of a literal, likewise.
-pub(crate) fn written_out(literal: &Literal) -> Option<Value>
-    ensures { IfSome result (λ v. value_of_literal literal.now ≡ value_tree v) }
-{
-    literal_value(literal).ok()
 }

@@ -1,9 +1,9 @@
 //! Loops.
-ghost use Rattle.std.specs.Prelude.{◌≡◌, ◌≤◌, ◌<◌, ◌∷◌, [], None, Some, OnOk, option_copied};
+ghost use Rattle.std.specs.Prelude.{◌≤◌, ◌<◌, ◌∷◌, [], None, Some, OnOk, option_copied};
 ghost use Rattle.moo_value.specs.View.{tree as value_tree, trees};
 ghost use Rattle.moo_program.specs.Tree.{for_list, for_range};
 ghost use Rattle.moo_program.specs.View.{tree, block};
-ghost use Rattle.moo_eval.specs.Meaning.{Does, Turns, Loops, Visits, Counts};
+ghost use Rattle.moo_semantics.specs.Meaning.{Does, Turns, Loops, Visits, Counts};
 ghost use Rattle.moo_eval.specs.Turning.{EndsTurn};
 ghost use Rattle.moo_outcome.specs.Variables.{bind};
 ghost use Rattle.moo_outcome.specs.Seen.{context_of, seen_flow, seen_turn, IsKnown};

@@ -6,10 +6,9 @@ ghost use Rattle.moo_operation.specs.Places.{made_list};
 ghost use Rattle.moo_outcome.specs.Outcome.{answers};
 ghost use Rattle.moo_outcome.specs.Seen.{context_of, seen_answer, IsKnownFailure};
 ghost use Rattle.moo_code_function.specs.Telling.{Faults};
-ghost use Rattle.moo_eval.specs.Meaning.{Computes};
+ghost use Rattle.moo_semantics.specs.Meaning.{Computes};
 ghost use Rattle.moo_eval.specs.Seen.{state_of};
 
-use crate::integers;
 use crate::interpreter::Task;
 use moo_operation as operation;
 use moo_outcome::{Activation, CallStack, Failure, Gathered};
@@ -17,6 +16,7 @@ use moo_program::operator::{BinaryOperator, UnaryOperator};
 use moo_program::{Expr, Item};
 use moo_value::Value;
 use moo_world::World;
+use moo_worth::integers;
 use std::alloc::Global;
 
 impl Task {

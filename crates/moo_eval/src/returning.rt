@@ -1,20 +1,20 @@
 //! Verbs that return at once what is known at once.
 ghost use Rattle.std.specs.Prelude.{◌≡◌, ◌≤◌, ◌<◌, Ok, IfSome, IfNone};
 ghost use Rattle.moo_value.specs.View.{tree as tree_of};
-ghost use Rattle.moo_program.specs.Tree.{returns};
-ghost use Rattle.moo_program.specs.View.{tree, block, statement as statement_of};
+ghost use Rattle.moo_program.specs.View.{block};
 ghost use Rattle.moo_outcome.specs.Outcome.{returned};
 ghost use Rattle.moo_outcome.specs.State.{Context};
 ghost use Rattle.moo_code_function.specs.Telling.{Faults};
-ghost use Rattle.moo_eval.specs.Meaning.{RunsAll};
+ghost use Rattle.moo_semantics.specs.Meaning.{RunsAll};
 ghost use Rattle.moo_eval.specs.Seen.{state_of};
 
 use crate::interpreter::Task;
-use crate::worth::{Sight, take, worth};
+use moo_fast_path::as_return;
 use moo_outcome::Activation;
-use moo_program::{Expr, Stmt};
+use moo_program::Stmt;
 use moo_value::Value;
 use moo_world::World;
+use moo_worth::worth::{Sight, take, worth};
 
 impl Task {
     /// The value that statements return whose first returns one that is known at once, where all its ticks are left. Else nothing has
@@ -43,16 +43,5 @@ impl Task {
         let value = worth(&sight, &mut left, expr)?;
         self.ticks_left.leave(left);
         Some(value)
-    }
-}
-
-// The expression whose value a statement returns.
-#[inline]
-fn as_return(statement: &Stmt) -> Option<&Expr>
-    ensures { IfSome result (λ e. statement_of statement.now ≡ returns (tree e.now)) }
-{
-    match statement {
-        Stmt::Return(Some(expr)) => Some(expr),
-        _ => None,
     }
 }

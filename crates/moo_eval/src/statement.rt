@@ -1,18 +1,15 @@
 //! Statements.
-ghost use Rattle.std.specs.Prelude.{◌≡◌, ◌≢◌, ◌≤◌, ◌<◌, None, OnOk};
+ghost use Rattle.std.specs.Prelude.{◌≢◌, ◌≤◌, ◌<◌, None, OnOk};
 ghost use Rattle.moo_program.specs.declared.tree.Stmt.TheVariants.{Return};
 ghost use Rattle.moo_program.specs.Tree.{performs, branches, no_statement};
 ghost use Rattle.moo_program.specs.View.{tree, statement as statement_of, block, arms_of};
-ghost use Rattle.moo_eval.specs.Meaning.{Runs, Does, RunsAll, Selects};
+ghost use Rattle.moo_semantics.specs.Meaning.{Runs, Does, RunsAll, Selects};
 ghost use Rattle.moo_outcome.specs.Seen.{context_of, seen_flow, IsKnown};
 ghost use Rattle.moo_code_function.specs.Telling.{Faults};
 ghost use Rattle.moo_eval.specs.Seen.{state_of};
 
-use crate::appending::as_appended;
-use crate::assignment::as_assignment;
-use crate::element::as_place_assignment;
-use crate::growth::as_longer;
 use crate::interpreter::Task;
+use moo_fast_path::{as_appended, as_assignment, as_longer, as_place_assignment};
 use moo_outcome::{Activation, CallStack, Flow, Stop, copied_name};
 use moo_program::{Arm, Expr, Stmt};
 use moo_value::Value;

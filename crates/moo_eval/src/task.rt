@@ -4,7 +4,7 @@ ghost use Rattle.moo_outcome.specs.Seen.{seen_flow, IsKnown};
 ghost use Rattle.moo_outcome.specs.Variables.{first_bindings, value_of_name};
 ghost use Rattle.moo_outcome.specs.Seen.{surroundings_of, variables_of};
 ghost use Rattle.moo_code_function.specs.Telling.{Faults};
-ghost use Rattle.moo_eval.specs.Task.{TaskEnds, end_of};
+ghost use Rattle.moo_semantics.specs.Task.{TaskEnds, end_of};
 ghost use Rattle.moo_eval.specs.Ends.{IfEnded, LeavesNotices, IsBegunBy};
 
 use crate::interpreter::Task;

@@ -2,7 +2,7 @@
 ghost use Rattle.std.specs.Prelude.{◌≤◌, None, Result, Err, IfOk, IfErr, map};
 ghost use Rattle.moo_program.specs.Tree.{try_except, try_finally};
 ghost use Rattle.moo_program.specs.View.{block, handlers_of};
-ghost use Rattle.moo_eval.specs.Meaning.{Does, RunsAll, Prepares, Takes};
+ghost use Rattle.moo_semantics.specs.Meaning.{Does, RunsAll, Prepares, Takes};
 ghost use Rattle.moo_outcome.specs.Handling.{chosen};
 ghost use Rattle.moo_outcome.specs.Outcome.{Flow as Flowing, Stop as Stopped};
 ghost use Rattle.moo_outcome.specs.Seen.{context_of, raise_of, seen_flow, stop_of, HadMemory, IsKnown};

@@ -1,7 +1,6 @@
 //! Turns of loops that are run ahead, as far as nothing can stop them.
 ghost use Rattle.std.specs.Prelude.{◌≡◌, ◌<◌, ◌≤◌, ◌≤ℤ◌, ◌+◌, ◌+ℤ◌, ◌∷◌, [], ℕ, pos, negsuc, List, Option, Some, Result, IfOk, IfSome, IfNone, IsTrue, IsFalse, length, drop, int_le, true, FitsSigned};
 ghost use Rattle.std.specs.Int.{w64};
-ghost use Rattle.moo_value.specs.Tree.{integer};
 ghost use Rattle.moo_value.specs.View.{tree as value_tree, trees};
 ghost use Rattle.moo_program.specs.View.{tree, block};
 ghost use Rattle.moo_outcome.specs.Outcome.{Flow, Stop};
@@ -10,20 +9,19 @@ ghost use Rattle.moo_outcome.specs.Variables.{bind};
 ghost use Rattle.moo_table.specs.World.{World as WorldModel};
 ghost use Rattle.moo_access.specs.State.{State};
 ghost use Rattle.moo_code_function.specs.Telling.{Faults};
-ghost use Rattle.moo_eval.specs.Meaning.{Loops, Visits, Counts};
+ghost use Rattle.moo_semantics.specs.Meaning.{Loops, Visits, Counts};
 ghost use Rattle.moo_eval.specs.Turning.{Within, IsTested, IsBegun};
-ghost use Rattle.moo_eval.specs.Worth.{IsWorth};
 ghost use Rattle.moo_eval.specs.Seen.{state_of};
 
-use crate::ahead::is_other_than_0;
 use crate::interpreter::Task;
-use crate::leaves::integer_leaf;
-use crate::numbers::{at_a_glance, put_value};
-use crate::worth::{Sight, number_worth, take};
+use moo_fast_path::put_value;
 use moo_outcome::{Activation, Span};
 use moo_program::{Expr, Name, Stmt};
 use moo_value::Value;
 use moo_world::World;
+use moo_worth::integers::is_other_than_0;
+use moo_worth::worth::Sight;
+use moo_worth::{at_a_glance, test_worth};
 use std::alloc::AllocError;
 
 impl Task {
@@ -175,18 +173,4 @@ impl Task {
         self.ticks_left.leave(left - 1);
         true
     }
-}
-
-// The integer of a test that is an operator, a number or a variable, where it is known at once, and its ticks as those of worths.
-#[inline(always)]
-fn test_worth(sight: &Sight<'_>, left: &mut u32, test: &Expr) -> Option<i32>
-    ensures value { IfSome result (λ n. IsWorth sight.now.world.now sight.now.active.now left.old (tree test.now) (integer n) left.new) }
-    ensures ticks { left.new ≤ left.old }
-{
-    if let Expr::Binary(operator, first, second) = test {
-        return number_worth(sight, left, *operator, first, second);
-    }
-    let number = integer_leaf(sight.active, test)?;
-    take(left)?;
-    Some(number)
 }

@@ -2,11 +2,11 @@
 ghost use Rattle.std.specs.Prelude.{◌≡◌, List, [], ◌∷◌, negsuc, IfOk};
 ghost use Rattle.moo_outcome.specs.Seen.{surroundings_of};
 ghost use Rattle.moo_code_function.specs.Telling.{Faults};
-ghost use Rattle.moo_eval.specs.Task.{End, TaskEnds};
+ghost use Rattle.moo_semantics.specs.Task.{End, TaskEnds};
 ghost use Rattle.moo_eval.specs.Ends.{texts};
 ghost use Rattle.moo_outcome.specs.declared.notice.Notice.{Notice};
 ghost use Rattle.moo_hook.specs.Evaluating.{typed_frame};
-ghost use Rattle.moo_eval.specs.Typed.{nowhere, shown};
+ghost use Rattle.moo_semantics.specs.Typed.{nowhere, shown};
 
 use crate::task::{Ended, run_task};
 use moo_grammar::Program;

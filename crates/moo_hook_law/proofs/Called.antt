@@ -12,7 +12,7 @@ use Rattle.moo_code_function.specs.Telling.{Telling}
 use Rattle.moo_hook.specs.declared.progress.Stage.{Stage}
 use Rattle.moo_hook.specs.Progressing.{calling, Progress, stage_next, refuses, after_raise, is_missing, hooked, hook}
 use Rattle.moo_hook.specs.Stages.{resumed}
-use Rattle.moo_eval.specs.Meaning.{Proceeds, is_done, hook_stops, hook_then, at_once}
+use Rattle.moo_semantics.specs.Meaning.{Proceeds, is_done, hook_stops, hook_then, at_once}
 use Rattle.moo_hook_law.specs.Verbs.{entering, CallsVerb, passed_over, no_frame, runs}
 
 -- a function goes on with a step, in the world of that step

@@ -14,7 +14,7 @@ use Rattle.moo_hook.specs.Progressing.{calling, Progress, refuses, after_raise}
 use Rattle.moo_hook.specs.Quota.{quota, is_used_up}
 use Rattle.moo_hook.specs.Creating.{may_be_parent, next_number, initialized, creating}
 use Rattle.moo_hook.specs.Calls.{Starts, refused, starts}
-use Rattle.moo_eval.specs.Meaning.{Proceeds, is_done}
+use Rattle.moo_semantics.specs.Meaning.{Proceeds, is_done}
 use Rattle.moo_hook_law.specs.Creates as law
 use Rattle.moo_hook_law.specs.Creates.{with_new, MayCreate, Creates}
 use Rattle.moo_hook_law.proofs.Called.{GoesOn, Follows, failed, answered, hook_then_follows, unless_raised, begun}

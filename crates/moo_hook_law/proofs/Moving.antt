@@ -16,7 +16,7 @@ use Rattle.moo_world_function.specs.Objects.{is_valid}
 use Rattle.moo_hook.specs.Objects.{is_place, location}
 use Rattle.moo_hook.specs.Moving.{move_calls, is_to_move, moved, moving, may_enter, accepted, has_come, left_behind}
 use Rattle.moo_hook.specs.Calls.{Starts, refused, starts}
-use Rattle.moo_eval.specs.Meaning.{Proceeds, is_done}
+use Rattle.moo_semantics.specs.Meaning.{Proceeds, is_done}
 use Rattle.moo_hook_law.specs.Moves as law
 use Rattle.moo_hook_law.specs.Moves.{move_error, with_move, Arrives, Goes, Moves}
 use Rattle.moo_hook_law.proofs.Called.{GoesOn, Follows, failed, answered, hook_then_follows, unless_raised, begun, refused_object, valid_object}

@@ -22,8 +22,8 @@ use Rattle.moo_hook.specs.Objects.{first_inside}
 use Rattle.moo_hook.specs.Recycling.{recycle_calls, recycling, taken_away, moved_out, emptied}
 use Rattle.moo_hook.specs.Stages.{resumed}
 use Rattle.moo_hook.specs.Calls.{Starts, refused, starts}
-use Rattle.moo_eval.specs.Operands.{answered, begun, left}
-use Rattle.moo_eval.specs.Meaning.{RunsAll, Proceeds, is_done, hook_stops, hook_then, at_once}
+use Rattle.moo_semantics.specs.Operands.{answered, begun, left}
+use Rattle.moo_semantics.specs.Meaning.{RunsAll, Proceeds, is_done, hook_stops, hook_then, at_once}
 use Rattle.moo_hook_law.specs.Verbs.{entering, CallsVerb, passed_over, no_frame, runs}
 use Rattle.moo_hook_law.specs.Recycles as law
 use Rattle.moo_hook_law.specs.Recycles.{out_error, with_out, without, Empties, Recycles}

@@ -8,7 +8,7 @@ use Rattle.moo_access.specs.State.{State}
 use Rattle.moo_code_function.specs.Telling.{Faults}
 use Rattle.moo_hook.specs.Progressing.{Progress}
 use Rattle.moo_hook.specs.Calls.{Starts}
-use Rattle.moo_eval.specs.Meaning.{Proceeds}
+use Rattle.moo_semantics.specs.Meaning.{Proceeds}
 use Rattle.moo_hook_law.specs.Moves.{Moves}
 use Rattle.moo_hook_law.specs.Creates.{Creates}
 use Rattle.moo_hook_law.specs.Recycles.{Recycles}

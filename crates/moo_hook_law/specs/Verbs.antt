@@ -7,8 +7,8 @@ use Rattle.moo_access.specs.State.{State}
 use Rattle.moo_access.specs.Entering.{Entered, entered_verb}
 use Rattle.moo_code_function.specs.Telling.{Telling}
 use Rattle.moo_hook.specs.Progressing.{through, is_missing}
-use Rattle.moo_eval.specs.Operands.{answered, begun, left}
-use Rattle.moo_eval.specs.Meaning.{RunsAll}
+use Rattle.moo_semantics.specs.Operands.{answered, begun, left}
+use Rattle.moo_semantics.specs.Meaning.{RunsAll}
 
 -- what the call of a verb of an object enters, for the running frame
 abbrev pub entering : Context → ℤ → List ℕ → List Tree → State → Result Entered Failure

@@ -3,8 +3,8 @@ use Rattle.moo_grammar.specs.declared.names.Names.TheVariants.{Known}
 use Rattle.moo_syntax.proofs.Blamed.{parsed_is_not_blamed}
 use Rattle.moo_code_function.specs.Telling.{Faults, Choice, PassesPrograms, chosen_by}
 use Rattle.moo_call.proofs.Unique.{chosen_once}
-use Rattle.moo_eval.specs.Task.{OneResultOfTasks}
-use Rattle.moo_eval.specs.Laws.{ChoosesFaults, Texts, HaveOneFault, faults_of, OneResultOfTasksBy, TasksByChoice}
+use Rattle.moo_semantics.specs.Task.{OneResultOfTasks}
+use Rattle.moo_semantics.specs.Laws.{ChoosesFaults, Texts, HaveOneFault, faults_of, OneResultOfTasksBy, TasksByChoice}
 use Rattle.moo_command.specs.Commands.{OneCommand}
 use Rattle.moo_programming.proofs.Unique.{TellAlike}
 use Rattle.moo_server_law.proofs.UniqueLines.{Agree, Within}

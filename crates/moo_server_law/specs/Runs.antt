@@ -2,7 +2,7 @@
 use Rattle.std.specs.Prelude.{ℕ, List}
 use Rattle.moo_saved.specs.Saved.{Saved}
 use Rattle.moo_code_function.specs.Telling.{Choice, Faults, PassesPrograms, chosen_by}
-use Rattle.moo_eval.specs.Laws.{ChoosesFaults, HaveOneFault, Texts, faults_of}
+use Rattle.moo_semantics.specs.Laws.{ChoosesFaults, HaveOneFault, Texts, faults_of}
 use Rattle.moo_live.specs.declared.live.Live.{Live}
 use Rattle.moo_layer.specs.Sessions.{Output}
 use Rattle.moo_serving.specs.Meaning.{Begins, Entry, Run, State}

@@ -2,7 +2,7 @@
 use Rattle.std.specs.Prelude.{◌≡◌, ℕ, ℤ, Bool, List, []}
 use Rattle.moo_table.specs.World.{World}
 use Rattle.moo_code_function.specs.Telling.{Telling, Faults, Choice, PassesPrograms, chosen_by}
-use Rattle.moo_eval.specs.Laws.{ChoosesFaults, Texts, HaveOneFault, faults_of}
+use Rattle.moo_semantics.specs.Laws.{ChoosesFaults, Texts, HaveOneFault, faults_of}
 use Rattle.moo_live.specs.declared.live.Live.{Live}
 use Rattle.moo_session.specs.Events.{Opens, Hears, HangsUp, CheckpointStarts, CheckpointEnds, Starts}
 

@@ -13,7 +13,7 @@ use Rattle.moo_outcome.specs.declared.notice.Notice.{Notice}
 use Rattle.moo_outcome.specs.Surroundings.{Surroundings}
 use Rattle.moo_eval.specs.declared.task.Ended as code
 use Rattle.moo_eval.specs.declared.task.Ended.TheVariants as ended
-use Rattle.moo_eval.specs.Task.{End, value, uncaught, out_of_ticks, TaskEnds}
+use Rattle.moo_semantics.specs.Task.{End, value, uncaught, out_of_ticks, TaskEnds}
 use Rattle.moo_eval.specs.Ends.{IfEnded, LeavesNotices, texts}
 use Rattle.moo_connection.specs.Connections.{around}
 use Rattle.moo_live.specs.declared.hook.Hook.{Hook}

@@ -6,7 +6,7 @@ use Rattle.moo_table.specs.World.{World}
 use Rattle.moo_code_function.specs.Telling.{Telling, Choice, PassesPrograms, chosen_by}
 use Rattle.moo_outcome.specs.declared.frame.Frame.{Frame}
 use Rattle.moo_outcome.specs.declared.notice.Notice.{Notice}
-use Rattle.moo_eval.specs.Task.{End, OneResultOfTasks}
+use Rattle.moo_semantics.specs.Task.{End, OneResultOfTasks}
 use Rattle.moo_connection.specs.Connections.{around}
 use Rattle.moo_live.specs.declared.hook.Hook.{Hook}
 use Rattle.moo_live.specs.declared.live.Live.{Live}

@@ -5,7 +5,7 @@ use Rattle.moo_table.specs.World.{World}
 use Rattle.moo_outcome.specs.declared.frame.Frame.{Frame}
 use Rattle.moo_outcome.specs.declared.notice.Notice.{Notice}
 use Rattle.moo_outcome.specs.Surroundings.{Surroundings}
-use Rattle.moo_eval.specs.Task.{End, TaskEnds}
+use Rattle.moo_semantics.specs.Task.{End, TaskEnds}
 use Rattle.moo_code_function.specs.Telling.{Telling, Choice, PassesPrograms, chosen_by}
 use Rattle.moo_live.specs.declared.live.Live.{Live}
 use Rattle.moo_task.specs.Tasks.{CallsServerVerb}

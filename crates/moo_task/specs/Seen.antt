@@ -6,7 +6,7 @@ use Rattle.moo_value.specs.Tree.{Tree}
 use Rattle.moo_value.specs.View.{tree}
 use Rattle.moo_eval.specs.declared.task.Ended as code
 use Rattle.moo_eval.specs.declared.task.Ended.TheVariants as ended
-use Rattle.moo_eval.specs.Task.{End, value, uncaught, out_of_ticks}
+use Rattle.moo_semantics.specs.Task.{End, value, uncaught, out_of_ticks}
 use Rattle.moo_eval.specs.Ends.{texts}
 
 abbrev pub seen_answer : Option Value → Option Tree

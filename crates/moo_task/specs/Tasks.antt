@@ -6,7 +6,7 @@ use Rattle.moo_table.specs.World.{World}
 use Rattle.moo_code_function.specs.Telling.{Telling}
 use Rattle.moo_outcome.specs.declared.frame.Frame.{Frame}
 use Rattle.moo_outcome.specs.declared.notice.Notice.{Notice}
-use Rattle.moo_eval.specs.Task.{End, value, uncaught, out_of_ticks, TaskEnds}
+use Rattle.moo_semantics.specs.Task.{End, value, uncaught, out_of_ticks, TaskEnds}
 use Rattle.moo_connection.specs.Connections.{around}
 use Rattle.moo_live.specs.declared.live.Live.{Live}
 use Rattle.moo_live.specs.State.{state}

@@ -1,7 +1,7 @@
 //! Whole tasks, with what they asked for.
 ghost use Rattle.std.specs.Prelude.{◌≡◌, IfOk};
 ghost use Rattle.moo_code_function.specs.Telling.{Faults};
-ghost use Rattle.moo_eval.specs.Task.{TaskEnds};
+ghost use Rattle.moo_semantics.specs.Task.{TaskEnds};
 ghost use Rattle.moo_eval.specs.Ends.{IfEnded};
 ghost use Rattle.moo_connection.specs.Connections.{around};
 ghost use Rattle.moo_live.specs.Sending.{all_told};

@@ -1,4 +1,4 @@
-use Rattle.std.proofs.Common.{◌∷◌, [], Ok, Err, refl, sym, ap, subst, ◌∙◌, arith, rules, Some, None, ◌+◌, drop, map, pos, ◌+ℤ◌}
+use Rattle.std.proofs.Common.{⊎_elim, ◌∷◌, [], Ok, Err, refl, sym, ap, subst, ◌∙◌, arith, rules, Some, None, ◌+◌, drop, map, pos, ◌+ℤ◌}
 use Rattle.std.proofs.lemmas.Result.{err_from_is_err_and}
 use Rattle.std.proofs.lemmas.List.{append-nil}
 use Rattle.std.proofs.lemmas.Int.{to_z-of_z}
@@ -13,17 +13,18 @@ use Rattle.moo_code_function.specs.Telling.{Faults}
 use Rattle.moo_function.specs.Names.{function_of}
 use Rattle.moo_hook.specs.Calls.{verb_caller}
 use Rattle.moo_eval.specs.Seen.{state_of}
-use Rattle.moo_eval.specs.Meaning.{Computes, EvaluatesAll, spent, begins, operands_end, places_end, applies, no_more, element_stops, element_then, splice_stops, splice_fails, splice_then, literal_is, variable_is, length_is, unary_is, binary_is, logic_decides, logic_goes_on, conditional_true, conditional_false, index_is, range_is, list_is, property_is, verb_fails, verb_runs, call_is, call_runs, is_done, hook_stops, hook_then, assign_is, catch_gives, catch_or_goes_on, target_ends, value_stops, assigns, root_ends, locates, parts_end, finds, inside, step_ends, enters, unread, spot_ends, steps_in, no_store, stores, none_missing, default_stops, default_then, Counts, statement_spent, statement_begins, selects, list_stops, list_fails, visits, span_stops, span_fails, counts, loops, breaks_out, continues_on, unprepared, tries, finally_skipped, finally_runs, ends, leaves, proceeds, none_selected, else_runs, test_stops, arm_runs, arm_passed, turn_spent, turns, loop_stops, loop_ends, loop_left, loop_then, all_visited, visit_left, visit_then, all_counted, count_left, count_then, nothing_raised, ticks_out, handles, Prepares, no_codes, codes_stop, codes_then, gives_zero, gives, evaluates}
+use Rattle.moo_semantics.specs.Meaning.{Computes, EvaluatesAll, spent, begins, operands_end, places_end, applies, no_more, element_stops, element_then, splice_stops, splice_fails, splice_then, literal_is, variable_is, length_is, unary_is, binary_is, logic_decides, logic_goes_on, conditional_true, conditional_false, index_is, range_is, list_is, property_is, verb_fails, verb_runs, call_is, call_runs, is_done, hook_stops, hook_then, assign_is, catch_gives, catch_or_goes_on, target_ends, value_stops, assigns, root_ends, locates, parts_end, finds, inside, step_ends, enters, unread, spot_ends, steps_in, no_store, stores, none_missing, default_stops, default_then, Counts, statement_spent, statement_begins, selects, list_stops, list_fails, visits, span_stops, span_fails, counts, loops, breaks_out, continues_on, unprepared, tries, finally_skipped, finally_runs, ends, leaves, proceeds, none_selected, else_runs, test_stops, arm_runs, arm_passed, turn_spent, turns, loop_stops, loop_ends, loop_left, loop_then, all_visited, visit_left, visit_then, all_counted, count_left, count_then, nothing_raised, ticks_out, handles, Prepares, no_codes, codes_stop, codes_then, gives_zero, gives, evaluates}
 use Rattle.moo_value.specs.declared.error_code.ErrorCode.TheVariants.{TypeMismatch}
 use Rattle.moo_access.specs.SeenTarget.{path_of}
 use Rattle.moo_access.specs.SeenCalled.{entered_of}
-use Rattle.moo_eval.proofs.Caught.{guards_end, passes_on, none_left, known_caught}
+use Rattle.moo_fast_path.proofs.Refused.{none_left}
+use Rattle.moo_eval.proofs.Caught.{guards_end, passes_on, known_caught}
 use Rattle.moo_program.specs.Tree as program
 use Rattle.moo_program.specs.Tree.{variable, splice, element, no_items}
 use Rattle.moo_eval.proofs.Lengthened.{lengthened, too_long, first_stops, first_fails, unspliced, second_stops, set_longer, set_error, not_set}
 use Rattle.moo_eval.specs.Growth.{SettlesAs}
 use Rattle.moo_eval.proofs.Appended.{appended, past_limits, no_list, variable_stops, last_stops}
-use Rattle.moo_eval.specs.Element.{sets_place}
+use Rattle.moo_fast_path.specs.Element.{sets_place}
 use Rattle.moo_eval.proofs.Placed.{put, not_put, unheld, place_ends, value_ends, put_alone, passed_over, stopped}
 use Rattle.std.proofs.lemmas.Bool.{eqb-true}
 use Rattle.moo_eval.proofs.Foreseen.{nothing_left}
@@ -40,7 +41,7 @@ use Rattle.moo_eval.proofs.Counting.{after, between, narrow, next_number, not_be
 use Rattle.moo_eval.specs.Turning.{turn_left, turn_done}
 use Rattle.moo_eval.proofs.interpreter.Task.+evaluation.Goals.{visit_all-in-Some+in_ok-flow, visit_all-in_default+in-Some-get+in_ok-value+in_ok-flow-2, count-in-Some+in_ok-flow, count-in_default+then-number-from+in_ok-flow-2}
 use Rattle.moo_outcome.specs.Handling.{guarded}
-use Rattle.moo_eval.specs.Operands.{before}
+use Rattle.moo_semantics.specs.Operands.{before}
 use Rattle.moo_eval.proofs.interpreter.Task.+evaluation.Goals as goal
 use Rattle.moo_eval.proofs.interpreter.Task.+evaluation.Goals.{evaluate_all-in-Element+in_ok-value-in-Element+in_ok-push-in-Element, evaluate_all-in-Splice+in_ok-value-in-Splice+in_ok-splice-in-Splice}
 
@@ -352,7 +353,7 @@ compute-returns-in-Call-clause-meaning t c =
 
 pub evaluate_all-returns-in-Optional-clause-meaning : goal.evaluate_all-returns-in-Optional-clause-meaning
 evaluate_all-returns-in-Optional-clause-meaning t c =
-    λ k. c.loop-item.invariant.rest (Err (fails TypeMismatch)) _ (rw (drop_next c.args.items.now c.loop-item.item-index c.item-item.result c.loop-item-test.true c.item-item.is) (optional_ends c.item-item.result _ (rw c.in-Optional.is tt)))
+    λ k. c.loop-item.invariant.rest (Err (fails TypeMismatch)) _ (rw (drop_next c.args.items.now c.loop-item.item-index c.item-item.result c.loop-item-test.true c.item-item.is) (optional_ends c.item-item.result _ (⊎_elim (λ p. rw p.1 tt) (λ p. rw p.2 tt) c.in-Optional.is)))
 
 pub guards-returns-in-Any-clause-meaning : goal.guards-returns-in-Any-clause-meaning
 guards-returns-in-Any-clause-meaning t c =

@@ -5,7 +5,7 @@ use Rattle.moo_program.specs.View.{tree, items_of, block, arms_of, handlers_of}
 use Rattle.moo_outcome.specs.Outcome.{Failure, Flow, Stop}
 use Rattle.moo_access.specs.State.{State}
 use Rattle.moo_access.specs.Target.{Path}
-use Rattle.moo_eval.specs.Meaning.{EvaluatesAll, Locates, Enters, SetsDefaults, RunsAll, Selects, Loops, Visits, Counts, Prepares}
+use Rattle.moo_semantics.specs.Meaning.{EvaluatesAll, Locates, Enters, SetsDefaults, RunsAll, Selects, Loops, Visits, Counts, Prepares}
 use Rattle.moo_access.specs.SeenTarget.{root_seen, steps_of, spot_of}
 use Rattle.moo_outcome.specs.SeenScatter.{left_out_of}
 use Rattle.moo_outcome.specs.Seen.{context_of}
@@ -16,7 +16,7 @@ use Rattle.moo_hook.specs.Seen.{progress_of}
 use Rattle.std.specs.Prelude.{◌≤ℤ◌}
 use Rattle.moo_outcome.specs.Handling.{Guarded, guarded_before}
 use Rattle.moo_outcome.specs.SeenHandling.{guarded_of}
-use Rattle.moo_eval.specs.Operands.{before}
+use Rattle.moo_semantics.specs.Operands.{before}
 use Rattle.moo_eval.proofs.interpreter.Task.+evaluation.Given as goal
 
 -- Each node, statement and turn takes a tick; between two ticks the calls go down these ranks.

@@ -4,6 +4,7 @@ use mir.Val.{SFits}
 use Rattle.moo_value.specs.Tree.{integer}
 use Rattle.moo_call.specs.Seen.{state_at}
 use Rattle.moo_eval.proofs.Foreseen.{ticks_seen}
+use Rattle.moo_eval.proofs.Known.{worth_gives}
 use Rattle.moo_eval.proofs.interpreter.Task.begins_turn.Goals as goal
 
 pub returns-clause-tested : goal.returns-clause-tested
@@ -13,4 +14,4 @@ returns-clause-tested c =
     let glance = c.in-Some.glance in
     let number : SFits w32 glance.number = search rules in
     let n = c.args.self.now.ticks_left in
-    λ t k. record { value = integer glance.number; middle = state_at (n - glance.ticks) c.args.self.now.notices.items c.args.world.now c.args.active.now; gives = c.in-Some.ensures.worth c.args.world.now n (omega (arith, c.if-left-glance.false, ticks)) k _; passes = sym (rw (to_z-of_z w32 glance.number number) at c.is_other_than_0.ensures) ∙ c.if-not-is_other_than_0.false; one_left = omega (arith, c.if-left-glance.false, ticks); taken = rw (c.leave.ensures, ticks) refl }
+    λ t k. record { value = integer glance.number; middle = state_at (n - glance.ticks) c.args.self.now.notices.items c.args.world.now c.args.active.now; gives = worth_gives (c.in-Some.ensures.worth c.args.world.now n (omega (arith, c.if-left-glance.false, ticks))) k _; passes = sym (rw (to_z-of_z w32 glance.number number) at c.is_other_than_0.ensures) ∙ c.if-not-is_other_than_0.false; one_left = omega (arith, c.if-left-glance.false, ticks); taken = rw (c.leave.ensures, ticks) refl }

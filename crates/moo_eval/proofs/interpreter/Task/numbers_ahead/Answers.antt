@@ -8,7 +8,7 @@ use Rattle.std.specs.Prelude.{◌≤ℤ◌}
 use Rattle.moo_program.specs.View.{block}
 use Rattle.moo_outcome.specs.Leading.{numbered}
 use Rattle.moo_code_function.specs.Telling.{Faults}
-use Rattle.moo_eval.specs.Meaning.{Counts}
+use Rattle.moo_semantics.specs.Meaning.{Counts}
 use Rattle.moo_eval.specs.Seen.{state_of}
 use Rattle.moo_eval.specs.Turning.{turn_done}
 use Rattle.moo_eval.proofs.Counting.{between, narrow, next_number, not_below, reached}

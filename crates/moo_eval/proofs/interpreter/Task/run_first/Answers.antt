@@ -1,5 +1,5 @@
 use Rattle.std.proofs.Common.{arith}
-use Rattle.moo_eval.specs.Meaning.{proceeds}
+use Rattle.moo_semantics.specs.Meaning.{proceeds}
 use Rattle.moo_eval.proofs.interpreter.Task.run_first.Goals as goal
 
 pub loop-first-preserved : goal.loop-first-preserved

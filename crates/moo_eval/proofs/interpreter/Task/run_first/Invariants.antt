@@ -4,7 +4,7 @@ use Rattle.moo_outcome.specs.Outcome.{Flow, Stop}
 use Rattle.moo_outcome.specs.State.{Context}
 use Rattle.moo_access.specs.State.{State}
 use Rattle.moo_code_function.specs.Telling.{Faults}
-use Rattle.moo_eval.specs.Meaning.{RunsAll}
+use Rattle.moo_semantics.specs.Meaning.{RunsAll}
 use Rattle.moo_eval.specs.Seen.{state_of}
 use Rattle.moo_eval.proofs.interpreter.Task.run_first.Given as goal
 

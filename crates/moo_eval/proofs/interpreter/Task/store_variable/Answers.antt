@@ -5,7 +5,7 @@ use Rattle.moo_outcome.specs.Seen.{failure_of}
 use Rattle.moo_access.specs.Target.{named}
 use Rattle.moo_access.specs.SeenTarget.{steps_of}
 use Rattle.moo_code_function.specs.Telling.{Faults}
-use Rattle.moo_eval.specs.Meaning.{Stores, no_store, stores, puts_variable}
+use Rattle.moo_semantics.specs.Meaning.{Stores, no_store, stores, puts_variable}
 use Rattle.moo_eval.proofs.Exits.{same_state}
 use Rattle.moo_eval.specs.Seen.{state_of}
 use Rattle.moo_eval.proofs.interpreter.Task.store_variable.Goals as goal

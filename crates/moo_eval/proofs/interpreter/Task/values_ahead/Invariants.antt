@@ -5,7 +5,7 @@ use Rattle.moo_outcome.specs.Outcome.{Flow, Stop}
 use Rattle.moo_outcome.specs.State.{Context}
 use Rattle.moo_access.specs.State.{State}
 use Rattle.moo_code_function.specs.Telling.{Faults}
-use Rattle.moo_eval.specs.Meaning.{Visits}
+use Rattle.moo_semantics.specs.Meaning.{Visits}
 use Rattle.moo_eval.specs.Seen.{state_of}
 use Rattle.moo_eval.proofs.interpreter.Task.values_ahead.Given as goal
 

@@ -1,4 +1,4 @@
-use Rattle.moo_eval.specs.Laws.{faults_of}
+use Rattle.moo_semantics.specs.Laws.{faults_of}
 use Rattle.moo_code_function.specs.Telling.{Faults}
 use Rattle.moo_server_law.proofs.Agreeing.{by_single_faults}
 use Rattle.moo_server_law.proofs.Unique.{one_result}

@@ -1,0 +1,12 @@
+use Rattle.std.proofs.Common.{rules}
+use mir.Syntax.{w32}
+use mir.Val.{SFits}
+use Rattle.moo_eval.proofs.Foreseen.{ticks_seen}
+use Rattle.moo_eval.proofs.Known.{worth_gives}
+use Rattle.moo_eval.proofs.interpreter.Task.at_once.Goals as goal
+
+pub returns-clause-some : goal.returns-clause-some
+returns-clause-some c =
+    let fits : SFits w32 c.left.result = search rules in
+    let ticks = ticks_seen c.left.result c.args.self.now.ticks_left fits c.left.ensures in
+    λ k. rw c.leave.ensures (worth_gives (rw ticks at c.in_ok-value.ensures.value) k _)

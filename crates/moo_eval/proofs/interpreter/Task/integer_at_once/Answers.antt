@@ -1,0 +1,14 @@
+use Rattle.std.proofs.Common.{rules}
+use Rattle.std.proofs.lemmas.Int.{to_z-of_z}
+use mir.Syntax.{w32}
+use mir.Val.{SFits}
+use Rattle.moo_eval.proofs.Foreseen.{ticks_seen}
+use Rattle.moo_eval.proofs.Known.{worth_gives}
+use Rattle.moo_eval.proofs.interpreter.Task.integer_at_once.Goals as goal
+
+pub returns-clause-some : goal.returns-clause-some
+returns-clause-some c =
+    let fits : SFits w32 c.left.result = search rules in
+    let ticks = ticks_seen c.left.result c.args.self.now.ticks_left fits c.left.ensures in
+    let number : SFits w32 c.in_ok-number.number = search rules in
+    λ k. rw (c.in-Binary.is, ← c.deref.ensures, ← c.deref-2.ensures, to_z-of_z w32 c.in_ok-number.number number, c.leave.ensures) (worth_gives (rw ticks at c.in_ok-number.ensures.value) k _)

@@ -1,0 +1,4 @@
+pub mod Refused
+mod InPlace
+mod Limits
+mod Written

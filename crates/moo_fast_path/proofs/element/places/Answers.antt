@@ -1,0 +1,11 @@
+use Rattle.std.proofs.Common.{refl, rules}
+use Rattle.std.proofs.lemmas.Int.{to_z-of_z}
+use mir.Syntax.{w32}
+use mir.Val.{SFits}
+use Rattle.moo_fast_path.proofs.InPlace.{map_ok}
+use Rattle.moo_fast_path.proofs.element.places.Goals as goal
+
+pub returns-clause-placed : goal.returns-clause-placed
+returns-clause-placed c =
+    let fits : SFits w32 c.in-Some.place = search rules in
+    map_ok c.put_at.result (λ b f t. let h = f t in record { container = h.0; at = _; value = _; whole = h.1; found = _; holds = h.2; gives_place = c.in-Some.ensures.value; gives_value = c.in-Some-value_part.ensures.value; is = h.3; sets = h.4; keeps = refl }) (rw (to_z-of_z w32 c.in-Some.place fits) at c.put_at.ensures.put)

@@ -1,0 +1,154 @@
+//! Forms of statements and expressions that have a way of their own.
+ghost use Rattle.std.specs.Prelude.{◌≡◌, IfSome};
+ghost use Rattle.moo_program.specs.Tree.{variable, index, property, assign, performs, returns};
+ghost use Rattle.moo_program.specs.View.{tree, statement as statement_of};
+ghost use Rattle.moo_fast_path.specs.Element.{sets_place};
+
+use crate::appending::may_be_list_append;
+use moo_program::{Expr, Name, Stmt};
+use moo_worth::may_have_worth;
+
+/// The name and the value of an assignment to a variable alone.
+#[inline]
+pub fn as_assignment(expr: &Expr) -> Option<(&Name, &Expr)>
+    ensures { IfSome result (λ p. tree expr.now ≡ assign (variable p.0.now) (tree p.1.now)) }
+{
+    let Expr::Assign(target, value) = expr else {
+        return None;
+    };
+    let name = as_variable(target)?;
+    Some((name, value))
+}
+
+/// The name of a variable.
+#[inline]
+pub fn as_variable(expr: &Expr) -> Option<&Name>
+    ensures { IfSome result (λ name. tree expr.now ≡ variable name.now) }
+{
+    match expr {
+        Expr::Variable(name) => Some(name),
+        _ => None,
+    }
+}
+
+/// The variable and the value of a statement that sets one.
+#[inline]
+pub fn as_setting(statement: &Stmt) -> Option<(&Name, &Expr)>
+    ensures { IfSome result (λ p. statement_of statement.now ≡ performs (assign (variable p.0.now) (tree p.1.now))) }
+{
+    match statement {
+        Stmt::Expression(expr) => as_assignment(expr),
+        _ => None,
+    }
+}
+
+/// Whether a statement sets a variable to what an operator gives.
+#[inline]
+pub fn sets_operator(statement: &Stmt) -> bool {
+    matches!(as_setting(statement), Some((_, Expr::Binary(..))))
+}
+
+/// The name, the place and the value of an assignment to a place of a variable.
+#[inline]
+pub fn as_place_assignment(expr: &Expr) -> Option<(&Name, &Expr, &Expr)>
+    ensures { IfSome result (λ p. tree expr.now ≡ sets_place p.0.now (tree p.1.now) (tree p.2.now)) }
+{
+    let Expr::Assign(target, value) = expr else {
+        return None;
+    };
+    let (name, place) = as_place(target)?;
+    Some((name, place, value))
+}
+
+// The name and the place of an index of a variable.
+#[inline]
+fn as_place(target: &Expr) -> Option<(&Name, &Expr)>
+    ensures { IfSome result (λ p. tree target.now ≡ index (variable p.0.now) (tree p.1.now)) }
+{
+    let Expr::Index(base, place) = target else {
+        return None;
+    };
+    let name = as_variable(base)?;
+    Some((name, place))
+}
+
+/// The same of a statement.
+#[inline]
+pub fn as_placing(statement: &Stmt) -> Option<(&Name, &Expr, &Expr)>
+    ensures { IfSome result (λ p. statement_of statement.now ≡ performs (sets_place p.0.now (tree p.1.now) (tree p.2.now))) }
+{
+    match statement {
+        Stmt::Expression(expr) => as_place_assignment(expr),
+        _ => None,
+    }
+}
+
+/// The object, the name and the value of a statement that sets a property.
+#[inline]
+pub fn as_writing(statement: &Stmt) -> Option<(&Expr, &Expr, &Expr)>
+    ensures { IfSome result (λ p. statement_of statement.now ≡ performs (assign (property (tree p.0.now) (tree p.1.now)) (tree p.2.now))) }
+{
+    let Stmt::Expression(expr) = statement else {
+        return None;
+    };
+    let Expr::Assign(target, value) = &**expr else {
+        return None;
+    };
+    let Expr::Property(base, name) = &**target else {
+        return None;
+    };
+    Some((base, name, value))
+}
+
+/// The expression whose value a statement returns.
+#[inline]
+pub fn as_return(statement: &Stmt) -> Option<&Expr>
+    ensures { IfSome result (λ e. statement_of statement.now ≡ returns (tree e.now)) }
+{
+    match statement {
+        Stmt::Return(Some(expr)) => Some(expr),
+        _ => None,
+    }
+}
+
+/// Whether a statement may be one that is known at once.
+#[inline(always)]
+pub fn may_complete(statement: &Stmt) -> bool {
+    let Stmt::Expression(expr) = statement else {
+        return false;
+    };
+    let Expr::Assign(target, value) = &**expr else {
+        return false;
+    };
+    match &**target {
+        Expr::Index(..) | Expr::Property(..) => may_have_worth(value),
+        Expr::Variable(_) => may_have_worth(value) || may_lengthen(value),
+        _ => false,
+    }
+}
+
+/// Whether a statement may be one that sets a place of a list, or puts something behind a list.
+#[inline(always)]
+pub fn may_change_a_list(statement: &Stmt) -> bool {
+    let Stmt::Expression(expr) = statement else {
+        return false;
+    };
+    let Expr::Assign(target, value) = &**expr else {
+        return false;
+    };
+    match &**target {
+        Expr::Index(..) => may_have_worth(value),
+        Expr::Variable(_) => may_lengthen(value),
+        _ => false,
+    }
+}
+
+// Whether an expression may be that of a longer list.
+#[inline(always)]
+fn may_lengthen(value: &Expr) -> bool {
+    match value {
+        Expr::List(_) => true,
+        Expr::Call(name, _) => may_be_list_append(name),
+        _ => false,
+    }
+}

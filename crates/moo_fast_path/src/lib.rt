@@ -1,0 +1,24 @@
+//! What is set to values that are known at once: variables, places of lists and strings, lists that grow and properties; and the forms
+//! of statements that have a way of their own.
+//! A room behind `moo_eval`.
+#![tactic(auto)]
+
+mod appending;
+mod element;
+mod forms;
+mod growing;
+mod growth;
+mod in_place;
+mod setting;
+mod writing;
+
+pub use appending::as_appended;
+pub use element::{places, set_at};
+pub use forms::{
+    as_assignment, as_place_assignment, as_placing, as_return, as_setting, as_variable, as_writing,
+    may_change_a_list, may_complete, sets_operator,
+};
+pub use growing::{as_growing, grows};
+pub use growth::{as_longer, set_longer};
+pub use setting::{put_number, put_value, puts, puts_joined};
+pub use writing::writes;

@@ -1,0 +1,10 @@
+pub mod Operands
+pub mod Meaning
+pub mod Frames
+pub mod Notices
+pub mod Task
+pub mod Typed
+pub mod Line
+pub mod Laws
+pub mod HookLaws
+pub mod Functions

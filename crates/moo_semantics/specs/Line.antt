@@ -1,0 +1,50 @@
+-- What a line of input is answered.
+use Rattle.std.specs.Prelude.{◌≡◌, ◌≢◌, ℕ, negsuc, List, [], ◌∷◌, ◌++◌, codes}
+use Rattle.moo_value.specs.Tree.{IsText}
+use Rattle.moo_value.specs.Size.{IsString}
+use Rattle.moo_program.specs.Tree.{Block}
+use Rattle.moo_grammar.specs.declared.names.Names.TheVariants.{Known}
+use Rattle.moo_syntax.specs.declared.syntax_fault.SyntaxFault.{SyntaxFault}
+use Rattle.moo_syntax.specs.declared.syntax_fault.SyntaxFaultKind.TheVariants.{Memory}
+use Rattle.moo_grammar.specs.Texts.{IsParsed}
+use Rattle.moo_syntax.specs.Programs.{Blames}
+use Rattle.moo_syntax.specs.FaultText.{fault_text}
+use Rattle.moo_table.specs.World.{World}
+use Rattle.moo_outcome.specs.declared.notice.Notice.{Notice}
+use Rattle.moo_code_function.specs.Telling.{Telling, Faults, Choice, PassesPrograms, chosen_by}
+use Rattle.moo_semantics.specs.Task.{End, TaskEnds}
+use Rattle.moo_hook.specs.Evaluating.{typed_frame}
+use Rattle.moo_semantics.specs.Typed.{nowhere, shown}
+
+-- the program that a line is
+abbrev pub program_text : List ℕ → List ℕ
+program_text line = codes "return " ++ line ++ codes ";"
+
+-- the world without objects and players
+abbrev pub no_world : World
+no_world = record { objects = []; inheritance = []; containment = []; players = [] }
+
+-- the text is a program, and its task over no world ends so
+pub record RunsTo (T : Telling) (text : List ℕ) (end : End) : Type 0 where
+  pub program : Block
+  pub after : World
+  pub notices : List Notice
+  pub parsed : IsParsed Known (text ∷ []) program
+  pub ends : TaskEnds T nowhere (typed_frame program (negsuc 0) (negsuc 0) (negsuc 0)) no_world end after notices
+
+-- the text has this fault, which is not want of memory
+pub record HasFault (text : List ℕ) (fault : SyntaxFault) : Type 0 where
+  pub blames : Blames Known (text ∷ []) fault.line fault.kind
+  pub told : fault.kind ≢ Memory
+
+-- A line is answered with these lines and this status: with what is shown of its program's end, or where it is refused,
+-- for a byte that no string holds, as too long for a string, or for a fault of its program, with the line that tells so.
+pub data AnswersLine (line : List ℕ) (lines : List (List ℕ)) (status : ℕ) : Type 0 where
+  bad_byte : (¬ IsText line) → lines ≡ codes "Line 1:  Bad token" ∷ [] → status ≡ 5 → AnswersLine line lines status
+  too_long : IsText line → (¬ IsString (program_text line)) → lines ≡ codes "Line 1:  Too deeply nested" ∷ [] → status ≡ 5 → AnswersLine line lines status
+  refused : IsString (program_text line) → (fault : SyntaxFault) → HasFault (program_text line) fault → lines ≡ fault_text fault ∷ [] → status ≡ 5 → AnswersLine line lines status
+  runs : IsString (program_text line) → (end : End) → RunsTo Faults (program_text line) end → lines ≡ shown end → status ≡ 0 → AnswersLine line lines status
+
+-- a text has at most one end, whatever is chosen to be told of texts that are no programs
+abbrev pub OneEndOfText : Type 0
+OneEndOfText = (choice : Choice) → PassesPrograms choice → (text : List ℕ) (end other : End) → RunsTo (chosen_by choice) text end → RunsTo (chosen_by choice) text other → end ≡ other

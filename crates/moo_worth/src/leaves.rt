@@ -1,0 +1,46 @@
+//! Expressions without parts.
+ghost use Rattle.std.specs.Prelude.{◌≡◌, Some, IfSome};
+ghost use Rattle.moo_value.specs.Tree.{integer};
+ghost use Rattle.moo_value.specs.Compare.{folded};
+ghost use Rattle.moo_value.specs.View.{tree as value_tree};
+ghost use Rattle.moo_program.specs.Tree.{literal_value as value_of_literal};
+ghost use Rattle.moo_program.specs.View.{tree};
+ghost use Rattle.moo_outcome.specs.Seen.{variables_of};
+ghost use Rattle.moo_worth.specs.Leaves.{IsLeaf};
+
+use crate::worth::integer_literal;
+use moo_outcome::{Activation, literal_value};
+use moo_program::{Expr, Literal, Name};
+use moo_value::Value;
+
+/// The integer of a number, or of a variable that holds one.
+#[inline(always)]
+pub fn integer_leaf(active: &Activation, expr: &Expr) -> Option<i32>
+    ensures { IfSome result (λ n. IsLeaf (variables_of active.now.variables) (tree expr.now) (integer n)) }
+{
+    match expr {
+        Expr::Literal(literal) => integer_literal(literal),
+        Expr::Variable(name) => active.variables.get_integer(name),
+        _ => None,
+    }
+}
+
+/// Whether an expression is a number, another literal or a variable.
+#[inline]
+pub(crate) fn is_leaf(expr: &Expr) -> bool {
+    matches!(expr, Expr::Literal(_) | Expr::Variable(_))
+}
+
+/// The value of a variable that is set, where there is memory for its copy.
+pub(crate) fn held(active: &Activation, name: &Name) -> Option<Value>
+    ensures { IfSome result (λ v. variables_of active.now.variables (folded name.now) ≡ Some (value_tree v)) }
+{
+    active.variables.get(name)?.try_clone().ok()
+}
+
+/// The value of a literal, likewise.
+pub(crate) fn written_out(literal: &Literal) -> Option<Value>
+    ensures { IfSome result (λ v. value_of_literal literal.now ≡ value_tree v) }
+{
+    literal_value(literal).ok()
+}

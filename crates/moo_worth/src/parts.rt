@@ -1,0 +1,83 @@
+//! Parts of statements that are known at once. What is an operator between integers, a number or a variable that holds one is looked
+//! at where it stands.
+ghost use Rattle.std.specs.Prelude.{◌≤◌, IfSome};
+ghost use Rattle.moo_value.specs.Tree.{integer};
+ghost use Rattle.moo_value.specs.View.{tree as value_tree};
+ghost use Rattle.moo_program.specs.View.{tree};
+ghost use Rattle.moo_worth.specs.Worth.{IsWorth};
+
+use crate::leaves::integer_leaf;
+use crate::properties::property_seen;
+use crate::worth::{DEEPEST, Sight, copied, element_worth, integer_of, number_worth, take, worth};
+use moo_program::Expr;
+use moo_value::Value;
+
+/// The integer of an expression, where it is known at once. Its ticks are taken of those that are left, where they are so many.
+#[inline(always)]
+pub fn integer_part(sight: &Sight<'_>, left: &mut u32, expr: &Expr) -> Option<i32>
+    ensures value { IfSome result (λ n. IsWorth sight.now.world.now sight.now.active.now left.old (tree expr.now) (integer n) left.new) }
+    ensures ticks { left.new ≤ left.old }
+{
+    if let Expr::Binary(operator, first, second) = expr {
+        return number_worth(sight, left, *operator, first, second);
+    }
+    if let Some(number) = integer_leaf(sight.active, expr) {
+        take(left)?;
+        return Some(number);
+    }
+    let value = worth(sight, left, expr)?;
+    integer_of(Some(&value))
+}
+
+/// The value of an expression, likewise.
+#[inline(always)]
+pub fn value_part(sight: &Sight<'_>, left: &mut u32, expr: &Expr) -> Option<Value>
+    ensures value { IfSome result (λ v. IsWorth sight.now.world.now sight.now.active.now left.old (tree expr.now) (value_tree v) left.new) }
+    ensures ticks { left.new ≤ left.old }
+{
+    if let Expr::Binary(operator, first, second) = expr {
+        let number = number_worth(sight, left, *operator, first, second)?;
+        return Some(Value::Int(number));
+    }
+    if let Some(number) = integer_leaf(sight.active, expr) {
+        take(left)?;
+        return Some(Value::Int(number));
+    }
+    worth(sight, left, expr)
+}
+
+/// The value of an element or of a property that isn't built in, likewise.
+#[inline(always)]
+pub fn part_copied(sight: &Sight<'_>, left: &mut u32, expr: &Expr) -> Option<Value>
+    ensures value { IfSome result (λ v. IsWorth sight.now.world.now sight.now.active.now left.old (tree expr.now) (value_tree v) left.new) }
+    ensures ticks { left.new ≤ left.old }
+{
+    copied(part_seen(sight, left, expr)?)
+}
+
+// The same, where it stands.
+#[inline(always)]
+fn part_seen<'a>(sight: &Sight<'a>, left: &mut u32, expr: &Expr) -> Option<&'a Value>
+    ensures value { IfSome result (λ v. IsWorth sight.now.world.now sight.now.active.now left.old (tree expr.now) (value_tree v.now) left.new) }
+    ensures ticks { left.new ≤ left.old }
+{
+    match expr {
+        Expr::Index(base, place) => element_worth(sight, left, base, place, DEEPEST),
+        Expr::Property(base, name) => property_seen(sight, left, base, name),
+        _ => None,
+    }
+}
+
+/// The integer of a test that is an operator, a number or a variable, where it is known at once, and its ticks as those of worths.
+#[inline(always)]
+pub fn test_worth(sight: &Sight<'_>, left: &mut u32, test: &Expr) -> Option<i32>
+    ensures value { IfSome result (λ n. IsWorth sight.now.world.now sight.now.active.now left.old (tree test.now) (integer n) left.new) }
+    ensures ticks { left.new ≤ left.old }
+{
+    if let Expr::Binary(operator, first, second) = test {
+        return number_worth(sight, left, *operator, first, second);
+    }
+    let number = integer_leaf(sight.active, test)?;
+    take(left)?;
+    Some(number)
+}

@@ -1,0 +1,174 @@
+//! Properties whose values are known at once.
+ghost use Rattle.std.specs.Prelude.{◌≡◌, ◌≤◌, Ok, IfSome};
+ghost use Rattle.moo_value.specs.Tree.{integer, object, string};
+ghost use Rattle.moo_value.specs.View.{tree as value_tree};
+ghost use Rattle.moo_program.specs.Tree.{literal_value as value_of_literal, property};
+ghost use Rattle.moo_program.specs.View.{tree};
+ghost use Rattle.moo_outcome.specs.Seen.{variables_of};
+ghost use Rattle.moo_table.specs.World.{World as WorldModel};
+ghost use Rattle.moo_access.specs.Calls.{read_property};
+ghost use Rattle.moo_worth.specs.Leaves.{IsLeaf};
+ghost use Rattle.moo_worth.specs.Worth.{IsWorth};
+
+use crate::strings::text_leaf;
+use crate::worth::{Sight, copied, integer_of, take, variable_found};
+use moo_outcome::Activation;
+use moo_program::{Expr, Literal};
+use moo_value::{MooStr, Value};
+use moo_world::{Rights, World};
+use std::alloc::Global;
+
+/// The value of a property of an object, where the object and the name are written out or stand in variables.
+#[inline(always)]
+pub(crate) fn property_copied(
+    sight: &Sight<'_>,
+    left: &mut u32,
+    base: &Expr,
+    name: &Expr,
+) -> Option<Value>
+    ensures value { IfSome result (λ v. IsWorth sight.now.world.now sight.now.active.now left.old (property (tree base.now) (tree name.now)) (value_tree v) left.new) }
+    ensures ticks { left.new ≤ left.old }
+{
+    let all = *left;
+    match property_seen(sight, left, base, name) {
+        Some(value) => copied(value),
+        None => {
+            *left = all;
+            property_worth(sight, left, base, name)
+        }
+    }
+}
+
+/// The integer of such a property.
+pub(crate) fn property_number(
+    sight: &Sight<'_>,
+    left: &mut u32,
+    base: &Expr,
+    name: &Expr,
+) -> Option<i32>
+    ensures value { IfSome result (λ n. IsWorth sight.now.world.now sight.now.active.now left.old (property (tree base.now) (tree name.now)) (integer n) left.new) }
+    ensures ticks { left.new ≤ left.old }
+{
+    let all = *left;
+    match property_seen(sight, left, base, name) {
+        Some(value) => integer_of(Some(value)),
+        None => {
+            *left = all;
+            let value = property_worth(sight, left, base, name)?;
+            integer_of(Some(&value))
+        }
+    }
+}
+
+// Any such property, the built-in ones among them.
+#[inline(never)]
+fn property_worth(sight: &Sight<'_>, left: &mut u32, base: &Expr, name: &Expr) -> Option<Value>
+    ensures value { IfSome result (λ v. IsWorth sight.now.world.now sight.now.active.now left.old (property (tree base.now) (tree name.now)) (value_tree v) left.new) }
+    ensures ticks { left.new ≤ left.old }
+{
+    let name = text_leaf(sight.active, name)?;
+    let o = object_leaf(sight.active, base)?;
+    take(left)?;
+    take(left)?;
+    take(left)?;
+    property_in_order(sight.alloc, sight.world, sight.active.programmer, o, name)
+}
+
+/// The value of such a property that isn't built in. It stays where it is.
+pub(crate) fn property_seen<'a>(
+    sight: &Sight<'a>,
+    left: &mut u32,
+    base: &Expr,
+    name: &Expr,
+) -> Option<&'a Value>
+    ensures value { IfSome result (λ v. IsWorth sight.now.world.now sight.now.active.now left.old (property (tree base.now) (tree name.now)) (value_tree v.now) left.new) }
+    ensures ticks { left.new ≤ left.old }
+{
+    let name = text_leaf(sight.active, name)?;
+    let o = object_leaf(sight.active, base)?;
+    take(left)?;
+    take(left)?;
+    take(left)?;
+    readable(sight.world, sight.active.programmer, o, name)
+}
+
+// The value that the programmer reads of a property that isn't built in.
+#[inline(always)]
+fn readable<'a>(world: &'a World, programmer: i32, o: i32, name: &MooStr) -> Option<&'a Value>
+    ensures { IfSome result (λ v. read_property world.now programmer (object o) (string name.now) ≡ Ok (value_tree v.now)) }
+{
+    world.readable_value(programmer, o, name.as_bytes())
+}
+
+// The same of any property, the built-in ones among them.
+fn property_in_order(
+    alloc: Global,
+    world: &World,
+    programmer: i32,
+    o: i32,
+    name: &MooStr,
+) -> Option<Value>
+    ensures { IfSome result (λ v. read_property world.now programmer (object o) (string name.now) ≡ Ok (value_tree v)) }
+{
+    let value = world.get(alloc, o, name.as_bytes()).ok()?;
+    if Rights::may_read_property(world, programmer, o, name.as_bytes()) {
+        Some(value)
+    } else {
+        None
+    }
+}
+
+/// The object that is written out, or that stands in a variable.
+#[inline]
+pub(crate) fn object_leaf(active: &Activation, expr: &Expr) -> Option<i32>
+    ensures { IfSome result (λ o. IsLeaf (variables_of active.now.variables) (tree expr.now) (object o)) }
+{
+    match expr {
+        Expr::Literal(literal) => object_literal(literal),
+        _ => object_of(variable_found(active, expr)?),
+    }
+}
+
+#[inline]
+fn object_literal(literal: &Literal) -> Option<i32>
+    ensures { IfSome result (λ o. value_of_literal literal.now ≡ object o) }
+{
+    match literal {
+        Literal::Object(number) => Some(*number),
+        _ => None,
+    }
+}
+
+/// The object that a value is.
+#[inline]
+pub(crate) fn object_of(value: &Value) -> Option<i32>
+    ensures { IfSome result (λ o. value_tree value.now ≡ object o) }
+{
+    match value {
+        Value::Obj(number) => Some(*number),
+        _ => None,
+    }
+}
+
+/// The object whose property is set, and its ticks as above.
+#[inline(always)]
+pub fn object_worth(sight: &Sight<'_>, left: &mut u32, base: &Expr) -> Option<i32>
+    ensures value { IfSome result (λ o. IsWorth sight.now.world.now sight.now.active.now left.old (tree base.now) (object o) left.new) }
+    ensures ticks { left.new ≤ left.old }
+{
+    if let Expr::Property(base, name) = base {
+        return object_of(property_seen(sight, left, base, name)?);
+    }
+    take(left)?;
+    object_leaf(sight.active, base)
+}
+
+/// The name of a property that is set, likewise.
+#[inline(always)]
+pub fn name_worth<'a>(active: &'a Activation, left: &mut u32, name: &'a Expr) -> Option<&'a MooStr>
+    ensures value { IfSome result (λ s. (w : WorldModel) → IsWorth w active.now left.old (tree name.now) (string s.now) left.new) }
+    ensures ticks { left.new ≤ left.old }
+{
+    take(left)?;
+    text_leaf(active, name)
+}

@@ -18,9 +18,8 @@ use moo_program::{Given, Name};
 use moo_value::{MooStr, Value};
 use std::alloc::{AllocError, Global};
 
-/// The variables of a frame: the values of the names that every frame has, a value or none for each other name of its
-/// program by the name's slot, and the values of further names. A name that every frame has needs no search, nor does one
-/// that has been found and is spelled as the program's.
+/// The variables of a frame: the values of the names that every frame has, a value or none for each other name of its program by its
+/// slot, and those of further names. What every frame has needs no search, nor does what was found and is spelled as in the program.
 #[derive(Drop)]
 pub struct Variables {
     program: Program,
@@ -48,9 +47,8 @@ impl Variables {
         Variables::with_given(alloc, program, given)
     }
 
-    /// The variables that the frame of a called verb begins with, with a slot for each name of its program: what tells of the
-    /// command stands as with the caller, if it is set there. The program is shared before the frame is made, so that the frame
-    /// is made in its place.
+    /// The variables that the frame of a called verb begins with, with a slot for each name of its program: what tells of the command
+    /// stands as with the caller, if it is set there. The program is shared before the frame is made, so that the frame isn't moved.
     #[inline(always)]
     pub fn handed(
         alloc: Global,
@@ -216,7 +214,6 @@ impl Variables {
         }
     }
 
-    // The same by a search.
     #[inline(never)]
     fn searched(&self, name: &Name) -> Option<&Value>
         ensures { option_map (λ v. tree v.now) result ≡ own_variables self.now (folded name.now) }
@@ -257,7 +254,6 @@ impl Variables {
         }
     }
 
-    // The same by a search.
     #[inline(never)]
     fn searched_integer(&self, name: &Name) -> Option<i32>
         ensures { IfSome result (λ n. own_variables self.now (folded name.now) ≡ Some (integer n)) }

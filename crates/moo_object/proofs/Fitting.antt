@@ -142,7 +142,7 @@ base_ends pattern name i matched m h =
       ],
     )
 
-least_within : (pattern : List ℕ) → least pattern ≤ length pattern
+pub least_within : (pattern : List ℕ) → least pattern ≤ length pattern
 least_within [] = omega arith
 least_within (b ∷ bs) = elim (cases_Bool (is_star b)) [
   | inl star ↦ rw (star) (omega arith)

@@ -4,5 +4,6 @@ mod Seeking
 mod Fitting
 mod Patterns
 mod Letters
+mod Alone
 mod Verbs
 mod Numbers

@@ -1,5 +1,5 @@
 // Which names fit the names of a verb.
-ghost use Rattle.std.specs.Prelude.{◌≡◌, ◌↔◌, IsTrue, position, ◌&&◌};
+ghost use Rattle.std.specs.Prelude.{◌≡◌, ◌↔◌, IsTrue, true, position, ◌&&◌};
 ghost use Rattle.std.specs.List.{list_any};
 ghost use Rattle.moo_object.specs.Patterns.{EndsInStar, is_star, least, fits, is_blank, is_word, has_word, fits_names};
 
@@ -78,13 +78,32 @@ pub fn has_word(names: &[u8]) -> bool
         .any(|part| is_word(part))
 }
 
-/// Whether a name fits one of the names of a verb, which are patterns with blanks between them.
+/// Whether a name fits one of the names of a verb, which are patterns with blanks between them. Mostly they are that name alone, so
+/// that is looked at first.
 pub fn fits_names(names: &[u8], name: &[u8]) -> bool
     ensures { result ≡ fits_names names.now name.now }
 {
+    if are_just(names, name) {
+        return true;
+    }
     names
         .split(|byte| is_blank(*byte))
         .any(|part| fits_part(part, name))
+}
+
+// Whether the names are this one alone, spelled so and without a star.
+fn are_just(names: &[u8], name: &[u8]) -> bool
+    ensures { IsTrue result → fits_names names.now name.now ≡ true }
+{
+    if names.len() != name.len() || names.is_empty() {
+        return false;
+    }
+    for i in 0..names.len() {
+        if names[i] != name[i] || is_star(names[i]) || is_blank(names[i]) {
+            return false;
+        }
+    }
+    true
 }
 
 fn fits_part(part: &[u8], name: &[u8]) -> bool

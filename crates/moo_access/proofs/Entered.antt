@@ -16,7 +16,7 @@ use Rattle.moo_outcome.proofs.Names.{split}
 use Rattle.moo_outcome.proofs.Stored.{one_test, two_tests, apart}
 use Rattle.moo_outcome.specs.Outcome.{Failure, answers}
 use Rattle.moo_outcome.specs.declared.frame.Frame.{Frame}
-use Rattle.moo_access.specs.Entering.{Entered, found_verb, has_frame_left, player_of_call, called_frame, with_taken, called_variables, entered, entered_found, after_list, entered_from}
+use Rattle.moo_access.specs.Entering.{Entered, found_verb, has_frame_left, player_of_call, called_frame, with_taken, called_variables, entered, entered_found, after_list, entered_from, entered_verb}
 
 -- a name that none of these bindings has
 abbrev is_new : List ℕ → List Binding → Bool
@@ -100,10 +100,20 @@ enters w c vars p this other name vs r {found} {player} one there left whose fra
     ∙ ap Ok (sym (was ∙ ap (entered c vars p) (framed' ∙ ap (λ x. called_frame c.frame x this found name vs) whose)))
 
 -- The list of the arguments comes first.
-pub listed : (w : World) (c : Context) (vars : List ℕ → Option Tree) (p this from : ℤ) (name : List ℕ) (vs args : List Tree) {whole : Tree} (r : Result Entered Failure) →
-    made_list vs ≡ Ok whole → args ≡ vs → answers (entered_found w c vars p this name args (found_verb w from name)) ≡ r →
+pub listed : (w : World) (c : Context) (vars : List ℕ → Option Tree) (p this from : ℤ) (name : List ℕ) (vs args : List Tree) {whole : Tree} {found : ℤ × Verb} (r : Result Entered Failure) →
+    made_list vs ≡ Ok whole → args ≡ vs → found_verb w from name ≡ Ok found → answers (entered_found w c vars p this name args (Ok found)) ≡ r →
     answers (entered_from w c vars p this from name vs) ≡ r
-listed w c vars p this from name vs args r made same gives =
+listed w c vars p this from name vs args {found = found} r made same there gives =
     ap (λ m. answers (after_list m (entered_found w c vars p this name vs (found_verb w from name)))) made
-    ∙ ap (λ xs. answers (entered_found w c vars p this name xs (found_verb w from name))) (sym same)
+    ∙ ap (λ x. answers (entered_found w c vars p this name vs x)) there
+    ∙ ap (λ xs. answers (entered_found w c vars p this name xs (Ok found))) (sym same)
     ∙ gives
+
+-- The same of what a call names.
+pub named : (w : World) (c : Context) (vars : List ℕ → Option Tree) (p this : ℤ) (name : List ℕ) (x y : Tree) (vs args : List Tree) {whole : Tree} {found : ℤ × Verb} (r : Result Entered Failure) →
+    made_list vs ≡ Ok whole → args ≡ vs → (x ≡ object this) × (y ≡ string name) × (found_verb w this name ≡ Ok found) → answers (entered_found w c vars p this name args (Ok found)) ≡ r →
+    answers (entered_verb w c vars p x y vs) ≡ r
+named w c vars p this name x y vs args r made same is gives =
+    ap (λ a. answers (entered_verb w c vars p a y vs)) is.0
+    ∙ ap (λ a. answers (entered_verb w c vars p (object this) a vs)) is.1
+    ∙ listed w c vars p this this name vs args r made same is.2 gives

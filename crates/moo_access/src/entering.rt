@@ -1,13 +1,16 @@
 //! How a call enters a verb: 'Calling Built-in Functions and Other Verbs' of the LambdaMOO Programmer's Manual,
 //! 'Expressions' and 'Limits' of docs/LANGUAGE.md.
-ghost use Rattle.std.specs.Prelude.{◌≡◌, ◌∷◌, [], None, Some, Ok, Err, codes, is_some, option_map, IfOk, IfErr, OnOk};
+ghost use Rattle.std.specs.Prelude.{◌≡◌, if◌then◌else◌, is_some, ◌∷◌, [], None, Some, Ok, Err, codes, option_map, IfOk, IfErr, OnOk};
 ghost use Rattle.std.specs.Option.{unwrap_or};
-ghost use Rattle.moo_value.specs.Tree.{list_of};
+ghost use Rattle.moo_value.specs.Tree.{Tree, object, string, list_of};
 ghost use Rattle.moo_value.specs.View.{tree, trees};
+ghost use Rattle.moo_value.specs.declared.error_code.ErrorCode.TheVariants.{InvalidIndirection, VerbNotFound};
 ghost use Rattle.moo_program.specs.Tree.{no_statement};
+ghost use Rattle.moo_world.specs.Numbered.{object_numbered};
 ghost use Rattle.moo_operation.specs.Places.{made_list};
 ghost use Rattle.moo_access.specs.Entering.{entered_verb, entered_from, entered_found, found_verb, verb_there, called_verb, has_frame_left, object_or, player_of_call, verb_frame, called_frame, called_variables, entered};
 ghost use Rattle.moo_access.specs.SeenCalled.{entered_of, found_of};
+ghost use Rattle.moo_access.specs.Sought.{IsSought};
 ghost use Rattle.moo_outcome.specs.Outcome.{answers};
 ghost use Rattle.moo_outcome.specs.Seen.{context_of, variables_of, failure_of, seen_by, IsKnownFailure, HadMemoryIn};
 
@@ -34,6 +37,14 @@ pub struct Called<'a> {
 pub struct Found<'a> {
     pub definer: i32,
     pub verb: &'a Verb,
+}
+
+/// The verb that a call names, the object that it is called on and the name.
+#[derive(Clone, Copy)]
+pub struct Sought<'a> {
+    pub this: i32,
+    pub name: &'a MooStr,
+    pub found: Found<'a>,
 }
 
 /// What a frame is told beside its verb: what the verb is called on, by whom and by what name, and the command. Objects
@@ -69,11 +80,51 @@ pub fn enter_verb<'a>(
 ) -> Result<Called<'a>, Failure>
     ensures { IsKnownFailure result → answers (entered_verb world.now (context_of stack.now None) (variables_of active.now.variables) active.now.programmer (tree base.now) (tree name.now) (trees args.items)) ≡ seen_by entered_of result }
 {
+    let sought = named_verb(world, base, name);
+    enter_sought(alloc, world, stack, active, sought, args)
+}
+
+// The verb that a call names: E_TYPE for what is no object or no name, then what `sought_verb` tells.
+#[inline(always)]
+fn named_verb<'a>(world: &'a World, base: &Value, name: &'a Value) -> Result<Sought<'a>, ErrorCode>
+    ensures { IsSought world.now (tree base.now) (tree name.now) result }
+{
+    match (base, name) {
+        (Value::Obj(this), Value::Str(name)) => sought_verb(world, *this, name),
+        _ => Err(ErrorCode::TypeMismatch),
+    }
+}
+
+/// The verb that a call of a name on an object runs: E_INVIND where the object isn't valid, E_VERBNF where it has no such verb that
+/// can be executed.
+#[inline(always)]
+pub fn sought_verb<'a>(
+    world: &'a World,
+    this: i32,
+    name: &'a MooStr,
+) -> Result<Sought<'a>, ErrorCode>
+    ensures { IsSought world.now (object this) (string name.now) result }
+{
+    let found = found_verb(world, this, name)?;
+    Ok(Sought { this, name, found })
+}
+
+/// Enters the verb that a call names, with its owner's rights: E_QUOTA for a list of arguments past the limits, then what `sought_verb`
+/// tells, and E_MAXREC where no frame is left. Inlined, so that what is entered is made where it runs.
+#[inline(always)]
+pub fn enter_sought<'a>(
+    alloc: Global,
+    world: &World,
+    stack: &CallStack<'a>,
+    active: &Activation,
+    sought: Result<Sought<'_>, ErrorCode>,
+    args: Vec<Value>,
+) -> Result<Called<'a>, Failure>
+    ensures { (base name : Tree) → IsSought world.now base name sought.entry → IsKnownFailure result → answers (entered_verb world.now (context_of stack.now None) (variables_of active.now.variables) active.now.programmer base name (trees args.items)) ≡ seen_by entered_of result }
+{
     let args = arguments(alloc, args)?;
-    let (Value::Obj(this), Value::Str(name)) = (base, name) else {
-        return Err(Failure::Fails(ErrorCode::TypeMismatch));
-    };
-    enter_found(alloc, world, stack, active, *this, *this, name, args)
+    let Sought { this, name, found } = sought?;
+    enter_found(alloc, world, stack, active, this, found, name, args)
 }
 
 /// Enters the verb of a name that is found from an object on, to run on another object, with its owner's rights:
@@ -92,7 +143,8 @@ pub fn enter_verb_from<'a>(
     ensures { IsKnownFailure result → answers (entered_from world.now (context_of stack.now None) (variables_of active.now.variables) active.now.programmer this from name.now (trees args.items)) ≡ seen_by entered_of result }
 {
     let args = arguments(alloc, args)?;
-    enter_found(alloc, world, stack, active, this, from, name, args)
+    let found = found_verb(world, from, name)?;
+    enter_found(alloc, world, stack, active, this, found, name, args)
 }
 
 #[inline(always)]
@@ -102,13 +154,12 @@ fn enter_found<'a>(
     stack: &CallStack<'a>,
     active: &Activation,
     this: i32,
-    from: i32,
+    found: Found<'_>,
     name: &MooStr,
     args: MooList,
 ) -> Result<Called<'a>, Failure>
-    ensures { IsKnownFailure result → answers (entered_found world.now (context_of stack.now None) (variables_of active.now.variables) active.now.programmer this name.now args (found_verb world.now from name.now)) ≡ seen_by entered_of result }
+    ensures { IsKnownFailure result → answers (entered_found world.now (context_of stack.now None) (variables_of active.now.variables) active.now.programmer this name.now args (Ok (found_of found.entry))) ≡ seen_by entered_of result }
 {
-    let found = found_verb(world, from, name)?;
     if !has_frame_left(stack) {
         return Err(Failure::Fails(ErrorCode::MaximumRecursion));
     }
@@ -132,18 +183,29 @@ fn arguments(alloc: Global, args: Vec<Value>) -> Result<MooList, Failure>
     }
 }
 
-// The first verb that fits, of those that can be executed.
+/// The verb that a call on an object runs, and the object that has it: the first that fits, of those that can be executed. E_INVIND
+/// where the object isn't valid, E_VERBNF where it has none.
 #[inline(always)]
-fn found_verb<'a>(world: &'a World, this: i32, name: &MooStr) -> Result<Found<'a>, ErrorCode>
+pub fn found_verb<'a>(world: &'a World, this: i32, name: &MooStr) -> Result<Found<'a>, ErrorCode>
     ensures ok { IfOk result (λ found. found_verb world.now this name.now ≡ Ok (found_of found)) }
     ensures err { IfErr result (λ code. found_verb world.now this name.now ≡ Err code) }
 {
-    if world.object(this).is_none() {
-        return Err(ErrorCode::InvalidIndirection);
-    }
     match called_verb(world, this, name.as_bytes()) {
         Some(found) => Ok(found),
-        None => Err(ErrorCode::VerbNotFound),
+        None => Err(nothing_found(world, this)),
+    }
+}
+
+// Why a call on an object runs no verb, where none fits.
+#[cold]
+#[inline(never)]
+fn nothing_found(world: &World, this: i32) -> ErrorCode
+    ensures { result ≡ (if is_some (object_numbered world.now this) then VerbNotFound else InvalidIndirection) }
+{
+    if world.object(this).is_some() {
+        ErrorCode::VerbNotFound
+    } else {
+        ErrorCode::InvalidIndirection
     }
 }
 
@@ -176,9 +238,9 @@ pub fn has_frame_left(stack: &CallStack<'_>) -> bool
     stack.callers.frames() < MOST_FRAMES - 1
 }
 
-// The player of a called verb: a wizard may have put another into the variable.
+/// The player of a called verb: a wizard may have put another into the variable.
 #[inline(always)]
-fn player_of_call(world: &World, caller: &Frame, active: &Activation) -> i32
+pub fn player_of_call(world: &World, caller: &Frame, active: &Activation) -> i32
     ensures { result ≡ player_of_call world.now caller.now (variables_of active.now.variables) active.now.programmer }
 {
     if !Rights::is_wizard(world, active.programmer) {

@@ -8,8 +8,9 @@ mod object;
 mod target;
 
 pub use entering::{
-    Call, Called, Found, MOST_FRAMES, called_verb, enter_verb, enter_verb_from, has_frame_left,
-    program_of, verb_frame, verb_there,
+    Call, Called, Found, MOST_FRAMES, Sought, called_verb, enter_sought, enter_verb,
+    enter_verb_from, found_verb, has_frame_left, player_of_call, program_of, sought_verb,
+    verb_frame, verb_there,
 };
 pub use fault::failed;
 pub use object::{read_property, write_property};

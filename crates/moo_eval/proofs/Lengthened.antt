@@ -1,6 +1,5 @@
 -- Lists that grow in the variable that they stand in.
-use Rattle.std.proofs.Common.{◌≡◌, ℕ, ◌+◌, ◌<◌, List, [], ◌∷◌, ◌++◌, Result, Ok, Err, refl, ap}
-use Rattle.std.proofs.lemmas.Bool.{false≢true}
+use Rattle.std.proofs.Common.{◌≡◌, ℕ, ◌<◌, List, [], ◌∷◌, ◌++◌, Result, Ok, Err, refl, ap}
 use Rattle.moo_value.specs.Tree.{Tree, list_of}
 use Rattle.moo_value.specs.View.{tree}
 use Rattle.moo_value.specs.declared.value.Value.{Value}

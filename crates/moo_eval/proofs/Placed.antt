@@ -5,9 +5,7 @@ use Rattle.moo_value.specs.Tree.{Tree}
 use Rattle.moo_value.specs.Compare.{folded}
 use Rattle.moo_program.specs.Tree.{Expr, performs}
 use Rattle.moo_operation.specs.Assignment.{with_index_of}
-use Rattle.moo_operation.specs.declared.fault.OperationFault.TheVariants as fault
 use Rattle.moo_outcome.specs.Outcome.{Stop, Failure, stops, next, or_error, answers, settled}
-use Rattle.moo_outcome.specs.declared.outcome.Failure as code_failure
 use Rattle.moo_outcome.specs.State.{Context, within}
 use Rattle.moo_outcome.specs.Variables.{bind}
 use Rattle.moo_access.specs.State.{State, ticked, bound, trace}

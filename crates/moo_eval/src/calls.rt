@@ -1,32 +1,38 @@
 //! Catches, and calls of verbs and functions.
-ghost use Rattle.std.specs.Prelude.{◌≡◌, ◌≢◌, ◌≤◌, ◌<◌, ◌∷◌, ℕ, List, [], Option, None, Some, OnOk, is_ok, IsTrue};
+ghost use Rattle.std.specs.Prelude.{◌≡◌, ◌≢◌, ◌≤◌, ◌<◌, ◌∷◌, ℕ, List, [], Option, None, Some, IfOk, IfErr, IfSome, IfNone, Err, OnOk, is_ok, IsTrue};
 ghost use Rattle.std.specs.Borrow.{Bor};
 ghost use Rattle.moo_value.specs.declared.value.Value.{Value as ValueModel};
+ghost use Rattle.moo_value.specs.Tree.{object, string};
 ghost use Rattle.moo_value.specs.View.{tree as tree_of};
-ghost use Rattle.moo_program.specs.Tree.{Expr as ExprTree, Items, property, verb_call, call};
+ghost use Rattle.moo_program.specs.Tree.{Expr as ExprTree, Items, element, property, verb_call, call};
 ghost use Rattle.moo_program.specs.View.{tree, items_of, codes_of};
 ghost use Rattle.moo_outcome.specs.Catching.{guards};
 ghost use Rattle.moo_program.specs.Tree.{no_statement};
 ghost use Rattle.moo_outcome.specs.declared.frame.Activation.{Activation};
+ghost use Rattle.moo_outcome.specs.State.{Context};
+ghost use Rattle.moo_outcome.specs.Outcome.{stops};
+ghost use Rattle.moo_table.specs.World.{World as WorldModel};
 ghost use Rattle.moo_access.specs.SeenCalled.{entered_of};
 ghost use Rattle.moo_hook.specs.Calls.{caller_of};
 ghost use Rattle.moo_hook.specs.Seen.{progress_of};
 ghost use Rattle.moo_eval.specs.Hooks.{RunsCalled};
+ghost use Rattle.moo_eval.specs.Callee.{GivesBoth};
 ghost use Rattle.moo_semantics.specs.Meaning.{Applies, Computes, EvaluatesAll, Proceeds};
-ghost use Rattle.moo_outcome.specs.Seen.{context_of, seen_answer, seen_answers, seen_flow, catch_of, IsKnown, IsKnownFailure};
+ghost use Rattle.moo_outcome.specs.Seen.{context_of, stop_of, seen_answer, seen_answers, seen_flow, catch_of, HadMemory, IsKnown, IsKnownFailure};
 ghost use Rattle.moo_semantics.specs.Operands.{answered};
 ghost use Rattle.moo_code_function.specs.Telling.{Faults};
 ghost use Rattle.moo_eval.specs.Seen.{state_of};
 
 use crate::hooks::Pending;
 use crate::interpreter::Task;
-use moo_access::{Called, enter_verb, read_property};
+use moo_access::{Called, enter_sought, enter_verb, read_property, sought_verb};
 use moo_function::Function;
 use moo_hook::{Progress, start_call, verb_caller};
 use moo_outcome::{Activation, CallStack, Failure, Flow, Gathered, Stop, caught};
 use moo_program::{Codes, Expr, Item};
 use moo_value::{MooStr, Value};
 use moo_world::World;
+use moo_worth::{object_leaf, text_written};
 
 impl Task {
     #[cycle(evaluation)]
@@ -48,7 +54,7 @@ impl Task {
         read_property(self.alloc(), world, active.programmer, &base, &name)
     }
 
-    // The verb runs in a frame of its own, over the same world and with the ticks that are left.
+    // The verb runs over the same world and with the ticks that are left, in a frame of its own where it needs one.
     #[cycle(evaluation)]
     #[inline(never)]
     pub(crate) fn verb_call(
@@ -64,16 +70,112 @@ impl Task {
         ensures meaning { IsKnownFailure result → Computes Faults (context_of stack.now indexed.entry) (verb_call (tree base.now) (tree name.now) (items_of items.now)) (state_of self.old world.old active.old) (seen_answer result) (state_of self.new world.new active.new) }
         ensures ticks { self.new.ticks_left ≤ self.old.ticks_left }
     {
-        let base = self.evaluate(world, active, stack, indexed, base)?;
-        let name = self.evaluate(world, active, stack, indexed, name)?;
+        let (base, name) = self.callee(world, active, stack, indexed, base, name)?;
         let values = self.evaluate_all(world, active, stack, indexed, items)?;
         self.call_verb(world, active, stack, &base, &name, values)
     }
 
-    // The verb that is called, its operands evaluated. Not inlined: calls in the arguments of calls would each hold its room.
+    // What a verb is called on, and its name.
+    #[cycle(evaluation)]
+    #[inline(always)]
+    fn callee(
+        &mut self,
+        world: &mut World,
+        active: &mut Activation,
+        stack: &CallStack<'_>,
+        indexed: Option<&Value>,
+        base: &Expr,
+        name: &Expr,
+    ) -> Result<(Value, Value), Stop>
+        ensures both { IfOk result (λ p. GivesBoth (context_of stack.now indexed.entry) (tree base.now) (tree name.now) (tree_of p.0) (tree_of p.1) (state_of self.old world.old active.old) (state_of self.new world.new active.new)) }
+        ensures stops { IfErr result (λ stop. HadMemory stop → (items : Items) → EvaluatesAll Faults (context_of stack.now indexed.entry) (element (tree base.now) (element (tree name.now) items)) (state_of self.old world.old active.old) (Err (stops (stop_of stop))) (state_of self.new world.new active.new)) }
+        ensures ticks { self.new.ticks_left ≤ self.old.ticks_left }
+    {
+        if let Some(both) = self.callee_at_once(active, base, name) {
+            return Ok(both);
+        }
+        let base = self.evaluate(world, active, stack, indexed, base)?;
+        let name = self.evaluate(world, active, stack, indexed, name)?;
+        Ok((base, name))
+    }
+
+    // The object that a verb is called on, where it is written out or stands in a variable, and the verb's name, where that is written
+    // out, if two ticks are left, which are taken then. Else nothing has begun.
+    #[inline(always)]
+    fn callee_at_once(
+        &mut self,
+        active: &Activation,
+        base: &Expr,
+        name: &Expr,
+    ) -> Option<(Value, Value)>
+        ensures some { IfSome result (λ p. (w : WorldModel) (c : Context) → GivesBoth c (tree base.now) (tree name.now) (tree_of p.0) (tree_of p.1) (state_of self.old w active.now) (state_of self.new w active.now)) }
+        ensures none { IfNone result (self.new ≡ self.old) }
+        ensures ticks { self.new.ticks_left ≤ self.old.ticks_left }
+    {
+        let this = object_leaf(active, base)?;
+        let written = text_written(name)?;
+        let name = copied_text(written)?;
+        let left = self.ticks_left.left() as u32;
+        if left < 2 {
+            return None;
+        }
+        self.ticks_left.leave(left - 2);
+        Some((Value::Obj(this), Value::Str(name)))
+    }
+
+    // The verb that is called, its operands evaluated.
+    #[cycle(evaluation)]
+    #[inline(always)]
+    fn call_verb(
+        &mut self,
+        world: &mut World,
+        active: &Activation,
+        stack: &CallStack<'_>,
+        base: &Value,
+        name: &Value,
+        values: Gathered,
+    ) -> Result<Value, Failure>
+        ensures meaning { (indexed : Option (Bor ValueModel)) (a b : ExprTree) (items : Items) → IsKnownFailure result → Applies Faults (context_of stack.now indexed) (verb_call a b items) (tree_of base.now ∷ tree_of name.now ∷ values) [] (state_of self.old world.old active.now) (seen_answer result) (state_of self.new world.new active.now) }
+        ensures ticks { self.new.ticks_left ≤ self.old.ticks_left }
+    {
+        match (base, name) {
+            (Value::Obj(this), Value::Str(name)) => {
+                self.call_named(world, active, stack, *this, name, values)
+            }
+            _ => self.call_unnamed(world, active, stack, base, name, values),
+        }
+    }
+
+    // The verb of a name that is called on an object. What it returns at once needs no frame. Not inlined: calls in the arguments of calls
+    // would each hold its room.
     #[cycle(evaluation)]
     #[inline(never)]
-    fn call_verb(
+    fn call_named(
+        &mut self,
+        world: &mut World,
+        active: &Activation,
+        stack: &CallStack<'_>,
+        this: i32,
+        name: &MooStr,
+        values: Gathered,
+    ) -> Result<Value, Failure>
+        ensures meaning { (indexed : Option (Bor ValueModel)) (a b : ExprTree) (items : Items) → IsKnownFailure result → Applies Faults (context_of stack.now indexed) (verb_call a b items) (object this ∷ string name.now ∷ values) [] (state_of self.old world.old active.now) (seen_answer result) (state_of self.new world.new active.now) }
+        ensures ticks { self.new.ticks_left ≤ self.old.ticks_left }
+    {
+        let args = values.into_arguments(self.alloc())?;
+        let sought = sought_verb(world, this, name);
+        if let Some(value) = self.answers_at_once(world, active, stack, &sought, &args) {
+            return Ok(value);
+        }
+        let called = enter_sought(self.alloc(), world, stack, active, sought, args)?;
+        self.run_called(world, called)
+    }
+
+    // A call on what is no object, or by what is no name, is refused where verbs are entered.
+    #[cycle(evaluation)]
+    #[cold]
+    #[inline(never)]
+    fn call_unnamed(
         &mut self,
         world: &mut World,
         active: &Activation,
@@ -223,6 +325,14 @@ impl Task {
             }
         }
     }
+}
+
+// The same string, where there is memory for it.
+#[inline(always)]
+fn copied_text(text: &MooStr) -> Option<MooStr>
+    ensures { IfSome result (λ copy. copy ≡ text.now) }
+{
+    text.try_clone().ok()
 }
 
 // What a called verb answers: the value that it returns, and 0 where it comes to its end.

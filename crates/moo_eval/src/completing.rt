@@ -1,16 +1,17 @@
 //! Statements that are run ahead, since nothing can stop them.
-ghost use Rattle.std.specs.Prelude.{◌≡◌, ◌<◌, ◌≤◌, Result, Ok, IfOk, IsTrue, IsFalse};
+ghost use Rattle.std.specs.Prelude.{◌≡◌, ◌<◌, ◌≤◌, None, Result, Ok, IfOk, IsTrue, IsFalse};
 ghost use Rattle.moo_program.specs.View.{statement as statement_of, block};
 ghost use Rattle.moo_outcome.specs.Outcome.{Flow, Stop as Stopped, next};
 ghost use Rattle.moo_outcome.specs.State.{Context};
+ghost use Rattle.moo_outcome.specs.Seen.{context_of};
 ghost use Rattle.moo_access.specs.State.{State};
 ghost use Rattle.moo_code_function.specs.Telling.{Faults};
 ghost use Rattle.moo_semantics.specs.Meaning.{Runs, RunsAll};
 ghost use Rattle.moo_eval.specs.Seen.{state_of};
 
 use crate::interpreter::Task;
-use moo_fast_path::{may_change_a_list, may_complete};
-use moo_outcome::Activation;
+use moo_fast_path::{may_change_a_list, may_complete, sets_called};
+use moo_outcome::{Activation, CallStack};
 use moo_program::Stmt;
 use moo_world::World;
 use std::alloc::AllocError;
@@ -24,11 +25,12 @@ impl Task {
         world: &mut World,
         active: &mut Activation,
         statements: &'a [Stmt],
+        stack: &CallStack<'_>,
     ) -> Result<&'a [Stmt], AllocError>
-        ensures rest { IfOk result (λ rest. (c : Context) (o : Result Flow Stopped) (s : State) → RunsAll Faults c (block rest.now) (state_of self.new world.new active.new) o s → RunsAll Faults c (block statements.now) (state_of self.old world.old active.old) o s) }
+        ensures rest { IfOk result (λ rest. (o : Result Flow Stopped) (s : State) → RunsAll Faults (context_of stack.now None) (block rest.now) (state_of self.new world.new active.new) o s → RunsAll Faults (context_of stack.now None) (block statements.now) (state_of self.old world.old active.old) o s) }
         ensures ticks { self.new.ticks_left ≤ self.old.ticks_left }
     {
-        self.run_first(world, active, statements)
+        self.run_first(world, active, statements, stack)
     }
 
     /// The same, inlined into the turns of loops that are run ahead.
@@ -38,14 +40,15 @@ impl Task {
         world: &mut World,
         active: &mut Activation,
         statements: &'a [Stmt],
+        stack: &CallStack<'_>,
     ) -> Result<&'a [Stmt], AllocError>
-        ensures rest { IfOk result (λ rest. (c : Context) (o : Result Flow Stopped) (s : State) → RunsAll Faults c (block rest.now) (state_of self.new world.new active.new) o s → RunsAll Faults c (block statements.now) (state_of self.old world.old active.old) o s) }
+        ensures rest { IfOk result (λ rest. (o : Result Flow Stopped) (s : State) → RunsAll Faults (context_of stack.now None) (block rest.now) (state_of self.new world.new active.new) o s → RunsAll Faults (context_of stack.now None) (block statements.now) (state_of self.old world.old active.old) o s) }
         ensures ticks { self.new.ticks_left ≤ self.old.ticks_left }
     {
         let mut rest = statements;
         while let Some((first, others)) = rest.split_first() {
             if !self.sets_number(active, first) {
-                let completed = self.completes_otherwise(world, active, first)?;
+                let completed = self.completes_ahead(world, active, stack, first)?;
                 if !completed {
                     return Ok(rest);
                 }
@@ -53,6 +56,26 @@ impl Task {
             rest = others;
         }
         Ok(rest)
+    }
+
+    // Runs a statement that is known at once, a call of a verb too, and tells whether it was one. Else nothing has begun.
+    #[inline(always)]
+    fn completes_ahead(
+        &mut self,
+        world: &mut World,
+        active: &mut Activation,
+        stack: &CallStack<'_>,
+        statement: &Stmt,
+    ) -> Result<bool, AllocError>
+        ensures done { IfOk result (λ b. IsTrue b → Runs Faults (context_of stack.now None) (statement_of statement.now) (state_of self.old world.old active.old) (Ok next) (state_of self.new world.new active.new)) }
+        ensures fewer { IfOk result (λ b. IsTrue b → self.new.ticks_left < self.old.ticks_left) }
+        ensures kept { IfOk result (λ b. IsFalse b → (self.new ≡ self.old) × (world.new ≡ world.old) × (active.new ≡ active.old)) }
+        ensures ticks { self.new.ticks_left ≤ self.old.ticks_left }
+    {
+        if may_complete(statement) {
+            return self.completes(world, active, statement);
+        }
+        Ok(sets_called(statement) && self.sets_called(world, active, stack, statement))
     }
 
     /// Runs a statement that sets a variable, a property or a place of a list to what is known at once, or puts that behind a list, and

@@ -102,7 +102,7 @@ impl Task {
         ensures ticks { self.new.ticks_left ≤ self.old.ticks_left }
     {
         'turns: loop {
-            if let Some(left) = self.turns_ahead(world, active, test, body)? {
+            if let Some(left) = self.turns_ahead(world, active, test, body, stack)? {
                 if let Some(flow) = self.end_turn(world, active, stack, own.as_ref(), left)? {
                     return Ok(flow);
                 }
@@ -154,7 +154,7 @@ impl Task {
     {
         let mut next = 0;
         'values: loop {
-            let left = self.values_ahead(world, active, name, values, &mut next, body)?;
+            let left = self.values_ahead(world, active, name, values, &mut next, body, stack)?;
             let flow = if let Some(left) = left {
                 self.end_turn(world, active, stack, Some(name.text()), left)?
             } else if let Some(value) = values.get(next) {
@@ -209,7 +209,7 @@ impl Task {
     {
         let mut number = i64::from(span.low);
         'numbers: loop {
-            let left = self.numbers_ahead(world, active, name, &span, &mut number, body)?;
+            let left = self.numbers_ahead(world, active, name, &span, &mut number, body, stack)?;
             let flow = if let Some(left) = left {
                 self.end_turn(world, active, stack, Some(name.text()), left)?
             } else if number <= i64::from(span.high) {

@@ -151,7 +151,7 @@ impl Task {
         ensures meaning { IsKnown result → RunsAll Faults (context_of stack.now None) (block body.now) (state_of self.old world.old active.old) (seen_flow result) (state_of self.new world.new active.new) }
         ensures ticks { self.new.ticks_left ≤ self.old.ticks_left }
     {
-        let rest = self.run_ahead(world, active, body)?;
+        let rest = self.run_ahead(world, active, body, stack)?;
         if rest.is_empty() {
             return Ok(Flow::Next);
         }

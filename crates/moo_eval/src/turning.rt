@@ -1,10 +1,11 @@
 //! Turns of loops that are run ahead, as far as nothing can stop them.
-ghost use Rattle.std.specs.Prelude.{◌≡◌, ◌<◌, ◌≤◌, ◌≤ℤ◌, ◌+◌, ◌+ℤ◌, ◌∷◌, [], ℕ, pos, negsuc, List, Option, Some, Result, IfOk, IfSome, IfNone, IsTrue, IsFalse, length, drop, int_le, true, FitsSigned};
+ghost use Rattle.std.specs.Prelude.{◌≡◌, ◌<◌, ◌≤◌, ◌≤ℤ◌, ◌+◌, ◌+ℤ◌, ◌∷◌, [], ℕ, pos, negsuc, List, Option, None, Some, Result, IfOk, IfSome, IfNone, IsTrue, IsFalse, length, drop, int_le, true, FitsSigned};
 ghost use Rattle.std.specs.Int.{w64};
 ghost use Rattle.moo_value.specs.View.{tree as value_tree, trees};
 ghost use Rattle.moo_program.specs.View.{tree, block};
 ghost use Rattle.moo_outcome.specs.Outcome.{Flow, Stop};
 ghost use Rattle.moo_outcome.specs.State.{Context};
+ghost use Rattle.moo_outcome.specs.Seen.{context_of};
 ghost use Rattle.moo_outcome.specs.Variables.{bind};
 ghost use Rattle.moo_table.specs.World.{World as WorldModel};
 ghost use Rattle.moo_access.specs.State.{State};
@@ -15,7 +16,7 @@ ghost use Rattle.moo_eval.specs.Seen.{state_of};
 
 use crate::interpreter::Task;
 use moo_fast_path::put_value;
-use moo_outcome::{Activation, Span};
+use moo_outcome::{Activation, CallStack, Span};
 use moo_program::{Expr, Name, Stmt};
 use moo_value::Value;
 use moo_world::World;
@@ -34,9 +35,10 @@ impl Task {
         active: &mut Activation,
         test: &Expr,
         body: &'a [Stmt],
+        stack: &CallStack<'_>,
     ) -> Result<Option<&'a [Stmt]>, AllocError>
-        ensures within { IfOk result (λ r. IfSome r (λ left. (c : Context) (own : Option (List ℕ)) (o : Result Flow Stop) (s : State) → Within Faults c own (block left.now) (Loops Faults c own (tree test.now) (block body.now)) (state_of self.new world.new active.new) o s → Loops Faults c own (tree test.now) (block body.now) (state_of self.old world.old active.old) o s)) }
-        ensures before { IfOk result (λ r. IfNone r ((c : Context) (own : Option (List ℕ)) (o : Result Flow Stop) (s : State) → Loops Faults c own (tree test.now) (block body.now) (state_of self.new world.new active.new) o s → Loops Faults c own (tree test.now) (block body.now) (state_of self.old world.old active.old) o s)) }
+        ensures within { IfOk result (λ r. IfSome r (λ left. (own : Option (List ℕ)) (o : Result Flow Stop) (s : State) → Within Faults (context_of stack.now None) own (block left.now) (Loops Faults (context_of stack.now None) own (tree test.now) (block body.now)) (state_of self.new world.new active.new) o s → Loops Faults (context_of stack.now None) own (tree test.now) (block body.now) (state_of self.old world.old active.old) o s)) }
+        ensures before { IfOk result (λ r. IfNone r ((own : Option (List ℕ)) (o : Result Flow Stop) (s : State) → Loops Faults (context_of stack.now None) own (tree test.now) (block body.now) (state_of self.new world.new active.new) o s → Loops Faults (context_of stack.now None) own (tree test.now) (block body.now) (state_of self.old world.old active.old) o s)) }
         ensures fewer { IfOk result (λ r. IfSome r (λ _. self.new.ticks_left < self.old.ticks_left)) }
         ensures ticks { self.new.ticks_left ≤ self.old.ticks_left }
     {
@@ -44,7 +46,7 @@ impl Task {
             if !self.begins_turn(world, active, test) {
                 return Ok(None);
             }
-            let left = self.run_first(world, active, body)?;
+            let left = self.run_first(world, active, body, stack)?;
             if !left.is_empty() {
                 return Ok(Some(left));
             }
@@ -103,9 +105,10 @@ impl Task {
         values: &[Value],
         next: &mut usize,
         body: &'a [Stmt],
+        stack: &CallStack<'_>,
     ) -> Result<Option<&'a [Stmt]>, AllocError>
-        ensures within { IfOk result (λ r. IfSome r (λ left. (c : Context) (o : Result Flow Stop) (s : State) → Within Faults c (Some name.now) (block left.now) (Visits Faults c name.now (trees (drop (next.new + 1) values.now)) (block body.now)) (state_of self.new world.new active.new) o s → Visits Faults c name.now (trees (drop next.old values.now)) (block body.now) (state_of self.old world.old active.old) o s)) }
-        ensures before { IfOk result (λ r. IfNone r ((c : Context) (o : Result Flow Stop) (s : State) → Visits Faults c name.now (trees (drop next.new values.now)) (block body.now) (state_of self.new world.new active.new) o s → Visits Faults c name.now (trees (drop next.old values.now)) (block body.now) (state_of self.old world.old active.old) o s)) }
+        ensures within { IfOk result (λ r. IfSome r (λ left. (o : Result Flow Stop) (s : State) → Within Faults (context_of stack.now None) (Some name.now) (block left.now) (Visits Faults (context_of stack.now None) name.now (trees (drop (next.new + 1) values.now)) (block body.now)) (state_of self.new world.new active.new) o s → Visits Faults (context_of stack.now None) name.now (trees (drop next.old values.now)) (block body.now) (state_of self.old world.old active.old) o s)) }
+        ensures before { IfOk result (λ r. IfNone r ((o : Result Flow Stop) (s : State) → Visits Faults (context_of stack.now None) name.now (trees (drop next.new values.now)) (block body.now) (state_of self.new world.new active.new) o s → Visits Faults (context_of stack.now None) name.now (trees (drop next.old values.now)) (block body.now) (state_of self.old world.old active.old) o s)) }
         ensures there { IfOk result (λ r. IfSome r (λ _. next.new < length values.now)) }
         ensures fewer { IfOk result (λ r. IfSome r (λ _. self.new.ticks_left < self.old.ticks_left)) }
         ensures ticks { self.new.ticks_left ≤ self.old.ticks_left }
@@ -115,7 +118,7 @@ impl Task {
             if !self.begins_visit(active, name, value) {
                 return Ok(None);
             }
-            let left = self.run_first(world, active, body)?;
+            let left = self.run_first(world, active, body, stack)?;
             if !left.is_empty() {
                 return Ok(Some(left));
             }
@@ -134,10 +137,11 @@ impl Task {
         span: &Span,
         next: &mut i64,
         body: &'a [Stmt],
+        stack: &CallStack<'_>,
     ) -> Result<Option<&'a [Stmt]>, AllocError>
         requires { negsuc 2147483647 ≤ℤ next.old }
-        ensures within { IfOk result (λ r. IfSome r (λ left. (c : Context) (o : Result Flow Stop) (s : State) → Within Faults c (Some name.now) (block left.now) (Counts Faults c name.now span.now (next.new +ℤ pos 1) (block body.now)) (state_of self.new world.new active.new) o s → Counts Faults c name.now span.now next.old (block body.now) (state_of self.old world.old active.old) o s)) }
-        ensures before { IfOk result (λ r. IfNone r ((c : Context) (o : Result Flow Stop) (s : State) → Counts Faults c name.now span.now next.new (block body.now) (state_of self.new world.new active.new) o s → Counts Faults c name.now span.now next.old (block body.now) (state_of self.old world.old active.old) o s)) }
+        ensures within { IfOk result (λ r. IfSome r (λ left. (o : Result Flow Stop) (s : State) → Within Faults (context_of stack.now None) (Some name.now) (block left.now) (Counts Faults (context_of stack.now None) name.now span.now (next.new +ℤ pos 1) (block body.now)) (state_of self.new world.new active.new) o s → Counts Faults (context_of stack.now None) name.now span.now next.old (block body.now) (state_of self.old world.old active.old) o s)) }
+        ensures before { IfOk result (λ r. IfNone r ((o : Result Flow Stop) (s : State) → Counts Faults (context_of stack.now None) name.now span.now next.new (block body.now) (state_of self.new world.new active.new) o s → Counts Faults (context_of stack.now None) name.now span.now next.old (block body.now) (state_of self.old world.old active.old) o s)) }
         ensures later { next.old ≤ℤ next.new }
         ensures fits { FitsSigned w64 next.new }
         ensures high { IfOk result (λ r. IfSome r (λ _. int_le next.new span.now.high ≡ true)) }
@@ -149,7 +153,7 @@ impl Task {
             if !self.begins_visit(active, name, value) {
                 return Ok(None);
             }
-            let left = self.run_first(world, active, body)?;
+            let left = self.run_first(world, active, body, stack)?;
             if !left.is_empty() {
                 return Ok(Some(left));
             }

@@ -1,6 +1,6 @@
 //! Forms of statements and expressions that have a way of their own.
 ghost use Rattle.std.specs.Prelude.{◌≡◌, IfSome};
-ghost use Rattle.moo_program.specs.Tree.{variable, index, property, assign, performs, returns};
+ghost use Rattle.moo_program.specs.Tree.{variable, index, property, assign, performs};
 ghost use Rattle.moo_program.specs.View.{tree, statement as statement_of};
 ghost use Rattle.moo_fast_path.specs.Element.{sets_place};
 
@@ -100,17 +100,6 @@ pub fn as_writing(statement: &Stmt) -> Option<(&Expr, &Expr, &Expr)>
     Some((base, name, value))
 }
 
-/// The expression whose value a statement returns.
-#[inline]
-pub fn as_return(statement: &Stmt) -> Option<&Expr>
-    ensures { IfSome result (λ e. statement_of statement.now ≡ returns (tree e.now)) }
-{
-    match statement {
-        Stmt::Return(Some(expr)) => Some(expr),
-        _ => None,
-    }
-}
-
 /// Whether a statement may be one that is known at once.
 #[inline(always)]
 pub fn may_complete(statement: &Stmt) -> bool {
@@ -125,6 +114,12 @@ pub fn may_complete(statement: &Stmt) -> bool {
         Expr::Variable(_) => may_have_worth(value) || may_lengthen(value),
         _ => false,
     }
+}
+
+/// Whether a statement sets a variable to what a call of a verb gives.
+#[inline(always)]
+pub fn sets_called(statement: &Stmt) -> bool {
+    matches!(as_setting(statement), Some((_, Expr::VerbCall(..))))
 }
 
 /// Whether a statement may be one that sets a place of a list, or puts something behind a list.

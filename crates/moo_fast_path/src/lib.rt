@@ -15,8 +15,8 @@ mod writing;
 pub use appending::as_appended;
 pub use element::{places, set_at};
 pub use forms::{
-    as_assignment, as_place_assignment, as_placing, as_return, as_setting, as_variable, as_writing,
-    may_change_a_list, may_complete, sets_operator,
+    as_assignment, as_place_assignment, as_placing, as_setting, as_variable, as_writing,
+    may_change_a_list, may_complete, sets_called, sets_operator,
 };
 pub use growing::{as_growing, grows};
 pub use growth::{as_longer, set_longer};

@@ -1,2 +1,4 @@
 pub mod Leaves
 pub mod Worth
+pub mod Told
+pub mod Calls

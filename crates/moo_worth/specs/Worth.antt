@@ -1,5 +1,5 @@
 -- Expressions whose worth is known at once.
-use Rattle.std.specs.Prelude.{◌≡◌, ◌<◌, ◌-◌, ℕ, ℤ, List, Some, Ok}
+use Rattle.std.specs.Prelude.{◌≡◌, ◌<◌, ◌-◌, ℕ, ℤ, List, Option, Some, Ok}
 use Rattle.moo_value.specs.Tree.{Tree, integer}
 use Rattle.moo_program.specs.declared.operator.BinaryOperator.{BinaryOperator}
 use Rattle.moo_program.specs.Tree.{Expr, binary, index, property, call, element, no_items}
@@ -13,21 +13,25 @@ use Rattle.moo_outcome.specs.declared.frame.Activation.{Activation}
 use Rattle.moo_access.specs.Calls.{read_property}
 use Rattle.moo_worth.specs.Leaves.{IsLeaf}
 
--- an expression gives this value wherever it stands and whatever the task has asked for, and changes nothing but the
--- ticks, of which so many are left before and after it: each part takes one as it begins
-pub data IsWorth (w : World) (active : Activation) : ℕ → Expr → Tree → ℕ → Type 0 where
+-- with these variables and this programmer's rights, an expression gives this value wherever it stands and whatever the task has
+-- asked for, and changes nothing but the ticks, of which so many are left before and after it: each part takes one as it begins
+pub data IsWorthWith (w : World) (variables : List ℕ → Option Tree) (programmer : ℤ) : ℕ → Expr → Tree → ℕ → Type 0 where
   leaf_known : {e : Expr} {v : Tree} {n n' : ℕ} →
-      0 < n → n' ≡ n - 1 → IsLeaf (variables_of active.variables) e v →
-      IsWorth w active n e v n'
+      0 < n → n' ≡ n - 1 → IsLeaf variables e v →
+      IsWorthWith w variables programmer n e v n'
   operator_known : {op : BinaryOperator} {a b : Expr} {x y v : Tree} {n n' n'' n3 : ℕ} →
-      0 < n → n' ≡ n - 1 → IsWorth w active n' a x n'' → IsWorth w active n'' b y n3 → binary_of op x y ≡ Ok v →
-      IsWorth w active n (binary op a b) v n3
+      0 < n → n' ≡ n - 1 → IsWorthWith w variables programmer n' a x n'' → IsWorthWith w variables programmer n'' b y n3 → binary_of op x y ≡ Ok v →
+      IsWorthWith w variables programmer n (binary op a b) v n3
   element_known : {a i : Expr} {x y v : Tree} {n n' n'' n3 : ℕ} →
-      0 < n → n' ≡ n - 1 → IsWorth w active n' a x n'' → IsWorth w active n'' i y n3 → index_of x y ≡ Ok v →
-      IsWorth w active n (index a i) v n3
+      0 < n → n' ≡ n - 1 → IsWorthWith w variables programmer n' a x n'' → IsWorthWith w variables programmer n'' i y n3 → index_of x y ≡ Ok v →
+      IsWorthWith w variables programmer n (index a i) v n3
   property_known : {a b : Expr} {x y v : Tree} {n n' n'' n3 : ℕ} →
-      0 < n → n' ≡ n - 1 → IsWorth w active n' a x n'' → IsWorth w active n'' b y n3 → read_property w active.programmer x y ≡ Ok v →
-      IsWorth w active n (property a b) v n3
+      0 < n → n' ≡ n - 1 → IsWorthWith w variables programmer n' a x n'' → IsWorthWith w variables programmer n'' b y n3 → read_property w programmer x y ≡ Ok v →
+      IsWorthWith w variables programmer n (property a b) v n3
   length_known : {f : List ℕ} {e : Expr} {v : Tree} {k : ℤ} {n n' n'' : ℕ} →
-      0 < n → n' ≡ n - 1 → IsWorth w active n' e v n'' → function_of f ≡ Some Length → length_of v ≡ Ok (integer k) →
-      IsWorth w active n (call f (element e no_items)) (integer k) n''
+      0 < n → n' ≡ n - 1 → IsWorthWith w variables programmer n' e v n'' → function_of f ≡ Some Length → length_of v ≡ Ok (integer k) →
+      IsWorthWith w variables programmer n (call f (element e no_items)) (integer k) n''
+
+-- the same with the variables and the rights of an activation
+abbrev pub IsWorth : World → Activation → ℕ → Expr → Tree → ℕ → Type 0
+IsWorth w active = IsWorthWith w (variables_of active.variables) active.programmer

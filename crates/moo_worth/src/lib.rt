@@ -2,6 +2,7 @@
 //! A room behind `moo_eval`.
 #![tactic(auto)]
 
+mod calls;
 mod glance;
 pub mod integers;
 mod known;
@@ -10,11 +11,14 @@ mod lengths;
 mod parts;
 mod properties;
 mod strings;
+mod told;
 pub mod worth;
 
+pub use calls::{as_return, called_worth, returned_worth};
 pub use glance::{Glance, at_a_glance};
 pub use known::{may_be_known, may_have_worth};
 pub use leaves::integer_leaf;
 pub use lengths::{as_element, length_worth};
 pub use parts::{integer_part, part_copied, test_worth, value_part};
-pub use properties::{name_worth, object_worth};
+pub use properties::{name_worth, object_leaf, object_worth};
+pub use strings::text_written;

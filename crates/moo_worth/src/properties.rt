@@ -92,6 +92,23 @@ pub(crate) fn property_seen<'a>(
     readable(sight.world, sight.active.programmer, o, name)
 }
 
+/// The value that the programmer reads of any property. One that isn't built in is looked at first.
+#[inline(always)]
+pub(crate) fn property_read(
+    alloc: Global,
+    world: &World,
+    programmer: i32,
+    o: i32,
+    name: &MooStr,
+) -> Option<Value>
+    ensures { IfSome result (λ v. read_property world.now programmer (object o) (string name.now) ≡ Ok (value_tree v)) }
+{
+    match readable(world, programmer, o, name) {
+        Some(value) => copied(value),
+        None => property_in_order(alloc, world, programmer, o, name),
+    }
+}
+
 // The value that the programmer reads of a property that isn't built in.
 #[inline(always)]
 fn readable<'a>(world: &'a World, programmer: i32, o: i32, name: &MooStr) -> Option<&'a Value>
@@ -120,7 +137,7 @@ fn property_in_order(
 
 /// The object that is written out, or that stands in a variable.
 #[inline]
-pub(crate) fn object_leaf(active: &Activation, expr: &Expr) -> Option<i32>
+pub fn object_leaf(active: &Activation, expr: &Expr) -> Option<i32>
     ensures { IfSome result (λ o. IsLeaf (variables_of active.now.variables) (tree expr.now) (object o)) }
 {
     match expr {

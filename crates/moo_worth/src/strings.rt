@@ -1,6 +1,6 @@
 //! Strings that are known at once and stay where they are, and what they are joined to.
-ghost use Rattle.std.specs.Prelude.{◌≡◌, ◌≤◌, Ok, IfSome};
-ghost use Rattle.moo_value.specs.Tree.{string};
+ghost use Rattle.std.specs.Prelude.{◌≡◌, ◌≤◌, ℕ, List, Option, Ok, IfSome};
+ghost use Rattle.moo_value.specs.Tree.{Tree, string};
 ghost use Rattle.moo_value.specs.View.{tree as value_tree};
 ghost use Rattle.moo_program.specs.declared.operator.BinaryOperator.TheVariants.{Add};
 ghost use Rattle.moo_program.specs.Tree.{literal_value as value_of_literal, binary};
@@ -78,6 +78,17 @@ fn text_worth<'a>(sight: &Sight<'a>, left: &mut u32, expr: &'a Expr) -> Option<&
             take(left)?;
             text_leaf(sight.active, expr)
         }
+    }
+}
+
+/// The string that is written out.
+#[inline]
+pub fn text_written(expr: &Expr) -> Option<&MooStr>
+    ensures { IfSome result (λ s. (variables : List ℕ → Option Tree) → IsLeaf variables (tree expr.now) (string s.now)) }
+{
+    match expr {
+        Expr::Literal(literal) => text_literal(literal),
+        _ => None,
     }
 }
 

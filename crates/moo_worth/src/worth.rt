@@ -163,7 +163,12 @@ pub fn joined_worth<'a>(
 
 // What an operator gives for two values, where it doesn't fail.
 #[inline(always)]
-fn applied(alloc: Global, operator: BinaryOperator, a: &Value, b: &Value) -> Option<Value>
+pub(crate) fn applied(
+    alloc: Global,
+    operator: BinaryOperator,
+    a: &Value,
+    b: &Value,
+) -> Option<Value>
     ensures { IfSome result (λ v. binary_of operator (value_tree a.now) (value_tree b.now) ≡ Ok (value_tree v)) }
 {
     operation::binary(alloc, operator, a, b).ok()

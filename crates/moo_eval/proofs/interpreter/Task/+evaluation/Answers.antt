@@ -283,32 +283,62 @@ pub property-returns-clause-meaning : goal.property-returns-clause-meaning
 property-returns-clause-meaning t c =
     λ k. applies (element_then (c.in_ok-base.ensures.meaning tt) (element_then (c.in_ok-name.ensures.meaning tt) no_more refl) refl) no_more (let f : SFits w32 c.evaluate-2.new.active.programmer = search rules in property_is (rw (to_z-of_z w32 c.evaluate-2.new.active.programmer f) at (c.read_property.ensures.value k)))
 
+pub callee-returns-in_err-base-clause-stops : goal.callee-returns-in_err-base-clause-stops
+callee-returns-in_err-base-clause-stops t c =
+    let p = err_from_is_err_and c.from_residual.result c.from_residual.ensures.1 in rw (p.1, p.2) (λ k items. element_stops (rw c.in_default.ensures.none at (c.in_err-base.ensures.meaning k)))
+
+pub callee-returns-in_err-name-clause-stops : goal.callee-returns-in_err-name-clause-stops
+callee-returns-in_err-name-clause-stops t c =
+    let p = err_from_is_err_and c.from_residual-in_err-name.result c.from_residual-in_err-name.ensures.1 in rw (p.1, p.2) (λ k items. element_then (rw c.in_default.ensures.none at (c.in_ok-base.ensures.meaning tt)) (element_stops (c.in_err-name.ensures.meaning k)) refl)
+
 pub verb_call-returns-in_err-base-clause-meaning : goal.verb_call-returns-in_err-base-clause-meaning
 verb_call-returns-in_err-base-clause-meaning t c =
-    let p = err_from_is_err_and c.from_residual.result c.from_residual.ensures.1 in rw (p.1, p.2) (λ k. operands_end (element_stops (c.in_err-base.ensures.meaning k)))
-
-pub verb_call-returns-in_err-name-clause-meaning : goal.verb_call-returns-in_err-name-clause-meaning
-verb_call-returns-in_err-name-clause-meaning t c =
-    let p = err_from_is_err_and c.from_residual-in_err-name.result c.from_residual-in_err-name.ensures.1 in rw (p.1, p.2) (λ k. operands_end (element_then (c.in_ok-base.ensures.meaning tt) (element_stops (c.in_err-name.ensures.meaning k)) refl))
+    let p = err_from_is_err_and c.from_residual.result c.from_residual.ensures.1 in rw (p.1, p.2) (λ k. operands_end (c.in_err-base.ensures.stops k (items_of c.args.items.now)))
 
 pub verb_call-returns-in_err-values-clause-meaning : goal.verb_call-returns-in_err-values-clause-meaning
 verb_call-returns-in_err-values-clause-meaning t c =
-    let p = err_from_is_err_and c.from_residual-in_err-values.result c.from_residual-in_err-values.ensures.1 in rw (p.1, p.2) (λ k. operands_end (element_then (c.in_ok-base.ensures.meaning tt) (element_then (c.in_ok-name.ensures.meaning tt) (c.in_err-values.ensures.meaning k) refl) refl))
+    let both = c.in_ok-base.ensures.both in
+    let p = err_from_is_err_and c.from_residual-in_err-values.result c.from_residual-in_err-values.ensures.1 in rw (p.1, p.2) (λ k. operands_end (element_then both.base (element_then both.name (c.in_err-values.ensures.meaning k) refl) refl))
 
 pub verb_call-returns-clause-meaning : goal.verb_call-returns-clause-meaning
 verb_call-returns-clause-meaning t c =
-    λ k. applies (element_then (c.in_ok-base.ensures.meaning tt) (element_then (c.in_ok-name.ensures.meaning tt) (c.in_ok-values.ensures.meaning tt) refl) refl) no_more (c.call_verb.ensures.meaning c.args.indexed (expression c.args.base.now) (expression c.args.name.now) (items_of c.args.items.now) k)
+    let both = c.in_ok-base.ensures.both in
+    λ k. applies (element_then both.base (element_then both.name (c.in_ok-values.ensures.meaning tt) refl) refl) no_more (c.call_verb.ensures.meaning c.args.indexed (expression c.args.base.now) (expression c.args.name.now) (items_of c.args.items.now) k)
 
-pub call_verb-returns-clause-meaning : goal.call_verb-returns-clause-meaning
-call_verb-returns-clause-meaning t c =
-    λ indexed a b items k. let h = c.run_called.ensures.meaning c.args.active.now k in verb_runs (rw c.in_ok-args.ensures.ok at (c.in_ok-called.ensures tt)) h.runs h.leaves h.gives
+pub call_verb-returns-in-Obj-Str-clause-meaning : goal.call_verb-returns-in-Obj-Str-clause-meaning
+call_verb-returns-in-Obj-Str-clause-meaning t c =
+    let fits : SFits w32 c.in-Obj-Str.this = search rules in
+    λ indexed a b items k. rw (c.in-Obj-Str.is-0, c.in-Obj-Str.is-1) (rw (to_z-of_z w32 c.in-Obj-Str.this fits) at (c.call_named.ensures.meaning indexed a b items k))
 
-pub call_verb-returns-in_err-args-clause-meaning : goal.call_verb-returns-in_err-args-clause-meaning
-call_verb-returns-in_err-args-clause-meaning t c =
+pub call_named-returns-clause-meaning : goal.call_named-returns-clause-meaning
+call_named-returns-clause-meaning t c =
+    let is = rw (to_z-of_z w32 c.args.this c.ranges.this) at c.sought_verb-sought.ensures in
+    λ indexed a b items k. let h = rw c.in_default.ensures.none at (c.run_called.ensures.meaning c.args.active.now k) in verb_runs (rw c.in_ok-args.ensures.ok at (c.in_ok-called.ensures _ _ is tt)) h.runs h.leaves h.gives
+
+pub call_named-returns-in-Some-clause-meaning : goal.call_named-returns-in-Some-clause-meaning
+call_named-returns-in-Some-clause-meaning t c =
+    let is = rw (to_z-of_z w32 c.args.this c.ranges.this) at c.sought_verb-sought.ensures in
+    λ indexed a b items k. rw (c.deref.ensures.value, c.in_ok-args.ensures.ok) at (c.in-Some.ensures.some indexed a b items _ _ is)
+
+pub call_named-returns-in_err-args-clause-meaning : goal.call_named-returns-in_err-args-clause-meaning
+call_named-returns-in_err-args-clause-meaning t c =
     let p = err_from_is_err_and c.from_residual.result c.from_residual.ensures.1 in rw (p.1, p.2) (λ indexed a b items k. verb_fails (unlisted _ _ (c.in_err-args.ensures.err k)))
 
-pub call_verb-returns-in_err-called-clause-meaning : goal.call_verb-returns-in_err-called-clause-meaning
-call_verb-returns-in_err-called-clause-meaning t c =
+pub call_named-returns-in_err-called-clause-meaning : goal.call_named-returns-in_err-called-clause-meaning
+call_named-returns-in_err-called-clause-meaning t c =
+    let is = rw (to_z-of_z w32 c.args.this c.ranges.this) at c.sought_verb-sought.ensures in
+    let p = err_from_is_err_and c.from_residual-in_err-called.result c.from_residual-in_err-called.ensures.1 in rw (p.1, p.2, c.in_default.ensures.none) (λ indexed a b items k. verb_fails (rw c.in_ok-args.ensures.ok at (c.in_err-called.ensures _ _ is k)))
+
+pub call_unnamed-returns-clause-meaning : goal.call_unnamed-returns-clause-meaning
+call_unnamed-returns-clause-meaning t c =
+    λ indexed a b items k. let h = c.run_called.ensures.meaning c.args.active.now k in verb_runs (rw c.in_ok-args.ensures.ok at (c.in_ok-called.ensures tt)) h.runs h.leaves h.gives
+
+pub call_unnamed-returns-in_err-args-clause-meaning : goal.call_unnamed-returns-in_err-args-clause-meaning
+call_unnamed-returns-in_err-args-clause-meaning t c =
+    let p = err_from_is_err_and c.from_residual.result c.from_residual.ensures.1 in rw (p.1, p.2) (λ indexed a b items k. verb_fails (unlisted _ _ (c.in_err-args.ensures.err k)))
+
+pub call_unnamed-returns-in_err-called-clause-meaning : goal.call_unnamed-returns-in_err-called-clause-meaning
+call_unnamed-returns-in_err-called-clause-meaning t c =
     let p = err_from_is_err_and c.from_residual-in_err-called.result c.from_residual-in_err-called.ensures.1 in rw (p.1, p.2) (λ indexed a b items k. verb_fails (rw c.in_ok-args.ensures.ok at (c.in_err-called.ensures k)))
 
 pub run_called-returns-in-Some-clause-meaning : goal.run_called-returns-in-Some-clause-meaning
@@ -483,11 +513,11 @@ run_all-returns-clause-meaning t c =
 
 pub run_body-returns-clause-meaning : goal.run_body-returns-clause-meaning
 run_body-returns-clause-meaning t c =
-    λ k. c.in_ok-rest.ensures.rest _ _ _ (c.run_all.ensures.meaning k)
+    λ k. c.in_ok-rest.ensures.rest _ _ (c.run_all.ensures.meaning k)
 
 pub run_body-returns-then-is_empty-clause-meaning : goal.run_body-returns-then-is_empty-clause-meaning
 run_body-returns-then-is_empty-clause-meaning t c =
-    λ k. c.in_ok-rest.ensures.rest (context_of c.args.stack.now None) (Ok next) _ (rw (nothing_left c.in_ok-rest.rest.now (eqb-true _ _ (sym c.is_empty.ensures ∙ c.if-is_empty.true))) ends)
+    λ k. c.in_ok-rest.ensures.rest (Ok next) _ (rw (nothing_left c.in_ok-rest.rest.now (eqb-true _ _ (sym c.is_empty.ensures ∙ c.if-is_empty.true))) ends)
 
 pub branch-returns-clause-meaning : goal.branch-returns-clause-meaning
 branch-returns-clause-meaning t c =
@@ -903,56 +933,56 @@ end_turn-returns-in_err-flow-clause-meaning t c =
 
 pub repeat-returns-in_err-flow-clause-meaning : goal.repeat-returns-in_err-flow-clause-meaning
 repeat-returns-in_err-flow-clause-meaning t c =
-    let p = err_from_is_err_and c.from_residual-in_err-flow.result c.from_residual-in_err-flow.ensures.1 in rw (p.1, p.2) (λ k. c.turns.invariant.rest (Err (stop_of c.in_err-flow.field-0.0)) _ ((rw c.in-Some.is at c.in_ok-left.ensures.within) (context_of c.args.stack.now None) c.args.own.now _ _ (turn_left (rw c.as_ref.ensures.value at (c.in_err-flow.ensures.meaning k)))))
+    let p = err_from_is_err_and c.from_residual-in_err-flow.result c.from_residual-in_err-flow.ensures.1 in rw (p.1, p.2) (λ k. c.turns.invariant.rest (Err (stop_of c.in_err-flow.field-0.0)) _ ((rw c.in-Some.is at c.in_ok-left.ensures.within) c.args.own.now _ _ (turn_left (rw c.as_ref.ensures.value at (c.in_err-flow.ensures.meaning k)))))
 
 pub repeat-returns-in-Some-2-clause-meaning : goal.repeat-returns-in-Some-2-clause-meaning
 repeat-returns-in-Some-2-clause-meaning t c =
-    λ k. c.turns.invariant.rest (Ok (flow_of c.in-Some-2.flow)) _ ((rw c.in-Some.is at c.in_ok-left.ensures.within) (context_of c.args.stack.now None) c.args.own.now _ _ (turn_left (rw (c.in-Some-2.is, c.as_ref.ensures.value) at (c.in_ok-flow.ensures.meaning tt))))
+    λ k. c.turns.invariant.rest (Ok (flow_of c.in-Some-2.flow)) _ ((rw c.in-Some.is at c.in_ok-left.ensures.within) c.args.own.now _ _ (turn_left (rw (c.in-Some-2.is, c.as_ref.ensures.value) at (c.in_ok-flow.ensures.meaning tt))))
 
 pub repeat-turns-preserved-in-Some : goal.repeat-turns-preserved-in-Some
 repeat-turns-preserved-in-Some t c =
-    record { ticks = omega arith; rest = λ o s d. c.turns.invariant.rest o s ((rw c.in-Some.is at c.in_ok-left.ensures.within) (context_of c.args.stack.now None) c.args.own.now o s (turn_done (rw (c.in_default-2.is, c.as_ref.ensures.value) at (c.in_ok-flow.ensures.meaning tt)) d)) }
+    record { ticks = omega arith; rest = λ o s d. c.turns.invariant.rest o s ((rw c.in-Some.is at c.in_ok-left.ensures.within) c.args.own.now o s (turn_done (rw (c.in_default-2.is, c.as_ref.ensures.value) at (c.in_ok-flow.ensures.meaning tt)) d)) }
 
 pub repeat-returns-in_err-passes-clause-meaning : goal.repeat-returns-in_err-passes-clause-meaning
 repeat-returns-in_err-passes-clause-meaning t c =
-    let p = err_from_is_err_and c.from_residual-in_err-passes.result c.from_residual-in_err-passes.ensures.1 in rw (p.1, p.2) (λ k. c.turns.invariant.rest (Err (stop_of c.in_err-passes.field-0.0)) _ ((rw c.in_default.is at c.in_ok-left.ensures.before) (context_of c.args.stack.now None) c.args.own.now _ _ (loop_stops (c.in_err-passes.ensures.err k))))
+    let p = err_from_is_err_and c.from_residual-in_err-passes.result c.from_residual-in_err-passes.ensures.1 in rw (p.1, p.2) (λ k. c.turns.invariant.rest (Err (stop_of c.in_err-passes.field-0.0)) _ ((rw c.in_default.is at c.in_ok-left.ensures.before) c.args.own.now _ _ (loop_stops (c.in_err-passes.ensures.err k))))
 
 pub repeat-returns-then-not-passes-clause-meaning : goal.repeat-returns-then-not-passes-clause-meaning
 repeat-returns-then-not-passes-clause-meaning t c =
-    λ k. c.turns.invariant.rest (Ok next) _ ((rw c.in_default.is at c.in_ok-left.ensures.before) (context_of c.args.stack.now None) c.args.own.now _ _ (loop_ends c.in_ok-passes.ensures.ok.1 (c.in_ok-passes.ensures.ok.2 ∙ c.if-not-passes.true)))
+    λ k. c.turns.invariant.rest (Ok next) _ ((rw c.in_default.is at c.in_ok-left.ensures.before) c.args.own.now _ _ (loop_ends c.in_ok-passes.ensures.ok.1 (c.in_ok-passes.ensures.ok.2 ∙ c.if-not-passes.true)))
 
 pub repeat-returns-in_err-flow-2-clause-meaning : goal.repeat-returns-in_err-flow-2-clause-meaning
 repeat-returns-in_err-flow-2-clause-meaning t c =
-    let p = err_from_is_err_and c.from_residual-in_err-flow-2.result c.from_residual-in_err-flow-2.ensures.1 in rw (p.1, p.2) (λ k. c.turns.invariant.rest (Err (stop_of c.in_err-flow-2.field-0.0)) _ ((rw c.in_default.is at c.in_ok-left.ensures.before) (context_of c.args.stack.now None) c.args.own.now _ _ (loop_left c.in_ok-passes.ensures.ok.1 (c.in_ok-passes.ensures.ok.2 ∙ c.if-not-passes.false) (c.in_err-flow-2.ensures.meaning k))))
+    let p = err_from_is_err_and c.from_residual-in_err-flow-2.result c.from_residual-in_err-flow-2.ensures.1 in rw (p.1, p.2) (λ k. c.turns.invariant.rest (Err (stop_of c.in_err-flow-2.field-0.0)) _ ((rw c.in_default.is at c.in_ok-left.ensures.before) c.args.own.now _ _ (loop_left c.in_ok-passes.ensures.ok.1 (c.in_ok-passes.ensures.ok.2 ∙ c.if-not-passes.false) (c.in_err-flow-2.ensures.meaning k))))
 
 pub repeat-returns-in-Some-3-clause-meaning : goal.repeat-returns-in-Some-3-clause-meaning
 repeat-returns-in-Some-3-clause-meaning t c =
-    λ k. c.turns.invariant.rest (Ok (flow_of c.in-Some-3.flow)) _ ((rw c.in_default.is at c.in_ok-left.ensures.before) (context_of c.args.stack.now None) c.args.own.now _ _ (loop_left c.in_ok-passes.ensures.ok.1 (c.in_ok-passes.ensures.ok.2 ∙ c.if-not-passes.false) (rw c.in-Some-3.is at (c.in_ok-flow-2.ensures.meaning tt))))
+    λ k. c.turns.invariant.rest (Ok (flow_of c.in-Some-3.flow)) _ ((rw c.in_default.is at c.in_ok-left.ensures.before) c.args.own.now _ _ (loop_left c.in_ok-passes.ensures.ok.1 (c.in_ok-passes.ensures.ok.2 ∙ c.if-not-passes.false) (rw c.in-Some-3.is at (c.in_ok-flow-2.ensures.meaning tt))))
 
 pub repeat-turns-preserved : goal.repeat-turns-preserved
 repeat-turns-preserved t c =
-    record { ticks = omega arith; rest = λ o s d. c.turns.invariant.rest o s ((rw c.in_default.is at c.in_ok-left.ensures.before) (context_of c.args.stack.now None) c.args.own.now o s (loop_then c.in_ok-passes.ensures.ok.1 (c.in_ok-passes.ensures.ok.2 ∙ c.if-not-passes.false) (rw c.in_default-3.is at (c.in_ok-flow-2.ensures.meaning tt)) d)) }
+    record { ticks = omega arith; rest = λ o s d. c.turns.invariant.rest o s ((rw c.in_default.is at c.in_ok-left.ensures.before) c.args.own.now o s (loop_then c.in_ok-passes.ensures.ok.1 (c.in_ok-passes.ensures.ok.2 ∙ c.if-not-passes.false) (rw c.in_default-3.is at (c.in_ok-flow-2.ensures.meaning tt)) d)) }
 
 pub visit_all-returns-in_err-flow-clause-meaning : goal.visit_all-returns-in_err-flow-clause-meaning
 visit_all-returns-in_err-flow-clause-meaning t c =
-    let p = err_from_is_err_and c.from_residual-in_err-flow.result c.from_residual-in_err-flow.ensures.1 in rw (p.1, p.2) (λ k. c.values.invariant.rest (Err (stop_of c.in_err-flow.field-0.0)) _ ((rw c.in-Some.is at c.in_ok-left.ensures.within) (context_of c.args.stack.now None) _ _ (turn_left (rw c.text.ensures at (c.in_err-flow.ensures.meaning k)))))
+    let p = err_from_is_err_and c.from_residual-in_err-flow.result c.from_residual-in_err-flow.ensures.1 in rw (p.1, p.2) (λ k. c.values.invariant.rest (Err (stop_of c.in_err-flow.field-0.0)) _ ((rw c.in-Some.is at c.in_ok-left.ensures.within) _ _ (turn_left (rw c.text.ensures at (c.in_err-flow.ensures.meaning k)))))
 
 pub visit_all-returns-in_err-flow-2-clause-meaning : goal.visit_all-returns-in_err-flow-2-clause-meaning
 visit_all-returns-in_err-flow-2-clause-meaning t c =
     let found = c.in-Some-get.ensures.lookup in
-    let p = err_from_is_err_and c.from_residual-in_err-flow-2.result c.from_residual-in_err-flow-2.ensures.1 in rw (p.1, p.2) (λ k. c.values.invariant.rest (Err (stop_of c.in_err-flow-2.field-0.0)) _ ((rw c.in_default.is at c.in_ok-left.ensures.before) (context_of c.args.stack.now None) _ _ (rw (drop_next c.args.values.now c.values_ahead.new.next c.in-Some-get.value.now found.3.0 found.1) (visit_left (rw c.in_ok-value.ensures.value at (c.in_err-flow-2.ensures.meaning k))))))
+    let p = err_from_is_err_and c.from_residual-in_err-flow-2.result c.from_residual-in_err-flow-2.ensures.1 in rw (p.1, p.2) (λ k. c.values.invariant.rest (Err (stop_of c.in_err-flow-2.field-0.0)) _ ((rw c.in_default.is at c.in_ok-left.ensures.before) _ _ (rw (drop_next c.args.values.now c.values_ahead.new.next c.in-Some-get.value.now found.3.0 found.1) (visit_left (rw c.in_ok-value.ensures.value at (c.in_err-flow-2.ensures.meaning k))))))
 
 pub visit_all-returns-in_default-get-clause-meaning : goal.visit_all-returns-in_default-get-clause-meaning
 visit_all-returns-in_default-get-clause-meaning t c =
-    λ k. c.values.invariant.rest (Ok next) _ ((rw c.in_default.is at c.in_ok-left.ensures.before) (context_of c.args.stack.now None) _ _ (rw (drop_of_length-le c.args.values.now c.in_default-get.ensures.lookup.3) all_visited))
+    λ k. c.values.invariant.rest (Ok next) _ ((rw c.in_default.is at c.in_ok-left.ensures.before) _ _ (rw (drop_of_length-le c.args.values.now c.in_default-get.ensures.lookup.3) all_visited))
 
 pub visit_all-returns-in-Some-flow-clause-meaning : goal.visit_all-returns-in-Some-flow-clause-meaning
 visit_all-returns-in-Some-flow-clause-meaning t c =
     elim c.match-left.branch [
-      | visit_all-in-Some+in_ok-flow w ↦ λ k. rw (w.self-is, w.world-is, w.active-is) (c.values.invariant.rest (Ok (flow_of c.in-Some-flow.flow)) _ ((rw w.in-Some.is at c.in_ok-left.ensures.within) (context_of c.args.stack.now None) _ _ (turn_left (rw (sym w.flow-is ∙ c.in-Some-flow.is, w.text.ensures) at (w.in_ok-flow.ensures.meaning tt)))))
+      | visit_all-in-Some+in_ok-flow w ↦ λ k. rw (w.self-is, w.world-is, w.active-is) (c.values.invariant.rest (Ok (flow_of c.in-Some-flow.flow)) _ ((rw w.in-Some.is at c.in_ok-left.ensures.within) _ _ (turn_left (rw (sym w.flow-is ∙ c.in-Some-flow.is, w.text.ensures) at (w.in_ok-flow.ensures.meaning tt)))))
       | visit_all-in_default+in-Some-get+in_ok-value+in_ok-flow-2 w ↦ λ k.
           let found = w.in-Some-get.ensures.lookup in
-          rw (w.self-is, w.world-is, w.active-is) (c.values.invariant.rest (Ok (flow_of c.in-Some-flow.flow)) _ ((rw w.in_default.is at c.in_ok-left.ensures.before) (context_of c.args.stack.now None) _ _ (rw (drop_next c.args.values.now c.values_ahead.new.next w.in-Some-get.value.now found.3.0 found.1) (visit_left (rw (sym w.flow-is ∙ c.in-Some-flow.is, w.in_ok-value.ensures.value) at (w.in_ok-flow-2.ensures.meaning tt))))))
+          rw (w.self-is, w.world-is, w.active-is) (c.values.invariant.rest (Ok (flow_of c.in-Some-flow.flow)) _ ((rw w.in_default.is at c.in_ok-left.ensures.before) _ _ (rw (drop_next c.args.values.now c.values_ahead.new.next w.in-Some-get.value.now found.3.0 found.1) (visit_left (rw (sym w.flow-is ∙ c.in-Some-flow.is, w.in_ok-value.ensures.value) at (w.in_ok-flow-2.ensures.meaning tt))))))
     ]
 
 pub visit_all-values-preserved : goal.visit_all-values-preserved
@@ -960,19 +990,19 @@ visit_all-values-preserved t c =
     elim c.match-left.branch [
       | visit_all-in-Some+in_ok-flow w ↦ record {
         ticks = omega (arith, ap (λ (x : Task). x.ticks_left) w.self-is);
-        rest = λ o s d. c.values.invariant.rest o s ((rw w.in-Some.is at c.in_ok-left.ensures.within) (context_of c.args.stack.now None) o s (turn_done (rw (sym w.flow-is ∙ c.in_default-flow.is, w.text.ensures) at (w.in_ok-flow.ensures.meaning tt)) (rw (w.self-is, w.world-is, w.active-is) at d)));
+        rest = λ o s d. c.values.invariant.rest o s ((rw w.in-Some.is at c.in_ok-left.ensures.within) o s (turn_done (rw (sym w.flow-is ∙ c.in_default-flow.is, w.text.ensures) at (w.in_ok-flow.ensures.meaning tt)) (rw (w.self-is, w.world-is, w.active-is) at d)));
       }
       | visit_all-in_default+in-Some-get+in_ok-value+in_ok-flow-2 w ↦ record {
         ticks = omega (arith, ap (λ (x : Task). x.ticks_left) w.self-is);
         rest = λ o s d.
             let found = w.in-Some-get.ensures.lookup in
-            c.values.invariant.rest o s ((rw w.in_default.is at c.in_ok-left.ensures.before) (context_of c.args.stack.now None) o s (rw (drop_next c.args.values.now c.values_ahead.new.next w.in-Some-get.value.now found.3.0 found.1) (visit_then (rw (sym w.flow-is ∙ c.in_default-flow.is, w.in_ok-value.ensures.value) at (w.in_ok-flow-2.ensures.meaning tt)) (rw (w.self-is, w.world-is, w.active-is) at d))));
+            c.values.invariant.rest o s ((rw w.in_default.is at c.in_ok-left.ensures.before) o s (rw (drop_next c.args.values.now c.values_ahead.new.next w.in-Some-get.value.now found.3.0 found.1) (visit_then (rw (sym w.flow-is ∙ c.in_default-flow.is, w.in_ok-value.ensures.value) at (w.in_ok-flow-2.ensures.meaning tt)) (rw (w.self-is, w.world-is, w.active-is) at d))));
       }
     ]
 
 pub count-returns-in_err-flow-clause-meaning : goal.count-returns-in_err-flow-clause-meaning
 count-returns-in_err-flow-clause-meaning t c =
-    let p = err_from_is_err_and c.from_residual-in_err-flow.result c.from_residual-in_err-flow.ensures.1 in rw (p.1, p.2) (λ k. c.numbers.invariant.rest (Err (stop_of c.in_err-flow.field-0.0)) _ ((rw c.in-Some.is at c.in_ok-left.ensures.within) (context_of c.args.stack.now None) _ _ (turn_left (rw c.text.ensures at (c.in_err-flow.ensures.meaning k)))))
+    let p = err_from_is_err_and c.from_residual-in_err-flow.result c.from_residual-in_err-flow.ensures.1 in rw (p.1, p.2) (λ k. c.numbers.invariant.rest (Err (stop_of c.in_err-flow.field-0.0)) _ ((rw c.in-Some.is at c.in_ok-left.ensures.within) _ _ (turn_left (rw c.text.ensures at (c.in_err-flow.ensures.meaning k)))))
 
 pub count-overflow_cast-number : goal.count-overflow_cast-number
 count-overflow_cast-number t c =
@@ -992,14 +1022,14 @@ count-returns-in_err-flow-2-clause-meaning t c =
     let low = not_before c.args.span.low _ c.numbers_ahead.new.next c.numbers.invariant.low c.in_ok-left.ensures.later in
     let h = reached c.numbers_ahead.new.next c.from.result c.args.span.high true g c.from.ensures (rw same at c.if-number-from.true) in
     let e = c.value-value.ensures ∙ ap (λ x. numbered c.args.span.are_objects (to_z w32 (of_z w32 x))) same ∙ ap (numbered c.args.span.are_objects) (narrow c.args.span.low c.args.span.high c.numbers_ahead.new.next f g low h) in
-    let p = err_from_is_err_and c.from_residual-in_err-flow-2.result c.from_residual-in_err-flow-2.ensures.1 in rw (p.1, p.2) (λ k. c.numbers.invariant.rest (Err (stop_of c.in_err-flow-2.field-0.0)) _ ((rw c.in_default.is at c.in_ok-left.ensures.before) (context_of c.args.stack.now None) _ _ (count_left h (rw e at (c.in_err-flow-2.ensures.meaning k)))))
+    let p = err_from_is_err_and c.from_residual-in_err-flow-2.result c.from_residual-in_err-flow-2.ensures.1 in rw (p.1, p.2) (λ k. c.numbers.invariant.rest (Err (stop_of c.in_err-flow-2.field-0.0)) _ ((rw c.in_default.is at c.in_ok-left.ensures.before) _ _ (count_left h (rw e at (c.in_err-flow-2.ensures.meaning k)))))
 
 pub count-returns-else-number-from-clause-meaning : goal.count-returns-else-number-from-clause-meaning
 count-returns-else-number-from-clause-meaning t c =
     let g : SFits w32 c.args.span.high = search rules in
     let wide : SFits w64 c.numbers_ahead.new.next = c.numbers_ahead.ensures.fits in
     let same = to_z-of_z w64 c.numbers_ahead.new.next wide in
-    λ k. c.numbers.invariant.rest (Ok next) _ ((rw c.in_default.is at c.in_ok-left.ensures.before) (context_of c.args.stack.now None) _ _ (all_counted (reached c.numbers_ahead.new.next c.from.result c.args.span.high false g c.from.ensures (rw same at c.if-number-from.false))))
+    λ k. c.numbers.invariant.rest (Ok next) _ ((rw c.in_default.is at c.in_ok-left.ensures.before) _ _ (all_counted (reached c.numbers_ahead.new.next c.from.result c.args.span.high false g c.from.ensures (rw same at c.if-number-from.false))))
 
 pub count-returns-in-Some-flow-clause-meaning : goal.count-returns-in-Some-flow-clause-meaning
 count-returns-in-Some-flow-clause-meaning t c =
@@ -1009,11 +1039,11 @@ count-returns-in-Some-flow-clause-meaning t c =
     let same = to_z-of_z w64 c.numbers_ahead.new.next wide in
     let low = not_before c.args.span.low _ c.numbers_ahead.new.next c.numbers.invariant.low c.in_ok-left.ensures.later in
     elim c.match-left.branch [
-      | count-in-Some+in_ok-flow w ↦ λ k. rw (w.self-is, w.world-is, w.active-is) (c.numbers.invariant.rest (Ok (flow_of c.in-Some-flow.flow)) _ ((rw w.in-Some.is at c.in_ok-left.ensures.within) (context_of c.args.stack.now None) _ _ (turn_left (rw (sym w.flow-is ∙ c.in-Some-flow.is, w.text.ensures) at (w.in_ok-flow.ensures.meaning tt)))))
+      | count-in-Some+in_ok-flow w ↦ λ k. rw (w.self-is, w.world-is, w.active-is) (c.numbers.invariant.rest (Ok (flow_of c.in-Some-flow.flow)) _ ((rw w.in-Some.is at c.in_ok-left.ensures.within) _ _ (turn_left (rw (sym w.flow-is ∙ c.in-Some-flow.is, w.text.ensures) at (w.in_ok-flow.ensures.meaning tt)))))
       | count-in_default+then-number-from+in_ok-flow-2 w ↦ λ k.
           let h = reached c.numbers_ahead.new.next w.from.result c.args.span.high true g w.from.ensures (rw same at w.if-number-from.true) in
           let e = w.value-value.ensures ∙ ap (λ x. numbered c.args.span.are_objects (to_z w32 (of_z w32 x))) same ∙ ap (numbered c.args.span.are_objects) (narrow c.args.span.low c.args.span.high c.numbers_ahead.new.next f g low h) in
-          rw (w.self-is, w.world-is, w.active-is) (c.numbers.invariant.rest (Ok (flow_of c.in-Some-flow.flow)) _ ((rw w.in_default.is at c.in_ok-left.ensures.before) (context_of c.args.stack.now None) _ _ (count_left h (rw (sym w.flow-is ∙ c.in-Some-flow.is, e) at (w.in_ok-flow-2.ensures.meaning tt)))))
+          rw (w.self-is, w.world-is, w.active-is) (c.numbers.invariant.rest (Ok (flow_of c.in-Some-flow.flow)) _ ((rw w.in_default.is at c.in_ok-left.ensures.before) _ _ (count_left h (rw (sym w.flow-is ∙ c.in-Some-flow.is, e) at (w.in_ok-flow-2.ensures.meaning tt)))))
     ]
 
 pub count-overflow_add-number : goal.count-overflow_add-number
@@ -1042,7 +1072,7 @@ count-numbers-preserved t c =
           record {
             ticks = omega (arith, ap (λ (x : Task). x.ticks_left) w.self-is);
             low = subst (λ x. c.args.span.low ≤ℤ x) (sym q) (not_below c.args.span.low c.numbers_ahead.new.next low);
-            rest = λ o s d. c.numbers.invariant.rest o s ((rw w.in-Some.is at c.in_ok-left.ensures.within) (context_of c.args.stack.now None) o s (turn_done (rw (sym w.flow-is ∙ c.in_default-flow.is, w.text.ensures) at (w.in_ok-flow.ensures.meaning tt)) (subst (λ x. Counts Faults (context_of c.args.stack.now None) c.args.name.now c.args.span x (block c.args.body.now) (state_of w.end_turn.new.self w.end_turn.new.world w.end_turn.new.active) o s) q (rw (w.self-is, w.world-is, w.active-is) at d))));
+            rest = λ o s d. c.numbers.invariant.rest o s ((rw w.in-Some.is at c.in_ok-left.ensures.within) o s (turn_done (rw (sym w.flow-is ∙ c.in_default-flow.is, w.text.ensures) at (w.in_ok-flow.ensures.meaning tt)) (subst (λ x. Counts Faults (context_of c.args.stack.now None) c.args.name.now c.args.span x (block c.args.body.now) (state_of w.end_turn.new.self w.end_turn.new.world w.end_turn.new.active) o s) q (rw (w.self-is, w.world-is, w.active-is) at d))));
           }
       | count-in_default+then-number-from+in_ok-flow-2 w ↦
           let h = reached c.numbers_ahead.new.next w.from.result c.args.span.high true g w.from.ensures (rw same at w.if-number-from.true) in
@@ -1051,6 +1081,6 @@ count-numbers-preserved t c =
           record {
             ticks = omega (arith, ap (λ (x : Task). x.ticks_left) w.self-is);
             low = subst (λ x. c.args.span.low ≤ℤ x) (sym q) (not_below c.args.span.low c.numbers_ahead.new.next low);
-            rest = λ o s d. c.numbers.invariant.rest o s ((rw w.in_default.is at c.in_ok-left.ensures.before) (context_of c.args.stack.now None) o s (count_then h (rw (sym w.flow-is ∙ c.in_default-flow.is, e) at (w.in_ok-flow-2.ensures.meaning tt)) (subst (λ x. Counts Faults (context_of c.args.stack.now None) c.args.name.now c.args.span x (block c.args.body.now) (state_of w.visit.new.self w.visit.new.world w.visit.new.active) o s) q (rw (w.self-is, w.world-is, w.active-is) at d))));
+            rest = λ o s d. c.numbers.invariant.rest o s ((rw w.in_default.is at c.in_ok-left.ensures.before) o s (count_then h (rw (sym w.flow-is ∙ c.in_default-flow.is, e) at (w.in_ok-flow-2.ensures.meaning tt)) (subst (λ x. Counts Faults (context_of c.args.stack.now None) c.args.name.now c.args.span x (block c.args.body.now) (state_of w.visit.new.self w.visit.new.world w.visit.new.active) o s) q (rw (w.self-is, w.world-is, w.active-is) at d))));
           }
     ]

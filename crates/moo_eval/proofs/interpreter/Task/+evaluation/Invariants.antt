@@ -91,10 +91,19 @@ abbrev pub decreases-property : goal.decreases-property
 decreases-property l = 8 * l.self.now.ticks_left + 3
 
 abbrev pub decreases-verb_call : goal.decreases-verb_call
-decreases-verb_call l = 8 * l.self.now.ticks_left + 5
+decreases-verb_call l = 8 * l.self.now.ticks_left + 6
+
+abbrev pub decreases-callee : goal.decreases-callee
+decreases-callee l = 8 * l.self.now.ticks_left + 5
 
 abbrev pub decreases-call_verb : goal.decreases-call_verb
-decreases-call_verb l = 8 * l.self.now.ticks_left + 4
+decreases-call_verb l = 8 * l.self.now.ticks_left + 5
+
+abbrev pub decreases-call_named : goal.decreases-call_named
+decreases-call_named l = 8 * l.self.now.ticks_left + 4
+
+abbrev pub decreases-call_unnamed : goal.decreases-call_unnamed
+decreases-call_unnamed l = 8 * l.self.now.ticks_left + 4
 
 abbrev pub decreases-run_called : goal.decreases-run_called
 decreases-run_called l = 8 * l.self.now.ticks_left + 3

@@ -1,8 +1,8 @@
-use Rattle.std.proofs.Common.{◌≤◌, negsuc, Result}
+use Rattle.std.proofs.Common.{◌≤◌, None, negsuc, Result}
 use Rattle.std.specs.Prelude.{◌≤ℤ◌}
 use Rattle.moo_program.specs.View.{block}
 use Rattle.moo_outcome.specs.Outcome.{Flow, Stop}
-use Rattle.moo_outcome.specs.State.{Context}
+use Rattle.moo_outcome.specs.Seen.{context_of}
 use Rattle.moo_access.specs.State.{State}
 use Rattle.moo_code_function.specs.Telling.{Faults}
 use Rattle.moo_semantics.specs.Meaning.{Counts}
@@ -15,7 +15,7 @@ invariant-numbers l = record {
   ticks : l.self.ticks_left ≤ l.fn.self.ticks_left;
   low : negsuc 2147483647 ≤ℤ l.next;
   later : l.fn.next ≤ℤ l.next;
-  rest : (c : Context) (o : Result Flow Stop) (s : State) → Counts Faults c l.name l.span l.next (block l.body) (state_of l.self l.world l.active) o s → Counts Faults c l.name l.span l.fn.next (block l.body) (state_of l.fn.self l.fn.world l.fn.active) o s;
+  rest : (o : Result Flow Stop) (s : State) → Counts Faults (context_of l.stack None) l.name l.span l.next (block l.body) (state_of l.self l.world l.active) o s → Counts Faults (context_of l.stack None) l.name l.span l.fn.next (block l.body) (state_of l.fn.self l.fn.world l.fn.active) o s;
 }
 
 abbrev pub decreases-numbers : goal.decreases-numbers

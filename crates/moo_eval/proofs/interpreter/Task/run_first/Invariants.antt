@@ -1,7 +1,7 @@
-use Rattle.std.proofs.Common.{◌≤◌, Result, length}
+use Rattle.std.proofs.Common.{◌≤◌, None, Result, length}
 use Rattle.moo_program.specs.View.{block}
 use Rattle.moo_outcome.specs.Outcome.{Flow, Stop}
-use Rattle.moo_outcome.specs.State.{Context}
+use Rattle.moo_outcome.specs.Seen.{context_of}
 use Rattle.moo_access.specs.State.{State}
 use Rattle.moo_code_function.specs.Telling.{Faults}
 use Rattle.moo_semantics.specs.Meaning.{RunsAll}
@@ -12,7 +12,7 @@ use Rattle.moo_eval.proofs.interpreter.Task.run_first.Given as goal
 abbrev pub invariant-loop-first : goal.invariant-loop-first
 invariant-loop-first l = record {
   ticks : l.self.ticks_left ≤ l.initial.self.ticks_left;
-  rest : (c : Context) (o : Result Flow Stop) (s : State) → RunsAll Faults c (block l.rest) (state_of l.self l.world l.active) o s → RunsAll Faults c (block l.statements) (state_of l.initial.self l.initial.world l.initial.active) o s;
+  rest : (o : Result Flow Stop) (s : State) → RunsAll Faults (context_of l.stack None) (block l.rest) (state_of l.self l.world l.active) o s → RunsAll Faults (context_of l.stack None) (block l.statements) (state_of l.initial.self l.initial.world l.initial.active) o s;
 }
 
 abbrev pub decreases-loop-first : goal.decreases-loop-first

@@ -1,7 +1,7 @@
-use Rattle.std.proofs.Common.{◌≤◌, ℕ, List, Option, Result}
+use Rattle.std.proofs.Common.{◌≤◌, None, ℕ, List, Option, Result}
 use Rattle.moo_program.specs.View.{tree, block}
 use Rattle.moo_outcome.specs.Outcome.{Flow, Stop}
-use Rattle.moo_outcome.specs.State.{Context}
+use Rattle.moo_outcome.specs.Seen.{context_of}
 use Rattle.moo_access.specs.State.{State}
 use Rattle.moo_code_function.specs.Telling.{Faults}
 use Rattle.moo_semantics.specs.Meaning.{Loops}
@@ -12,7 +12,7 @@ use Rattle.moo_eval.proofs.interpreter.Task.turns_ahead.Given as goal
 abbrev pub invariant-turns : goal.invariant-turns
 invariant-turns l = record {
   ticks : l.self.ticks_left ≤ l.fn.self.ticks_left;
-  rest : (c : Context) (own : Option (List ℕ)) (o : Result Flow Stop) (s : State) → Loops Faults c own (tree l.test) (block l.body) (state_of l.self l.world l.active) o s → Loops Faults c own (tree l.test) (block l.body) (state_of l.fn.self l.fn.world l.fn.active) o s;
+  rest : (own : Option (List ℕ)) (o : Result Flow Stop) (s : State) → Loops Faults (context_of l.stack None) own (tree l.test) (block l.body) (state_of l.self l.world l.active) o s → Loops Faults (context_of l.stack None) own (tree l.test) (block l.body) (state_of l.fn.self l.fn.world l.fn.active) o s;
 }
 
 abbrev pub decreases-turns : goal.decreases-turns

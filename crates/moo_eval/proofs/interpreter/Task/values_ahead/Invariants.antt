@@ -1,8 +1,8 @@
-use Rattle.std.proofs.Common.{◌≤◌, Result, drop}
+use Rattle.std.proofs.Common.{◌≤◌, None, Result, drop}
 use Rattle.moo_value.specs.View.{trees}
 use Rattle.moo_program.specs.View.{block}
 use Rattle.moo_outcome.specs.Outcome.{Flow, Stop}
-use Rattle.moo_outcome.specs.State.{Context}
+use Rattle.moo_outcome.specs.Seen.{context_of}
 use Rattle.moo_access.specs.State.{State}
 use Rattle.moo_code_function.specs.Telling.{Faults}
 use Rattle.moo_semantics.specs.Meaning.{Visits}
@@ -13,7 +13,7 @@ use Rattle.moo_eval.proofs.interpreter.Task.values_ahead.Given as goal
 abbrev pub invariant-values : goal.invariant-values
 invariant-values l = record {
   ticks : l.self.ticks_left ≤ l.fn.self.ticks_left;
-  rest : (c : Context) (o : Result Flow Stop) (s : State) → Visits Faults c l.name (trees (drop l.next l.values)) (block l.body) (state_of l.self l.world l.active) o s → Visits Faults c l.name (trees (drop l.fn.next l.values)) (block l.body) (state_of l.fn.self l.fn.world l.fn.active) o s;
+  rest : (o : Result Flow Stop) (s : State) → Visits Faults (context_of l.stack None) l.name (trees (drop l.next l.values)) (block l.body) (state_of l.self l.world l.active) o s → Visits Faults (context_of l.stack None) l.name (trees (drop l.fn.next l.values)) (block l.body) (state_of l.fn.self l.fn.world l.fn.active) o s;
 }
 
 abbrev pub decreases-values : goal.decreases-values

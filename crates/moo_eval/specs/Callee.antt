@@ -1,0 +1,14 @@
+-- What a verb is called on and by, evaluated one after the other.
+use Rattle.std.specs.Prelude.{Ok}
+use Rattle.moo_value.specs.Tree.{Tree}
+use Rattle.moo_program.specs.Tree.{Expr}
+use Rattle.moo_outcome.specs.State.{Context}
+use Rattle.moo_access.specs.State.{State}
+use Rattle.moo_code_function.specs.Telling.{Faults}
+use Rattle.moo_semantics.specs.Meaning.{Evaluates}
+
+-- two expressions give these values, the second from where the first ends
+pub record GivesBoth (c : Context) (a b : Expr) (x y : Tree) (s s'' : State) : Type 0 where
+  pub between : State
+  pub base : Evaluates Faults c a s (Ok x) between
+  pub name : Evaluates Faults c b between (Ok y) s''

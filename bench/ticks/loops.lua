@@ -10,6 +10,11 @@ function Thing:id(x)
     return x
 end
 
+function Thing:kept(x)
+    local y = x
+    return y
+end
+
 local thing = Thing.new()
 
 local function hundred()
@@ -123,6 +128,15 @@ loops["verb-call"] = function()
     local i = 0
     while i < 4000 do
         x = thing:id(i)
+        i = i + 1
+    end
+end
+
+loops["verb-statements"] = function()
+    local x
+    local i = 0
+    while i < 4000 do
+        x = thing:kept(i)
         i = i + 1
     end
 end

@@ -9,6 +9,7 @@ string-append~j = 0; while (j < 40) s = ""; i = 0; while (i < 100) s = s + "x"; 
 property-read~i = 0; while (i < 4000) x = #0.size; i = i + 1; endwhile
 property-write~i = 0; while (i < 4000) #0.size = i; i = i + 1; endwhile
 verb-call~i = 0; while (i < 4000) x = #0:id(i); i = i + 1; endwhile
+verb-statements~i = 0; while (i < 4000) x = #0:kept(i); i = i + 1; endwhile
 length~l = {1, 2, 3}; i = 0; while (i < 4000) x = length(l); i = i + 1; endwhile
 listappend~j = 0; while (j < 40) l = {}; i = 0; while (i < 100) l = listappend(l, i); i = i + 1; endwhile j = j + 1; endwhile
 strsub~i = 0; while (i < 4000) x = strsub("the quick brown fox", "o", "0"); i = i + 1; endwhile

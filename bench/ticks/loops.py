@@ -9,6 +9,10 @@ class Thing:
     def id(self, x):
         return x
 
+    def kept(self, x):
+        y = x
+        return y
+
 
 thing = Thing()
 
@@ -95,6 +99,13 @@ def verb_call():
     i = 0
     while i < 4000:
         x = thing.id(i)
+        i = i + 1
+
+
+def verb_statements():
+    i = 0
+    while i < 4000:
+        x = thing.kept(i)
         i = i + 1
 
 

@@ -1,7 +1,8 @@
 -- Different spellings have different numbers.
-use Rattle.std.proofs.Common.{◌≡◌, ℕ, suc, ◌+◌, ◌*◌, ◌<◌, ⊎_elim, List, [], ◌∷◌, ◌++◌, refl, ap, ◌∙◌, arith}
+use Rattle.std.proofs.Common.{◌≡◌, ℕ, suc, ◌+◌, ◌*◌, ◌<◌, ⊎_elim, List, [], ◌∷◌, ◌++◌, refl, sym, ap, ◌∙◌, subst, arith}
+use Rattle.std.proofs.lemmas.List.Elements.{All-nil, All-cons, All-head}
 use Rattle.moo_value.specs.Tree.{IsTextByte, IsText}
-use Rattle.moo_program.specs.Spelling.{spelling}
+use Rattle.moo_program.specs.Spelling.{spelling, AreNumbersOf}
 
 small : (b : ℕ) → IsTextByte b → b < 256
 small b h = ⊎_elim (λ e. omega (arith, e)) (λ p. omega (arith, p.1)) h
@@ -27,6 +28,24 @@ same_spelling (x ∷ xs) (y ∷ ys) p q h =
     let j : y < 256 = first_byte y ys q in
     ap (λ b. b ∷ xs) (digit x y (spelling xs) (spelling ys) i j h)
     ∙ ap (λ bs. y ∷ bs) (same_spelling xs ys (rest_text x xs p) (rest_text y ys q) (above x y (spelling xs) (spelling ys) i j h))
+
+front_text : (a b : List ℕ) → IsText (a ++ b) → IsText a
+front_text [] b h = All-nil IsTextByte
+front_text (x ∷ xs) b h = All-cons IsTextByte x xs (All-head IsTextByte x (xs ++ b) h) (front_text xs b (rest_text x (xs ++ b) h))
+
+back_text : (a b : List ℕ) → IsText (a ++ b) → IsText b
+back_text [] b h = h
+back_text (x ∷ xs) b h = back_text xs b (rest_text x (xs ++ b) h)
+
+-- two spellings whose parts have the same numbers are one
+pub same_numbers : {m n m' n' : ℕ} (a b : List ℕ) → m ≡ m' → n ≡ n' → IsText a → IsText b → AreNumbersOf m n a → AreNumbersOf m' n' b → a ≡ b
+same_numbers a b e f p q x y =
+    let t = subst IsText x.2 p in
+    let u = subst IsText y.2 q in
+    x.2
+    ∙ ap (λ front. front ++ x.1) (same_spelling x.0 y.0 (front_text x.0 x.1 t) (front_text y.0 y.1 u) (sym x.3 ∙ e ∙ y.3))
+    ∙ ap (λ back. y.0 ++ back) (same_spelling x.1 y.1 (back_text x.0 x.1 t) (back_text y.0 y.1 u) (sym x.4 ∙ f ∙ y.4))
+    ∙ sym y.2
 
 -- the number of bytes, where those behind them have a number already
 abbrev pub spelling_before : ℕ → List ℕ → ℕ

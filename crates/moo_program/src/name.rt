@@ -1,35 +1,40 @@
 //! The names of variables.
-ghost use Rattle.std.specs.Prelude.{◌≡◌, ◌≢◌, ◌↔◌, length, IsTrue, IfSome};
+ghost use Rattle.std.specs.Prelude.{◌≡◌, ◌≢◌, ◌↔◌, length, None, IsTrue, IfSome};
 ghost use Rattle.moo_value.specs.Size.{IsString};
 ghost use Rattle.moo_program.specs.Given.{given_of};
-ghost use Rattle.moo_program.specs.Spelling.{spelling};
+ghost use Rattle.moo_program.specs.Spelling.{spelling, AreNumbersOf};
 
 use crate::given::Given;
 use moo_value::MooStr;
 use std::cell::Cell;
 use std::marker::Model;
 
+// How many letters have a number together, whichever they are.
+const MOST_LETTERS: usize = 7;
+
 /// The name of a variable, as it is spelled where it stands in a program, with a hint at its slot.
 #[derive(Drop)]
 pub struct Name {
     text: MooStr,
-    /// A number that no other spelling has, or 0 where that is too large.
+    /// A number that no other spelling of its first letters has, or 0 where there are too many letters, or every frame has the variable.
     number: u64,
+    /// The same of the letters behind these.
+    further: u64,
     given: Option<Given>,
     hint: Cell<u32>,
 }
 
 impl Model for Name {
-    ghost use Rattle.std.specs.Prelude.{◌≡◌, ◌≢◌, ℕ, List};
+    ghost use Rattle.std.specs.Prelude.{◌≡◌, ◌≢◌, ℕ, List, None};
     ghost use Rattle.moo_value.specs.Tree.{IsText};
     ghost use Rattle.moo_program.specs.Given.{given_of};
-    ghost use Rattle.moo_program.specs.Spelling.{spelling};
+    ghost use Rattle.moo_program.specs.Spelling.{AreNumbersOf};
 
     ghost Value = { List ℕ };
 
     ghost view = { λ name. name.text };
 
-    ghost invariant = { λ name. (name.given ≡ given_of name.text) × IsText name.text × (name.number ≢ 0 → name.number ≡ spelling name.text) };
+    ghost invariant = { λ name. (name.given ≡ given_of name.text) × IsText name.text × (name.number ≢ 0 → (name.given ≡ None) × AreNumbersOf name.number name.further name.text) };
 }
 
 impl Name {
@@ -37,11 +42,15 @@ impl Name {
     pub fn new(text: MooStr) -> Name
         ensures { result ≡ text }
     {
-        let number = number_of(text.as_bytes());
         let given = Given::from_name(text.as_bytes());
+        let (number, further) = match given {
+            Some(_) => (0, 0),
+            None => numbers_of(text.as_bytes()),
+        };
         Name {
             text,
             number,
+            further,
             given,
             hint: Cell::new(0),
         }
@@ -81,12 +90,17 @@ impl Name {
         self.has_bytes_of(other)
     }
 
-    /// Whether the numbers of the two spellings tell that they are the same, so that no byte needs to be looked at.
+    /// Whether the numbers of the two spellings tell that they are the same, so that no byte needs to be looked at, and not every frame has
+    /// the variable.
     #[inline(always)]
     pub fn is_known_as(&self, other: &Name) -> bool
-        ensures { IsTrue result → (self.now ≡ other.now) }
+        ensures same { IsTrue result → (self.now ≡ other.now) }
+        ensures own { IsTrue result → (given_of self.now ≡ None) }
     {
-        self.number != 0 && self.number == other.number
+        if self.number == 0 {
+            return false;
+        }
+        self.number == other.number && self.further == other.further
     }
 
     // The same, byte by byte. Not inlined, so that what is known by the numbers pays nothing for it.
@@ -117,13 +131,14 @@ impl Name {
     }
 }
 
-// The number of a spelling, or 0 where it is too large.
-fn number_of(text: &[u8]) -> u64
-    ensures { result ≢ 0 → result ≡ spelling text.now }
+// The numbers of the first letters of a spelling and of those behind them, or 0 where they are too many.
+fn numbers_of(text: &[u8]) -> (u64, u64)
+    ensures { result.0 ≢ 0 → AreNumbersOf result.0 result.1 text.now }
 {
-    match small_number_of(text) {
-        Some(number) => number,
-        None => 0,
+    let (first, others) = text.split_at(text.len().min(MOST_LETTERS));
+    match (small_number_of(first), small_number_of(others)) {
+        (Some(number), Some(further)) => (number, further),
+        _ => (0, 0),
     }
 }
 

@@ -1,12 +1,17 @@
-use Rattle.std.proofs.Common.{◌≡◌, sym, ◌∙◌}
+use Rattle.std.proofs.Common.{◌≡◌, sym, ap, ◌∙◌}
 use Rattle.std.proofs.lemmas.Bool.{eqb-true}
-use Rattle.moo_program.proofs.Spelled.{same_spelling}
+use Rattle.moo_program.specs.Given.{given_of}
+use Rattle.moo_program.proofs.Spelled.{same_numbers}
 use Rattle.moo_program.proofs.name.Name.is_known_as.Goals as goal
 
-pub returns-then-self-ne0 : goal.returns-then-self-ne0
-returns-then-self-ne0 c =
-    let known = c.if-self-ne0.true in
-    λ t.
-    let same : c.self.inside.number ≡ c.other.inside.number = eqb-true _ _ t in
-    let alike = sym (c.self.invariant.2 known) ∙ same ∙ c.other.invariant.2 (λ z. known (same ∙ z)) in
-    sym c.self.view_is ∙ same_spelling _ _ c.self.invariant.1 c.other.invariant.1 alike ∙ c.other.view_is
+pub returns-then-self-other : goal.returns-then-self-other
+returns-then-self-other c =
+    let known = c.if-self-eq0.false in
+    let first = c.if-self-other.true in
+    let own = c.self.invariant.2 known in
+    record {
+      same = λ t.
+          let further : c.self.inside.further ≡ c.other.inside.further = eqb-true _ _ t in
+          sym c.self.view_is ∙ same_numbers _ _ first further c.self.invariant.1 c.other.invariant.1 own.1 (c.other.invariant.2 (λ z. known (first ∙ z))).1 ∙ c.other.view_is;
+      own = λ t. ap given_of (sym c.self.view_is) ∙ sym c.self.invariant.0 ∙ own.0;
+    }

@@ -37,5 +37,13 @@ pub(crate) fn set_integer(place: &mut Option<Value>, number: i32)
         *held = number;
         return;
     }
+    replace_by_integer(place, number);
+}
+
+// The same where another value, or none, stands there: a function of its own, so that what holds an integer pays nothing for it.
+#[inline(never)]
+fn replace_by_integer(place: &mut Option<Value>, number: i32)
+    ensures { place.new ≡ Some (Int number) }
+{
     *place = Some(Value::Int(number));
 }

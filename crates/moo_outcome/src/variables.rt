@@ -4,7 +4,7 @@ ghost use Rattle.std.specs.Str.{bytes_eq};
 ghost use Rattle.moo_value.specs.Tree.{integer};
 ghost use Rattle.moo_value.specs.View.{tree};
 ghost use Rattle.moo_value.specs.Compare.{folded};
-ghost use Rattle.moo_program.specs.Given.{given_name, given_names};
+ghost use Rattle.moo_program.specs.Given.{given_of, given_name, given_names};
 ghost use Rattle.moo_program.specs.Slots.{slots};
 ghost use Rattle.moo_outcome.specs.Variables.{bind, with_variable, first_bindings, handed_bindings, value_of_name};
 ghost use Rattle.moo_outcome.specs.GivenValues.{given_values};
@@ -155,26 +155,16 @@ impl Variables {
         ensures put { IsTrue result → variables_of self.new ≡ with_variable (variables_of self.old) (bind name.now (integer number)) }
         ensures kept { IsFalse result → self.new ≡ self.old }
     {
-        match name.given() {
-            Some(_) => self.put_anywhere(name, Value::Int(number)),
-            None => self.put_own_integer(name, number),
+        if self.puts_known(name, number) {
+            return true;
         }
+        self.put_anywhere(name, number)
     }
 
-    // The same, wherever the name stands: a function of its own, for what is set seldom.
-    #[inline(never)]
-    fn put_anywhere(&mut self, name: &Name, value: Value) -> bool
-        ensures put { IsTrue result → variables_of self.new ≡ with_variable (variables_of self.old) (bind name.now (tree value)) }
-        ensures kept { IsFalse result → self.new ≡ self.old }
-    {
-        self.put(name, value)
-    }
-
-    // The same of one that not every frame has.
+    // The same, where the slot is known without a search.
     #[inline(always)]
-    fn put_own_integer(&mut self, name: &Name, number: i32) -> bool
-        ensures own { IsTrue result → own_variables self.new ≡ with_variable (own_variables self.old) (bind name.now (integer number)) }
-        ensures given { self.new.given ≡ self.old.given }
+    fn puts_known(&mut self, name: &Name, number: i32) -> bool
+        ensures put { IsTrue result → variables_of self.new ≡ with_variable (variables_of self.old) (bind name.now (integer number)) }
         ensures kept { IsFalse result → self.new ≡ self.old }
     {
         match self.known_slot(name) {
@@ -182,8 +172,17 @@ impl Variables {
                 set_integer(&mut self.values[slot], number);
                 true
             }
-            None => self.put_searched(name, Value::Int(number)),
+            None => false,
         }
+    }
+
+    // The same, wherever the name stands: a function of its own, for what is set seldom.
+    #[inline(never)]
+    fn put_anywhere(&mut self, name: &Name, number: i32) -> bool
+        ensures put { IsTrue result → variables_of self.new ≡ with_variable (variables_of self.old) (bind name.now (integer number)) }
+        ensures kept { IsFalse result → self.new ≡ self.old }
+    {
+        self.put(name, Value::Int(number))
     }
 
     /// The value of a variable that every frame has.
@@ -222,6 +221,16 @@ impl Variables {
             Some(slot) => self.values[slot].as_ref(),
             None => self.other(name.as_bytes()),
         }
+    }
+
+    /// The integer that a variable holds whose slot is known without a search, or `None` where it holds another value or a search may
+    /// find it.
+    #[inline(always)]
+    pub fn known_integer(&self, name: &Name) -> Option<i32>
+        ensures { IfSome result (λ n. variables_of self.now (folded name.now) ≡ Some (integer n)) }
+    {
+        let slot = self.known_slot(name)?;
+        integer_of(&self.values[slot])
     }
 
     /// The integer that a variable with a slot holds, or `None` where it holds another value, or isn't known to have a slot.
@@ -267,7 +276,8 @@ impl Variables {
     // The hint at the slot of a name, where the numbers tell that the program's name there is spelled so and a value stands there.
     #[inline(always)]
     fn known_slot(&self, name: &Name) -> Option<usize>
-        ensures { IfSome result (λ i. (position (λ own. bytes_eq (folded own) (folded name.now)) (slots self.now.program) ≡ Some i) × (i < length self.now.values.items)) }
+        ensures there { IfSome result (λ i. (position (λ own. bytes_eq (folded own) (folded name.now)) (slots self.now.program) ≡ Some i) × (i < length self.now.values.items)) }
+        ensures own { IfSome result (λ _. given_of name.now ≡ None) }
     {
         let hint = name.hint();
         if self.is_known(hint, name) && hint < self.values.len() {
@@ -276,10 +286,11 @@ impl Variables {
         None
     }
 
-    // Whether the program's name in this slot is known to be spelled so.
+    // Whether the program's name in this slot is known to be spelled so, and not every frame has it.
     #[inline(always)]
     fn is_known(&self, slot: usize, name: &Name) -> bool
-        ensures { IsTrue result → (slot < length (slots self.now.program)) × (get_or (slots self.now.program) slot [] ≡ name.now) }
+        ensures there { IsTrue result → (slot < length (slots self.now.program)) × (get_or (slots self.now.program) slot [] ≡ name.now) }
+        ensures own { IsTrue result → given_of name.now ≡ None }
     {
         match self.program.slots().get(slot) {
             Some(own) => own.is_known_as(name),

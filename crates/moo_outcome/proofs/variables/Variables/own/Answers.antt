@@ -8,7 +8,7 @@ use Rattle.moo_outcome.proofs.variables.Variables.own.Goals as goal
 
 pub returns-in-Some : goal.returns-in-Some
 returns-in-Some c =
-    let found = c.in-Some.ensures in
+    let found = c.in-Some.ensures.there in
     lent c.as_ref.result
     ∙ ap (option_map (λ v. tree v)) (c.as_ref.ensures.value ∙ c.index.ensures)
     ∙ sym (slot_at c.args.name.now (slots c.args.self.now.program) c.args.self.now.values.items (value_among c.args.self.now.others.items) c.index.result.now c.in-Some.slot found.0 found.1)

@@ -8,6 +8,6 @@ use Rattle.moo_outcome.proofs.variables.Variables.own_integer.Goals as goal
 
 pub returns-in-Some : goal.returns-in-Some
 returns-in-Some c =
-    let found = c.in-Some.ensures in
+    let found = c.in-Some.ensures.there in
     let value = slot_at c.args.name.now (slots c.args.self.now.program) c.args.self.now.values.items (value_among c.args.self.now.others.items) c.index.result.now c.in-Some.slot found.0 found.1 ∙ ap (option_map (λ v. tree v)) (sym c.index.ensures) in
     rw value c.integer_of.ensures

@@ -1,0 +1,16 @@
+use Rattle.std.proofs.Common.{sym, ap, ◌∙◌}
+use Rattle.std.specs.Option.{option_map}
+use Rattle.moo_value.specs.View.{tree}
+use Rattle.moo_program.specs.Slots.{slots}
+use Rattle.moo_outcome.specs.Seen.{value_among, own_variables, variables_of}
+use Rattle.moo_outcome.proofs.GivenNames.{other_at}
+use Rattle.moo_outcome.proofs.Names.{slot_at}
+use Rattle.moo_outcome.proofs.variables.Variables.known_integer.Goals as goal
+
+pub returns : goal.returns
+unfolding variables_of
+returns c =
+    let old = c.args.self.now in
+    let slot = c.in_ok-slot.ensures in
+    let own = slot_at c.args.name.now (slots old.program) old.values.items (value_among old.others.items) c.index.result.now c.in_ok-slot.slot slot.there.0 slot.there.1 ∙ ap (option_map (λ v. tree v)) (sym c.index.ensures) in
+    rw (sym (other_at old.given (own_variables old) c.args.name.now slot.own) ∙ own) c.integer_of.ensures

@@ -1,6 +1,6 @@
 //! How a call enters a verb: 'Calling Built-in Functions and Other Verbs' of the LambdaMOO Programmer's Manual,
 //! 'Expressions' and 'Limits' of docs/LANGUAGE.md.
-ghost use Rattle.std.specs.Prelude.{◌≡◌, if◌then◌else◌, is_some, ◌∷◌, [], None, Some, Ok, Err, codes, option_map, IfOk, IfErr, OnOk};
+ghost use Rattle.std.specs.Prelude.{◌≡◌, if◌then◌else◌, is_some, ◌∷◌, [], None, Some, Ok, Err, codes, option_map, IfOk, IfErr, OnOk, IsTrue};
 ghost use Rattle.std.specs.Option.{unwrap_or};
 ghost use Rattle.moo_value.specs.Tree.{Tree, object, string, list_of};
 ghost use Rattle.moo_value.specs.View.{tree, trees};
@@ -238,11 +238,15 @@ pub fn has_frame_left(stack: &CallStack<'_>) -> bool
     stack.callers.frames() < MOST_FRAMES - 1
 }
 
-/// The player of a called verb: a wizard may have put another into the variable.
+/// The player of a called verb: a wizard may have put another into the variable. Whether the caller is one is asked only where another
+/// stands there.
 #[inline(always)]
 pub fn player_of_call(world: &World, caller: &Frame, active: &Activation) -> i32
     ensures { result ≡ player_of_call world.now caller.now (variables_of active.now.variables) active.now.programmer }
 {
+    if is_object(active.variables.get_given(Given::Player), caller.player) {
+        return caller.player;
+    }
     if !Rights::is_wizard(world, active.programmer) {
         return caller.player;
     }
@@ -250,6 +254,14 @@ pub fn player_of_call(world: &World, caller: &Frame, active: &Activation) -> i32
         Some(Value::Obj(player)) => *player,
         _ => caller.player,
     }
+}
+
+// Whether a value is this object.
+#[inline(always)]
+fn is_object(value: Option<&Value>, number: i32) -> bool
+    ensures { IsTrue result → option_map (λ v. tree v.now) value.entry ≡ Some (object number) }
+{
+    matches!(value, Some(Value::Obj(own)) if *own == number)
 }
 
 #[inline(always)]

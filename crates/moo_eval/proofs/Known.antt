@@ -1,9 +1,12 @@
 -- What is known at once is what the rules give.
-use Rattle.std.proofs.Common.{◌≡◌, ℕ, ◌<◌, ◌-◌, ℤ, List, [], ◌∷◌, Option, Some, Ok, refl, ap}
+use Rattle.std.proofs.Common.{◌≡◌, ℕ, ◌<◌, ◌-◌, ℤ, true, false, List, [], ◌∷◌, Option, Some, Ok, refl, ap}
 use Rattle.moo_value.specs.Tree.{Tree, integer}
 use Rattle.moo_program.specs.declared.operator.BinaryOperator.{BinaryOperator}
-use Rattle.moo_program.specs.Tree.{Expr, binary, index, property, call, element, no_items}
-use Rattle.moo_operation.specs.Operators.{binary_of}
+use Rattle.moo_program.specs.declared.operator.LogicOperator.{LogicOperator}
+use Rattle.moo_program.specs.declared.operator.UnaryOperator.{UnaryOperator}
+use Rattle.moo_program.specs.Tree.{Expr, unary, binary, logic, conditional, index, property, call, element, no_items}
+use Rattle.moo_operation.specs.Operators.{unary_of, binary_of}
+use Rattle.moo_operation.specs.Truth.{is_true, is_decided}
 use Rattle.moo_operation.specs.Places.{index_of, length_of}
 use Rattle.moo_function.specs.declared.function.Function.TheVariants.{Length}
 use Rattle.moo_function.specs.Names.{function_of}
@@ -15,8 +18,8 @@ use Rattle.moo_access.specs.State.{State}
 use Rattle.moo_access.specs.Calls.{read_property}
 use Rattle.moo_code_function.specs.Telling.{Faults}
 use Rattle.moo_worth.specs.Leaves.{IsLeaf}
-use Rattle.moo_worth.specs.Worth.{IsWorthWith, leaf_known, operator_known, element_known, property_known, length_known}
-use Rattle.moo_semantics.specs.Meaning.{Evaluates, begins, applies, no_more, element_then, binary_is, index_is, property_is}
+use Rattle.moo_worth.specs.Worth.{IsWorthWith, leaf_known, operator_known, unary_known, decided_known, undecided_known, true_known, false_known, element_known, property_known, length_known}
+use Rattle.moo_semantics.specs.Meaning.{Evaluates, begins, applies, no_more, element_then, unary_is, binary_is, logic_decides, logic_goes_on, conditional_true, conditional_false, index_is, property_is}
 use Rattle.moo_eval.proofs.Direct.{leaf_gives}
 use Rattle.moo_eval.proofs.Measuring.{length_computed}
 
@@ -35,6 +38,21 @@ module _ (w : World) (variables : List ℕ → Option Tree) (p : ℤ) where
   operator : {op : BinaryOperator} {a b : Expr} {x y v : Tree} {n n' n'' n3 : ℕ} → 0 < n → n' ≡ n - 1 → GivesWith w variables p n' a x n'' → GivesWith w variables p n'' b y n3 → binary_of op x y ≡ Ok v → GivesWith w variables p n (binary op a b) v n3
   operator z t f g h = λ c notices. begins z (applies (element_then (rw t at f c notices) (element_then (g c notices) no_more refl) refl) no_more (binary_is (ap answers h))) refl
 
+  signed : {op : UnaryOperator} {a : Expr} {x v : Tree} {n n' n'' : ℕ} → 0 < n → n' ≡ n - 1 → GivesWith w variables p n' a x n'' → unary_of op x ≡ Ok v → GivesWith w variables p n (unary op a) v n''
+  signed z t f h = λ c notices. begins z (applies (element_then (rw t at f c notices) no_more refl) no_more (unary_is (ap answers h))) refl
+
+  decided : {op : LogicOperator} {a b : Expr} {x : Tree} {n n' n'' : ℕ} → 0 < n → n' ≡ n - 1 → GivesWith w variables p n' a x n'' → is_decided op x ≡ true → GivesWith w variables p n (logic op a b) x n''
+  decided z t f h = λ c notices. begins z (applies (element_then (rw t at f c notices) no_more refl) no_more (logic_decides h)) refl
+
+  undecided : {op : LogicOperator} {a b : Expr} {x y : Tree} {n n' n'' n3 : ℕ} → 0 < n → n' ≡ n - 1 → GivesWith w variables p n' a x n'' → is_decided op x ≡ false → GivesWith w variables p n'' b y n3 → GivesWith w variables p n (logic op a b) y n3
+  undecided z t f h g = λ c notices. begins z (applies (element_then (rw t at f c notices) no_more refl) no_more (logic_goes_on h (g c notices) refl)) refl
+
+  chosen_first : {e a b : Expr} {x y : Tree} {n n' n'' n3 : ℕ} → 0 < n → n' ≡ n - 1 → GivesWith w variables p n' e x n'' → is_true x ≡ true → GivesWith w variables p n'' a y n3 → GivesWith w variables p n (conditional e a b) y n3
+  chosen_first z t f h g = λ c notices. begins z (applies (element_then (rw t at f c notices) no_more refl) no_more (conditional_true h (g c notices) refl)) refl
+
+  chosen_second : {e a b : Expr} {x y : Tree} {n n' n'' n3 : ℕ} → 0 < n → n' ≡ n - 1 → GivesWith w variables p n' e x n'' → is_true x ≡ false → GivesWith w variables p n'' b y n3 → GivesWith w variables p n (conditional e a b) y n3
+  chosen_second z t f h g = λ c notices. begins z (applies (element_then (rw t at f c notices) no_more refl) no_more (conditional_false h (g c notices) refl)) refl
+
   place : {a i : Expr} {x y v : Tree} {n n' n'' n3 : ℕ} → 0 < n → n' ≡ n - 1 → GivesWith w variables p n' a x n'' → GivesWith w variables p n'' i y n3 → index_of x y ≡ Ok v → GivesWith w variables p n (index a i) v n3
   place z t f g h = λ c notices. begins z (applies (element_then (rw t at f c notices) no_more refl) (element_then (g (within c (_ ∷ [])) notices) no_more refl) (index_is (ap answers h))) refl
 
@@ -47,6 +65,11 @@ module _ (w : World) (variables : List ℕ → Option Tree) (p : ℤ) where
 pub worth_gives : {w : World} {variables : List ℕ → Option Tree} {p : ℤ} {n m : ℕ} {e : Expr} {v : Tree} → IsWorthWith w variables p n e v m → GivesWith w variables p n e v m
 worth_gives {w = w} {variables = variables} {p = p} (leaf_known z t l) = leaf w variables p z t l
 worth_gives {w = w} {variables = variables} {p = p} (operator_known z t f g h) = operator w variables p z t (worth_gives f) (worth_gives g) h
+worth_gives {w = w} {variables = variables} {p = p} (unary_known z t f h) = signed w variables p z t (worth_gives f) h
+worth_gives {w = w} {variables = variables} {p = p} (decided_known z t f h) = decided w variables p z t (worth_gives f) h
+worth_gives {w = w} {variables = variables} {p = p} (undecided_known z t f h g) = undecided w variables p z t (worth_gives f) h (worth_gives g)
+worth_gives {w = w} {variables = variables} {p = p} (true_known z t f h g) = chosen_first w variables p z t (worth_gives f) h (worth_gives g)
+worth_gives {w = w} {variables = variables} {p = p} (false_known z t f h g) = chosen_second w variables p z t (worth_gives f) h (worth_gives g)
 worth_gives {w = w} {variables = variables} {p = p} (element_known z t f g h) = place w variables p z t (worth_gives f) (worth_gives g) h
 worth_gives {w = w} {variables = variables} {p = p} (property_known z t f g h) = owned w variables p z t (worth_gives f) (worth_gives g) h
 worth_gives {w = w} {variables = variables} {p = p} (length_known z t g f h) = measured w variables p z t (worth_gives g) f h

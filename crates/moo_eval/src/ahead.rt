@@ -1,5 +1,6 @@
 //! What is known at once, so that nothing can stop it: values of expressions, tests, and statements that set a variable to such a value.
-ghost use Rattle.std.specs.Prelude.{◌≡◌, ◌<◌, ◌≤◌, Ok, Err, IfSome, IfNone, IfOk, IfErr, IsTrue, IsFalse};
+ghost use Rattle.std.specs.Prelude.{◌≡◌, ◌<◌, ◌≤◌, ◌-◌, ℕ, Ok, Err, IfSome, IfNone, IfOk, IfErr, IsTrue, IsFalse};
+ghost use Rattle.moo_program.specs.Tree.{Expr as ExprTree, variable, binary, assign, performs};
 ghost use Rattle.moo_program.specs.View.{tree, statement as statement_of};
 ghost use Rattle.moo_value.specs.Tree.{Tree, integer};
 ghost use Rattle.moo_value.specs.View.{tree as tree_of};
@@ -9,6 +10,7 @@ ghost use Rattle.moo_outcome.specs.State.{Context};
 ghost use Rattle.moo_outcome.specs.Seen.{context_of, stop_of, HadMemory};
 ghost use Rattle.moo_table.specs.World.{World as WorldModel};
 ghost use Rattle.moo_code_function.specs.Telling.{Faults};
+ghost use Rattle.moo_worth.specs.Worth.{IsWorth};
 ghost use Rattle.moo_semantics.specs.Meaning.{Evaluates, Runs};
 ghost use Rattle.moo_eval.specs.Seen.{state_of};
 
@@ -16,12 +18,15 @@ use crate::interpreter::Task;
 use moo_fast_path::{as_setting, put_number, puts, puts_joined, sets_operator};
 use moo_operation as operation;
 use moo_outcome::{Activation, CallStack, Stop};
-use moo_program::{Expr, Stmt};
+use moo_program::operator::BinaryOperator;
+use moo_program::{Expr, Name, Stmt};
 use moo_value::Value;
 use moo_world::World;
-use moo_worth::at_a_glance;
 use moo_worth::integers::is_other_than_0;
 use moo_worth::worth::{Sight, number_worth, worth};
+use moo_worth::{
+    are_leaves, is_leaf, leaf_at_a_glance, leaves_at_a_glance, may_be_part, test_worth,
+};
 
 impl Task {
     /// The value of an element or of a property that is known at once, where all its ticks are left. Else nothing has begun. Not
@@ -48,7 +53,7 @@ impl Task {
         Some(value)
     }
 
-    /// The integer of an operator that is known at once, likewise.
+    /// The integer of an expression that is known at once, likewise.
     pub(crate) fn integer_at_once(
         &mut self,
         world: &World,
@@ -59,16 +64,13 @@ impl Task {
         ensures none { IfNone result (self.new ≡ self.old) }
         ensures ticks { self.new.ticks_left ≤ self.old.ticks_left }
     {
-        let Expr::Binary(operator, first, second) = expr else {
-            return None;
-        };
         let mut left = self.ticks_left.left() as u32;
         let sight = Sight {
             world,
             active,
             alloc: self.alloc,
         };
-        let number = number_worth(&sight, &mut left, *operator, first, second)?;
+        let number = test_worth(&sight, &mut left, expr)?;
         self.ticks_left.leave(left);
         Some(number)
     }
@@ -117,32 +119,10 @@ impl Task {
         Ok(operation::is_true(&value))
     }
 
-    /// Runs a statement that sets a variable to a number that is known at a glance, and tells whether it was one. Else nothing has begun.
+    /// Runs a statement that sets a variable to an integer that is known at once, or to a part, and tells whether it was one: a number,
+    /// a variable, an operator or a choice that gives an integer, an element, a property or a length. Else nothing has begun.
     #[inline(always)]
-    pub(crate) fn sets_number(&mut self, active: &mut Activation, statement: &Stmt) -> bool
-        ensures done { IsTrue result → (w : WorldModel) (c : Context) → Runs Faults c (statement_of statement.now) (state_of self.old w active.old) (Ok next) (state_of self.new w active.new) }
-        ensures fewer { IsTrue result → self.new.ticks_left < self.old.ticks_left }
-        ensures kept { IsFalse result → (self.new ≡ self.old) × (active.new ≡ active.old) }
-    {
-        let Some((name, value)) = as_setting(statement) else {
-            return false;
-        };
-        let Some(glance) = at_a_glance(active, value) else {
-            return false;
-        };
-        let left = self.ticks_left.left() as u32;
-        let taken = glance.ticks + 2;
-        if left < taken || !put_number(active, name, glance.number) {
-            return false;
-        }
-        self.ticks_left.leave(left - taken);
-        true
-    }
-
-    /// Runs a statement that sets a variable to what is known at once, and tells whether it was one and all its ticks were left. Else
-    /// nothing has begun.
-    #[inline(always)]
-    pub(crate) fn sets_at_once(
+    pub(crate) fn sets_number(
         &mut self,
         world: &World,
         active: &mut Activation,
@@ -155,16 +135,135 @@ impl Task {
         let Some((name, value)) = as_setting(statement) else {
             return false;
         };
+        if let Expr::Binary(operator, first, second) = value {
+            return self.sets_operator(world, active, name, *operator, first, second);
+        }
+        let Some(number) = leaf_at_a_glance(active, value) else {
+            return may_be_part(value) && self.sets_known(world, active, name, value);
+        };
+        self.puts_number(active, name, number, 1)
+    }
+
+    // The same of an operator. One between leaves is looked at where it stands.
+    #[inline(always)]
+    fn sets_operator(
+        &mut self,
+        world: &World,
+        active: &mut Activation,
+        name: &Name,
+        operator: BinaryOperator,
+        first: &Expr,
+        second: &Expr,
+    ) -> bool
+        ensures done { IsTrue result → (c : Context) → Runs Faults c (performs (assign (variable name.now) (binary operator (tree first.now) (tree second.now)))) (state_of self.old world.now active.old) (Ok next) (state_of self.new world.now active.new) }
+        ensures fewer { IsTrue result → self.new.ticks_left < self.old.ticks_left }
+        ensures kept { IsFalse result → (self.new ≡ self.old) × (active.new ≡ active.old) }
+    {
+        if !are_leaves(first, second) {
+            return self.sets_nested(world, active, name, operator, first, second);
+        }
+        let Some(number) = leaves_at_a_glance(active, operator, first, second) else {
+            return false;
+        };
+        self.puts_number(active, name, number, 3)
+    }
+
+    // Sets a variable to a number whose expression takes so many ticks, where all that the statement takes are left.
+    #[inline(always)]
+    fn puts_number(&mut self, active: &mut Activation, name: &Name, number: i32, ticks: u32) -> bool
+        requires { ticks ≤ 3 }
+        ensures done { IsTrue result → (w : WorldModel) (c : Context) (e : ExprTree) → ((n : ℕ) → ticks ≤ n → IsWorth w active.old n e (integer number) (n - ticks)) → Runs Faults c (performs (assign (variable name.now) e)) (state_of self.old w active.old) (Ok next) (state_of self.new w active.new) }
+        ensures fewer { IsTrue result → self.new.ticks_left < self.old.ticks_left }
+        ensures kept { IsFalse result → (self.new ≡ self.old) × (active.new ≡ active.old) }
+    {
+        let left = self.ticks_left.left() as u32;
+        let taken = ticks + 2;
+        if left < taken || !put_number(active, name, number) {
+            return false;
+        }
+        self.ticks_left.leave(left - taken);
+        true
+    }
+
+    // Sets a variable to the integer of an operator between other operators or parts, where it is known at once. Not inlined, so that what
+    // sets variables to operators between leaves pays nothing for it.
+    #[inline(never)]
+    fn sets_nested(
+        &mut self,
+        world: &World,
+        active: &mut Activation,
+        name: &Name,
+        operator: BinaryOperator,
+        first: &Expr,
+        second: &Expr,
+    ) -> bool
+        ensures done { IsTrue result → (c : Context) → Runs Faults c (performs (assign (variable name.now) (binary operator (tree first.now) (tree second.now)))) (state_of self.old world.now active.old) (Ok next) (state_of self.new world.now active.new) }
+        ensures fewer { IsTrue result → self.new.ticks_left < self.old.ticks_left }
+        ensures kept { IsFalse result → (self.new ≡ self.old) × (active.new ≡ active.old) }
+    {
+        let mut left = self.ticks_left.left() as u32;
+        if left < 2 {
+            return false;
+        }
+        left -= 2;
+        let sight = Sight {
+            world,
+            active,
+            alloc: self.alloc,
+        };
+        let Some(number) = number_worth(&sight, &mut left, operator, first, second) else {
+            return false;
+        };
+        if !put_number(active, name, number) {
+            return false;
+        }
+        self.ticks_left.leave(left);
+        true
+    }
+
+    /// Runs a statement that sets a variable to what is known at once and is neither an integer nor a part, and tells whether it was one
+    /// and all its ticks were left. Else nothing has begun.
+    #[inline(always)]
+    pub(crate) fn sets_at_once(
+        &mut self,
+        world: &World,
+        active: &mut Activation,
+        statement: &Stmt,
+    ) -> bool
+        ensures done { IsTrue result → (c : Context) → Runs Faults c (statement_of statement.now) (state_of self.old world.now active.old) (Ok next) (state_of self.new world.now active.new) }
+        ensures fewer { IsTrue result → self.new.ticks_left < self.old.ticks_left }
+        ensures kept { IsFalse result → (self.new ≡ self.old) × (active.new ≡ active.old) }
+    {
+        if sets_operator(statement) {
+            return self.sets_joined(world, active, statement);
+        }
+        let Some((name, value)) = as_setting(statement) else {
+            return false;
+        };
+        is_leaf(value) && self.sets_known(world, active, name, value)
+    }
+
+    // Sets a variable to what is known at once and is no operator between two operands. Not inlined, so that what sets variables to
+    // numbers and to sums pays nothing for it.
+    #[inline(never)]
+    fn sets_known(
+        &mut self,
+        world: &World,
+        active: &mut Activation,
+        name: &Name,
+        value: &Expr,
+    ) -> bool
+        ensures done { IsTrue result → (c : Context) → Runs Faults c (performs (assign (variable name.now) (tree value.now))) (state_of self.old world.now active.old) (Ok next) (state_of self.new world.now active.new) }
+        ensures fewer { IsTrue result → self.new.ticks_left < self.old.ticks_left }
+        ensures kept { IsFalse result → (self.new ≡ self.old) × (active.new ≡ active.old) }
+    {
         let mut left = self.ticks_left.left() as u32;
         if left < 2 {
             return false;
         }
         left -= 2;
         if !puts(self.alloc, world, active, &mut left, name, value) {
-            if !sets_operator(statement) {
-                return false;
-            }
-            return self.sets_joined(world, active, statement);
+            return false;
         }
         self.ticks_left.leave(left);
         true

@@ -192,7 +192,8 @@ impl Task {
         self.run_called(world, called)
     }
 
-    // A verb that was entered runs to its end. It takes a tick where it has a statement. Inlined, so that what was entered is not moved.
+    // A verb that was entered runs to its end, its first statements ahead, as far as they are known at once. It takes a tick where it has
+    // a statement. Inlined, so that what was entered is not moved.
     #[cycle(evaluation)]
     #[inline(always)]
     fn run_called(&mut self, world: &mut World, called: Called<'_>) -> Result<Value, Failure>
@@ -206,10 +207,11 @@ impl Task {
         } = called;
         let mut running = first;
         let statements = callee.running.program.statements();
-        if let Some(value) = self.returns_at_once(world, &running, statements) {
+        let rest = self.run_ahead(world, &mut running, statements, &callee)?;
+        if let Some(value) = self.returns_at_once(world, &running, rest) {
             return Ok(value);
         }
-        answered(self.run_all(world, &mut running, &callee, statements))
+        answered(self.run_all(world, &mut running, &callee, rest, true))
     }
 
     #[cycle(evaluation)]

@@ -1,5 +1,5 @@
 //! Statements that are run ahead, since nothing can stop them.
-ghost use Rattle.std.specs.Prelude.{◌≡◌, ◌<◌, ◌≤◌, None, Result, Ok, IfOk, IsTrue, IsFalse};
+ghost use Rattle.std.specs.Prelude.{◌≡◌, ◌≢◌, ◌<◌, ◌≤◌, None, Result, Ok, IfOk, IsTrue, IsFalse};
 ghost use Rattle.moo_program.specs.View.{statement as statement_of, block};
 ghost use Rattle.moo_outcome.specs.Outcome.{Flow, Stop as Stopped, next};
 ghost use Rattle.moo_outcome.specs.State.{Context};
@@ -28,6 +28,7 @@ impl Task {
         stack: &CallStack<'_>,
     ) -> Result<&'a [Stmt], AllocError>
         ensures rest { IfOk result (λ rest. (o : Result Flow Stopped) (s : State) → RunsAll Faults (context_of stack.now None) (block rest.now) (state_of self.new world.new active.new) o s → RunsAll Faults (context_of stack.now None) (block statements.now) (state_of self.old world.old active.old) o s) }
+        ensures fewer { IfOk result (λ rest. block rest.now ≢ block statements.now → self.new.ticks_left < self.old.ticks_left) }
         ensures ticks { self.new.ticks_left ≤ self.old.ticks_left }
     {
         self.run_first(world, active, statements, stack)
@@ -43,11 +44,12 @@ impl Task {
         stack: &CallStack<'_>,
     ) -> Result<&'a [Stmt], AllocError>
         ensures rest { IfOk result (λ rest. (o : Result Flow Stopped) (s : State) → RunsAll Faults (context_of stack.now None) (block rest.now) (state_of self.new world.new active.new) o s → RunsAll Faults (context_of stack.now None) (block statements.now) (state_of self.old world.old active.old) o s) }
+        ensures fewer { IfOk result (λ rest. block rest.now ≢ block statements.now → self.new.ticks_left < self.old.ticks_left) }
         ensures ticks { self.new.ticks_left ≤ self.old.ticks_left }
     {
         let mut rest = statements;
         while let Some((first, others)) = rest.split_first() {
-            if !self.sets_number(active, first) {
+            if !self.sets_number(world, active, first) {
                 let completed = self.completes_ahead(world, active, stack, first)?;
                 if !completed {
                     return Ok(rest);
@@ -72,16 +74,39 @@ impl Task {
         ensures kept { IfOk result (λ b. IsFalse b → (self.new ≡ self.old) × (world.new ≡ world.old) × (active.new ≡ active.old)) }
         ensures ticks { self.new.ticks_left ≤ self.old.ticks_left }
     {
+        if sets_called(statement) {
+            return Ok(self.answering.get() && self.sets_called(world, active, stack, statement));
+        }
         if may_complete(statement) {
             return self.completes(world, active, statement);
         }
-        Ok(sets_called(statement) && self.sets_called(world, active, stack, statement))
+        Ok(false)
     }
 
-    /// Runs a statement that sets a variable, a property or a place of a list to what is known at once, or puts that behind a list, and
-    /// tells whether it was one. Else nothing has begun. Memory may be wanting where a list is shared.
+    /// Runs a statement that wasn't tried ahead, where it is known at once, and tells whether it was one. Else nothing has begun.
     #[inline(always)]
-    pub(crate) fn completes_at_once(
+    pub(crate) fn completes_untried(
+        &mut self,
+        world: &mut World,
+        active: &mut Activation,
+        statement: &Stmt,
+        tried: bool,
+    ) -> Result<bool, AllocError>
+        ensures done { IfOk result (λ b. IsTrue b → (c : Context) → Runs Faults c (statement_of statement.now) (state_of self.old world.old active.old) (Ok next) (state_of self.new world.new active.new)) }
+        ensures fewer { IfOk result (λ b. IsTrue b → self.new.ticks_left < self.old.ticks_left) }
+        ensures kept { IfOk result (λ b. IsFalse b → (self.new ≡ self.old) × (world.new ≡ world.old) × (active.new ≡ active.old)) }
+        ensures ticks { self.new.ticks_left ≤ self.old.ticks_left }
+    {
+        if tried {
+            return Ok(false);
+        }
+        self.completes_at_once(world, active, statement)
+    }
+
+    // Runs a statement that sets a variable, a property or a place of a list to what is known at once, or puts that behind a list, and
+    // tells whether it was one. Else nothing has begun. Memory may be wanting where a list is shared.
+    #[inline(always)]
+    fn completes_at_once(
         &mut self,
         world: &mut World,
         active: &mut Activation,
@@ -92,7 +117,7 @@ impl Task {
         ensures kept { IfOk result (λ b. IsFalse b → (self.new ≡ self.old) × (world.new ≡ world.old) × (active.new ≡ active.old)) }
         ensures ticks { self.new.ticks_left ≤ self.old.ticks_left }
     {
-        if self.sets_number(active, statement) {
+        if self.sets_number(world, active, statement) {
             return Ok(true);
         }
         self.completes_otherwise(world, active, statement)

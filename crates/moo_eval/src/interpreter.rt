@@ -26,6 +26,7 @@ use moo_value::{ErrorCode, Value};
 use moo_world::World;
 use moo_worth::{may_be_known, may_have_worth};
 use std::alloc::{AllocError, Global};
+use std::cell::Cell;
 
 /// What a task may still use, and what it has asked for so far.
 #[derive(Drop)]
@@ -33,6 +34,8 @@ pub struct Task {
     pub(crate) ticks_left: Ticks,
     notices: Vec<Notice>,
     pub(crate) alloc: Global,
+    /// A hint: whether the call that was looked at last was answered without a frame. Where it wasn't, calls aren't looked at ahead.
+    pub(crate) answering: Cell<bool>,
 }
 
 impl Task {
@@ -45,6 +48,7 @@ impl Task {
             ticks_left: Ticks::full(),
             notices: Vec::new(alloc),
             alloc,
+            answering: Cell::new(true),
         }
     }
 

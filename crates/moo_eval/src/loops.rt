@@ -54,7 +54,7 @@ impl Task {
         ensures meaning { IsKnown result → EndsTurn Faults (context_of stack.now None) (option_copied own.entry) (block left.now) (state_of self.old world.old active.old) (seen_turn result) (state_of self.new world.new active.new) }
         ensures ticks { self.new.ticks_left ≤ self.old.ticks_left }
     {
-        let flow = self.run_all(world, active, stack, left)?;
+        let flow = self.run_all(world, active, stack, left, true)?;
         if let Flow::Next = flow {
             return Ok(None);
         }

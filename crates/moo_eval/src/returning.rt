@@ -21,7 +21,8 @@ use moo_outcome::{Activation, CallStack};
 use moo_program::{Expr, Item, Stmt};
 use moo_value::{ErrorCode, Value};
 use moo_world::World;
-use moo_worth::worth::{Sight, take, worth};
+use moo_worth::ticks::take;
+use moo_worth::worth::{Sight, worth};
 use moo_worth::{as_return, called_worth, returned_worth};
 
 impl Task {
@@ -66,7 +67,11 @@ impl Task {
             active,
             alloc: self.alloc,
         };
-        let value = returned_worth(&sight, stack, &mut left, sought, args)?;
+        let Some(value) = returned_worth(&sight, stack, &mut left, sought, args) else {
+            self.answering.set(false);
+            return None;
+        };
+        self.answering.set(true);
         self.ticks_left.leave(left);
         Some(value)
     }
@@ -102,6 +107,7 @@ impl Task {
             alloc: self.alloc,
         };
         let Some(value) = called_worth(&sight, stack, &mut left, base, verb, items) else {
+            self.answering.set(false);
             return false;
         };
         if !put_value(active, name, value) {

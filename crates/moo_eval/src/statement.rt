@@ -16,20 +16,21 @@ use moo_value::Value;
 use moo_world::World;
 
 impl Task {
-    /// A statement, which takes a tick as it begins.
+    // A statement, which takes a tick as it begins. One that was tried ahead isn't tried again.
     #[cycle(evaluation)]
-    pub fn run(
+    fn run(
         &mut self,
         world: &mut World,
         active: &mut Activation,
         stack: &CallStack<'_>,
         statement: &Stmt,
+        tried: bool,
     ) -> Result<Flow, Stop>
         ensures meaning { IsKnown result → Runs Faults (context_of stack.now None) (statement_of statement.now) (state_of self.old world.old active.old) (seen_flow result) (state_of self.new world.new active.new) }
         ensures ticks { self.new.ticks_left ≤ self.old.ticks_left }
         ensures fewer { OnOk result (self.new.ticks_left < self.old.ticks_left) }
     {
-        let completed = self.completes_at_once(world, active, statement)?;
+        let completed = self.completes_untried(world, active, statement, tried)?;
         if completed {
             return Ok(Flow::Next);
         }
@@ -116,22 +117,24 @@ impl Task {
         Ok(Flow::Next)
     }
 
-    /// Statements in order, up to one that leads elsewhere.
+    /// Statements in order, up to one that leads elsewhere. `tried` tells that the first has been tried ahead, so that it isn't tried again.
     #[cycle(evaluation)]
-    pub fn run_all(
+    pub(crate) fn run_all(
         &mut self,
         world: &mut World,
         active: &mut Activation,
         stack: &CallStack<'_>,
         statements: &[Stmt],
+        tried: bool,
     ) -> Result<Flow, Stop>
         ensures meaning { IsKnown result → RunsAll Faults (context_of stack.now None) (block statements.now) (state_of self.old world.old active.old) (seen_flow result) (state_of self.new world.new active.new) }
         ensures ticks { self.new.ticks_left ≤ self.old.ticks_left }
         ensures fewer { OnOk result (block statements.now ≢ no_statement → self.new.ticks_left < self.old.ticks_left) }
     {
+        let mut tried = tried;
         for statement in statements {
-            match self.run(world, active, stack, statement)? {
-                Flow::Next => {}
+            match self.run(world, active, stack, statement, tried)? {
+                Flow::Next => tried = false,
                 flow => return Ok(flow),
             }
         }
@@ -155,7 +158,7 @@ impl Task {
         if rest.is_empty() {
             return Ok(Flow::Next);
         }
-        self.run_all(world, active, stack, rest)
+        self.run_all(world, active, stack, rest, true)
     }
 
     // The first arm of an `if` whose condition is true.

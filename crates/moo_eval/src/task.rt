@@ -72,6 +72,7 @@ fn run_frame(
         &mut active,
         &stack,
         stack.running.program.statements(),
+        false,
     );
     let Ok(()) = task.leave_notices(&mut env.notices) else {
         return Ended::Memory;

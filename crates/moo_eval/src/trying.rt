@@ -36,7 +36,7 @@ impl Task {
         ensures ticks { self.new.ticks_left ≤ self.old.ticks_left }
     {
         let guarded = self.prepare(world, active, stack, handlers)?;
-        match self.run_all(world, active, stack, body) {
+        match self.run_all(world, active, stack, body, false) {
             Ok(flow) => Ok(flow),
             Err(Stop::Raised(raise)) => self.handle(world, active, stack, &guarded, raise),
             Err(Stop::OutOfTicks(trace)) => Err(Stop::OutOfTicks(trace)),
@@ -82,7 +82,7 @@ impl Task {
         ensures ticks { self.new.ticks_left ≤ self.old.ticks_left }
     {
         let body = self.begin_handler(active, stack, guarded, raise)?;
-        self.run_all(world, active, stack, body)
+        self.run_all(world, active, stack, body, false)
     }
 
     // The statements of the first handler that names the error, whose variable is set. Not inlined, so that nested handlers hold no
@@ -119,11 +119,11 @@ impl Task {
         ensures meaning { IsKnown result → Does Faults (context_of stack.now None) (try_finally (block body.now) (block cleanup.now)) (state_of self.old world.old active.old) (seen_flow result) (state_of self.new world.new active.new) }
         ensures ticks { self.new.ticks_left ≤ self.old.ticks_left }
     {
-        let outcome = self.run_all(world, active, stack, body);
+        let outcome = self.run_all(world, active, stack, body, false);
         if !runs_finally(&outcome) {
             return outcome;
         }
-        let last = self.run_all(world, active, stack, cleanup);
+        let last = self.run_all(world, active, stack, cleanup, false);
         after_finally(outcome, last)
     }
 }

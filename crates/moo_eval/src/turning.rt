@@ -1,8 +1,11 @@
 //! Turns of loops that are run ahead, as far as nothing can stop them.
-ghost use Rattle.std.specs.Prelude.{◌≡◌, ◌<◌, ◌≤◌, ◌≤ℤ◌, ◌+◌, ◌+ℤ◌, ◌∷◌, [], ℕ, pos, negsuc, List, Option, None, Some, Result, IfOk, IfSome, IfNone, IsTrue, IsFalse, length, drop, int_le, true, FitsSigned};
+ghost use Rattle.std.specs.Prelude.{◌≡◌, ◌<◌, ◌≤◌, ◌≤ℤ◌, ◌+◌, ◌-◌, ◌+ℤ◌, ◌∷◌, [], ℕ, pos, negsuc, List, Option, None, Some, Result, IfOk, IfSome, IfNone, IsTrue, IsFalse, length, drop, int_le, true, FitsSigned};
 ghost use Rattle.std.specs.Int.{w64};
+ghost use Rattle.moo_value.specs.Tree.{integer};
 ghost use Rattle.moo_value.specs.View.{tree as value_tree, trees};
+ghost use Rattle.moo_program.specs.Tree.{Expr as ExprTree};
 ghost use Rattle.moo_program.specs.View.{tree, block};
+ghost use Rattle.moo_outcome.specs.declared.frame.Activation.{Activation as ActivationModel};
 ghost use Rattle.moo_outcome.specs.Outcome.{Flow, Stop};
 ghost use Rattle.moo_outcome.specs.State.{Context};
 ghost use Rattle.moo_outcome.specs.Seen.{context_of};
@@ -10,6 +13,7 @@ ghost use Rattle.moo_outcome.specs.Variables.{bind};
 ghost use Rattle.moo_table.specs.World.{World as WorldModel};
 ghost use Rattle.moo_access.specs.State.{State};
 ghost use Rattle.moo_code_function.specs.Telling.{Faults};
+ghost use Rattle.moo_worth.specs.Worth.{IsWorth};
 ghost use Rattle.moo_semantics.specs.Meaning.{Loops, Visits, Counts};
 ghost use Rattle.moo_eval.specs.Turning.{Within, IsTested, IsBegun};
 ghost use Rattle.moo_eval.specs.Seen.{state_of};
@@ -22,7 +26,7 @@ use moo_value::Value;
 use moo_world::World;
 use moo_worth::integers::is_other_than_0;
 use moo_worth::worth::Sight;
-use moo_worth::{at_a_glance, test_worth};
+use moo_worth::{leaf_at_a_glance, leaves_at_a_glance, test_worth};
 use std::alloc::AllocError;
 
 impl Task {
@@ -60,14 +64,30 @@ impl Task {
         ensures fewer { IsTrue result → self.new.ticks_left < self.old.ticks_left }
         ensures kept { IsFalse result → self.new ≡ self.old }
     {
-        let Some(glance) = at_a_glance(active, test) else {
+        if let Expr::Binary(operator, first, second) = test {
+            let Some(number) = leaves_at_a_glance(active, *operator, first, second) else {
+                return self.begins_other_turn(world, active, test);
+            };
+            return self.takes_turn(number, 3);
+        }
+        let Some(number) = leaf_at_a_glance(active, test) else {
             return self.begins_other_turn(world, active, test);
         };
+        self.takes_turn(number, 1)
+    }
+
+    // Takes the ticks of a test that gives this number and the one of the turn, where they are left and the number is true.
+    #[inline(always)]
+    fn takes_turn(&mut self, number: i32, ticks: u32) -> bool
+        ensures tested { IsTrue result → (w : WorldModel) (a : ActivationModel) (c : Context) (e : ExprTree) → ((n : ℕ) → ticks ≤ n → IsWorth w a n e (integer number) (n - ticks)) → IsTested Faults c e (state_of self.old w a) (state_of self.new w a) }
+        ensures fewer { IsTrue result → self.new.ticks_left < self.old.ticks_left }
+        ensures kept { IsFalse result → self.new ≡ self.old }
+    {
         let left = self.ticks_left.left() as u32;
-        if left <= glance.ticks || !is_other_than_0(glance.number) {
+        if left <= ticks || !is_other_than_0(number) {
             return false;
         }
-        self.ticks_left.leave(left - glance.ticks - 1);
+        self.ticks_left.leave(left - ticks - 1);
         true
     }
 

@@ -15,11 +15,11 @@ use moo_program::operator::BinaryOperator;
 use moo_program::{Expr, Item, Name};
 use moo_value::{MooStr, Value};
 use moo_world::World;
-use moo_worth::worth::{Sight, joined_worth, number_worth, take, worth};
-use moo_worth::{integer_leaf, length_worth, may_be_known, part_copied};
+use moo_worth::worth::{Sight, worth};
+use moo_worth::{joined_worth, length_worth, part_copied};
 use std::alloc::Global;
 
-/// Sets a variable to what is known at once. The ticks are taken of those that are left.
+/// Sets a variable to what is known at once and is no operator between two operands. The ticks are taken of those that are left.
 #[inline(always)]
 pub fn puts(
     alloc: Global,
@@ -33,46 +33,10 @@ pub fn puts(
     ensures kept { IsFalse result → active.new ≡ active.old }
     ensures ticks { left.new ≤ left.old }
 {
-    if let Expr::Binary(operator, first, second) = value {
-        return puts_number(alloc, world, active, left, name, *operator, first, second);
-    }
-    if let Some(number) = integer_leaf(active, value) {
-        return puts_leaf(active, left, name, number);
-    }
-    if !may_be_known(value) {
-        return false;
-    }
     if let Expr::Call(function, items) = value {
         return puts_length(alloc, world, active, left, name, function, items);
     }
     puts_value(alloc, world, active, left, name, value)
-}
-
-// The same for an operator.
-#[inline(always)]
-fn puts_number(
-    alloc: Global,
-    world: &World,
-    active: &mut Activation,
-    left: &mut u32,
-    name: &Name,
-    operator: BinaryOperator,
-    first: &Expr,
-    second: &Expr,
-) -> bool
-    ensures put { IsTrue result → IsSet world.now active.old active.new left.old left.new name.now (binary operator (tree first.now) (tree second.now)) }
-    ensures kept { IsFalse result → active.new ≡ active.old }
-    ensures ticks { left.new ≤ left.old }
-{
-    let sight = Sight {
-        world,
-        active,
-        alloc,
-    };
-    let Some(number) = number_worth(&sight, left, operator, first, second) else {
-        return false;
-    };
-    put_number(active, name, number)
 }
 
 // The same for a call of `length`.
@@ -179,19 +143,6 @@ pub fn puts_joined(
     };
     match joined_worth(&sight, left, operator, first, second) {
         Some(value) => active.variables.put(name, value),
-        None => false,
-    }
-}
-
-// The same for a literal or a variable that is this integer.
-#[inline(always)]
-fn puts_leaf(active: &mut Activation, left: &mut u32, name: &Name, number: i32) -> bool
-    ensures put { IsTrue result → (w : WorldModel) (e : ExprTree) → IsLeaf (variables_of active.old.variables) e (integer number) → IsSet w active.old active.new left.old left.new name.now e }
-    ensures kept { IsFalse result → active.new ≡ active.old }
-    ensures ticks { left.new ≤ left.old }
-{
-    match take(left) {
-        Some(()) => put_number(active, name, number),
         None => false,
     }
 }

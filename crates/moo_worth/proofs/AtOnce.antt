@@ -38,6 +38,10 @@ element_worth w active z f g h = element_known z.0 z.1 f g h
 pub property_worth : (w : World) (active : Activation) {a b : Expr} {x y v : Tree} {n n' n'' n3 : ℕ} → (0 < n) × (n' ≡ n - 1) → IsWorth w active n' a x n'' → IsWorth w active n'' b y n3 → read_property w active.programmer x y ≡ Ok v → IsWorth w active n (property a b) v n3
 property_worth w active z f g h = property_known z.0 z.1 f g h
 
+-- the three ticks of what has two leaves
+pub three_parts : {n m : ℕ} → (2 < n) × (m ≡ n - 3) → ((0 < n) × (n - 1 ≡ n - 1)) × ((0 < n - 1) × (n - 1 - 1 ≡ n - 1 - 1)) × ((0 < n - 1 - 1) × (m ≡ n - 1 - 1 - 1))
+three_parts z = ((omega (arith, z.0), refl), (omega (arith, z.0), refl), (omega (arith, z.0), omega (arith, z.1)))
+
 -- a call of `length` takes a tick and what its argument takes
 pub length_worth : (w : World) (active : Activation) {f : List ℕ} {e : Expr} {v : Tree} {k : ℤ} {n n' n'' : ℕ} → (0 < n) × (n' ≡ n - 1) → IsWorth w active n' e v n'' → function_of f ≡ Some Length → length_of v ≡ Ok (integer k) → IsWorth w active n (call f (element e no_items)) (integer k) n''
 length_worth w active z g h m = length_known z.0 z.1 g h m

@@ -1,9 +1,12 @@
 -- Expressions whose worth is known at once.
-use Rattle.std.specs.Prelude.{◌≡◌, ◌<◌, ◌-◌, ℕ, ℤ, List, Option, Some, Ok}
+use Rattle.std.specs.Prelude.{◌≡◌, ◌<◌, ◌-◌, ℕ, ℤ, List, Option, Some, Ok, true, false}
 use Rattle.moo_value.specs.Tree.{Tree, integer}
 use Rattle.moo_program.specs.declared.operator.BinaryOperator.{BinaryOperator}
-use Rattle.moo_program.specs.Tree.{Expr, binary, index, property, call, element, no_items}
-use Rattle.moo_operation.specs.Operators.{binary_of}
+use Rattle.moo_program.specs.declared.operator.LogicOperator.{LogicOperator}
+use Rattle.moo_program.specs.declared.operator.UnaryOperator.{UnaryOperator}
+use Rattle.moo_program.specs.Tree.{Expr, unary, binary, logic, conditional, index, property, call, element, no_items}
+use Rattle.moo_operation.specs.Operators.{unary_of, binary_of}
+use Rattle.moo_operation.specs.Truth.{is_true, is_decided}
 use Rattle.moo_operation.specs.Places.{index_of, length_of}
 use Rattle.moo_function.specs.declared.function.Function.TheVariants.{Length}
 use Rattle.moo_function.specs.Names.{function_of}
@@ -22,6 +25,21 @@ pub data IsWorthWith (w : World) (variables : List ℕ → Option Tree) (program
   operator_known : {op : BinaryOperator} {a b : Expr} {x y v : Tree} {n n' n'' n3 : ℕ} →
       0 < n → n' ≡ n - 1 → IsWorthWith w variables programmer n' a x n'' → IsWorthWith w variables programmer n'' b y n3 → binary_of op x y ≡ Ok v →
       IsWorthWith w variables programmer n (binary op a b) v n3
+  unary_known : {op : UnaryOperator} {a : Expr} {x v : Tree} {n n' n'' : ℕ} →
+      0 < n → n' ≡ n - 1 → IsWorthWith w variables programmer n' a x n'' → unary_of op x ≡ Ok v →
+      IsWorthWith w variables programmer n (unary op a) v n''
+  decided_known : {op : LogicOperator} {a b : Expr} {x : Tree} {n n' n'' : ℕ} →
+      0 < n → n' ≡ n - 1 → IsWorthWith w variables programmer n' a x n'' → is_decided op x ≡ true →
+      IsWorthWith w variables programmer n (logic op a b) x n''
+  undecided_known : {op : LogicOperator} {a b : Expr} {x y : Tree} {n n' n'' n3 : ℕ} →
+      0 < n → n' ≡ n - 1 → IsWorthWith w variables programmer n' a x n'' → is_decided op x ≡ false → IsWorthWith w variables programmer n'' b y n3 →
+      IsWorthWith w variables programmer n (logic op a b) y n3
+  true_known : {e a b : Expr} {x y : Tree} {n n' n'' n3 : ℕ} →
+      0 < n → n' ≡ n - 1 → IsWorthWith w variables programmer n' e x n'' → is_true x ≡ true → IsWorthWith w variables programmer n'' a y n3 →
+      IsWorthWith w variables programmer n (conditional e a b) y n3
+  false_known : {e a b : Expr} {x y : Tree} {n n' n'' n3 : ℕ} →
+      0 < n → n' ≡ n - 1 → IsWorthWith w variables programmer n' e x n'' → is_true x ≡ false → IsWorthWith w variables programmer n'' b y n3 →
+      IsWorthWith w variables programmer n (conditional e a b) y n3
   element_known : {a i : Expr} {x y v : Tree} {n n' n'' n3 : ℕ} →
       0 < n → n' ≡ n - 1 → IsWorthWith w variables programmer n' a x n'' → IsWorthWith w variables programmer n'' i y n3 → index_of x y ≡ Ok v →
       IsWorthWith w variables programmer n (index a i) v n3

@@ -15,9 +15,10 @@ ghost use Rattle.moo_worth.specs.Calls.{AreWorth, IsReturned, IsAnswered, Return
 use crate::lengths::as_element;
 use crate::parts::value_part;
 use crate::properties::object_leaf;
-use crate::strings::text_leaf;
+use crate::strings::text_written;
+use crate::ticks::{take, take_three};
 use crate::told::{Told, are_light};
-use crate::worth::{Sight, take};
+use crate::worth::Sight;
 use moo_access::{Sought, has_frame_left, player_of_call, sought_verb};
 use moo_object::Verb;
 use moo_outcome::CallStack;
@@ -25,8 +26,8 @@ use moo_program::{Expr, Item, Stmt};
 use moo_value::{MooStr, Value};
 use moo_world::World;
 
-/// The value of a call of a verb, where what it is called on, its name and the arguments are known at once, and so is what it returns.
-/// Its ticks are taken of those that are left, where they are so many.
+/// The value of a call of a verb, where what it is called on and the arguments are known at once, its name is written out, and what it
+/// returns is known at once too. Its ticks are taken of those that are left, where they are so many.
 pub fn called_worth(
     sight: &Sight<'_>,
     stack: &CallStack<'_>,
@@ -38,11 +39,9 @@ pub fn called_worth(
     ensures value { IfSome result (λ v. IsAnswered sight.now.world.now (context_of stack.now None) sight.now.active.now left.old (verb_call (tree base.now) (tree name.now) (items_of items.now)) (value_tree v) left.new) }
     ensures ticks { left.new ≤ left.old }
 {
-    take(left)?;
-    take(left)?;
+    take_three(left)?;
     let this = object_leaf(sight.active, base)?;
-    take(left)?;
-    let name = text_leaf(sight.active, name)?;
+    let name = text_written(name)?;
     let sought = sought_at_once(sight.world, this, name)?;
     let expr = returned(sought.found.verb)?;
     let args = arguments_worth(sight, left, items)?;

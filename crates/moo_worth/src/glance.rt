@@ -1,35 +1,37 @@
 //! Numbers that are known at a glance: those that are written out, variables that hold one, and operators between these.
 ghost use Rattle.std.specs.Prelude.{◌≤◌, ◌-◌, ℕ, IfSome};
 ghost use Rattle.moo_value.specs.Tree.{integer};
+ghost use Rattle.moo_program.specs.Tree.{binary};
 ghost use Rattle.moo_program.specs.View.{tree};
 ghost use Rattle.moo_table.specs.World.{World as WorldModel};
 ghost use Rattle.moo_worth.specs.Worth.{IsWorth};
 
-use crate::leaves::{integer_leaf, is_leaf};
-use crate::worth::leaves_integer;
+use crate::integers::number_of;
+use crate::leaves::{is_leaf, leaf_at_a_glance};
 use moo_outcome::Activation;
 use moo_program::Expr;
+use moo_program::operator::BinaryOperator;
 
-/// A number, and the ticks that its expression takes.
-#[derive(Clone, Copy)]
-pub struct Glance {
-    pub number: i32,
-    pub ticks: u32,
+/// Whether an operator stands between leaves.
+#[inline(always)]
+pub fn are_leaves(first: &Expr, second: &Expr) -> bool {
+    is_leaf(first) && is_leaf(second)
 }
 
-/// The number of an expression, where it is known at a glance.
+/// The number of an operator between leaves, whose three ticks have to be left.
 #[inline(always)]
-pub fn at_a_glance(active: &Activation, expr: &Expr) -> Option<Glance>
-    ensures worth { IfSome result (λ g. (w : WorldModel) (n : ℕ) → g.ticks ≤ n → IsWorth w active.now n (tree expr.now) (integer g.number) (n - g.ticks)) }
-    ensures few { IfSome result (λ g. g.ticks ≤ 3) }
+pub fn leaves_at_a_glance(
+    active: &Activation,
+    operator: BinaryOperator,
+    first: &Expr,
+    second: &Expr,
+) -> Option<i32>
+    ensures { IfSome result (λ n. (w : WorldModel) (k : ℕ) → 3 ≤ k → IsWorth w active.now k (binary operator (tree first.now) (tree second.now)) (integer n) (k - 3)) }
 {
-    if let Expr::Binary(operator, first, second) = expr {
-        if !is_leaf(first) || !is_leaf(second) {
-            return None;
-        }
-        let number = leaves_integer(active, *operator, first, second)?;
-        return Some(Glance { number, ticks: 3 });
+    if !are_leaves(first, second) {
+        return None;
     }
-    let number = integer_leaf(active, expr)?;
-    Some(Glance { number, ticks: 1 })
+    let a = leaf_at_a_glance(active, first)?;
+    let b = leaf_at_a_glance(active, second)?;
+    number_of(operator, a, b)
 }

@@ -1,16 +1,16 @@
-//! Operators between two integers that can't fail.
-ghost use Rattle.std.specs.Prelude.{◌≡◌, ◌+ℤ◌, ◌-ℤ◌, ◌*ℤ◌, int_div, Ok, IfSome};
+//! Operators on integers that can't fail.
+ghost use Rattle.std.specs.Prelude.{◌≡◌, ◌+ℤ◌, ◌-ℤ◌, ◌*ℤ◌, neg_ℤ, int_div, Ok, IfSome};
 ghost use Rattle.std.specs.Int.{int_wrap, w32, IsNonZero};
 ghost use Rattle.moo_value.specs.Tree.{integer};
 ghost use Rattle.moo_value.specs.View.{tree};
 ghost use Rattle.moo_operation.specs.Answer.{Gives};
 ghost use Rattle.moo_operation.specs.Arithmetic.{quotient, remainder};
-ghost use Rattle.moo_operation.specs.Operators.{binary_of};
-ghost use Rattle.moo_operation.specs.Truth.{is_true, truth_value};
+ghost use Rattle.moo_operation.specs.Operators.{unary_of, binary_of};
+ghost use Rattle.moo_operation.specs.Truth.{is_true, is_decided, truth_value};
 
 use moo_operation as operation;
 use moo_operation::OperationFault;
-use moo_program::operator::BinaryOperator;
+use moo_program::operator::{BinaryOperator, LogicOperator, UnaryOperator};
 use moo_value::Value;
 use std::alloc::Global;
 
@@ -117,6 +117,35 @@ fn truth(test: bool) -> i32
     ensures { integer result ≡ truth_value test }
 {
     i32::from(test)
+}
+
+/// The number that an operator gives in front of an integer.
+#[inline(always)]
+pub(crate) fn number_behind(operator: UnaryOperator, a: i32) -> i32
+    ensures { unary_of operator (integer a) ≡ Ok (integer result) }
+{
+    match operator {
+        UnaryOperator::Not => truth(!is_other_than_0(a)),
+        UnaryOperator::Negate => negated(a),
+    }
+}
+
+#[inline]
+fn negated(a: i32) -> i32
+    ensures { result ≡ int_wrap w32 (neg_ℤ a) }
+{
+    a.wrapping_neg()
+}
+
+/// Whether a first operand decides that is this integer.
+#[inline(always)]
+pub(crate) fn decides(operator: LogicOperator, number: i32) -> bool
+    ensures { result ≡ is_decided operator (integer number) }
+{
+    match operator {
+        LogicOperator::And => !is_other_than_0(number),
+        LogicOperator::Or => is_other_than_0(number),
+    }
 }
 
 /// Whether an integer counts as true.

@@ -13,9 +13,37 @@ use moo_outcome::{Activation, literal_value};
 use moo_program::{Expr, Literal, Name};
 use moo_value::Value;
 
-/// The integer of a number, or of a variable that holds one.
+/// The integer of a number, or of a variable that holds one. What needs no search is looked at where it stands.
 #[inline(always)]
-pub fn integer_leaf(active: &Activation, expr: &Expr) -> Option<i32>
+pub fn leaf_at_a_glance(active: &Activation, expr: &Expr) -> Option<i32>
+    ensures { IfSome result (λ n. IsLeaf (variables_of active.now.variables) (tree expr.now) (integer n)) }
+{
+    if !is_leaf(expr) {
+        return None;
+    }
+    let number = match known_leaf(active, expr) {
+        Some(number) => number,
+        None => searched_leaf(active, expr)?,
+    };
+    Some(number)
+}
+
+// The same, where no variable has to be searched.
+#[inline(always)]
+fn known_leaf(active: &Activation, expr: &Expr) -> Option<i32>
+    ensures { IfSome result (λ n. IsLeaf (variables_of active.now.variables) (tree expr.now) (integer n)) }
+{
+    match expr {
+        Expr::Literal(literal) => integer_literal(literal),
+        Expr::Variable(name) => active.variables.known_integer(name),
+        _ => None,
+    }
+}
+
+// The same of any: a function of its own, so that what is known without a search pays nothing for it.
+#[cold]
+#[inline(never)]
+fn searched_leaf(active: &Activation, expr: &Expr) -> Option<i32>
     ensures { IfSome result (λ n. IsLeaf (variables_of active.now.variables) (tree expr.now) (integer n)) }
 {
     match expr {
@@ -27,8 +55,19 @@ pub fn integer_leaf(active: &Activation, expr: &Expr) -> Option<i32>
 
 /// Whether an expression is a number, another literal or a variable.
 #[inline]
-pub(crate) fn is_leaf(expr: &Expr) -> bool {
+pub fn is_leaf(expr: &Expr) -> bool {
     matches!(expr, Expr::Literal(_) | Expr::Variable(_))
+}
+
+/// The value of a literal, or of a variable that is set.
+pub(crate) fn leaf_value(active: &Activation, expr: &Expr) -> Option<Value>
+    ensures { IfSome result (λ v. IsLeaf (variables_of active.now.variables) (tree expr.now) (value_tree v)) }
+{
+    match expr {
+        Expr::Literal(literal) => written_out(literal),
+        Expr::Variable(name) => held(active, name),
+        _ => None,
+    }
 }
 
 /// The value of a variable that is set, where there is memory for its copy.

@@ -10,7 +10,8 @@ ghost use Rattle.moo_program.specs.Tree.{Items, call, element, no_items};
 ghost use Rattle.moo_program.specs.View.{tree, items_of, with_item};
 ghost use Rattle.moo_worth.specs.Worth.{IsWorth};
 
-use crate::worth::{Sight, take, variable_of};
+use crate::ticks::take;
+use crate::worth::{Sight, variable_of};
 use moo_function::Function;
 use moo_operation as operation;
 use moo_program::{Expr, Item};

@@ -5,19 +5,22 @@
 mod calls;
 mod glance;
 pub mod integers;
+mod joined;
 mod known;
 mod leaves;
 mod lengths;
 mod parts;
 mod properties;
 mod strings;
+pub mod ticks;
 mod told;
 pub mod worth;
 
 pub use calls::{as_return, called_worth, returned_worth};
-pub use glance::{Glance, at_a_glance};
-pub use known::{may_be_known, may_have_worth};
-pub use leaves::integer_leaf;
+pub use glance::{are_leaves, leaves_at_a_glance};
+pub use joined::joined_worth;
+pub use known::{may_be_known, may_be_part, may_have_worth};
+pub use leaves::{is_leaf, leaf_at_a_glance};
 pub use lengths::{as_element, length_worth};
 pub use parts::{integer_part, part_copied, test_worth, value_part};
 pub use properties::{name_worth, object_leaf, object_worth};

@@ -3,13 +3,20 @@
 ghost use Rattle.std.specs.Prelude.{◌≤◌, IfSome};
 ghost use Rattle.moo_value.specs.Tree.{integer};
 ghost use Rattle.moo_value.specs.View.{tree as value_tree};
+ghost use Rattle.moo_program.specs.Tree.{binary};
 ghost use Rattle.moo_program.specs.View.{tree};
 ghost use Rattle.moo_worth.specs.Worth.{IsWorth};
 
-use crate::leaves::integer_leaf;
+use crate::joined::compared_worth;
+use crate::known::may_be_operand;
+use crate::leaves::{is_leaf, leaf_at_a_glance};
 use crate::properties::property_seen;
-use crate::worth::{DEEPEST, Sight, copied, element_worth, integer_of, number_worth, take, worth};
+use crate::ticks::take;
+use crate::worth::{
+    DEEPEST, Sight, copied, element_worth, integer_of, leaf_worth, number_worth, part_worth, worth,
+};
 use moo_program::Expr;
+use moo_program::operator::BinaryOperator;
 use moo_value::Value;
 
 /// The integer of an expression, where it is known at once. Its ticks are taken of those that are left, where they are so many.
@@ -21,7 +28,7 @@ pub fn integer_part(sight: &Sight<'_>, left: &mut u32, expr: &Expr) -> Option<i3
     if let Expr::Binary(operator, first, second) = expr {
         return number_worth(sight, left, *operator, first, second);
     }
-    if let Some(number) = integer_leaf(sight.active, expr) {
+    if let Some(number) = leaf_at_a_glance(sight.active, expr) {
         take(left)?;
         return Some(number);
     }
@@ -39,7 +46,7 @@ pub fn value_part(sight: &Sight<'_>, left: &mut u32, expr: &Expr) -> Option<Valu
         let number = number_worth(sight, left, *operator, first, second)?;
         return Some(Value::Int(number));
     }
-    if let Some(number) = integer_leaf(sight.active, expr) {
+    if let Some(number) = leaf_at_a_glance(sight.active, expr) {
         take(left)?;
         return Some(Value::Int(number));
     }
@@ -68,16 +75,45 @@ fn part_seen<'a>(sight: &Sight<'a>, left: &mut u32, expr: &Expr) -> Option<&'a V
     }
 }
 
-/// The integer of a test that is an operator, a number or a variable, where it is known at once, and its ticks as those of worths.
+/// The integer of a test, where it is known at once, and its ticks as those of worths.
 #[inline(always)]
 pub fn test_worth(sight: &Sight<'_>, left: &mut u32, test: &Expr) -> Option<i32>
     ensures value { IfSome result (λ n. IsWorth sight.now.world.now sight.now.active.now left.old (tree test.now) (integer n) left.new) }
     ensures ticks { left.new ≤ left.old }
 {
     if let Expr::Binary(operator, first, second) = test {
-        return number_worth(sight, left, *operator, first, second);
+        return decided_worth(sight, left, *operator, first, second);
     }
-    let number = integer_leaf(sight.active, test)?;
-    take(left)?;
+    let number = if is_leaf(test) {
+        leaf_worth(sight, left, test)?
+    } else {
+        part_worth(sight, left, test, DEEPEST)?
+    };
+    Some(number)
+}
+
+// The integer of an operator, between integers or other values.
+#[inline(always)]
+fn decided_worth(
+    sight: &Sight<'_>,
+    left: &mut u32,
+    operator: BinaryOperator,
+    first: &Expr,
+    second: &Expr,
+) -> Option<i32>
+    ensures value { IfSome result (λ n. IsWorth sight.now.world.now sight.now.active.now left.old (binary operator (tree first.now) (tree second.now)) (integer n) left.new) }
+    ensures ticks { left.new ≤ left.old }
+{
+    if !may_be_operand(first) || !may_be_operand(second) {
+        return None;
+    }
+    let all = *left;
+    let number = match number_worth(sight, left, operator, first, second) {
+        Some(number) => number,
+        None => {
+            *left = all;
+            compared_worth(sight, left, operator, first, second)?
+        }
+    };
     Some(number)
 }

@@ -11,7 +11,8 @@ ghost use Rattle.moo_worth.specs.Leaves.{IsLeaf};
 ghost use Rattle.moo_worth.specs.Worth.{IsWorth};
 
 use crate::strings::text_leaf;
-use crate::worth::{Sight, copied, integer_of, take, variable_found};
+use crate::ticks::{take, take_three};
+use crate::worth::{Sight, copied, integer_of, variable_found};
 use moo_outcome::Activation;
 use moo_program::{Expr, Literal};
 use moo_value::{MooStr, Value};
@@ -68,13 +69,12 @@ fn property_worth(sight: &Sight<'_>, left: &mut u32, base: &Expr, name: &Expr) -
 {
     let name = text_leaf(sight.active, name)?;
     let o = object_leaf(sight.active, base)?;
-    take(left)?;
-    take(left)?;
-    take(left)?;
+    take_three(left)?;
     property_in_order(sight.alloc, sight.world, sight.active.programmer, o, name)
 }
 
 /// The value of such a property that isn't built in. It stays where it is.
+#[inline]
 pub(crate) fn property_seen<'a>(
     sight: &Sight<'a>,
     left: &mut u32,
@@ -86,9 +86,7 @@ pub(crate) fn property_seen<'a>(
 {
     let name = text_leaf(sight.active, name)?;
     let o = object_leaf(sight.active, base)?;
-    take(left)?;
-    take(left)?;
-    take(left)?;
+    take_three(left)?;
     readable(sight.world, sight.active.programmer, o, name)
 }
 

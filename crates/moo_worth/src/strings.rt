@@ -11,7 +11,8 @@ ghost use Rattle.moo_worth.specs.Leaves.{IsLeaf};
 ghost use Rattle.moo_worth.specs.Worth.{IsWorth};
 
 use crate::properties::property_seen;
-use crate::worth::{DEEPEST, Sight, element_worth, take, variable_found};
+use crate::ticks::take;
+use crate::worth::{DEEPEST, Sight, element_worth, variable_found};
 use moo_outcome::Activation;
 use moo_program::operator::BinaryOperator;
 use moo_program::{Expr, Literal};

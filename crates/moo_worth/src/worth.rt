@@ -1,32 +1,31 @@
-//! Expressions that are whose worth is known at once, since nothing can stop them and they change nothing: numbers, variables that hold
-//! one, operators between these, elements and lengths of what stands in a variable, and properties.
-ghost use Rattle.std.specs.Prelude.{◌≡◌, ◌-◌, ◌<◌, ◌≤◌, ℕ, suc, pos, Ok, Some, IfSome};
+//! Expressions whose worth is known at once, since nothing can stop them and they change nothing: numbers, variables that hold one,
+//! operators and choices between these, elements and lengths of what stands in a variable, and properties.
+ghost use Rattle.std.specs.Prelude.{◌≡◌, ◌≤◌, suc, pos, Ok, Some, IfSome};
 ghost use Rattle.moo_value.specs.Tree.{integer};
 ghost use Rattle.moo_value.specs.View.{tree as value_tree};
-ghost use Rattle.moo_program.specs.Tree.{literal_value as value_of_literal, binary, index};
+ghost use Rattle.moo_program.specs.Tree.{literal_value as value_of_literal, unary, binary, logic, conditional, index};
 ghost use Rattle.moo_program.specs.View.{tree};
-ghost use Rattle.moo_operation.specs.Operators.{binary_of};
 ghost use Rattle.moo_operation.specs.Places.{index_of};
 ghost use Rattle.moo_outcome.specs.Seen.{indexed_of, variables_of};
-ghost use Rattle.moo_table.specs.World.{World as WorldModel};
 ghost use Rattle.moo_worth.specs.Leaves.{IsLeaf};
 ghost use Rattle.moo_worth.specs.Worth.{IsWorth};
 
-use crate::integers::number_of;
-use crate::leaves::{held, integer_leaf, is_leaf, written_out};
+use crate::glance::{are_leaves, leaves_at_a_glance};
+use crate::integers::{decides, is_other_than_0, number_behind, number_of};
+use crate::joined::leaves_compared;
+use crate::leaves::{held, is_leaf, leaf_at_a_glance, written_out};
 use crate::lengths::length_worth;
 use crate::properties::{property_copied, property_number};
-use crate::strings::sum_worth;
-use moo_operation as operation;
+use crate::ticks::{take, take_three};
 use moo_outcome::Activation;
-use moo_program::operator::BinaryOperator;
+use moo_program::operator::{BinaryOperator, LogicOperator, UnaryOperator};
 use moo_program::{Expr, Literal};
 use moo_value::Value;
 use moo_world::World;
 use std::alloc::Global;
 
-/// How many operators and indexes may stand in each other. What is deeper is evaluated part by part, so that no part is
-/// looked at more often than this.
+/// How many operators and indexes may stand in each other. What is deeper is evaluated part by part, so that how often a part is looked
+/// at doesn't grow with what stands round it.
 pub(crate) const DEEPEST: u8 = 4;
 
 /// What is looked at.
@@ -37,8 +36,8 @@ pub struct Sight<'a> {
     pub alloc: Global,
 }
 
-/// The value of a literal, of a variable, of an operator between integers, of an element, of a property or of `length`, where it is
-/// known at once. Its ticks are taken of those that are left, where they are so many.
+/// The value of a literal, of a variable, of an operator or a choice between integers, of a comparison of leaves, of an element, of a
+/// property or of `length`, where it is known at once. Its ticks are taken of those that are left, where they are so many.
 #[inline(always)]
 pub fn worth(sight: &Sight<'_>, left: &mut u32, expr: &Expr) -> Option<Value>
     ensures value { IfSome result (λ v. IsWorth sight.now.world.now sight.now.active.now left.old (tree expr.now) (value_tree v) left.new) }
@@ -62,11 +61,10 @@ pub fn worth(sight: &Sight<'_>, left: &mut u32, expr: &Expr) -> Option<Value>
             copied(element)
         }
         Expr::Property(base, name) => property_copied(sight, left, base, name),
-        Expr::Call(name, items) => {
-            let number = length_worth(sight, left, name, items)?;
+        _ => {
+            let number = part_worth(sight, left, expr, DEEPEST)?;
             Some(Value::Int(number))
         }
-        _ => None,
     }
 }
 
@@ -99,13 +97,38 @@ fn nested_worth(
     ensures value { IfSome result (λ n. IsWorth sight.now.world.now sight.now.active.now left.old (binary operator (tree first.now) (tree second.now)) (integer n) left.new) }
     ensures ticks { left.new ≤ left.old }
 {
-    if is_leaf(first) && is_leaf(second) {
-        return leaves_worth(sight, left, operator, first, second);
-    }
-    operator_worth(sight, left, operator, first, second, deep)
+    let number = if are_leaves(first, second) {
+        leaves_number(sight, left, operator, first, second)?
+    } else {
+        operator_worth(sight, left, operator, first, second, deep)?
+    };
+    Some(number)
 }
 
-// The integer of an operator between leaves, whose three ticks are taken together.
+// The integer of an operator between leaves, which are integers or other values.
+#[inline(always)]
+fn leaves_number(
+    sight: &Sight<'_>,
+    left: &mut u32,
+    operator: BinaryOperator,
+    first: &Expr,
+    second: &Expr,
+) -> Option<i32>
+    ensures value { IfSome result (λ n. IsWorth sight.now.world.now sight.now.active.now left.old (binary operator (tree first.now) (tree second.now)) (integer n) left.new) }
+    ensures ticks { left.new ≤ left.old }
+{
+    let all = *left;
+    let number = match leaves_worth(sight, left, operator, first, second) {
+        Some(number) => number,
+        None => {
+            *left = all;
+            leaves_compared(sight, left, operator, first, second)?
+        }
+    };
+    Some(number)
+}
+
+// The same of integers, whose three ticks are taken together.
 #[inline(always)]
 fn leaves_worth(
     sight: &Sight<'_>,
@@ -117,94 +140,38 @@ fn leaves_worth(
     ensures value { IfSome result (λ n. IsWorth sight.now.world.now sight.now.active.now left.old (binary operator (tree first.now) (tree second.now)) (integer n) left.new) }
     ensures ticks { left.new ≤ left.old }
 {
-    let number = leaves_integer(sight.active, operator, first, second)?;
-    if *left < 3 {
-        return None;
-    }
-    *left -= 3;
+    let number = leaves_at_a_glance(sight.active, operator, first, second)?;
+    take_three(left)?;
     Some(number)
 }
 
-/// The integer of an operator between leaves, whose three ticks have to be left.
-#[inline(always)]
-pub(crate) fn leaves_integer(
-    active: &Activation,
-    operator: BinaryOperator,
-    first: &Expr,
-    second: &Expr,
-) -> Option<i32>
-    ensures { IfSome result (λ n. (w : WorldModel) (k : ℕ) → 3 ≤ k → IsWorth w active.now k (binary operator (tree first.now) (tree second.now)) (integer n) (k - 3)) }
-{
-    let a = integer_leaf(active, first)?;
-    let b = integer_leaf(active, second)?;
-    number_of(operator, a, b)
-}
-
-/// The value of an operator between values that are known at once, where it can't fail, and its ticks as above.
-pub fn joined_worth<'a>(
-    sight: &Sight<'a>,
-    left: &mut u32,
-    operator: BinaryOperator,
-    first: &'a Expr,
-    second: &'a Expr,
-) -> Option<Value>
-    ensures value { IfSome result (λ v. IsWorth sight.now.world.now sight.now.active.now left.old (binary operator (tree first.now) (tree second.now)) (value_tree v) left.new) }
-    ensures ticks { left.new ≤ left.old }
-{
-    if let BinaryOperator::Add = operator {
-        let joined = sum_worth(sight, left, first, second, DEEPEST)?;
-        return Some(Value::Str(joined));
-    }
-    take(left)?;
-    let first = operand(sight, left, first)?;
-    let second = operand(sight, left, second)?;
-    applied(sight.alloc, operator, &first, &second)
-}
-
-// What an operator gives for two values, where it doesn't fail.
-#[inline(always)]
-pub(crate) fn applied(
-    alloc: Global,
-    operator: BinaryOperator,
-    a: &Value,
-    b: &Value,
-) -> Option<Value>
-    ensures { IfSome result (λ v. binary_of operator (value_tree a.now) (value_tree b.now) ≡ Ok (value_tree v)) }
-{
-    operation::binary(alloc, operator, a, b).ok()
-}
-
-// The value of an operand, likewise: a function of its own, for both operands.
-#[inline(never)]
-fn operand(sight: &Sight<'_>, left: &mut u32, expr: &Expr) -> Option<Value>
-    ensures value { IfSome result (λ v. IsWorth sight.now.world.now sight.now.active.now left.old (tree expr.now) (value_tree v) left.new) }
-    ensures ticks { left.new ≤ left.old }
-{
-    worth(sight, left, expr)
-}
-
-// The integer of an operand. A number or a variable is looked at where the operand stands, so that it needs no call.
+// The integer of an operand. A number or a variable is looked at where the operand stands, so that it needs no call. Each way ends by
+// itself where there is none, so that the others meet with a number.
 #[cycle(worth)]
 #[inline(always)]
 fn operand_worth(sight: &Sight<'_>, left: &mut u32, expr: &Expr, deep: u8) -> Option<i32>
     ensures value { IfSome result (λ n. IsWorth sight.now.world.now sight.now.active.now left.old (tree expr.now) (integer n) left.new) }
     ensures ticks { left.new ≤ left.old }
 {
-    match expr {
-        Expr::Literal(literal) => {
-            let number = integer_literal(literal)?;
-            take(left)?;
-            Some(number)
-        }
-        Expr::Variable(name) => {
-            take(left)?;
-            sight.active.variables.get_integer(name)
-        }
-        Expr::Binary(operator, first, second) => {
-            nested_worth(sight, left, *operator, first, second, deep.checked_sub(1)?)
-        }
-        _ => part_worth(sight, left, expr, deep.checked_sub(1)?),
-    }
+    let number = if is_leaf(expr) {
+        leaf_worth(sight, left, expr)?
+    } else if let Expr::Binary(operator, first, second) = expr {
+        nested_worth(sight, left, *operator, first, second, deep.checked_sub(1)?)?
+    } else {
+        part_worth(sight, left, expr, deep.checked_sub(1)?)?
+    };
+    Some(number)
+}
+
+/// The same of a number or of a variable.
+#[inline(always)]
+pub(crate) fn leaf_worth(sight: &Sight<'_>, left: &mut u32, expr: &Expr) -> Option<i32>
+    ensures value { IfSome result (λ n. IsWorth sight.now.world.now sight.now.active.now left.old (tree expr.now) (integer n) left.new) }
+    ensures ticks { left.new ≤ left.old }
+{
+    let number = leaf_at_a_glance(sight.active, expr)?;
+    take(left)?;
+    Some(number)
 }
 
 // The integer of an operator, where it is known at once, and its ticks as above.
@@ -226,9 +193,10 @@ fn operator_worth(
     number_of(operator, a, b)
 }
 
-// The integer of an element, of a property or of a call, likewise.
+/// The integer of an expression that is neither a leaf nor an operator between two operands, likewise.
 #[cycle(worth)]
-fn part_worth(sight: &Sight<'_>, left: &mut u32, expr: &Expr, deep: u8) -> Option<i32>
+#[inline(never)]
+pub(crate) fn part_worth(sight: &Sight<'_>, left: &mut u32, expr: &Expr, deep: u8) -> Option<i32>
     ensures value { IfSome result (λ n. IsWorth sight.now.world.now sight.now.active.now left.old (tree expr.now) (integer n) left.new) }
     ensures ticks { left.new ≤ left.old }
 {
@@ -236,8 +204,87 @@ fn part_worth(sight: &Sight<'_>, left: &mut u32, expr: &Expr, deep: u8) -> Optio
         Expr::Index(base, place) => { integer_of(element_worth(sight, left, base, place, deep)) }
         Expr::Property(base, name) => property_number(sight, left, base, name),
         Expr::Call(name, items) => length_worth(sight, left, name, items),
+        Expr::Unary(operator, operand) => unary_worth(sight, left, *operator, operand, deep),
+        Expr::Logic(operator, first, second) => {
+            logic_worth(sight, left, *operator, first, second, deep)
+        }
+        Expr::Conditional(test, first, second) => {
+            conditional_worth(sight, left, test, first, second, deep)
+        }
         _ => None,
     }
+}
+
+// The integer of an operator in front of an operand.
+#[cycle(worth)]
+#[inline(always)]
+fn unary_worth(
+    sight: &Sight<'_>,
+    left: &mut u32,
+    operator: UnaryOperator,
+    operand: &Expr,
+    deep: u8,
+) -> Option<i32>
+    ensures value { IfSome result (λ n. IsWorth sight.now.world.now sight.now.active.now left.old (unary operator (tree operand.now)) (integer n) left.new) }
+    ensures ticks { left.new ≤ left.old }
+{
+    take(left)?;
+    let number = part_operand(sight, left, operand, deep)?;
+    Some(number_behind(operator, number))
+}
+
+// The integer of an operator whose first operand may decide.
+#[cycle(worth)]
+#[inline(always)]
+fn logic_worth(
+    sight: &Sight<'_>,
+    left: &mut u32,
+    operator: LogicOperator,
+    first: &Expr,
+    second: &Expr,
+    deep: u8,
+) -> Option<i32>
+    ensures value { IfSome result (λ n. IsWorth sight.now.world.now sight.now.active.now left.old (logic operator (tree first.now) (tree second.now)) (integer n) left.new) }
+    ensures ticks { left.new ≤ left.old }
+{
+    take(left)?;
+    let number = part_operand(sight, left, first, deep)?;
+    if decides(operator, number) {
+        return Some(number);
+    }
+    part_operand(sight, left, second, deep)
+}
+
+// The integer of one of two expressions, which a test tells.
+#[cycle(worth)]
+#[inline(always)]
+fn conditional_worth(
+    sight: &Sight<'_>,
+    left: &mut u32,
+    test: &Expr,
+    first: &Expr,
+    second: &Expr,
+    deep: u8,
+) -> Option<i32>
+    ensures value { IfSome result (λ n. IsWorth sight.now.world.now sight.now.active.now left.old (conditional (tree test.now) (tree first.now) (tree second.now)) (integer n) left.new) }
+    ensures ticks { left.new ≤ left.old }
+{
+    take(left)?;
+    let number = part_operand(sight, left, test, deep)?;
+    if is_other_than_0(number) {
+        return part_operand(sight, left, first, deep);
+    }
+    part_operand(sight, left, second, deep)
+}
+
+// The integer of an operand of these: a function of its own, for all of them.
+#[cycle(worth)]
+#[inline(never)]
+fn part_operand(sight: &Sight<'_>, left: &mut u32, expr: &Expr, deep: u8) -> Option<i32>
+    ensures value { IfSome result (λ n. IsWorth sight.now.world.now sight.now.active.now left.old (tree expr.now) (integer n) left.new) }
+    ensures ticks { left.new ≤ left.old }
+{
+    operand_worth(sight, left, expr, deep)
 }
 
 // An element of a list that stands in a variable, which stays where it is.
@@ -257,19 +304,6 @@ pub(crate) fn element_worth<'a>(
     take(left)?;
     let place = operand_worth(sight, left, place, deep)?;
     element_at(list, place)
-}
-
-/// A tick, where one is left.
-#[inline]
-pub fn take(left: &mut u32) -> Option<()>
-    ensures taken { IfSome result (λ _. (0 < left.old) × (left.new ≡ left.old - 1)) }
-    ensures ticks { left.new ≤ left.old }
-{
-    if *left == 0 {
-        return None;
-    }
-    *left -= 1;
-    Some(())
 }
 
 // The element at a place of a list.

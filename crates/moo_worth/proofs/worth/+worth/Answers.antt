@@ -1,9 +1,9 @@
-use Rattle.std.proofs.Common.{Some, w32, rules, refl}
+use Rattle.std.proofs.Common.{w32, rules, sym, ◌∙◌}
 use Rattle.std.proofs.lemmas.Int.{to_z-of_z}
 use mir.Val.{SFits}
 use Rattle.moo_program.proofs.Rows.{row_items}
-use Rattle.moo_outcome.specs.Seen.{variables_of}
-use Rattle.moo_worth.proofs.AtOnce.{number_leaf, held_leaf, leaf_worth, operator_worth, element_worth, map_some}
+use Rattle.moo_worth.specs.Worth.{unary_known, decided_known, undecided_known, true_known, false_known}
+use Rattle.moo_worth.proofs.AtOnce.{leaf_worth, operator_worth, element_worth, map_some}
 use Rattle.moo_worth.proofs.worth.+worth.Goals as goal
 
 pub element_worth-returns-clause-value : goal.element_worth-returns-clause-value
@@ -12,16 +12,6 @@ element_worth-returns-clause-value t c =
     let active = c.args.sight.now.active.now in
     let fits : SFits w32 c.in_ok-place.place = search rules in
     map_some c.element_at.result (λ v h. element_worth world active c.in_ok-take.ensures.taken (leaf_worth world active c.in_ok-take-2.ensures.taken c.in_ok-list.ensures) c.in_ok-place.ensures.value h) (rw (to_z-of_z w32 c.in_ok-place.place fits) at c.element_at.ensures)
-
-pub operand_worth-returns-in_ok-take-in-Literal-clause-value : goal.operand_worth-returns-in_ok-take-in-Literal-clause-value
-operand_worth-returns-in_ok-take-in-Literal-clause-value t c =
-    let number = c.in_ok-number-in-Literal.number in
-    let fits : SFits w32 c.in_ok-number-in-Literal.number = search rules in
-    rw (c.in-Literal.is, to_z-of_z w32 number fits) (leaf_worth c.args.sight.now.world.now c.args.sight.now.active.now c.in_ok-take-in-Literal.ensures.taken (number_leaf (variables_of c.args.sight.now.active.now.variables) c.in-Literal.literal (Some number) c.in_ok-number-in-Literal.ensures))
-
-pub operand_worth-returns-in_ok-take-in-Variable-clause-value : goal.operand_worth-returns-in_ok-take-in-Variable-clause-value
-operand_worth-returns-in_ok-take-in-Variable-clause-value t c =
-    rw c.in-Variable.is (map_some c.get_integer.result (λ n l. leaf_worth c.args.sight.now.world.now c.args.sight.now.active.now c.in_ok-take-in-Variable.ensures.taken l) (held_leaf (variables_of c.args.sight.now.active.now.variables) c.in-Variable.name _ c.get_integer.result refl c.get_integer.ensures))
 
 pub operator_worth-returns-clause-value : goal.operator_worth-returns-clause-value
 operator_worth-returns-clause-value t c =
@@ -32,3 +22,34 @@ operator_worth-returns-clause-value t c =
 pub part_worth-returns-in-Call-clause-value : goal.part_worth-returns-in-Call-clause-value
 part_worth-returns-in-Call-clause-value t c =
     rw (c.in-Call.is, row_items, ← c.deref-in-Call.ensures.value) c.length_worth.ensures.value
+
+pub unary_worth-returns-clause-value : goal.unary_worth-returns-clause-value
+unary_worth-returns-clause-value t c =
+    let taken = c.in_ok-take.ensures.taken in
+    let fits : SFits w32 c.in_ok-number.number = search rules in
+    let answer : SFits w32 c.number_behind.result = search rules in
+    rw (to_z-of_z w32 c.number_behind.result answer) (unary_known taken.0 taken.1 c.in_ok-number.ensures.value (rw (to_z-of_z w32 c.in_ok-number.number fits) at c.number_behind.ensures))
+
+pub logic_worth-returns-then-decides-clause-value : goal.logic_worth-returns-then-decides-clause-value
+logic_worth-returns-then-decides-clause-value t c =
+    let taken = c.in_ok-take.ensures.taken in
+    let fits : SFits w32 c.in_ok-number.number = search rules in
+    rw (to_z-of_z w32 c.in_ok-number.number fits) (decided_known taken.0 taken.1 c.in_ok-number.ensures.value (sym (rw (to_z-of_z w32 c.in_ok-number.number fits) at c.decides.ensures) ∙ c.if-decides.true))
+
+pub logic_worth-returns-clause-value : goal.logic_worth-returns-clause-value
+logic_worth-returns-clause-value t c =
+    let taken = c.in_ok-take.ensures.taken in
+    let fits : SFits w32 c.in_ok-number.number = search rules in
+    map_some c.part_operand-2.result (λ n h. undecided_known taken.0 taken.1 c.in_ok-number.ensures.value (sym (rw (to_z-of_z w32 c.in_ok-number.number fits) at c.decides.ensures) ∙ c.if-decides.false) h) c.part_operand-2.ensures.value
+
+pub conditional_worth-returns-then-is_other_than_0-clause-value : goal.conditional_worth-returns-then-is_other_than_0-clause-value
+conditional_worth-returns-then-is_other_than_0-clause-value t c =
+    let taken = c.in_ok-take.ensures.taken in
+    let fits : SFits w32 c.in_ok-number.number = search rules in
+    map_some c.part_operand-then-is_other_than_0.result (λ n h. true_known taken.0 taken.1 c.in_ok-number.ensures.value (sym (rw (to_z-of_z w32 c.in_ok-number.number fits) at c.is_other_than_0.ensures) ∙ c.if-is_other_than_0.true) h) c.part_operand-then-is_other_than_0.ensures.value
+
+pub conditional_worth-returns-clause-value : goal.conditional_worth-returns-clause-value
+conditional_worth-returns-clause-value t c =
+    let taken = c.in_ok-take.ensures.taken in
+    let fits : SFits w32 c.in_ok-number.number = search rules in
+    map_some c.part_operand-2.result (λ n h. false_known taken.0 taken.1 c.in_ok-number.ensures.value (sym (rw (to_z-of_z w32 c.in_ok-number.number fits) at c.is_other_than_0.ensures) ∙ c.if-is_other_than_0.false) h) c.part_operand-2.ensures.value

@@ -17,3 +17,15 @@ decreases-element_worth l = 5 * l.left.now + 1
 
 abbrev pub decreases-nested_worth : goal.decreases-nested_worth
 decreases-nested_worth l = 5 * l.left.now + 3
+
+abbrev pub decreases-unary_worth : goal.decreases-unary_worth
+decreases-unary_worth l = 5 * l.left.now + 1
+
+abbrev pub decreases-logic_worth : goal.decreases-logic_worth
+decreases-logic_worth l = 5 * l.left.now + 1
+
+abbrev pub decreases-conditional_worth : goal.decreases-conditional_worth
+decreases-conditional_worth l = 5 * l.left.now + 1
+
+abbrev pub decreases-part_operand : goal.decreases-part_operand
+decreases-part_operand l = 5 * l.left.now + 5

@@ -1,5 +1,4 @@
 use Rattle.std.proofs.Common.{rules, arith}
-use Rattle.std.proofs.lemmas.Bool.Decides.{nat_tests}
 use Rattle.std.proofs.lemmas.Int.{to_z-of_z}
 use mir.Syntax.{w32}
 use mir.Val.{SFits}
@@ -8,4 +7,5 @@ use Rattle.moo_worth.proofs.worth.leaves_worth.Goals as goal
 pub returns-clause-value : goal.returns-clause-value
 returns-clause-value c =
     let answer : SFits w32 c.in_ok-number.number = search rules in
-    rw (to_z-of_z w32 c.in_ok-number.number answer) (c.in_ok-number.ensures c.args.sight.now.world.now c.args.left.now (grind (arith, nat_tests)))
+    let taken = c.in_ok-take_three.ensures.taken in
+    rw (to_z-of_z w32 c.in_ok-number.number answer, taken.1) (c.in_ok-number.ensures c.args.sight.now.world.now c.args.left.now (omega (arith, taken.0)))

@@ -1,5 +1,5 @@
 use Rattle.std.proofs.Common.{⊎_elim, ◌∷◌, [], Ok, Err, refl, sym, ap, subst, ◌∙◌, arith, rules, Some, None, ◌+◌, drop, map, pos, ◌+ℤ◌}
-use Rattle.std.proofs.lemmas.Result.{err_from_is_err_and}
+use Rattle.std.proofs.lemmas.Result.{err_from_is_err_and, on_ok_weaker}
 use Rattle.std.proofs.lemmas.List.{append-nil}
 use Rattle.std.proofs.lemmas.Int.{to_z-of_z}
 use Rattle.std.proofs.Math.ListN.{drop_of_length-le}
@@ -18,6 +18,7 @@ use Rattle.moo_value.specs.declared.error_code.ErrorCode.TheVariants.{TypeMismat
 use Rattle.moo_access.specs.SeenTarget.{path_of}
 use Rattle.moo_access.specs.SeenCalled.{entered_of}
 use Rattle.moo_fast_path.proofs.Refused.{none_left}
+use Rattle.moo_eval.proofs.Hooking.{comes_on, takes_one}
 use Rattle.moo_eval.proofs.Caught.{guards_end, passes_on, known_caught}
 use Rattle.moo_program.specs.Tree as program
 use Rattle.moo_program.specs.Tree.{variable, splice, element, no_items}
@@ -343,11 +344,17 @@ call_unnamed-returns-in_err-called-clause-meaning t c =
 
 pub run_called-returns-in-Some-clause-meaning : goal.run_called-returns-in-Some-clause-meaning
 run_called-returns-in-Some-clause-meaning t c =
-    λ caller k. record { outcome = _; last = _; runs = runs_at c.statements-statements.ensures.statements (c.in-Some.ensures.some (entered_of c.args.called).context); leaves = refl; gives = refl }
+    λ caller k. record { outcome = _; last = _; runs = runs_at c.statements-statements.ensures.statements (c.in_ok-rest.ensures.rest _ _ (c.in-Some.ensures.some (entered_of c.args.called).context)); leaves = refl; gives = refl }
 
 pub run_called-returns-clause-meaning : goal.run_called-returns-clause-meaning
 run_called-returns-clause-meaning t c =
-    λ caller k. record { outcome = _; last = _; runs = runs_at c.statements-statements.ensures.statements (rw c.in_default.ensures.none at (c.run_all.ensures.meaning (c.answered.ensures.known k))); leaves = refl; gives = c.answered.ensures.answer }
+    λ caller k. record { outcome = _; last = _; runs = runs_at c.statements-statements.ensures.statements (c.in_ok-rest.ensures.rest _ _ (rw c.in_default.ensures.none at (c.run_all.ensures.meaning (c.answered.ensures.known k)))); leaves = refl; gives = c.answered.ensures.answer }
+
+pub run_called-returns-clause-fewer : goal.run_called-returns-clause-fewer
+run_called-returns-clause-fewer t c =
+    let program = c.statements-statements.ensures.statements in
+    let ahead = c.in_ok-rest.ensures in
+    λ begins. comes_on _ c.answered.result c.run_all.result c.answered.ensures.comes (on_ok_weaker c.run_all.result (λ h. takes_one (block c.in_ok-rest.rest.now) (block c.statements-statements.result.now) (λ e. begins (sym program ∙ e)) ahead.fewer ahead.ticks (rw c.in_default.ensures.none at h) (rw c.in_default.ensures.none at c.run_all.ensures.ticks)) c.run_all.ensures.fewer)
 
 pub catch-returns-in_err-values-clause-meaning : goal.catch-returns-in_err-values-clause-meaning
 catch-returns-in_err-values-clause-meaning t c =

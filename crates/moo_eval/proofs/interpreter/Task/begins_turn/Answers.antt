@@ -1,17 +1,17 @@
-use Rattle.std.proofs.Common.{◌-◌, w32, refl, sym, ◌∙◌, arith, rules}
+use Rattle.std.proofs.Common.{w32, refl, arith, rules}
 use Rattle.std.proofs.lemmas.Int.{to_z-of_z}
 use mir.Val.{SFits}
-use Rattle.moo_value.specs.Tree.{integer}
-use Rattle.moo_call.specs.Seen.{state_at}
-use Rattle.moo_eval.proofs.Foreseen.{ticks_seen}
-use Rattle.moo_eval.proofs.Known.{worth_gives}
+use Rattle.moo_worth.proofs.AtOnce.{leaf_worth}
 use Rattle.moo_eval.proofs.interpreter.Task.begins_turn.Goals as goal
+
+pub returns-in-Binary-clause-tested : goal.returns-in-Binary-clause-tested
+returns-in-Binary-clause-tested c =
+    let number = c.in-Some.number in
+    let fits : SFits w32 c.in-Some.number = search rules in
+    λ t k. rw (c.in-Binary.is, ← c.deref.ensures, ← c.deref-in-Binary.ensures) (c.takes_turn.ensures.tested t c.args.world.now c.args.active.now k _ (rw (to_z-of_z w32 number fits) (c.in-Some.ensures c.args.world.now)))
 
 pub returns-clause-tested : goal.returns-clause-tested
 returns-clause-tested c =
-    let fits : SFits w32 c.left-left.result = search rules in
-    let ticks = ticks_seen c.left-left.result c.args.self.now.ticks_left fits c.left-left.ensures in
-    let glance = c.in-Some.glance in
-    let number : SFits w32 glance.number = search rules in
-    let n = c.args.self.now.ticks_left in
-    λ t k. record { value = integer glance.number; middle = state_at (n - glance.ticks) c.args.self.now.notices.items c.args.world.now c.args.active.now; gives = worth_gives (c.in-Some.ensures.worth c.args.world.now n (omega (arith, c.if-left-glance.false, ticks))) k _; passes = sym (rw (to_z-of_z w32 glance.number number) at c.is_other_than_0.ensures) ∙ c.if-not-is_other_than_0.false; one_left = omega (arith, c.if-left-glance.false, ticks); taken = rw (c.leave.ensures, ticks) refl }
+    let number = c.in-Some-leaf_at_a_glance.number in
+    let fits : SFits w32 c.in-Some-leaf_at_a_glance.number = search rules in
+    λ t k. c.takes_turn-2.ensures.tested t c.args.world.now c.args.active.now k _ (λ n z. rw (to_z-of_z w32 number fits) (leaf_worth c.args.world.now c.args.active.now (omega (arith, z), refl) c.in-Some-leaf_at_a_glance.ensures))

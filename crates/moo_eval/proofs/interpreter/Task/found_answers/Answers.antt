@@ -9,4 +9,4 @@ pub returns-clause-some : goal.returns-clause-some
 returns-clause-some c =
     let fits : SFits w32 c.left.result = search rules in
     let ticks = ticks_seen c.left.result c.args.self.now.ticks_left fits c.left.ensures in
-    λ indexed a b items base name is. rw c.leave.ensures (verb_returned c.args.stack.now indexed _ (rw ticks at (c.in_ok-value.ensures.value base name is)))
+    λ indexed a b items base name is. rw c.leave.ensures (verb_returned c.args.stack.now indexed _ (rw ticks at (c.in-Some.ensures.value base name is)))

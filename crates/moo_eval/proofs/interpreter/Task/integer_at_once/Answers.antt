@@ -11,4 +11,4 @@ returns-clause-some c =
     let fits : SFits w32 c.left.result = search rules in
     let ticks = ticks_seen c.left.result c.args.self.now.ticks_left fits c.left.ensures in
     let number : SFits w32 c.in_ok-number.number = search rules in
-    λ k. rw (c.in-Binary.is, ← c.deref.ensures, ← c.deref-2.ensures, to_z-of_z w32 c.in_ok-number.number number, c.leave.ensures) (worth_gives (rw ticks at c.in_ok-number.ensures.value) k _)
+    λ k. rw (to_z-of_z w32 c.in_ok-number.number number, c.leave.ensures) (worth_gives (rw ticks at c.in_ok-number.ensures.value) k _)

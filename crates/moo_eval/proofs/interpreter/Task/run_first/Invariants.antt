@@ -1,4 +1,4 @@
-use Rattle.std.proofs.Common.{◌≤◌, None, Result, length}
+use Rattle.std.proofs.Common.{◌≢◌, ◌<◌, ◌≤◌, None, Result, length}
 use Rattle.moo_program.specs.View.{block}
 use Rattle.moo_outcome.specs.Outcome.{Flow, Stop}
 use Rattle.moo_outcome.specs.Seen.{context_of}
@@ -12,6 +12,7 @@ use Rattle.moo_eval.proofs.interpreter.Task.run_first.Given as goal
 abbrev pub invariant-loop-first : goal.invariant-loop-first
 invariant-loop-first l = record {
   ticks : l.self.ticks_left ≤ l.initial.self.ticks_left;
+  fewer : block l.rest ≢ block l.statements → l.self.ticks_left < l.initial.self.ticks_left;
   rest : (o : Result Flow Stop) (s : State) → RunsAll Faults (context_of l.stack None) (block l.rest) (state_of l.self l.world l.active) o s → RunsAll Faults (context_of l.stack None) (block l.statements) (state_of l.initial.self l.initial.world l.initial.active) o s;
 }
 

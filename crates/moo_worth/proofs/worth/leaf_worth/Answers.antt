@@ -2,7 +2,7 @@ use Rattle.std.proofs.Common.{w32, rules}
 use Rattle.std.proofs.lemmas.Int.{to_z-of_z}
 use mir.Val.{SFits}
 use Rattle.moo_worth.proofs.AtOnce.{leaf_worth}
-use Rattle.moo_worth.proofs.parts.test_worth.Goals as goal
+use Rattle.moo_worth.proofs.worth.leaf_worth.Goals as goal
 
 pub returns : goal.returns
 returns c =

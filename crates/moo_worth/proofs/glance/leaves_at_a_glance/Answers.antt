@@ -2,7 +2,7 @@ use Rattle.std.proofs.Common.{rules, arith}
 use mir.Syntax.{w32}
 use mir.Val.{SFits}
 use Rattle.moo_worth.proofs.AtOnce.{leaves_worth, map_some}
-use Rattle.moo_worth.proofs.worth.leaves_integer.Goals as goal
+use Rattle.moo_worth.proofs.glance.leaves_at_a_glance.Goals as goal
 
 pub returns : goal.returns
 returns c =

@@ -1,0 +1,16 @@
+use Rattle.std.proofs.Common.{arith, rules}
+use Rattle.std.proofs.lemmas.Bool.Decides.{nat_tests}
+use Rattle.std.proofs.lemmas.Int.{to_z-of_z}
+use Rattle.moo_value.specs.Tree.{integer}
+use mir.Syntax.{w32}
+use mir.Val.{SFits}
+use Rattle.moo_eval.proofs.Foreseen.{set_ahead, ticks_seen}
+use Rattle.moo_eval.proofs.interpreter.Task.sets_nested.Goals as goal
+
+pub returns-clause-done : goal.returns-clause-done
+returns-clause-done c =
+    let fits : SFits w32 c.left.result = search rules in
+    let ticks = ticks_seen c.left.result c.args.self.now.ticks_left fits c.left.ensures in
+    let number : SFits w32 c.in-Some.number = search rules in
+    let put = rw (to_z-of_z w32 c.in-Some.number number) at (c.put_number.ensures.put c.if-not-put_number.false) in
+    λ t k. rw c.leave.ensures (set_ahead {active = c.args.active.now} {active' = c.put_number.new.active} k (grind (arith, nat_tests, ticks)) record { value = integer c.in-Some.number; gives = rw ticks at c.in-Some.ensures.value; sets = put.0; keeps = put.1 })

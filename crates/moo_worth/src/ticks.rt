@@ -1,0 +1,28 @@
+//! Ticks that are taken where they are left.
+ghost use Rattle.std.specs.Prelude.{◌≡◌, ◌-◌, ◌<◌, ◌≤◌, IfSome};
+
+/// A tick, where one is left.
+#[inline(always)]
+pub fn take(left: &mut u32) -> Option<()>
+    ensures taken { IfSome result (λ _. (0 < left.old) × (left.new ≡ left.old - 1)) }
+    ensures ticks { left.new ≤ left.old }
+{
+    if *left == 0 {
+        return None;
+    }
+    *left -= 1;
+    Some(())
+}
+
+/// Three ticks, where so many are left.
+#[inline(always)]
+pub(crate) fn take_three(left: &mut u32) -> Option<()>
+    ensures taken { IfSome result (λ _. (2 < left.old) × (left.new ≡ left.old - 3)) }
+    ensures ticks { left.new ≤ left.old }
+{
+    if *left < 3 {
+        return None;
+    }
+    *left -= 3;
+    Some(())
+}

@@ -183,6 +183,48 @@ loops["create-recycle"] = function()
     end
 end
 
+loops["if-else"] = function()
+    local x = 0
+    local i = 0
+    while i < 4000 do
+        if i % 2 == 0 then
+            x = x + 1
+        else
+            x = x - 1
+        end
+        i = i + 1
+    end
+end
+
+loops["if-and"] = function()
+    local x = 0
+    local i = 0
+    while i < 4000 do
+        if i > 0 and i < 2000 then
+            x = x + 1
+        end
+        i = i + 1
+    end
+end
+
+loops["choice"] = function()
+    local x
+    local i = 0
+    while i < 4000 do
+        x = i < 2000 and 1 or 2
+        i = i + 1
+    end
+end
+
+loops["long-names"] = function()
+    local result_value = 0
+    local counter_number = 0
+    while counter_number < 4000 do
+        result_value = result_value + counter_number
+        counter_number = counter_number + 1
+    end
+end
+
 for task = 1, tonumber(arg[2]) do
     loops[arg[1]]()
 end

@@ -14,3 +14,7 @@ length~l = {1, 2, 3}; i = 0; while (i < 4000) x = length(l); i = i + 1; endwhile
 listappend~j = 0; while (j < 40) l = {}; i = 0; while (i < 100) l = listappend(l, i); i = i + 1; endwhile j = j + 1; endwhile
 strsub~i = 0; while (i < 4000) x = strsub("the quick brown fox", "o", "0"); i = i + 1; endwhile
 create-recycle~i = 0; while (i < 4000) o = create(#0); recycle(o); i = i + 1; endwhile
+if-else~x = 0; i = 0; while (i < 4000) if (i % 2 == 0) x = x + 1; else x = x - 1; endif i = i + 1; endwhile
+if-and~x = 0; i = 0; while (i < 4000) if (i > 0 && i < 2000) x = x + 1; endif i = i + 1; endwhile
+choice~i = 0; while (i < 4000) x = i < 2000 ? 1 | 2; i = i + 1; endwhile
+long-names~result_value = 0; counter_number = 0; while (counter_number < 4000) result_value = result_value + counter_number; counter_number = counter_number + 1; endwhile

@@ -143,6 +143,41 @@ def create_recycle():
         i = i + 1
 
 
+def if_else():
+    x = 0
+    i = 0
+    while i < 4000:
+        if i % 2 == 0:
+            x = x + 1
+        else:
+            x = x - 1
+        i = i + 1
+
+
+def if_and():
+    x = 0
+    i = 0
+    while i < 4000:
+        if i > 0 and i < 2000:
+            x = x + 1
+        i = i + 1
+
+
+def choice():
+    i = 0
+    while i < 4000:
+        x = 1 if i < 2000 else 2
+        i = i + 1
+
+
+def long_names():
+    result_value = 0
+    counter_number = 0
+    while counter_number < 4000:
+        result_value = result_value + counter_number
+        counter_number = counter_number + 1
+
+
 loop = globals()[{"while": "while_"}.get(sys.argv[1], sys.argv[1].replace("-", "_"))]
 for task in range(int(sys.argv[2])):
     loop()

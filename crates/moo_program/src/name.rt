@@ -34,7 +34,7 @@ impl Model for Name {
 
     ghost view = { λ name. name.text };
 
-    ghost invariant = { λ name. (name.given ≡ given_of name.text) × IsText name.text × (name.number ≢ 0 → (name.given ≡ None) × AreNumbersOf name.number name.further name.text) };
+    ghost invariant = { λ name. (name.given ≡ given_of name.text) × IsText name.text × (name.number ≢ 0 → (name.given ≡ None) × AreNumbersOf name.number name.further name.text) × (name.number ≡ 0 → name.further ≡ 0) };
 }
 
 impl Name {
@@ -103,6 +103,16 @@ impl Name {
         self.number == other.number && self.further == other.further
     }
 
+    /// The number of its first seven letters and that of those behind them. No other name has both. Both are 0 where the name has too many
+    /// letters (sixteen or more), or every frame has the variable.
+    #[inline(always)]
+    pub fn numbers(&self) -> (u64, u64)
+        ensures known { result.0 ≢ 0 → (given_of self.now ≡ None) × AreNumbersOf result.0 result.1 self.now }
+        ensures unknown { result.0 ≡ 0 → result.1 ≡ 0 }
+    {
+        (self.number, self.further)
+    }
+
     // The same, byte by byte. Not inlined, so that what is known by the numbers pays nothing for it.
     #[inline(never)]
     fn has_bytes_of(&self, other: &Name) -> bool
@@ -133,11 +143,12 @@ impl Name {
 
 // The numbers of the first letters of a spelling and of those behind them, or 0 where they are too many.
 fn numbers_of(text: &[u8]) -> (u64, u64)
-    ensures { result.0 ≢ 0 → AreNumbersOf result.0 result.1 text.now }
+    ensures known { result.0 ≢ 0 → AreNumbersOf result.0 result.1 text.now }
+    ensures unknown { result.0 ≡ 0 → result.1 ≡ 0 }
 {
     let (first, others) = text.split_at(text.len().min(MOST_LETTERS));
     match (small_number_of(first), small_number_of(others)) {
-        (Some(number), Some(further)) => (number, further),
+        (Some(number), Some(further)) if number != 0 => (number, further),
         _ => (0, 0),
     }
 }

@@ -4,6 +4,7 @@ pub mod Names
 pub mod GivenNames
 pub mod FirstValues
 pub mod Hinted
+pub mod Slotted
 pub mod Rest
 pub mod Scattered
 pub mod Stored

@@ -1,5 +1,5 @@
 -- How a variable is looked for.
-use Rattle.std.proofs.Common.{◌≡◌, ℕ, zero, suc, ◌<◌, ◌≤◌, Bool, true, false, cond, List, [], ◌∷◌, Option, Some, None, Decides, length, get_or, position, map, option_copied, refl, sym, ap, ◌∙◌, arith}
+use Rattle.std.proofs.Common.{◌≡◌, ℕ, zero, suc, ◌<◌, ◌≤◌, Bool, true, false, cond, List, [], ◌∷◌, Option, Some, None, Decides, length, get_or, position, map, refl, sym, ap, ◌∙◌, arith}
 use Rattle.std.specs.Option.{option_map}
 use Rattle.std.specs.List.{find, position_or_len}
 use Rattle.std.specs.Str.{bytes_eq}
@@ -9,7 +9,6 @@ use Rattle.std.proofs.lemmas.List.Quantifiers.{position-Some}
 use Rattle.std.proofs.lemmas.List.Sums.{fails_before_first}
 use Rattle.std.proofs.lemmas.Slice.Eq.{bytes_eq-Decides}
 use Rattle.moo_value.specs.declared.value.Value.{Value}
-use Rattle.std.specs.Borrow.{Bor}
 use Rattle.moo_value.specs.Tree.{Tree}
 use Rattle.moo_value.specs.Compare.{folded}
 use Rattle.moo_value.specs.View.{tree}
@@ -48,11 +47,6 @@ unslotted_at P slots n None e h k l m = fails_before_first P slots k [] (omega (
 
 pub unslotted : (P : List ℕ → Bool) (slots : List (List ℕ)) (n : ℕ) → ((i : ℕ) → position P slots ≡ Some i → n ≤ i) → (k : ℕ) → k < length slots → k < n → P (get_or slots k []) ≡ false
 unslotted P slots n h = unslotted_at P slots n (position P slots) refl h
-
--- a value that is lent
-pub lent : (r : Option (Bor Value)) → option_map (λ v. tree v.now) r ≡ option_map (λ v. tree v) (option_copied r)
-lent None = refl
-lent (Some v) = refl
 
 value_at : (name : List ℕ) (slots : List (List ℕ)) (values : List (Option Value)) (elsewhere : List ℕ → Option Tree) (d : Option Value) (i : ℕ) → i < length slots → i < length values → is_own name (get_or slots i []) ≡ true → ((k : ℕ) → k < i → is_own name (get_or slots k []) ≡ false) → slot_value slots values elsewhere (folded name) ≡ option_map (λ v. tree v) (get_or values i d)
 value_at name [] values elsewhere d i g h p a = absurd (omega arith)

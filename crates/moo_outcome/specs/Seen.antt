@@ -10,7 +10,6 @@ use Rattle.moo_value.specs.Compare.{folded}
 use Rattle.moo_value.specs.View.{tree, trees}
 use Rattle.moo_program.specs.declared.tree.Expr as code_expr
 use Rattle.moo_program.specs.Tree.{Expr, catch, catch_or, Codes}
-use Rattle.moo_program.specs.Slots.{slots}
 use Rattle.moo_program.specs.View.{root}
 use Rattle.moo_outcome.specs.declared.frame.CallStack.{CallStack}
 use Rattle.moo_outcome.specs.declared.frame.Activation.{Activation}
@@ -47,7 +46,7 @@ slot_value _ _ elsewhere name = elsewhere name
 
 -- the variables that not every frame has
 abbrev pub own_variables : Variables → List ℕ → Option Tree
-own_variables variables = slot_value (slots variables.program) variables.values.items (value_among variables.others.items)
+own_variables variables = slot_value variables.own.names variables.own.values (value_among variables.others.items)
 
 -- the value that a folded name has
 unfoldable pub variables_of : Variables → List ℕ → Option Tree

@@ -1,8 +1,9 @@
 //! Integers among the values of variables.
-ghost use Rattle.std.specs.Prelude.{◌≡◌, Some, option_map, IfSome};
-ghost use Rattle.moo_value.specs.Tree.{integer};
+ghost use Rattle.std.specs.Prelude.{◌≡◌, ◌<◌, List, Some, option_map, set, length, IsTrue, IsFalse, IfSome};
+ghost use Rattle.moo_value.specs.Tree.{Tree, integer, list_of};
+ghost use Rattle.moo_value.specs.Size.{IsWithinLimits};
 ghost use Rattle.moo_value.specs.View.{tree};
-ghost use Rattle.moo_value.specs.declared.value.Value.TheVariants.{Int};
+ghost use Rattle.moo_value.specs.declared.value.Value.TheVariants.{Int, List as ListOf};
 
 use moo_value::Value;
 
@@ -17,33 +18,45 @@ pub(crate) fn integer_in(value: Option<&Value>) -> Option<i32>
     }
 }
 
-/// The integer in a slot.
+/// The same of a value that is there.
 #[inline(always)]
-pub(crate) fn integer_of(value: &Option<Value>) -> Option<i32>
-    ensures { IfSome result (λ n. option_map (λ v. tree v) value.now ≡ Some (integer n)) }
+pub(crate) fn integer_of(value: &Value) -> Option<i32>
+    ensures { IfSome result (λ n. Some (tree value.now) ≡ Some (integer n)) }
 {
     match value {
-        Some(Value::Int(number)) => Some(*number),
+        Value::Int(number) => Some(*number),
         _ => None,
     }
 }
 
-/// Sets a slot to an integer.
+/// Puts an integer in the place of a value.
 #[inline(always)]
-pub(crate) fn set_integer(place: &mut Option<Value>, number: i32)
-    ensures { place.new ≡ Some (Int number) }
+pub(crate) fn set_integer(place: &mut Value, number: i32)
+    ensures { place.new ≡ Int number }
 {
-    if let Some(Value::Int(held)) = place {
+    if let Value::Int(held) = place {
         *held = number;
         return;
     }
     replace_by_integer(place, number);
 }
 
-// The same where another value, or none, stands there: a function of its own, so that what holds an integer pays nothing for it.
+// The same where another value stands there: a function of its own, so that what holds an integer pays nothing for it.
 #[inline(never)]
-fn replace_by_integer(place: &mut Option<Value>, number: i32)
-    ensures { place.new ≡ Some (Int number) }
+fn replace_by_integer(place: &mut Value, number: i32)
+    ensures { place.new ≡ Int number }
 {
-    *place = Some(Value::Int(number));
+    *place = Value::Int(number);
+}
+
+/// Puts an integer at a place of a list, in the place of another integer, where nothing else shares the list, and tells whether it did.
+#[inline(always)]
+pub(crate) fn put_element_in(place: &mut Value, index: usize, number: i32) -> bool
+    ensures put { IsTrue result → (ts : List Tree) × (place.old ≡ ListOf ts) × (index < length ts) × IsWithinLimits (list_of (set ts index (integer number))) × (place.new ≡ ListOf (set ts index (integer number))) }
+    ensures kept { IsFalse result → place.new ≡ place.old }
+{
+    match place {
+        Value::List(list) => list.put_integer(index, number),
+        _ => false,
+    }
 }

@@ -6,7 +6,7 @@ ghost use Rattle.moo_outcome.specs.Seen.{flow_of, seen_flow, seen_turn, trace_of
 
 use crate::frame::{Activation, CallStack};
 use crate::outcome::{Failure, Flow, Stop, raised};
-use crate::variables::is_same_name;
+use crate::spelling::is_same_name;
 use moo_value::{ErrorCode, MooStr, Value};
 use std::alloc::{AllocError, Global};
 

@@ -17,6 +17,8 @@ mod notice;
 mod outcome;
 mod scatter;
 mod shared_values;
+mod slots;
+mod spelling;
 mod surroundings;
 mod traceback;
 mod variables;

@@ -1,31 +1,30 @@
 //! The variables of a frame.
-ghost use Rattle.std.specs.Prelude.{◌≡◌, ℕ, [], ◌+◌, ◌<◌, ◌≤◌, ◌++◌, Some, None, map, position, length, get_or, option_map, vec_len, vec_capacity, IsTrue, IsFalse, IfOk, IfSome, IfNone, OnOk};
-ghost use Rattle.std.specs.Str.{bytes_eq};
-ghost use Rattle.moo_value.specs.Tree.{integer};
+ghost use Rattle.std.specs.Prelude.{◌≡◌, [], ◌<◌, List, Some, length, option_map, slice_set, IsTrue, IsFalse, IfOk, IfSome, OnOk};
+ghost use Rattle.moo_value.specs.Tree.{Tree, integer, list_of};
+ghost use Rattle.moo_value.specs.Size.{IsWithinLimits};
 ghost use Rattle.moo_value.specs.View.{tree};
 ghost use Rattle.moo_value.specs.Compare.{folded};
-ghost use Rattle.moo_program.specs.Given.{given_of, given_name, given_names};
-ghost use Rattle.moo_program.specs.Slots.{slots};
+ghost use Rattle.moo_program.specs.Given.{given_name, given_names};
 ghost use Rattle.moo_outcome.specs.Variables.{bind, with_variable, first_bindings, handed_bindings, value_of_name};
 ghost use Rattle.moo_outcome.specs.GivenValues.{given_values};
 ghost use Rattle.moo_outcome.specs.Seen.{value_among, own_variables, slot_value, variables_of};
 
 use crate::frame::Frame;
 use crate::given_values::GivenValues;
-use crate::integers::{integer_in, integer_of, set_integer};
+use crate::integers::{integer_in, integer_of};
+use crate::slots::Slots;
+use crate::spelling::is_named;
 use moo_grammar::Program;
 use moo_program::{Given, Name};
 use moo_value::{MooStr, Value};
 use std::alloc::{AllocError, Global};
 
 /// The variables of a frame: the values of the names that every frame has, a value or none for each other name of its program by its
-/// slot, and those of further names. What every frame has needs no search, nor does what was found and is spelled as in the program.
+/// slot, and those of further names. What every frame has needs no search, nor does what was set and is spelled as in the program.
 #[derive(Drop)]
 pub struct Variables {
-    program: Program,
     given: GivenValues,
-    /// By the slots of the program's names. There are none where every frame has all of them.
-    values: Vec<Option<Value>>,
+    own: Slots,
     /// The newest last, which hides older ones of its name.
     others: Vec<Variable>,
 }
@@ -71,11 +70,10 @@ impl Variables {
     ) -> Result<Variables, AllocError>
         ensures { IfOk result (λ v. variables_of v ≡ slot_value given_names (given_values given) (value_of_name [])) }
     {
-        let values = own_values(alloc, program.slots())?;
+        let own = Slots::unset(alloc, program)?;
         Ok(Variables {
-            program,
             given,
-            values,
+            own,
             others: Vec::new(alloc),
         })
     }
@@ -95,8 +93,8 @@ impl Variables {
         ensures own { OnOk result (own_variables self.new ≡ with_variable (own_variables self.old) (bind name.now (tree value))) }
         ensures given { self.new.given ≡ self.old.given }
     {
-        match self.slot(name) {
-            Some(slot) => self.values[slot] = Some(value),
+        match self.own.slot_of(name) {
+            Some(slot) => self.own.set(slot, value),
             None => self.others.push(Variable {
                 name: name.text().try_clone()?,
                 value,
@@ -124,9 +122,9 @@ impl Variables {
         ensures given { self.new.given ≡ self.old.given }
         ensures kept { IsFalse result → self.new ≡ self.old }
     {
-        match self.known_slot(name) {
+        match self.own.known_slot(name) {
             Some(slot) => {
-                self.values[slot] = Some(value);
+                self.own.set_held(slot, value);
                 true
             }
             None => self.put_searched(name, value),
@@ -140,9 +138,9 @@ impl Variables {
         ensures given { self.new.given ≡ self.old.given }
         ensures kept { IsFalse result → self.new ≡ self.old }
     {
-        match self.slot(name) {
+        match self.own.slot_of(name) {
             Some(slot) => {
-                self.values[slot] = Some(value);
+                self.own.set(slot, value);
                 true
             }
             None => false,
@@ -167,9 +165,9 @@ impl Variables {
         ensures put { IsTrue result → variables_of self.new ≡ with_variable (variables_of self.old) (bind name.now (integer number)) }
         ensures kept { IsFalse result → self.new ≡ self.old }
     {
-        match self.known_slot(name) {
+        match self.own.known_slot(name) {
             Some(slot) => {
-                set_integer(&mut self.values[slot], number);
+                self.own.set_held_integer(slot, number);
                 true
             }
             None => false,
@@ -183,6 +181,19 @@ impl Variables {
         ensures kept { IsFalse result → self.new ≡ self.old }
     {
         self.put(name, Value::Int(number))
+    }
+
+    /// Puts an integer at a place of the list in a variable, in the place of another integer, where the variable is known without a search
+    /// and nothing else shares the list, and tells whether it did. `index` is counted from 0. No memory is asked for.
+    #[inline(always)]
+    pub fn put_element(&mut self, name: &Name, index: usize, number: i32) -> bool
+        ensures put { IsTrue result → (ts : List Tree) × (variables_of self.old (folded name.now) ≡ Some (list_of ts)) × (index < length ts) × IsWithinLimits (list_of (slice_set ts index (integer number))) × (variables_of self.new ≡ with_variable (variables_of self.old) (bind name.now (list_of (slice_set ts index (integer number))))) }
+        ensures kept { IsFalse result → self.new ≡ self.old }
+    {
+        match self.own.known_slot(name) {
+            Some(slot) => self.own.put_held_element(slot, index, number),
+            None => false,
+        }
     }
 
     /// The value of a variable that every frame has.
@@ -207,8 +218,8 @@ impl Variables {
     fn own(&self, name: &Name) -> Option<&Value>
         ensures { option_map (λ v. tree v.now) result ≡ own_variables self.now (folded name.now) }
     {
-        match self.known_slot(name) {
-            Some(slot) => self.values[slot].as_ref(),
+        match self.own.known_slot(name) {
+            Some(slot) => Some(self.own.held(slot)),
             None => self.searched(name),
         }
     }
@@ -217,8 +228,8 @@ impl Variables {
     fn searched(&self, name: &Name) -> Option<&Value>
         ensures { option_map (λ v. tree v.now) result ≡ own_variables self.now (folded name.now) }
     {
-        match self.slot(name) {
-            Some(slot) => self.values[slot].as_ref(),
+        match self.own.slot_of(name) {
+            Some(slot) => self.own.get(slot),
             None => self.other(name.as_bytes()),
         }
     }
@@ -229,8 +240,8 @@ impl Variables {
     pub fn known_integer(&self, name: &Name) -> Option<i32>
         ensures { IfSome result (λ n. variables_of self.now (folded name.now) ≡ Some (integer n)) }
     {
-        let slot = self.known_slot(name)?;
-        integer_of(&self.values[slot])
+        let slot = self.own.known_slot(name)?;
+        integer_of(self.own.held(slot))
     }
 
     /// The integer that a variable with a slot holds, or `None` where it holds another value, or isn't known to have a slot.
@@ -257,8 +268,8 @@ impl Variables {
     fn own_integer(&self, name: &Name) -> Option<i32>
         ensures { IfSome result (λ n. own_variables self.now (folded name.now) ≡ Some (integer n)) }
     {
-        match self.known_slot(name) {
-            Some(slot) => integer_of(&self.values[slot]),
+        match self.own.known_slot(name) {
+            Some(slot) => integer_of(self.own.held(slot)),
             None => self.searched_integer(name),
         }
     }
@@ -267,82 +278,9 @@ impl Variables {
     fn searched_integer(&self, name: &Name) -> Option<i32>
         ensures { IfSome result (λ n. own_variables self.now (folded name.now) ≡ Some (integer n)) }
     {
-        match self.slot(name) {
-            Some(slot) => integer_of(&self.values[slot]),
+        match self.own.slot_of(name) {
+            Some(slot) => integer_in(self.own.get(slot)),
             None => None,
-        }
-    }
-
-    // The hint at the slot of a name, where the numbers tell that the program's name there is spelled so and a value stands there.
-    #[inline(always)]
-    fn known_slot(&self, name: &Name) -> Option<usize>
-        ensures there { IfSome result (λ i. (position (λ own. bytes_eq (folded own) (folded name.now)) (slots self.now.program) ≡ Some i) × (i < length self.now.values.items)) }
-        ensures own { IfSome result (λ _. given_of name.now ≡ None) }
-    {
-        let hint = name.hint();
-        if self.is_known(hint, name) && hint < self.values.len() {
-            return Some(hint);
-        }
-        None
-    }
-
-    // Whether the program's name in this slot is known to be spelled so, and not every frame has it.
-    #[inline(always)]
-    fn is_known(&self, slot: usize, name: &Name) -> bool
-        ensures there { IsTrue result → (slot < length (slots self.now.program)) × (get_or (slots self.now.program) slot [] ≡ name.now) }
-        ensures own { IsTrue result → given_of name.now ≡ None }
-    {
-        match self.program.slots().get(slot) {
-            Some(own) => own.is_known_as(name),
-            None => false,
-        }
-    }
-
-    // The slot of a name among those of the program, if a value may stand there.
-    #[inline(always)]
-    fn slot(&self, name: &Name) -> Option<usize>
-        ensures some { IfSome result (λ i. (position (λ own. bytes_eq (folded own) (folded name.now)) (slots self.now.program) ≡ Some i) × (i < length self.now.values.items)) }
-        ensures none { IfNone result ((i : ℕ) → position (λ own. bytes_eq (folded own) (folded name.now)) (slots self.now.program) ≡ Some i → length self.now.values.items ≤ i) }
-    {
-        let slot = self.own_slot(name)?;
-        if slot < self.values.len() {
-            Some(slot)
-        } else {
-            None
-        }
-    }
-
-    // The slot of a name among those of the program: the hint, if the name there is spelled so, and else what a search finds.
-    #[inline(always)]
-    fn own_slot(&self, name: &Name) -> Option<usize>
-        ensures { result ≡ position (λ own. bytes_eq (folded own) (folded name.now)) (slots self.now.program) }
-    {
-        let hint = name.hint();
-        if self.is_spelled(hint, name) {
-            Some(hint)
-        } else {
-            self.searched_slot(name)
-        }
-    }
-
-    // The same by a search: a function of its own, so that what is found without one pays nothing for it.
-    #[inline(never)]
-    fn searched_slot(&self, name: &Name) -> Option<usize>
-        ensures { result ≡ position (λ own. bytes_eq (folded own) (folded name.now)) (slots self.now.program) }
-    {
-        let slot = self.program.slot_of(name.as_bytes())?;
-        name.note(slot);
-        Some(slot)
-    }
-
-    // Whether the program's name in this slot is spelled so.
-    #[inline(always)]
-    fn is_spelled(&self, slot: usize, name: &Name) -> bool
-        ensures { IsTrue result → (slot < length (slots self.now.program)) × (get_or (slots self.now.program) slot [] ≡ name.now) }
-    {
-        match self.program.slots().get(slot) {
-            Some(own) => own.is_spelled_as(name),
-            None => false,
         }
     }
 
@@ -359,52 +297,4 @@ impl Variables {
         }
         None
     }
-}
-
-// The values of the names of a program, none set. Where every frame has all of them, none has a slot.
-#[inline(always)]
-fn own_values(alloc: Global, names: &[Name]) -> Result<Vec<Option<Value>>, AllocError>
-    ensures { IfOk result (λ values. slot_value names.now values.items (value_of_name []) ≡ value_of_name []) }
-{
-    if !has_own(names) {
-        return Ok(Vec::new(alloc));
-    }
-    let mut values = Vec::with_capacity(alloc, names.len())?;
-    push_none(&mut values, names);
-    Ok(values)
-}
-
-// Whether not every frame has all of these names.
-#[inline(always)]
-fn has_own(names: &[Name]) -> bool {
-    for name in names {
-        if name.given().is_none() {
-            return true;
-        }
-    }
-    false
-}
-
-// No value for each of these names.
-#[inline(always)]
-fn push_none(values: &mut Vec<Option<Value>>, names: &[Name])
-    requires room { vec_len values.old + length names.now ≤ vec_capacity values.old }
-    ensures { values.new.items ≡ values.old.items ++ map (λ name. None) names.now }
-{
-    for _ in names {
-        values.push_reserved(None);
-    }
-}
-
-/// Whether two names are the same but for the case of their letters.
-pub(crate) fn is_same_name(a: &MooStr, b: &MooStr) -> bool
-    ensures { result ≡ bytes_eq (folded a.now) (folded b.now) }
-{
-    is_named(a, b.as_bytes())
-}
-
-fn is_named(own: &MooStr, name: &[u8]) -> bool
-    ensures { result ≡ bytes_eq (folded own.now) (folded name.now) }
-{
-    own.as_bytes().eq_ignore_ascii_case(name)
 }

@@ -1,7 +1,6 @@
-use Rattle.std.proofs.Common.{sym, ap, ◌∙◌}
+use Rattle.std.proofs.Common.{None, sym, ap, ◌∙◌}
 use Rattle.std.specs.Option.{option_map}
 use Rattle.moo_value.specs.View.{tree}
-use Rattle.moo_program.specs.Slots.{slots}
 use Rattle.moo_outcome.specs.Seen.{value_among, own_variables, variables_of}
 use Rattle.moo_outcome.proofs.GivenNames.{other_at}
 use Rattle.moo_outcome.proofs.Names.{slot_at}
@@ -12,5 +11,5 @@ unfolding variables_of
 returns c =
     let old = c.args.self.now in
     let slot = c.in_ok-slot.ensures in
-    let own = slot_at c.args.name.now (slots old.program) old.values.items (value_among old.others.items) c.index.result.now c.in_ok-slot.slot slot.there.0 slot.there.1 ∙ ap (option_map (λ v. tree v)) (sym c.index.ensures) in
+    let own = slot_at c.args.name.now old.own.names old.own.values (value_among old.others.items) None c.in_ok-slot.slot slot.there slot.held.0 ∙ ap (option_map (λ v. tree v)) c.held.ensures in
     rw (sym (other_at old.given (own_variables old) c.args.name.now slot.own) ∙ own) c.integer_of.ensures

@@ -1,11 +1,10 @@
-use Rattle.std.proofs.Common.{Some, w32, ap, ◌∙◌}
+use Rattle.std.proofs.Common.{ap, ◌∙◌, w32}
 use Rattle.std.proofs.lemmas.Int.{to_z-of_z}
-use Rattle.std.proofs.Math.ListN.{set}
 use Rattle.moo_value.specs.Tree.{integer}
 use Rattle.moo_value.specs.declared.value.Value.TheVariants.{Int}
 use Rattle.moo_program.specs.Given.{given_names}
-use Rattle.moo_program.specs.Slots.{slots}
 use Rattle.moo_outcome.specs.GivenValues.{given_values}
+use Rattle.moo_outcome.specs.Held.{with_held}
 use Rattle.moo_outcome.specs.Seen.{slot_value, value_among, own_variables, variables_of}
 use Rattle.moo_outcome.proofs.GivenNames.{other_set}
 use Rattle.moo_outcome.proofs.Stored.{set_slot}
@@ -18,6 +17,6 @@ returns-in-Some-clause-put c =
     let old = c.args.self.now in
     let same = to_z-of_z w32 c.args.number c.ranges.number in
     let own =
-    ap (λ x. slot_value (slots old.program) (set old.values.items c.in-Some.slot x) (value_among old.others.items)) (c.set_integer.ensures ∙ ap (λ n. Some (Int n)) same)
-    ∙ set_slot c.args.name.now (Int c.args.number) (slots old.program) old.values.items (value_among old.others.items) c.in-Some.slot slot.there.0 slot.there.1 in
+    ap (λ held. slot_value held.names held.values (value_among old.others.items)) (c.set_held_integer.ensures ∙ ap (λ n. with_held old.own c.in-Some.slot (Int n)) same)
+    ∙ set_slot c.args.name.now (Int c.args.number) old.own.names old.own.values (value_among old.others.items) c.in-Some.slot slot.there slot.held.0 in
     λ t. ap (slot_value given_names (given_values old.given)) own ∙ other_set old.given (own_variables old) c.args.name.now slot.own (integer c.args.number)

@@ -1,7 +1,4 @@
-use Rattle.std.proofs.Common.{sym, ap, ◌∙◌}
-use Rattle.std.specs.Option.{option_map}
-use Rattle.moo_value.specs.View.{tree}
-use Rattle.moo_program.specs.Slots.{slots}
+use Rattle.std.proofs.Common.{None, sym, ◌∙◌}
 use Rattle.moo_outcome.specs.Seen.{value_among}
 use Rattle.moo_outcome.proofs.Names.{slot_at}
 use Rattle.moo_outcome.proofs.variables.Variables.searched_integer.Goals as goal
@@ -9,5 +6,6 @@ use Rattle.moo_outcome.proofs.variables.Variables.searched_integer.Goals as goal
 pub returns-in-Some : goal.returns-in-Some
 returns-in-Some c =
     let found = c.in-Some.ensures.some in
-    let value = slot_at c.args.name.now (slots c.args.self.now.program) c.args.self.now.values.items (value_among c.args.self.now.others.items) c.index.result.now c.in-Some.slot found.0 found.1 ∙ ap (option_map (λ v. tree v)) (sym c.index.ensures) in
-    rw value c.integer_of.ensures
+    let old = c.args.self.now in
+    let value = slot_at c.args.name.now old.own.names old.own.values (value_among old.others.items) None c.in-Some.slot found.0 found.1 ∙ sym c.get.ensures in
+    rw value c.integer_in.ensures

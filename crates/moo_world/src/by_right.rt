@@ -22,6 +22,7 @@ use moo_value::{ErrorCode, Value};
 
 impl World {
     /// The value of a property that is not built in, where the programmer may read it.
+    #[inline(always)]
     pub fn readable_value(&self, programmer: i32, o: i32, name: &[u8]) -> Option<&Value>
         ensures value { option_map tree (option_copied result) ≡ readable_value self.now programmer (number_of self.now.objects o) (folded name.now) }
         ensures right { IfSome result (λ v. IsReadable self.now programmer o name.now (tree v.now)) }

@@ -23,7 +23,7 @@ use Rattle.moo_outcome.specs.Seen.{variables_of}
 use Rattle.moo_table.specs.World.{World}
 use Rattle.moo_access.specs.Calls.{read_property}
 use Rattle.moo_worth.specs.Leaves.{IsLeaf, literal_leaf, variable_leaf}
-use Rattle.moo_worth.specs.Worth.{IsWorth, leaf_known, operator_known, element_known, property_known, length_known}
+use Rattle.moo_worth.specs.Worth.{IsWorth, leaf_known, operator_known, element_known, property_known, function_known, none_worth, next_worth}
 
 -- a number, or a variable that is set
 pub leaf_worth : (w : World) (active : Activation) {e : Expr} {v : Tree} {n n' : ℕ} → (0 < n) × (n' ≡ n - 1) → IsLeaf (variables_of active.variables) e v → IsWorth w active n e v n'
@@ -44,7 +44,7 @@ three_parts z = ((omega (arith, z.0), refl), (omega (arith, z.0), refl), (omega 
 
 -- a call of `length` takes a tick and what its argument takes
 pub length_worth : (w : World) (active : Activation) {f : List ℕ} {e : Expr} {v : Tree} {k : ℤ} {n n' n'' : ℕ} → (0 < n) × (n' ≡ n - 1) → IsWorth w active n' e v n'' → function_of f ≡ Some Length → length_of v ≡ Ok (integer k) → IsWorth w active n (call f (element e no_items)) (integer k) n''
-length_worth w active z g h m = length_known z.0 z.1 g h m
+length_worth w active z g h m = function_known z.0 z.1 (next_worth g none_worth) h (λ moment. ap Some m)
 
 -- of an answer, where there is one
 pub map_some : {A : Type 0} {P Q : A → Type 0} (r : Option A) → ((x : A) → P x → Q x) → IfSome r P → IfSome r Q

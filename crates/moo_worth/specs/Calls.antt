@@ -1,23 +1,15 @@
 -- Calls of verbs whose worth is known at once.
-use Rattle.std.specs.Prelude.{◌≡◌, ◌<◌, ◌-◌, ℕ, List, [], ◌∷◌, Ok}
+use Rattle.std.specs.Prelude.{◌≡◌, ◌<◌, ◌-◌, ℕ, List, Ok}
 use Rattle.std.specs.Option.{unwrap_or}
 use Rattle.moo_value.specs.Tree.{Tree}
-use Rattle.moo_program.specs.Tree.{Expr, verb_call, Items, no_items, element, Block, no_statement, then, returns}
+use Rattle.moo_program.specs.Tree.{Expr, verb_call, Items, Block, no_statement, then, returns}
 use Rattle.moo_object.specs.declared.verb.Verb.{Verb}
 use Rattle.moo_table.specs.World.{World}
 use Rattle.moo_outcome.specs.Seen.{variables_of}
 use Rattle.moo_outcome.specs.State.{Context}
 use Rattle.moo_outcome.specs.declared.frame.Activation.{Activation}
 use Rattle.moo_access.specs.Entering.{Entered, entered_verb}
-use Rattle.moo_worth.specs.Worth.{IsWorthWith, IsWorth}
-
--- expressions have these values, one after another
-pub data AreWorth (w : World) (active : Activation) : ℕ → Items → List Tree → ℕ → Type 0 where
-  none_worth : {n : ℕ} →
-      AreWorth w active n no_items [] n
-  next_worth : {e : Expr} {items : Items} {v : Tree} {vs : List Tree} {n n' m : ℕ} →
-      IsWorth w active n e v n' → AreWorth w active n' items vs m →
-      AreWorth w active n (element e items) (v ∷ vs) m
+use Rattle.moo_worth.specs.Worth.{IsWorthWith, IsWorth, AreWorth}
 
 -- the first statement of a verb returns this expression
 abbrev pub ReturnsFirst : Verb → Expr → Type 0

@@ -2,3 +2,4 @@ pub mod Leaves
 pub mod Worth
 pub mod Told
 pub mod Calls
+pub mod Functions

@@ -10,7 +10,8 @@ ghost use Rattle.moo_access.specs.Entering.{called_frame, called_variables, play
 ghost use Rattle.moo_access.specs.SeenCalled.{found_of};
 ghost use Rattle.moo_access.specs.Sought.{IsSought};
 ghost use Rattle.moo_worth.specs.Told.{IsToldTo};
-ghost use Rattle.moo_worth.specs.Calls.{AreWorth, IsReturned, IsAnswered, ReturnsFirst};
+ghost use Rattle.moo_worth.specs.Worth.{AreWorth};
+ghost use Rattle.moo_worth.specs.Calls.{IsReturned, IsAnswered, ReturnsFirst};
 
 use crate::lengths::as_element;
 use crate::parts::value_part;

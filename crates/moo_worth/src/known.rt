@@ -1,7 +1,11 @@
 //! Which expressions may be known at once: hints, so that what is of another kind is looked at no further.
 use crate::leaves::is_leaf;
-use crate::lengths::may_be_length;
-use moo_program::Expr;
+use crate::lengths::{as_element, may_be_length};
+use moo_program::{Expr, Item};
+use moo_value::MooStr;
+
+// How many arguments of a function are looked at.
+const MOST_ARGUMENTS: usize = 8;
 
 /// Whether the worth of an expression may be known at once.
 #[inline]
@@ -30,12 +34,69 @@ pub(crate) fn may_be_operand(value: &Expr) -> bool {
     matches!(value, Expr::Binary(..)) || is_leaf(value) || may_be_part(value)
 }
 
-// An element, a property, or a call of `length`.
+// An element, a property, or a call of a function over values alone.
 #[inline]
 fn may_be_seen(value: &Expr) -> bool {
     match value {
         Expr::Index(..) | Expr::Property(..) => true,
-        Expr::Call(name, _) => may_be_length(name),
+        Expr::Call(name, items) => may_be_length(name) || may_be_function(name, items),
+        _ => false,
+    }
+}
+
+// A call by a name that may be such a function's, whose arguments may be known: so many are elements alone, and of kinds that may be. A
+// call among them is looked at by its name alone. Not inlined, so that what else is looked at pays nothing for it.
+#[inline(never)]
+fn may_be_function(name: &MooStr, items: &[Item]) -> bool {
+    if !may_be_of_values(name) || items.len() > MOST_ARGUMENTS {
+        return false;
+    }
+    for item in items {
+        let may_be = match as_element(item) {
+            Some(Expr::Call(name, _)) => may_be_quick(name),
+            Some(
+                Expr::Literal(_)
+                | Expr::Variable(_)
+                | Expr::Unary(..)
+                | Expr::Binary(..)
+                | Expr::Logic(..)
+                | Expr::Conditional(..)
+                | Expr::Index(..)
+                | Expr::Property(..),
+            ) => true,
+            _ => false,
+        };
+        if !may_be {
+            return false;
+        }
+    }
+    true
+}
+
+// The same of one that is quick whatever its arguments are.
+#[inline]
+fn may_be_quick(name: &MooStr) -> bool {
+    matches!(
+        name.as_bytes(),
+        [b'm' | b'M' | b'a' | b'A', _, _] | [b't' | b'T' | b'l' | b'L', _, _, _, _, _]
+    )
+}
+
+// Whether a name may be that of a function over values alone, by its length and a letter or two. Not `listappend`, which mostly puts
+// something behind the list in the variable that it sets: that is done in place.
+#[inline]
+fn may_be_of_values(name: &MooStr) -> bool {
+    let bytes = name.as_bytes();
+    let Some(first) = bytes.first() else {
+        return false;
+    };
+    match (bytes.len(), first.to_ascii_lowercase()) {
+        (3, b'm' | b'a') => true,
+        (5, b't' | b'e' | b'i') => true,
+        (6, b't' | b'l' | b's' | b'r') => true,
+        (7, b'l') => true,
+        (9, b't' | b's' | b'i') => true,
+        (10, b'l') => matches!(bytes.get(4), Some(b'i' | b'I' | b'd' | b'D')),
         _ => false,
     }
 }

@@ -28,9 +28,9 @@ pub fn leaf_at_a_glance(active: &Activation, expr: &Expr) -> Option<i32>
     Some(number)
 }
 
-// The same, where no variable has to be searched.
+/// The integer of a number, or of a variable that holds one and doesn't have to be searched for.
 #[inline(always)]
-fn known_leaf(active: &Activation, expr: &Expr) -> Option<i32>
+pub fn known_leaf(active: &Activation, expr: &Expr) -> Option<i32>
     ensures { IfSome result (λ n. IsLeaf (variables_of active.now.variables) (tree expr.now) (integer n)) }
 {
     match expr {

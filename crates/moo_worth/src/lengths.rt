@@ -36,6 +36,9 @@ pub fn length_worth(sight: &Sight<'_>, left: &mut u32, name: &MooStr, items: &[I
 fn is_length(name: &MooStr) -> bool
     ensures { IsTrue result → function_of name.now ≡ Some Length }
 {
+    if !may_be_length(name) {
+        return false;
+    }
     if name.as_bytes() == b"length".as_slice() {
         return true;
     }
@@ -48,9 +51,9 @@ pub(crate) fn may_be_length(name: &MooStr) -> bool {
     matches!(name.as_bytes(), [b'l' | b'L', _, _, _, _, _])
 }
 
-// The only argument of a call, where it is no splice.
+/// The only argument of a call, where it is no splice.
 #[inline]
-fn only_element(items: &[Item]) -> Option<&Expr>
+pub(crate) fn only_element(items: &[Item]) -> Option<&Expr>
     ensures { IfSome result (λ e. items_of items.now ≡ element (tree e.now) no_items) }
 {
     let (first, rest) = items.split_first()?;

@@ -3,6 +3,7 @@
 #![tactic(auto)]
 
 mod calls;
+mod functions;
 mod glance;
 pub mod integers;
 mod joined;
@@ -20,7 +21,7 @@ pub use calls::{as_return, called_worth, returned_worth};
 pub use glance::{are_leaves, leaves_at_a_glance};
 pub use joined::joined_worth;
 pub use known::{may_be_known, may_be_part, may_have_worth};
-pub use leaves::{is_leaf, leaf_at_a_glance};
+pub use leaves::{is_leaf, known_leaf, leaf_at_a_glance};
 pub use lengths::{as_element, length_worth};
 pub use parts::{integer_part, part_copied, test_worth, value_part};
 pub use properties::{name_worth, object_leaf, object_worth};

@@ -73,8 +73,9 @@ fn property_worth(sight: &Sight<'_>, left: &mut u32, base: &Expr, name: &Expr) -
     property_in_order(sight.alloc, sight.world, sight.active.programmer, o, name)
 }
 
-/// The value of such a property that isn't built in. It stays where it is.
-#[inline]
+/// The value of such a property that isn't built in. It stays where it is. Not inlined, so that what looks at other expressions too pays
+/// nothing for it.
+#[inline(never)]
 pub(crate) fn property_seen<'a>(
     sight: &Sight<'a>,
     left: &mut u32,

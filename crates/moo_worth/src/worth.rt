@@ -1,5 +1,6 @@
 //! Expressions whose worth is known at once, since nothing can stop them and they change nothing: numbers, variables that hold one,
-//! operators and choices between these, elements and lengths of what stands in a variable, and properties.
+//! operators and choices between these, elements and lengths of what stands in a variable, properties, and calls of functions over values
+//! alone.
 ghost use Rattle.std.specs.Prelude.{◌≡◌, ◌≤◌, suc, pos, Ok, Some, IfSome};
 ghost use Rattle.moo_value.specs.Tree.{integer};
 ghost use Rattle.moo_value.specs.View.{tree as value_tree};
@@ -10,11 +11,12 @@ ghost use Rattle.moo_outcome.specs.Seen.{indexed_of, variables_of};
 ghost use Rattle.moo_worth.specs.Leaves.{IsLeaf};
 ghost use Rattle.moo_worth.specs.Worth.{IsWorth};
 
+use crate::functions::{call_number, function_worth};
 use crate::glance::{are_leaves, leaves_at_a_glance};
 use crate::integers::{decides, is_other_than_0, number_behind, number_of};
 use crate::joined::leaves_compared;
 use crate::leaves::{held, is_leaf, leaf_at_a_glance, written_out};
-use crate::lengths::length_worth;
+use crate::lengths::may_be_length;
 use crate::properties::{property_copied, property_number};
 use crate::ticks::{take, take_three};
 use moo_outcome::Activation;
@@ -24,7 +26,7 @@ use moo_value::Value;
 use moo_world::World;
 use std::alloc::Global;
 
-/// How many operators and indexes may stand in each other. What is deeper is evaluated part by part, so that how often a part is looked
+/// How many operators, indexes and calls may stand in each other. What is deeper is evaluated part by part, so that how often a part is looked
 /// at doesn't grow with what stands round it.
 pub(crate) const DEEPEST: u8 = 4;
 
@@ -37,9 +39,20 @@ pub struct Sight<'a> {
 }
 
 /// The value of a literal, of a variable, of an operator or a choice between integers, of a comparison of leaves, of an element, of a
-/// property or of `length`, where it is known at once. Its ticks are taken of those that are left, where they are so many.
+/// property or of a call of a function over values alone, where it is known at once. Its ticks are taken of those that are left, where
+/// they are so many.
 #[inline(always)]
 pub fn worth(sight: &Sight<'_>, left: &mut u32, expr: &Expr) -> Option<Value>
+    ensures value { IfSome result (λ v. IsWorth sight.now.world.now sight.now.active.now left.old (tree expr.now) (value_tree v) left.new) }
+    ensures ticks { left.new ≤ left.old }
+{
+    value_worth(sight, left, expr, DEEPEST)
+}
+
+/// The same of one that may stand in others.
+#[cycle(worth)]
+#[inline(always)]
+pub(crate) fn value_worth(sight: &Sight<'_>, left: &mut u32, expr: &Expr, deep: u8) -> Option<Value>
     ensures value { IfSome result (λ v. IsWorth sight.now.world.now sight.now.active.now left.old (tree expr.now) (value_tree v) left.new) }
     ensures ticks { left.new ≤ left.old }
 {
@@ -53,16 +66,19 @@ pub fn worth(sight: &Sight<'_>, left: &mut u32, expr: &Expr) -> Option<Value>
             held(sight.active, name)
         }
         Expr::Binary(operator, first, second) => {
-            let number = number_worth(sight, left, *operator, first, second)?;
+            let number = nested_worth(sight, left, *operator, first, second, deep)?;
             Some(Value::Int(number))
         }
         Expr::Index(base, place) => {
-            let element = element_worth(sight, left, base, place, DEEPEST)?;
+            let element = element_worth(sight, left, base, place, deep)?;
             copied(element)
         }
         Expr::Property(base, name) => property_copied(sight, left, base, name),
+        Expr::Call(name, items) if !may_be_length(name) => {
+            function_worth(sight, left, name, items, deep, false)
+        }
         _ => {
-            let number = part_worth(sight, left, expr, DEEPEST)?;
+            let number = part_worth(sight, left, expr, deep)?;
             Some(Value::Int(number))
         }
     }
@@ -203,7 +219,7 @@ pub(crate) fn part_worth(sight: &Sight<'_>, left: &mut u32, expr: &Expr, deep: u
     match expr {
         Expr::Index(base, place) => { integer_of(element_worth(sight, left, base, place, deep)) }
         Expr::Property(base, name) => property_number(sight, left, base, name),
-        Expr::Call(name, items) => length_worth(sight, left, name, items),
+        Expr::Call(name, items) => call_number(sight, left, name, items, deep),
         Expr::Unary(operator, operand) => unary_worth(sight, left, *operator, operand, deep),
         Expr::Logic(operator, first, second) => {
             logic_worth(sight, left, *operator, first, second, deep)
@@ -301,9 +317,18 @@ pub(crate) fn element_worth<'a>(
 {
     take(left)?;
     let list = variable_of(sight.active, base)?;
+    if !is_list(list) {
+        return None;
+    }
     take(left)?;
     let place = operand_worth(sight, left, place, deep)?;
     element_at(list, place)
+}
+
+// Whether a value has elements: what has none is looked at before its place is evaluated.
+#[inline(always)]
+fn is_list(value: &Value) -> bool {
+    matches!(value, Value::List(_))
 }
 
 // The element at a place of a list.

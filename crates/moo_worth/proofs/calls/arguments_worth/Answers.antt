@@ -4,7 +4,7 @@ use Rattle.std.proofs.lemmas.List.{append-nil}
 use Rattle.moo_value.specs.View.{tree, trees}
 use Rattle.moo_program.specs.View.{items_of}
 use Rattle.moo_outcome.proofs.Rest.{drop_next}
-use Rattle.moo_worth.specs.Calls.{AreWorth, none_worth, next_worth}
+use Rattle.moo_worth.specs.Worth.{AreWorth, none_worth, next_worth}
 use Rattle.moo_worth.proofs.Called.{pushed}
 use Rattle.moo_worth.proofs.calls.arguments_worth.Goals as goal
 

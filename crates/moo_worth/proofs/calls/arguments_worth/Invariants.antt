@@ -3,7 +3,7 @@ use Rattle.std.proofs.Common.{◌+◌, ◌≤◌, ◌++◌, ℕ, List, drop, len
 use Rattle.moo_value.specs.Tree.{Tree}
 use Rattle.moo_value.specs.View.{trees}
 use Rattle.moo_program.specs.View.{items_of}
-use Rattle.moo_worth.specs.Calls.{AreWorth}
+use Rattle.moo_worth.specs.Worth.{AreWorth}
 use Rattle.moo_worth.proofs.calls.arguments_worth.Given as goal
 
 abbrev pub invariant-loop-item : goal.invariant-loop-item

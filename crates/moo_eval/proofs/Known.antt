@@ -1,15 +1,16 @@
 -- What is known at once is what the rules give.
 use Rattle.std.proofs.Common.{◌≡◌, ℕ, ◌<◌, ◌-◌, ℤ, true, false, List, [], ◌∷◌, Option, Some, Ok, refl, ap}
-use Rattle.moo_value.specs.Tree.{Tree, integer}
+use Rattle.moo_value.specs.Tree.{Tree}
 use Rattle.moo_program.specs.declared.operator.BinaryOperator.{BinaryOperator}
 use Rattle.moo_program.specs.declared.operator.LogicOperator.{LogicOperator}
 use Rattle.moo_program.specs.declared.operator.UnaryOperator.{UnaryOperator}
-use Rattle.moo_program.specs.Tree.{Expr, unary, binary, logic, conditional, index, property, call, element, no_items}
+use Rattle.moo_program.specs.Tree.{Expr, unary, binary, logic, conditional, index, property, Items, call}
 use Rattle.moo_operation.specs.Operators.{unary_of, binary_of}
 use Rattle.moo_operation.specs.Truth.{is_true, is_decided}
-use Rattle.moo_operation.specs.Places.{index_of, length_of}
-use Rattle.moo_function.specs.declared.function.Function.TheVariants.{Length}
+use Rattle.moo_operation.specs.Places.{index_of}
+use Rattle.moo_function.specs.declared.function.Function.{Function}
 use Rattle.moo_function.specs.Names.{function_of}
+use Rattle.moo_value_function.specs.Calls.{plain_answer}
 use Rattle.moo_table.specs.World.{World}
 use Rattle.moo_outcome.specs.declared.notice.Notice.{Notice}
 use Rattle.moo_outcome.specs.Outcome.{answers}
@@ -18,10 +19,10 @@ use Rattle.moo_access.specs.State.{State}
 use Rattle.moo_access.specs.Calls.{read_property}
 use Rattle.moo_code_function.specs.Telling.{Faults}
 use Rattle.moo_worth.specs.Leaves.{IsLeaf}
-use Rattle.moo_worth.specs.Worth.{IsWorthWith, leaf_known, operator_known, unary_known, decided_known, undecided_known, true_known, false_known, element_known, property_known, length_known}
-use Rattle.moo_semantics.specs.Meaning.{Evaluates, begins, applies, no_more, element_then, unary_is, binary_is, logic_decides, logic_goes_on, conditional_true, conditional_false, index_is, property_is}
+use Rattle.moo_worth.specs.Worth.{IsWorthWith, AreWorthWith, none_worth, next_worth, leaf_known, operator_known, unary_known, decided_known, undecided_known, true_known, false_known, element_known, property_known, function_known}
+use Rattle.moo_semantics.specs.Meaning.{Evaluates, EvaluatesAll, begins, applies, no_more, element_then, unary_is, binary_is, logic_decides, logic_goes_on, conditional_true, conditional_false, index_is, property_is}
 use Rattle.moo_eval.proofs.Direct.{leaf_gives}
-use Rattle.moo_eval.proofs.Measuring.{length_computed}
+use Rattle.moo_eval.proofs.Functions.{answer_computed}
 
 -- the state of a frame that has these variables and this programmer
 abbrev pub state_with : ℕ → List Notice → World → (List ℕ → Option Tree) → ℤ → State
@@ -30,6 +31,10 @@ state_with n notices w variables p = record { ticks = n; world = w; variables = 
 -- an expression gives this value by the rules, wherever it stands and whatever the task has asked for
 abbrev pub GivesWith : World → (List ℕ → Option Tree) → ℤ → ℕ → Expr → Tree → ℕ → Type 0
 GivesWith w variables p n e v m = (c : Context) (notices : List Notice) → Evaluates Faults c e (state_with n notices w variables p) (Ok v) (state_with m notices w variables p)
+
+-- the same of items, none of which is a splice
+abbrev pub AllGiveWith : World → (List ℕ → Option Tree) → ℤ → ℕ → Items → List Tree → ℕ → Type 0
+AllGiveWith w variables p n items vs m = (c : Context) (notices : List Notice) → EvaluatesAll Faults c items (state_with n notices w variables p) (Ok vs) (state_with m notices w variables p)
 
 module _ (w : World) (variables : List ℕ → Option Tree) (p : ℤ) where
   leaf : {e : Expr} {v : Tree} {n n' : ℕ} → 0 < n → n' ≡ n - 1 → IsLeaf variables e v → GivesWith w variables p n e v n'
@@ -59,17 +64,22 @@ module _ (w : World) (variables : List ℕ → Option Tree) (p : ℤ) where
   owned : {a b : Expr} {x y v : Tree} {n n' n'' n3 : ℕ} → 0 < n → n' ≡ n - 1 → GivesWith w variables p n' a x n'' → GivesWith w variables p n'' b y n3 → read_property w p x y ≡ Ok v → GivesWith w variables p n (property a b) v n3
   owned z t f g h = λ c notices. begins z (applies (element_then (rw t at f c notices) (element_then (g c notices) no_more refl) refl) no_more (property_is (ap answers h))) refl
 
-  measured : {f : List ℕ} {e : Expr} {v : Tree} {k : ℤ} {n n' n'' : ℕ} → 0 < n → n' ≡ n - 1 → GivesWith w variables p n' e v n'' → function_of f ≡ Some Length → length_of v ≡ Ok (integer k) → GivesWith w variables p n (call f (element e no_items)) (integer k) n''
-  measured z t g h m = λ c notices. begins z (length_computed h (rw t at g c notices) m) refl
+  function_answers : {f : List ℕ} {g : Function} {items : Items} {vs : List Tree} {v : Tree} {n n' n'' : ℕ} → 0 < n → n' ≡ n - 1 → AllGiveWith w variables p n' items vs n'' → function_of f ≡ Some g → ((moment : ℕ) → plain_answer g moment vs ≡ Some (Ok v)) → GivesWith w variables p n (call f items) v n''
+  function_answers z t d h m = λ c notices. begins z (answer_computed h (rw t at d c notices) m) refl
 
-pub worth_gives : {w : World} {variables : List ℕ → Option Tree} {p : ℤ} {n m : ℕ} {e : Expr} {v : Tree} → IsWorthWith w variables p n e v m → GivesWith w variables p n e v m
-worth_gives {w = w} {variables = variables} {p = p} (leaf_known z t l) = leaf w variables p z t l
-worth_gives {w = w} {variables = variables} {p = p} (operator_known z t f g h) = operator w variables p z t (worth_gives f) (worth_gives g) h
-worth_gives {w = w} {variables = variables} {p = p} (unary_known z t f h) = signed w variables p z t (worth_gives f) h
-worth_gives {w = w} {variables = variables} {p = p} (decided_known z t f h) = decided w variables p z t (worth_gives f) h
-worth_gives {w = w} {variables = variables} {p = p} (undecided_known z t f h g) = undecided w variables p z t (worth_gives f) h (worth_gives g)
-worth_gives {w = w} {variables = variables} {p = p} (true_known z t f h g) = chosen_first w variables p z t (worth_gives f) h (worth_gives g)
-worth_gives {w = w} {variables = variables} {p = p} (false_known z t f h g) = chosen_second w variables p z t (worth_gives f) h (worth_gives g)
-worth_gives {w = w} {variables = variables} {p = p} (element_known z t f g h) = place w variables p z t (worth_gives f) (worth_gives g) h
-worth_gives {w = w} {variables = variables} {p = p} (property_known z t f g h) = owned w variables p z t (worth_gives f) (worth_gives g) h
-worth_gives {w = w} {variables = variables} {p = p} (length_known z t g f h) = measured w variables p z t (worth_gives g) f h
+mutual
+  pub worth_gives : {w : World} {variables : List ℕ → Option Tree} {p : ℤ} {n m : ℕ} {e : Expr} {v : Tree} → IsWorthWith w variables p n e v m → GivesWith w variables p n e v m
+  worth_gives {w = w} {variables = variables} {p = p} (leaf_known z t l) = leaf w variables p z t l
+  worth_gives {w = w} {variables = variables} {p = p} (operator_known z t f g h) = operator w variables p z t (worth_gives f) (worth_gives g) h
+  worth_gives {w = w} {variables = variables} {p = p} (unary_known z t f h) = signed w variables p z t (worth_gives f) h
+  worth_gives {w = w} {variables = variables} {p = p} (decided_known z t f h) = decided w variables p z t (worth_gives f) h
+  worth_gives {w = w} {variables = variables} {p = p} (undecided_known z t f h g) = undecided w variables p z t (worth_gives f) h (worth_gives g)
+  worth_gives {w = w} {variables = variables} {p = p} (true_known z t f h g) = chosen_first w variables p z t (worth_gives f) h (worth_gives g)
+  worth_gives {w = w} {variables = variables} {p = p} (false_known z t f h g) = chosen_second w variables p z t (worth_gives f) h (worth_gives g)
+  worth_gives {w = w} {variables = variables} {p = p} (element_known z t f g h) = place w variables p z t (worth_gives f) (worth_gives g) h
+  worth_gives {w = w} {variables = variables} {p = p} (property_known z t f g h) = owned w variables p z t (worth_gives f) (worth_gives g) h
+  worth_gives {w = w} {variables = variables} {p = p} (function_known z t d h m) = function_answers w variables p z t (all_give d) h m
+
+  pub all_give : {w : World} {variables : List ℕ → Option Tree} {p : ℤ} {n m : ℕ} {items : Items} {vs : List Tree} → AreWorthWith w variables p n items vs m → AllGiveWith w variables p n items vs m
+  all_give none_worth = λ c notices. no_more
+  all_give (next_worth g d) = λ c notices. element_then (worth_gives g c notices) (all_give d c notices) refl

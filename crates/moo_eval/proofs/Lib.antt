@@ -10,7 +10,9 @@ mod Lengthened
 mod Appended
 mod Placed
 mod Foreseen
-mod Measuring
+mod Fits
+mod Functions
 mod Known
+mod Branched
 mod Turned
 mod Returned

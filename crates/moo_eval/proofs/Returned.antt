@@ -16,13 +16,13 @@ use Rattle.moo_code_function.specs.Telling.{Faults}
 use Rattle.moo_call.specs.Seen.{state_at}
 use Rattle.moo_worth.specs.Leaves.{IsLeaf}
 use Rattle.moo_worth.specs.Worth.{IsWorth}
-use Rattle.moo_worth.specs.Calls.{AreWorth, none_worth, next_worth, IsReturned, IsAnswered, verb_answers}
+use Rattle.moo_worth.specs.Calls.{IsReturned, IsAnswered, verb_answers}
 use Rattle.moo_semantics.specs.Operands.{begun}
-use Rattle.moo_semantics.specs.Meaning.{Evaluates, EvaluatesAll, Applies, Runs, RunsAll, begins, applies, no_more, element_then, verb_runs, leaves, statement_begins, gives}
+use Rattle.moo_semantics.specs.Meaning.{Evaluates, Applies, Runs, RunsAll, begins, applies, no_more, element_then, verb_runs, leaves, statement_begins, gives}
 use Rattle.moo_eval.specs.Callee.{GivesBoth}
 use Rattle.moo_eval.proofs.Direct.{assigned, performed, leaf_gives}
 use Rattle.moo_eval.proofs.Exits.{same_state}
-use Rattle.moo_eval.proofs.Known.{state_with, worth_gives}
+use Rattle.moo_eval.proofs.Known.{state_with, worth_gives, all_give}
 
 -- the first statement returns what is known at once
 pub returned_ahead : (w : World) (active : Activation) {n n' m : ℕ} {notices : List Notice} {e : Expr} {v : Tree} {b : Block} (c : Context) → (0 < n) × (n' ≡ n - 1) → IsWorth w active n' e v m → RunsAll Faults c (then (returns e) b) (state_at n notices w active) (Ok (returned v)) (state_at m notices w active)
@@ -35,16 +35,11 @@ verb_returned stack indexed {w = w} {active = active} {n = n} {m = m} {v = v} no
     let runs = leaves (statement_begins r.ticks (gives (worth_gives r.worth r.called.context notices) refl)) refl in
     verb_runs {s' = last} {o = Ok (returned v)} (ap answers r.enters) (subst (λ b. RunsAll Faults r.called.context b (begun r.called (state_at n notices w active)) (Ok (returned v)) last) (sym r.begins) runs) refl refl
 
--- arguments that are known
-pub all_give : {w : World} {active : Activation} {n m : ℕ} {items : Items} {vs : List Tree} (c : Context) (notices : List Notice) → AreWorth w active n items vs m → EvaluatesAll Faults c items (state_at n notices w active) (Ok vs) (state_at m notices w active)
-all_give c notices none_worth = no_more
-all_give c notices (next_worth g h) = element_then (worth_gives g c notices) (all_give c notices h) refl
-
 -- a call whose parts are known, of a verb that returns first what is known
 pub call_answered : (stack : CallStack) {w : World} {active : Activation} {n m : ℕ} {e : Expr} {v : Tree} (notices : List Notice) → IsAnswered w (context_of stack None) active n e v m → Evaluates Faults (context_of stack None) e (state_at n notices w active) (Ok v) (state_at m notices w active)
 call_answered stack notices (verb_answers z t f g h r) =
     let c = context_of stack None in
-    begins z (applies (element_then (worth_gives (rw t at f) c notices) (element_then (worth_gives g c notices) (all_give c notices h) refl) refl) no_more (verb_returned stack None notices r)) refl
+    begins z (applies (element_then (worth_gives (rw t at f) c notices) (element_then (worth_gives g c notices) (all_give h c notices) refl) refl) no_more (verb_returned stack None notices r)) refl
 
 -- a variable is set to what it gives
 pub called_ahead : (stack : CallStack) {w : World} {active : Activation} (active' : Activation) {n m : ℕ} {notices : List Notice} {x : List ℕ} {e : Expr} {v : Tree} → 1 < n → IsAnswered w (context_of stack None) active (n - 2) e v m → variables_of active'.variables ≡ with_variable (variables_of active.variables) (bind x v) → active'.programmer ≡ active.programmer → Runs Faults (context_of stack None) (performs (assign (variable x) e)) (state_at n notices w active) (Ok next) (state_at m notices w active')

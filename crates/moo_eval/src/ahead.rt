@@ -25,11 +25,11 @@ use moo_world::World;
 use moo_worth::integers::is_other_than_0;
 use moo_worth::worth::{Sight, number_worth, worth};
 use moo_worth::{
-    are_leaves, is_leaf, leaf_at_a_glance, leaves_at_a_glance, may_be_part, test_worth,
+    are_leaves, is_leaf, known_leaf, leaf_at_a_glance, leaves_at_a_glance, may_be_part, test_worth,
 };
 
 impl Task {
-    /// The value of an element or of a property that is known at once, where all its ticks are left. Else nothing has begun. Not
+    /// The value of an element, of a property or of a call that is known at once, where all its ticks are left. Else nothing has begun. Not
     /// inlined: nested expressions would each hold its room on the stack.
     #[inline(never)]
     pub(crate) fn at_once(
@@ -72,6 +72,22 @@ impl Task {
         };
         let number = test_worth(&sight, &mut left, expr)?;
         self.ticks_left.leave(left);
+        Some(number)
+    }
+
+    /// The integer of a number, or of a variable that holds one and needs no search, likewise.
+    #[inline(always)]
+    pub(crate) fn leaf_at_once(&mut self, active: &Activation, expr: &Expr) -> Option<i32>
+        ensures some { IfSome result (λ n. (w : WorldModel) (c : Context) → Evaluates Faults c (tree expr.now) (state_of self.old w active.now) (Ok (integer n)) (state_of self.new w active.now)) }
+        ensures none { IfNone result (self.new ≡ self.old) }
+        ensures ticks { self.new.ticks_left ≤ self.old.ticks_left }
+    {
+        let number = known_leaf(active, expr)?;
+        let left = self.ticks_left.left() as u32;
+        if left == 0 {
+            return None;
+        }
+        self.ticks_left.leave(left - 1);
         Some(number)
     }
 
@@ -120,7 +136,7 @@ impl Task {
     }
 
     /// Runs a statement that sets a variable to an integer that is known at once, or to a part, and tells whether it was one: a number,
-    /// a variable, an operator or a choice that gives an integer, an element, a property or a length. Else nothing has begun.
+    /// a variable, an operator or a choice that gives an integer, an element, a property or a call. Else nothing has begun.
     #[inline(always)]
     pub(crate) fn sets_number(
         &mut self,

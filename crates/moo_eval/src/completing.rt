@@ -10,7 +10,7 @@ ghost use Rattle.moo_semantics.specs.Meaning.{Runs, RunsAll};
 ghost use Rattle.moo_eval.specs.Seen.{state_of};
 
 use crate::interpreter::Task;
-use moo_fast_path::{may_change_a_list, may_complete, sets_called};
+use moo_fast_path::{Form, form_of, may_grow};
 use moo_outcome::{Activation, CallStack};
 use moo_program::Stmt;
 use moo_world::World;
@@ -74,13 +74,34 @@ impl Task {
         ensures kept { IfOk result (λ b. IsFalse b → (self.new ≡ self.old) × (world.new ≡ world.old) × (active.new ≡ active.old)) }
         ensures ticks { self.new.ticks_left ≤ self.old.ticks_left }
     {
-        if sets_called(statement) {
+        let form = form_of(statement);
+        if let Form::Call = form {
             return Ok(self.answering.get() && self.sets_called(world, active, stack, statement));
         }
-        if may_complete(statement) {
-            return self.completes(world, active, statement);
+        self.completes_form(world, active, statement, form)
+    }
+
+    // The same of one of this form, but for calls of verbs. Memory may be wanting where a list is shared.
+    #[inline(always)]
+    fn completes_form(
+        &mut self,
+        world: &mut World,
+        active: &mut Activation,
+        statement: &Stmt,
+        form: Form,
+    ) -> Result<bool, AllocError>
+        ensures done { IfOk result (λ b. IsTrue b → (c : Context) → Runs Faults c (statement_of statement.now) (state_of self.old world.old active.old) (Ok next) (state_of self.new world.new active.new)) }
+        ensures fewer { IfOk result (λ b. IsTrue b → self.new.ticks_left < self.old.ticks_left) }
+        ensures kept { IfOk result (λ b. IsFalse b → (self.new ≡ self.old) × (world.new ≡ world.old) × (active.new ≡ active.old)) }
+        ensures ticks { self.new.ticks_left ≤ self.old.ticks_left }
+    {
+        match form {
+            Form::Setting => self.sets_otherwise(world, active, statement),
+            Form::Property => Ok(self.writes_at_once(world, active, statement)),
+            Form::Place => self.places_at_once(world, active, statement),
+            Form::Branch => self.branches_at_once(world, active, statement),
+            Form::Call | Form::Other => Ok(false),
         }
-        Ok(false)
     }
 
     /// Runs a statement that wasn't tried ahead, where it is known at once, and tells whether it was one. Else nothing has begun.
@@ -103,8 +124,9 @@ impl Task {
         self.completes_at_once(world, active, statement)
     }
 
-    // Runs a statement that sets a variable, a property or a place of a list to what is known at once, or puts that behind a list, and
-    // tells whether it was one. Else nothing has begun. Memory may be wanting where a list is shared.
+    // Runs a statement that sets a variable, a property or a place of a list to what is known at once, puts that behind a list, or chooses
+    // an arm of no more than one such statement, and tells whether it was one. Else nothing has begun. Memory may be wanting where a list
+    // is shared.
     #[inline(always)]
     fn completes_at_once(
         &mut self,
@@ -120,54 +142,13 @@ impl Task {
         if self.sets_number(world, active, statement) {
             return Ok(true);
         }
-        self.completes_otherwise(world, active, statement)
+        self.completes_form(world, active, statement, form_of(statement))
     }
 
-    // The same of one that doesn't set a variable to a number that is known at a glance.
-    #[inline(always)]
-    fn completes_otherwise(
-        &mut self,
-        world: &mut World,
-        active: &mut Activation,
-        statement: &Stmt,
-    ) -> Result<bool, AllocError>
-        ensures done { IfOk result (λ b. IsTrue b → (c : Context) → Runs Faults c (statement_of statement.now) (state_of self.old world.old active.old) (Ok next) (state_of self.new world.new active.new)) }
-        ensures fewer { IfOk result (λ b. IsTrue b → self.new.ticks_left < self.old.ticks_left) }
-        ensures kept { IfOk result (λ b. IsFalse b → (self.new ≡ self.old) × (world.new ≡ world.old) × (active.new ≡ active.old)) }
-        ensures ticks { self.new.ticks_left ≤ self.old.ticks_left }
-    {
-        if !may_complete(statement) {
-            return Ok(false);
-        }
-        self.completes(world, active, statement)
-    }
-
-    // The same of one that may be so. Not inlined, so that what sets variables to numbers pays nothing for it.
+    // Runs a statement that sets a variable to what is known at once and isn't known at a glance, or puts that behind a list, and tells
+    // whether it was one. Else nothing has begun. Not inlined, so that what sets variables to numbers pays nothing for it.
     #[inline(never)]
-    fn completes(
-        &mut self,
-        world: &mut World,
-        active: &mut Activation,
-        statement: &Stmt,
-    ) -> Result<bool, AllocError>
-        ensures done { IfOk result (λ b. IsTrue b → (c : Context) → Runs Faults c (statement_of statement.now) (state_of self.old world.old active.old) (Ok next) (state_of self.new world.new active.new)) }
-        ensures fewer { IfOk result (λ b. IsTrue b → self.new.ticks_left < self.old.ticks_left) }
-        ensures kept { IfOk result (λ b. IsFalse b → (self.new ≡ self.old) × (world.new ≡ world.old) × (active.new ≡ active.old)) }
-        ensures ticks { self.new.ticks_left ≤ self.old.ticks_left }
-    {
-        if self.runs_at_once(world, active, statement) {
-            return Ok(true);
-        }
-        if !may_change_a_list(statement) {
-            return Ok(false);
-        }
-        self.changes_at_once(world, active, statement)
-    }
-
-    // Runs a statement that sets a place of a list to what is known at once, or puts that behind a list, likewise. Not inlined, so that
-    // what sets variables pays nothing for it.
-    #[inline(never)]
-    fn changes_at_once(
+    fn sets_otherwise(
         &mut self,
         world: &World,
         active: &mut Activation,
@@ -178,24 +159,12 @@ impl Task {
         ensures kept { IfOk result (λ b. IsFalse b → (self.new ≡ self.old) × (active.new ≡ active.old)) }
         ensures ticks { self.new.ticks_left ≤ self.old.ticks_left }
     {
-        let placed = self.places_at_once(world, active, statement)?;
-        if placed {
+        if self.sets_at_once(world, active, statement) {
             return Ok(true);
         }
-        self.grows_at_once(world, active, statement)
-    }
-
-    // Runs a statement that sets a variable or a property to what is known at once, and tells whether it was one. Else nothing has
-    // begun.
-    #[inline(always)]
-    fn runs_at_once(&mut self, world: &mut World, active: &mut Activation, statement: &Stmt) -> bool
-        ensures done { IsTrue result → (c : Context) → Runs Faults c (statement_of statement.now) (state_of self.old world.old active.old) (Ok next) (state_of self.new world.new active.new) }
-        ensures fewer { IsTrue result → self.new.ticks_left < self.old.ticks_left }
-        ensures kept { IsFalse result → (self.new ≡ self.old) × (world.new ≡ world.old) × (active.new ≡ active.old) }
-    {
-        if self.sets_at_once(world, active, statement) {
-            return true;
+        if !may_grow(statement) {
+            return Ok(false);
         }
-        self.writes_at_once(world, active, statement)
+        self.grows_at_once(world, active, statement)
     }
 }

@@ -75,7 +75,7 @@ impl Task {
 
     /// Runs `name[place] = value` where place and value are known at once and nothing is raised, and tells whether it did. Else nothing
     /// has begun.
-    #[inline]
+    #[inline(never)]
     pub(crate) fn places_at_once(
         &mut self,
         world: &World,

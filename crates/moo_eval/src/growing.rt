@@ -17,7 +17,7 @@ use std::alloc::AllocError;
 impl Task {
     /// Runs a statement that puts what is known at once behind the list in a variable, where nothing is raised, and tells whether it was
     /// one. Else nothing has begun.
-    #[inline]
+    #[inline(never)]
     pub(crate) fn grows_at_once(
         &mut self,
         world: &World,

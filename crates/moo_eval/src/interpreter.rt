@@ -103,6 +103,9 @@ impl Task {
         ensures meaning { IsKnown result → Evaluates Faults (context_of stack.now indexed.entry) (tree expr.now) (state_of self.old world.old active.old) (seen_value result) (state_of self.new world.new active.new) }
         ensures ticks { self.new.ticks_left ≤ self.old.ticks_left }
     {
+        if let Some(number) = self.leaf_at_once(active, expr) {
+            return Ok(Value::Int(number));
+        }
         match expr {
             Expr::Variable(name) => return self.variable(active, stack, name),
             Expr::Literal(literal) => return self.literal(active, stack, literal),
@@ -137,7 +140,7 @@ impl Task {
         ensures meaning { IsKnown result → Evaluates Faults (context_of stack.now indexed.entry) (tree expr.now) (state_of self.old world.old active.old) (seen_value result) (state_of self.new world.new active.new) }
         ensures ticks { self.new.ticks_left ≤ self.old.ticks_left }
     {
-        if may_have_worth(expr) {
+        if may_be_known_within(expr) {
             return self.evaluate(world, active, stack, indexed, expr);
         }
         self.evaluate_node(world, active, stack, indexed, expr)
@@ -311,5 +314,15 @@ impl Task {
             }
         }
         Ok(values)
+    }
+}
+
+// Whether the worth of a part of an expression may be known at once. Of calls that of `length` alone is looked at, so that nested calls
+// hold no room for more than `evaluate_node`.
+#[inline]
+fn may_be_known_within(expr: &Expr) -> bool {
+    match expr {
+        Expr::Call(name, _) => matches!(name.as_bytes(), [b'l' | b'L', _, _, _, _, _]),
+        _ => may_have_worth(expr),
     }
 }

@@ -4,6 +4,7 @@
 mod ahead;
 mod appending;
 mod assignment;
+mod branching;
 mod calls;
 mod completing;
 mod deciding;

@@ -134,8 +134,8 @@ impl Task {
         ensures ticks { self.new.ticks_left ≤ self.old.ticks_left }
     {
         'values: while let Some(value) = values.get(*next) {
-            let value = value.try_clone()?;
-            if !self.begins_visit(active, name, value) {
+            let begun = self.begins_value(active, name, value)?;
+            if !begun {
                 return Ok(None);
             }
             let left = self.run_first(world, active, body, stack)?;
@@ -182,6 +182,26 @@ impl Task {
         Ok(None)
     }
 
+    // Whether a turn of a `for` begins, as `begins_visit` tells, of a value that stands in a list. An integer is looked at first.
+    #[inline(always)]
+    fn begins_value(
+        &mut self,
+        active: &mut Activation,
+        name: &Name,
+        value: &Value,
+    ) -> Result<bool, AllocError>
+        ensures begun { IfOk result (λ b. IsTrue b → (w : WorldModel) → IsBegun (bind name.now (value_tree value.now) ∷ []) (state_of self.old w active.old) (state_of self.new w active.new)) }
+        ensures fewer { IfOk result (λ b. IsTrue b → self.new.ticks_left < self.old.ticks_left) }
+        ensures kept { IfOk result (λ b. IsFalse b → (self.new ≡ self.old) × (active.new ≡ active.old)) }
+        ensures ticks { self.new.ticks_left ≤ self.old.ticks_left }
+    {
+        if let Value::Int(number) = value {
+            return Ok(self.begins_visit(active, name, Value::Int(*number)));
+        }
+        let value = value.try_clone()?;
+        Ok(self.begins_visit(active, name, value))
+    }
+
     // Whether a tick is left for a turn of a `for` and its variable has a place: then the one is taken and the other set. Else nothing has
     // begun.
     #[inline(always)]
@@ -189,6 +209,7 @@ impl Task {
         ensures begun { IsTrue result → (w : WorldModel) → IsBegun (bind name.now (value_tree value) ∷ []) (state_of self.old w active.old) (state_of self.new w active.new) }
         ensures fewer { IsTrue result → self.new.ticks_left < self.old.ticks_left }
         ensures kept { IsFalse result → (self.new ≡ self.old) × (active.new ≡ active.old) }
+        ensures ticks { self.new.ticks_left ≤ self.old.ticks_left }
     {
         let left = self.ticks_left.left() as u32;
         if left == 0 || !put_value(active, name, value) {

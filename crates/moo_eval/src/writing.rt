@@ -15,7 +15,7 @@ use moo_world::World;
 
 impl Task {
     /// Runs a statement that sets a property to what is known at once, where nothing is raised, likewise.
-    #[inline]
+    #[inline(never)]
     pub(crate) fn writes_at_once(
         &mut self,
         world: &mut World,

@@ -2,3 +2,4 @@ pub mod Refused
 mod InPlace
 mod Limits
 mod Written
+mod Branched

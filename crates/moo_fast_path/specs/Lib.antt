@@ -1,3 +1,4 @@
 pub mod Growth
 pub mod Element
 pub mod Changes
+pub mod Branching

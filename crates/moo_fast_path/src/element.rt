@@ -9,7 +9,7 @@ ghost use Rattle.moo_outcome.specs.Variables.{bind, with_variable};
 ghost use Rattle.moo_outcome.specs.Seen.{variables_of, failure_of, HadMemoryIn};
 ghost use Rattle.moo_fast_path.specs.Changes.{IsPlaced};
 
-use crate::in_place::put_at;
+use crate::in_place::{put_at, put_integer_at};
 use moo_operation::{index_refusal, with_index};
 use moo_outcome::{Activation, Failure, Variables};
 use moo_program::{Expr, Name};
@@ -20,7 +20,7 @@ use moo_worth::{integer_part, value_part};
 use std::alloc::{AllocError, Global};
 
 /// Sets a place of a variable to what is known at once. The ticks are taken of those that are left.
-#[inline(never)]
+#[inline(always)]
 pub fn places(
     alloc: Global,
     world: &World,
@@ -45,6 +45,9 @@ pub fn places(
     let Some(value) = value_part(&sight, left, value) else {
         return Ok(false);
     };
+    if put_integer_at(&mut active.variables, name, place, &value) {
+        return Ok(true);
+    }
     put_at(alloc, &mut active.variables, name, place, value)
 }
 

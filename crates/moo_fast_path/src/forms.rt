@@ -100,42 +100,83 @@ pub fn as_writing(statement: &Stmt) -> Option<(&Expr, &Expr, &Expr)>
     Some((base, name, value))
 }
 
-/// Whether a statement may be one that is known at once.
+/// What a statement may be that is known at once: a hint, so that it is looked at in one way alone.
+#[derive(Clone, Copy)]
+pub enum Form {
+    /// Sets a variable to what has a worth, or to a longer list.
+    Setting,
+    /// Sets a variable to what a call of a verb gives.
+    Call,
+    /// Sets a property.
+    Property,
+    /// Sets a place of a variable.
+    Place,
+    /// An `if`.
+    Branch,
+    /// Nothing of these.
+    Other,
+}
+
+/// What a statement may be that is known at once.
 #[inline(always)]
-pub fn may_complete(statement: &Stmt) -> bool {
-    let Stmt::Expression(expr) = statement else {
-        return false;
-    };
-    let Expr::Assign(target, value) = &**expr else {
-        return false;
-    };
-    match &**target {
-        Expr::Index(..) | Expr::Property(..) => may_have_worth(value),
-        Expr::Variable(_) => may_have_worth(value) || may_lengthen(value),
-        _ => false,
+pub fn form_of(statement: &Stmt) -> Form {
+    match statement {
+        Stmt::Expression(expr) => match &**expr {
+            Expr::Assign(target, value) => form_of_assignment(target, value),
+            _ => Form::Other,
+        },
+        Stmt::If(..) => Form::Branch,
+        _ => Form::Other,
     }
 }
 
-/// Whether a statement sets a variable to what a call of a verb gives.
 #[inline(always)]
-pub fn sets_called(statement: &Stmt) -> bool {
-    matches!(as_setting(statement), Some((_, Expr::VerbCall(..))))
+fn form_of_assignment(target: &Expr, value: &Expr) -> Form {
+    match target {
+        Expr::Property(..) if may_have_worth(value) => Form::Property,
+        Expr::Index(..) if may_have_worth(value) => Form::Place,
+        Expr::Variable(_) => form_of_setting(value),
+        _ => Form::Other,
+    }
 }
 
-/// Whether a statement may be one that sets a place of a list, or puts something behind a list.
 #[inline(always)]
-pub fn may_change_a_list(statement: &Stmt) -> bool {
+fn form_of_setting(value: &Expr) -> Form {
+    match value {
+        Expr::VerbCall(..) => Form::Call,
+        _ if may_lengthen(value) || may_have_worth(value) => Form::Setting,
+        _ => Form::Other,
+    }
+}
+
+/// Whether a statement may be one that puts something behind a list.
+#[inline(always)]
+pub fn may_grow(statement: &Stmt) -> bool {
+    matches!(as_setting(statement), Some((_, value)) if may_lengthen(value))
+}
+
+/// Whether statements may be none, or one that is known at once by itself.
+#[inline(always)]
+pub(crate) fn may_be_only(statements: &[Stmt]) -> bool {
+    match statements.split_first() {
+        None => true,
+        Some((only, others)) => others.is_empty() && may_be_one(only),
+    }
+}
+
+// Whether a statement is an assignment of what may be known at once.
+#[inline(always)]
+fn may_be_one(statement: &Stmt) -> bool {
     let Stmt::Expression(expr) = statement else {
         return false;
     };
-    let Expr::Assign(target, value) = &**expr else {
+    let Expr::Assign(_, value) = &**expr else {
         return false;
     };
-    match &**target {
-        Expr::Index(..) => may_have_worth(value),
-        Expr::Variable(_) => may_lengthen(value),
-        _ => false,
-    }
+    !matches!(
+        &**value,
+        Expr::VerbCall(..) | Expr::Range(..) | Expr::Assign(..) | Expr::Catch(..)
+    )
 }
 
 // Whether an expression may be that of a longer list.

@@ -17,7 +17,7 @@ use moo_worth::{may_have_worth, value_part};
 use std::alloc::{AllocError, Global};
 
 /// Puts what is known at once behind the list in a variable. The ticks are taken of those that are left.
-#[inline(never)]
+#[inline(always)]
 pub fn grows(
     alloc: Global,
     world: &World,

@@ -43,7 +43,28 @@ pub(crate) fn put_at(
     }
 }
 
-/// Puts a value behind the list in a variable, likewise.
+/// Puts an integer in the place of another in the list in a variable, where nothing else shares the list and the variable is known without
+/// a search, and tells whether it did.
+#[inline(always)]
+pub(crate) fn put_integer_at(
+    variables: &mut Variables,
+    name: &Name,
+    place: i32,
+    value: &Value,
+) -> bool
+    ensures put { IsTrue result → (x w : Tree) × (variables_of variables.old (folded name.now) ≡ Some x) × (with_index_of x (integer place) (value_tree value.now) ≡ Ok w) × (variables_of variables.new ≡ with_variable (variables_of variables.old) (bind name.now w)) }
+    ensures kept { IsFalse result → variables.new ≡ variables.old }
+{
+    let Value::Int(number) = value else {
+        return false;
+    };
+    let Some(before) = places_before(place) else {
+        return false;
+    };
+    variables.put_element(name, before, *number)
+}
+
+/// Puts a value behind the list in a variable, where that raises nothing and the variable has a slot, and tells whether it did.
 #[inline(always)]
 pub(crate) fn put_last(
     alloc: Global,

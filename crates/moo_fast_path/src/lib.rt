@@ -1,22 +1,25 @@
-//! What is set to values that are known at once: variables, places of lists and strings, lists that grow and properties; and the forms
-//! of statements that have a way of their own.
+//! What is set to values that are known at once: variables, places of lists and strings, lists that grow and properties; branches whose
+//! tests are known at once; and the forms of statements that have a way of their own.
 //! A room behind `moo_eval`.
 #![tactic(auto)]
 
 mod appending;
+mod branching;
 mod element;
 mod forms;
 mod growing;
 mod growth;
 mod in_place;
+mod one;
 mod setting;
 mod writing;
 
 pub use appending::as_appended;
+pub use branching::{as_branch, chosen_arm, runs_only};
 pub use element::{places, set_at};
 pub use forms::{
-    as_assignment, as_place_assignment, as_placing, as_setting, as_variable, as_writing,
-    may_change_a_list, may_complete, sets_called, sets_operator,
+    Form, as_assignment, as_place_assignment, as_placing, as_setting, as_variable, as_writing,
+    form_of, may_grow, sets_operator,
 };
 pub use growing::{as_growing, grows};
 pub use growth::{as_longer, set_longer};

@@ -34,7 +34,12 @@ pub fn puts(
     ensures ticks { left.new ≤ left.old }
 {
     if let Expr::Call(function, items) = value {
-        return puts_length(alloc, world, active, left, name, function, items);
+        let all = *left;
+        if puts_length(alloc, world, active, left, name, function, items) {
+            return true;
+        }
+        *left = all;
+        return puts_worth(alloc, world, active, left, name, value);
     }
     puts_value(alloc, world, active, left, name, value)
 }

@@ -10,12 +10,12 @@ use moo_outcome::Activation;
 use moo_program::Expr;
 use moo_value::{MooStr, Value};
 use moo_world::World;
-use moo_worth::worth::{Sight, worth};
-use moo_worth::{name_worth, object_worth};
+use moo_worth::worth::Sight;
+use moo_worth::{name_worth, object_worth, value_part};
 use std::alloc::Global;
 
 /// Sets a property to what is known at once. The ticks are taken of those that are left.
-#[inline(never)]
+#[inline(always)]
 pub fn writes(
     alloc: Global,
     world: &mut World,
@@ -40,7 +40,7 @@ pub fn writes(
     let Some(name) = name_worth(active, left, name) else {
         return false;
     };
-    let Some(value) = worth(&sight, left, value) else {
+    let Some(value) = value_part(&sight, left, value) else {
         return false;
     };
     set_property(world, active.programmer, o, name, value)

@@ -60,11 +60,13 @@ evaluate_node-returns-in_err-take_tick-clause-meaning t c =
 
 pub evaluate-returns-in-Variable-clause-meaning : goal.evaluate-returns-in-Variable-clause-meaning
 evaluate-returns-in-Variable-clause-meaning t c =
-    λ k. rw c.in-Variable.is (c.variable.ensures.meaning c.args.indexed c.args.world.now k)
+    let kept = c.in_default.ensures.none in
+    λ k. rw (c.in-Variable.is, ← kept) (c.variable.ensures.meaning c.args.indexed c.args.world.now k)
 
 pub evaluate-returns-in-Literal-clause-meaning : goal.evaluate-returns-in-Literal-clause-meaning
 evaluate-returns-in-Literal-clause-meaning t c =
-    λ k. rw c.in-Literal.is (c.literal.ensures.meaning c.args.indexed c.args.world.now k)
+    let kept = c.in_default.ensures.none in
+    λ k. rw (c.in-Literal.is, ← kept) (c.literal.ensures.meaning c.args.indexed c.args.world.now k)
 
 pub passes-returns-in-Some-clause-ok : goal.passes-returns-in-Some-clause-ok
 passes-returns-in-Some-clause-ok t c =

@@ -225,6 +225,24 @@ loops["long-names"] = function()
     end
 end
 
+loops["typeof"] = function()
+    local x = 0
+    local i = 0
+    while i < 4000 do
+        if type(i) == "number" then x = i end
+        i = i + 1
+    end
+end
+
+loops["least"] = function()
+    local x = 0
+    local i = 0
+    while i < 4000 do
+        x = math.min(i, 7)
+        i = i + 1
+    end
+end
+
 for task = 1, tonumber(arg[2]) do
     loops[arg[1]]()
 end

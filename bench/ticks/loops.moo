@@ -18,3 +18,5 @@ if-else~x = 0; i = 0; while (i < 4000) if (i % 2 == 0) x = x + 1; else x = x - 1
 if-and~x = 0; i = 0; while (i < 4000) if (i > 0 && i < 2000) x = x + 1; endif i = i + 1; endwhile
 choice~i = 0; while (i < 4000) x = i < 2000 ? 1 | 2; i = i + 1; endwhile
 long-names~result_value = 0; counter_number = 0; while (counter_number < 4000) result_value = result_value + counter_number; counter_number = counter_number + 1; endwhile
+typeof~x = 0; i = 0; while (i < 4000) if (typeof(i) == 0) x = i; endif i = i + 1; endwhile
+least~x = 0; i = 0; while (i < 4000) x = min(i, 7); i = i + 1; endwhile

@@ -178,6 +178,23 @@ def long_names():
         counter_number = counter_number + 1
 
 
+def typeof():
+    x = 0
+    i = 0
+    while i < 4000:
+        if type(i) is int:
+            x = i
+        i = i + 1
+
+
+def least():
+    x = 0
+    i = 0
+    while i < 4000:
+        x = min(i, 7)
+        i = i + 1
+
+
 loop = globals()[{"while": "while_"}.get(sys.argv[1], sys.argv[1].replace("-", "_"))]
 for task in range(int(sys.argv[2])):
     loop()

@@ -14,13 +14,19 @@ use std::alloc::{AllocError, Global};
 use std::marker::Model;
 use std::rc::Rc;
 
-/// A program of some text, within the limits, which doesn't change. A clone shares its statements and its slots.
+/// A program of some text, within the limits, which doesn't change. A clone shares its parts.
 #[derive(Drop)]
 pub struct Program {
-    statements: Rc<Vec<Stmt>>,
-    names: Rc<Vec<Name>>,
+    parts: Rc<Parts>,
+}
+
+/// What the clones of a program share.
+#[derive(Drop)]
+struct Parts {
+    statements: Vec<Stmt>,
+    names: Vec<Name>,
     /// The slots of the names, by the order of the names.
-    order: Rc<Vec<Slot>>,
+    order: Vec<Slot>,
 }
 
 impl Model for Program {
@@ -38,9 +44,9 @@ impl Model for Program {
 
     ghost coded = { block_code (Prim.hlevel codes) };
 
-    ghost view = { λ p. block p.statements.value.items };
+    ghost view = { λ p. block p.parts.value.statements.items };
 
-    ghost invariant = { λ p. IsWithinLimits (block p.statements.value.items) × HasText (block p.statements.value.items) × (p.names.value.items ≡ slots (block p.statements.value.items)) × AreOrdered p.names.value.items p.order.value.items };
+    ghost invariant = { λ p. IsWithinLimits (block p.parts.value.statements.items) × HasText (block p.parts.value.statements.items) × (p.parts.value.names.items ≡ slots (block p.parts.value.statements.items)) × AreOrdered p.parts.value.names.items p.parts.value.order.items };
 }
 
 impl Program {
@@ -52,14 +58,15 @@ impl Program {
     {
         let names = variable_names(alloc, &statements)?;
         let order = ordered_slots(alloc, &names)?;
-        let statements = Rc::new(alloc, statements)?;
-        let names = Rc::new(alloc, names)?;
-        let order = Rc::new(alloc, order)?;
-        Ok(Program {
-            statements,
-            names,
-            order,
-        })
+        let parts = Rc::new(
+            alloc,
+            Parts {
+                statements,
+                names,
+                order,
+            },
+        )?;
+        Ok(Program { parts })
     }
 
     /// The program of no lines.
@@ -69,18 +76,13 @@ impl Program {
         Program::try_new(alloc, Vec::new(alloc))
     }
 
-    /// The same program, with its statements and its slots shared.
+    /// The same program, whose parts are shared.
+    #[inline(always)]
     pub fn try_clone(&self) -> Result<Program, AllocError>
         ensures { IfOk result (λ p. p ≡ self.now) }
     {
-        let statements = self.statements.clone()?;
-        let names = self.names.clone()?;
-        let order = self.order.clone()?;
-        Ok(Program {
-            statements,
-            names,
-            order,
-        })
+        let parts = self.parts.clone()?;
+        Ok(Program { parts })
     }
 
     /// The statements, one after another.
@@ -89,20 +91,20 @@ impl Program {
         ensures limits { IsWithinLimits self.now }
         ensures text { HasText self.now }
     {
-        self.statements.as_slice()
+        self.parts.statements.as_slice()
     }
 
     /// The names of the program's variables, letters folded, each once, in the order in which they stand first in it.
     pub fn slots(&self) -> &[Name]
         ensures { result.now ≡ slots self.now }
     {
-        self.names.as_slice()
+        self.parts.names.as_slice()
     }
 
     /// The slot of a name, its letters in any case, or `None` where no variable of the program has it.
     pub fn slot_of(&self, name: &[u8]) -> Option<usize>
         ensures { result ≡ position (λ own. bytes_eq (folded own) (folded name.now)) (slots self.now) }
     {
-        slot_among(self.order.as_slice(), name)
+        slot_among(self.parts.order.as_slice(), name)
     }
 }

@@ -10,7 +10,7 @@ pub returns : goal.returns
 returns c =
     let p = c.args.self.now in
     let inside = c.self.inside in
-    let names : inside.names.value.items ≡ slots p = cc in
-    let order : inside.order.value.items ≡ c.as_slice.result.now = cc in
-    let o : AreOrdered (slots p) c.as_slice.result.now = subst (AreOrdered (slots p)) order (subst (λ v. AreOrdered v inside.order.value.items) names c.self.invariant.3) in
+    let names : inside.parts.value.names.items ≡ slots p = cc in
+    let order : inside.parts.value.order.items ≡ c.as_slice.result.now = cc in
+    let o : AreOrdered (slots p) c.as_slice.result.now = subst (AreOrdered (slots p)) order (subst (λ v. AreOrdered v inside.parts.value.order.items) names c.self.invariant.3) in
     c.slot_among.ensures (slots p) o (once p) ∙ slot_folded p (folded c.args.name.now)

@@ -227,6 +227,7 @@ impl PropCell {
     }
 
     /// Gives the cell a value.
+    #[inline(always)]
     pub fn set_value(&mut self, value: Value)
         ensures { self.new ≡ record self.old { value = Some (tree value) } }
     {

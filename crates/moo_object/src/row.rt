@@ -98,6 +98,7 @@ impl Row {
     }
 
     /// Sets the value of the cell at a place.
+    #[inline(always)]
     pub fn set_at(&mut self, place: usize, value: Value)
         requires { place < length self.old }
         ensures { self.new ≡ changed_at place (valued (tree value)) self.old }
@@ -183,6 +184,7 @@ fn has_definer(cells: &[PropCell], definer: usize) -> bool
 }
 
 /// The cell of a name.
+#[inline(always)]
 pub fn cell_named<'a>(cells: &'a [PropCell], name: &[u8]) -> Option<&'a PropCell>
     ensures { option_copied result ≡ cell_named cells.now (folded name.now) }
 {
@@ -190,6 +192,7 @@ pub fn cell_named<'a>(cells: &'a [PropCell], name: &[u8]) -> Option<&'a PropCell
 }
 
 /// The place of the cell of a name.
+#[inline(always)]
 pub fn place_named(cells: &[PropCell], name: &[u8]) -> Option<usize>
     ensures { result ≡ position (is_named (folded name.now)) cells.now }
 {
@@ -208,6 +211,7 @@ fn set_named(cells: &mut Vec<PropCell>, name: &[u8], value: Value)
     }
 }
 
+#[inline(always)]
 fn put_value(cells: &mut Vec<PropCell>, place: usize, value: Value)
     requires { place < length cells.old.items }
     ensures { cells.new.items ≡ changed_at place (valued (tree value)) cells.old.items }

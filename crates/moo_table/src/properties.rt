@@ -12,6 +12,7 @@ use moo_object::{Object, PropCell, cell_named};
 use moo_value::Value;
 
 /// An object's cell of a name.
+#[inline(always)]
 pub fn cell_in<'a>(slot: &'a Option<Object>, name: &[u8]) -> Option<&'a PropCell>
     ensures { option_copied result ≡ cell_named (unwrap_or slot.now nothing).cells (folded name.now) }
 {
@@ -31,6 +32,7 @@ pub fn definer_in(slot: &Option<Object>, name: &[u8]) -> Option<usize>
 }
 
 /// The cells of what stands at a number, in the order of definitions.
+#[inline(always)]
 pub fn cells_in(slot: &Option<Object>) -> &[PropCell]
     ensures { result.now ≡ (unwrap_or slot.now nothing).cells }
 {
@@ -50,6 +52,7 @@ pub fn set_in(slot: &mut Option<Object>, name: &[u8], value: Value)
 }
 
 /// Gives an object's own cell at a place a value.
+#[inline(always)]
 pub fn set_at_in(slot: &mut Option<Object>, place: usize, value: Value)
     requires { place < length (unwrap_or slot.old nothing).cells }
     ensures { slot.new ≡ option_map (with_value_at place (tree value)) slot.old }

@@ -85,6 +85,7 @@ impl World {
 
     /// Sets a property by its name with the rights of a programmer: what setting it raises comes before want of the
     /// right.
+    #[inline(always)]
     pub fn set_by(
         &mut self,
         programmer: i32,

@@ -159,6 +159,7 @@ impl Rights {
         }
     }
 
+    #[inline(always)]
     pub(crate) fn may_read_cell(world: &World, programmer: i32, cell: Option<&PropCell>) -> bool
         ensures { result ≡ may_read_cell world.now programmer (option_copied cell.entry) }
     {
@@ -168,6 +169,7 @@ impl Rights {
         }
     }
 
+    #[inline(always)]
     pub(crate) fn may_write_cell(world: &World, programmer: i32, cell: Option<&PropCell>) -> bool
         ensures { result ≡ may_write_cell world.now programmer (option_copied cell.entry) }
     {

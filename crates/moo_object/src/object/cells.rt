@@ -106,6 +106,7 @@ impl Object {
     }
 
     /// Sets the value of the cell at a place.
+    #[inline(always)]
     pub fn set_value_at(&mut self, place: usize, value: Value)
         requires { place < length self.old.cells }
         ensures { self.new ≡ record self.old { cells = changed_at place (valued (tree value)) self.old.cells } }

@@ -15,9 +15,9 @@ ghost use Rattle.moo_worth.specs.Calls.{IsReturned, IsAnswered, ReturnsFirst};
 
 use crate::lengths::as_element;
 use crate::parts::value_part;
-use crate::properties::object_leaf;
+use crate::properties::object_worth;
 use crate::strings::text_written;
-use crate::ticks::{take, take_three};
+use crate::ticks::take;
 use crate::told::{Told, are_light};
 use crate::worth::Sight;
 use moo_access::{Sought, has_frame_left, player_of_call, sought_verb};
@@ -40,8 +40,9 @@ pub fn called_worth(
     ensures value { IfSome result (λ v. IsAnswered sight.now.world.now (context_of stack.now None) sight.now.active.now left.old (verb_call (tree base.now) (tree name.now) (items_of items.now)) (value_tree v) left.new) }
     ensures ticks { left.new ≤ left.old }
 {
-    take_three(left)?;
-    let this = object_leaf(sight.active, base)?;
+    take(left)?;
+    let this = object_worth(sight, left, base)?;
+    take(left)?;
     let name = text_written(name)?;
     let sought = sought_at_once(sight.world, this, name)?;
     let expr = returned(sought.found.verb)?;

@@ -2,11 +2,13 @@
 ghost use Rattle.std.specs.Prelude.{◌≡◌, ◌≤◌, Ok, IfSome};
 ghost use Rattle.moo_value.specs.Tree.{integer};
 ghost use Rattle.moo_value.specs.View.{tree as value_tree};
+ghost use Rattle.moo_program.specs.declared.operator.BinaryOperator.TheVariants.{Add};
 ghost use Rattle.moo_program.specs.Tree.{binary};
 ghost use Rattle.moo_program.specs.View.{tree};
 ghost use Rattle.moo_operation.specs.Operators.{binary_of};
 ghost use Rattle.moo_worth.specs.Worth.{IsWorth};
 
+use crate::known::is_part;
 use crate::leaves::leaf_value;
 use crate::strings::sum_worth;
 use crate::ticks::{take, take_three};
@@ -30,9 +32,43 @@ pub fn joined_worth<'a>(
     ensures ticks { left.new ≤ left.old }
 {
     if let BinaryOperator::Add = operator {
-        let joined = sum_worth(sight, left, first, second, DEEPEST)?;
+        return added_worth(sight, left, first, second);
+    }
+    operands_joined(sight, left, operator, first, second)
+}
+
+// The same of a sum: of strings that stay where they are, or else of a character of a string.
+fn added_worth<'a>(
+    sight: &Sight<'a>,
+    left: &mut u32,
+    first: &'a Expr,
+    second: &'a Expr,
+) -> Option<Value>
+    ensures value { IfSome result (λ v. IsWorth sight.now.world.now sight.now.active.now left.old (binary Add (tree first.now) (tree second.now)) (value_tree v) left.new) }
+    ensures ticks { left.new ≤ left.old }
+{
+    let all = *left;
+    if let Some(joined) = sum_worth(sight, left, first, second, DEEPEST) {
         return Some(Value::Str(joined));
     }
+    if !is_part(first) && !is_part(second) {
+        return None;
+    }
+    *left = all;
+    operands_joined(sight, left, BinaryOperator::Add, first, second)
+}
+
+// The same of any operator, whose operands are copied.
+fn operands_joined(
+    sight: &Sight<'_>,
+    left: &mut u32,
+    operator: BinaryOperator,
+    first: &Expr,
+    second: &Expr,
+) -> Option<Value>
+    ensures value { IfSome result (λ v. IsWorth sight.now.world.now sight.now.active.now left.old (binary operator (tree first.now) (tree second.now)) (value_tree v) left.new) }
+    ensures ticks { left.new ≤ left.old }
+{
     take(left)?;
     let first = operand(sight, left, first)?;
     let second = operand(sight, left, second)?;

@@ -1,7 +1,7 @@
 //! Which expressions may be known at once: hints, so that what is of another kind is looked at no further.
 use crate::leaves::is_leaf;
 use crate::lengths::{as_element, may_be_length};
-use moo_program::{Expr, Item};
+use moo_program::{Expr, Item, Literal};
 use moo_value::MooStr;
 
 // How many arguments of a function are looked at.
@@ -32,6 +32,24 @@ pub fn may_be_part(value: &Expr) -> bool {
 #[inline]
 pub(crate) fn may_be_operand(value: &Expr) -> bool {
     matches!(value, Expr::Binary(..)) || is_leaf(value) || may_be_part(value)
+}
+
+/// Whether one of two operands is an element or a character and the other a string that is written out, so that an operator between them
+/// is none of integers.
+#[inline(always)]
+pub(crate) fn tests_part(first: &Expr, second: &Expr) -> bool {
+    (is_part(first) && is_text(second)) || (is_text(first) && is_part(second))
+}
+
+#[inline(always)]
+fn is_text(value: &Expr) -> bool {
+    matches!(value, Expr::Literal(Literal::Str(_)))
+}
+
+/// Whether an operand is an element, or a character of a string, which stands nowhere by itself.
+#[inline(always)]
+pub(crate) fn is_part(value: &Expr) -> bool {
+    matches!(value, Expr::Index(..))
 }
 
 // An element, a property, or a call of a function over values alone.

@@ -7,13 +7,14 @@ ghost use Rattle.moo_program.specs.Tree.{binary};
 ghost use Rattle.moo_program.specs.View.{tree};
 ghost use Rattle.moo_worth.specs.Worth.{IsWorth};
 
+use crate::elements::part_copied;
 use crate::joined::compared_worth;
-use crate::known::may_be_operand;
+use crate::known::{may_be_operand, tests_part};
 use crate::leaves::{is_leaf, leaf_at_a_glance};
 use crate::properties::property_seen;
 use crate::ticks::take;
 use crate::worth::{
-    DEEPEST, Sight, copied, element_worth, integer_of, leaf_worth, number_worth, part_worth, worth,
+    DEEPEST, Sight, copied, integer_of, leaf_worth, number_worth, part_worth, worth,
 };
 use moo_program::Expr;
 use moo_program::operator::BinaryOperator;
@@ -53,24 +54,15 @@ pub fn value_part(sight: &Sight<'_>, left: &mut u32, expr: &Expr) -> Option<Valu
     worth(sight, left, expr)
 }
 
-/// The value of an element or of a property that isn't built in, likewise.
+/// The value of an element, or of a property that isn't built in, likewise.
 #[inline(always)]
-pub fn part_copied(sight: &Sight<'_>, left: &mut u32, expr: &Expr) -> Option<Value>
+pub fn value_copied(sight: &Sight<'_>, left: &mut u32, expr: &Expr) -> Option<Value>
     ensures value { IfSome result (λ v. IsWorth sight.now.world.now sight.now.active.now left.old (tree expr.now) (value_tree v) left.new) }
     ensures ticks { left.new ≤ left.old }
 {
-    copied(part_seen(sight, left, expr)?)
-}
-
-// The same, where it stands.
-#[inline(always)]
-fn part_seen<'a>(sight: &Sight<'a>, left: &mut u32, expr: &Expr) -> Option<&'a Value>
-    ensures value { IfSome result (λ v. IsWorth sight.now.world.now sight.now.active.now left.old (tree expr.now) (value_tree v.now) left.new) }
-    ensures ticks { left.new ≤ left.old }
-{
     match expr {
-        Expr::Index(base, place) => element_worth(sight, left, base, place, DEEPEST),
-        Expr::Property(base, name) => property_seen(sight, left, base, name),
+        Expr::Index(base, place) => part_copied(sight, left, base, place, DEEPEST),
+        Expr::Property(base, name) => copied(property_seen(sight, left, base, name)?),
         _ => None,
     }
 }
@@ -106,6 +98,9 @@ fn decided_worth(
 {
     if !may_be_operand(first) || !may_be_operand(second) {
         return None;
+    }
+    if tests_part(first, second) {
+        return compared_worth(sight, left, operator, first, second);
     }
     let all = *left;
     let number = match number_worth(sight, left, operator, first, second) {

@@ -10,6 +10,7 @@ ghost use Rattle.moo_access.specs.Calls.{read_property};
 ghost use Rattle.moo_worth.specs.Leaves.{IsLeaf};
 ghost use Rattle.moo_worth.specs.Worth.{IsWorth};
 
+use crate::counted::property_at_a_glance;
 use crate::strings::text_leaf;
 use crate::ticks::{take, take_three};
 use crate::worth::{Sight, copied, integer_of, variable_found};
@@ -85,10 +86,7 @@ pub(crate) fn property_seen<'a>(
     ensures value { IfSome result (λ v. IsWorth sight.now.world.now sight.now.active.now left.old (property (tree base.now) (tree name.now)) (value_tree v.now) left.new) }
     ensures ticks { left.new ≤ left.old }
 {
-    let name = text_leaf(sight.active, name)?;
-    let o = object_leaf(sight.active, base)?;
-    take_three(left)?;
-    readable(sight.world, sight.active.programmer, o, name)
+    property_at_a_glance(sight.world, sight.active, left, base, name)
 }
 
 /// The value that the programmer reads of any property. One that isn't built in is looked at first.
@@ -110,7 +108,12 @@ pub(crate) fn property_read(
 
 // The value that the programmer reads of a property that isn't built in.
 #[inline(always)]
-fn readable<'a>(world: &'a World, programmer: i32, o: i32, name: &MooStr) -> Option<&'a Value>
+pub(crate) fn readable<'a>(
+    world: &'a World,
+    programmer: i32,
+    o: i32,
+    name: &MooStr,
+) -> Option<&'a Value>
     ensures { IfSome result (λ v. read_property world.now programmer (object o) (string name.now) ≡ Ok (value_tree v.now)) }
 {
     world.readable_value(programmer, o, name.as_bytes())
@@ -166,17 +169,27 @@ pub(crate) fn object_of(value: &Value) -> Option<i32>
     }
 }
 
-/// The object whose property is set, and its ticks as above.
+/// The object whose property is set, or on which a verb is called, and its ticks as above.
 #[inline(always)]
 pub fn object_worth(sight: &Sight<'_>, left: &mut u32, base: &Expr) -> Option<i32>
     ensures value { IfSome result (λ o. IsWorth sight.now.world.now sight.now.active.now left.old (tree base.now) (object o) left.new) }
     ensures ticks { left.new ≤ left.old }
 {
     if let Expr::Property(base, name) = base {
-        return object_of(property_seen(sight, left, base, name)?);
+        return property_object(sight, left, base, name);
     }
     take(left)?;
     object_leaf(sight.active, base)
+}
+
+// The object that a property holds. Not inlined, so that what is written out or stands in a variable pays nothing for it.
+#[inline(never)]
+fn property_object(sight: &Sight<'_>, left: &mut u32, base: &Expr, name: &Expr) -> Option<i32>
+    ensures value { IfSome result (λ o. IsWorth sight.now.world.now sight.now.active.now left.old (property (tree base.now) (tree name.now)) (object o) left.new) }
+    ensures ticks { left.new ≤ left.old }
+{
+    let value = property_copied(sight, left, base, name)?;
+    object_of(&value)
 }
 
 /// The name of a property that is set, likewise.

@@ -10,9 +10,10 @@ ghost use Rattle.moo_outcome.specs.Seen.{variables_of};
 ghost use Rattle.moo_worth.specs.Leaves.{IsLeaf};
 ghost use Rattle.moo_worth.specs.Worth.{IsWorth};
 
+use crate::elements::element_worth;
 use crate::properties::property_seen;
 use crate::ticks::take;
-use crate::worth::{DEEPEST, Sight, element_worth, variable_found};
+use crate::worth::{DEEPEST, Sight, variable_found};
 use moo_outcome::Activation;
 use moo_program::operator::BinaryOperator;
 use moo_program::{Expr, Literal};

@@ -13,11 +13,12 @@ ghost use Rattle.moo_worth.specs.Leaves.{IsLeaf};
 ghost use Rattle.moo_access.specs.Calls.{read_property};
 ghost use Rattle.moo_worth.specs.Told.{IsToldTo, IsToldWorth, are_light, is_light};
 
+use crate::elements::places_before;
 use crate::joined::applied;
 use crate::leaves::written_out;
 use crate::properties::property_read;
 use crate::ticks::take;
-use crate::worth::{copied, integer_literal, places_before};
+use crate::worth::{copied, integer_literal};
 use moo_program::operator::BinaryOperator;
 use moo_program::{Expr, Given, Name};
 use moo_value::{MooStr, Value};

@@ -1,16 +1,16 @@
 //! Expressions whose worth is known at once, since nothing can stop them and they change nothing: numbers, variables that hold one,
 //! operators and choices between these, elements and lengths of what stands in a variable, properties, and calls of functions over values
 //! alone.
-ghost use Rattle.std.specs.Prelude.{◌≡◌, ◌≤◌, suc, pos, Ok, Some, IfSome};
+ghost use Rattle.std.specs.Prelude.{◌≡◌, ◌≤◌, Some, IfSome};
 ghost use Rattle.moo_value.specs.Tree.{integer};
 ghost use Rattle.moo_value.specs.View.{tree as value_tree};
 ghost use Rattle.moo_program.specs.Tree.{literal_value as value_of_literal, unary, binary, logic, conditional, index};
 ghost use Rattle.moo_program.specs.View.{tree};
-ghost use Rattle.moo_operation.specs.Places.{index_of};
 ghost use Rattle.moo_outcome.specs.Seen.{indexed_of, variables_of};
 ghost use Rattle.moo_worth.specs.Leaves.{IsLeaf};
 ghost use Rattle.moo_worth.specs.Worth.{IsWorth};
 
+use crate::elements::{element_worth, part_copied};
 use crate::functions::{call_number, function_worth};
 use crate::glance::{are_leaves, leaves_at_a_glance};
 use crate::integers::{decides, is_other_than_0, number_behind, number_of};
@@ -69,10 +69,7 @@ pub(crate) fn value_worth(sight: &Sight<'_>, left: &mut u32, expr: &Expr, deep: 
             let number = nested_worth(sight, left, *operator, first, second, deep)?;
             Some(Value::Int(number))
         }
-        Expr::Index(base, place) => {
-            let element = element_worth(sight, left, base, place, deep)?;
-            copied(element)
-        }
+        Expr::Index(base, place) => part_copied(sight, left, base, place, deep),
         Expr::Property(base, name) => property_copied(sight, left, base, name),
         Expr::Call(name, items) if !may_be_length(name) => {
             function_worth(sight, left, name, items, deep, false)
@@ -165,7 +162,7 @@ fn leaves_worth(
 // itself where there is none, so that the others meet with a number.
 #[cycle(worth)]
 #[inline(always)]
-fn operand_worth(sight: &Sight<'_>, left: &mut u32, expr: &Expr, deep: u8) -> Option<i32>
+pub(crate) fn operand_worth(sight: &Sight<'_>, left: &mut u32, expr: &Expr, deep: u8) -> Option<i32>
     ensures value { IfSome result (λ n. IsWorth sight.now.world.now sight.now.active.now left.old (tree expr.now) (integer n) left.new) }
     ensures ticks { left.new ≤ left.old }
 {
@@ -303,56 +300,6 @@ fn part_operand(sight: &Sight<'_>, left: &mut u32, expr: &Expr, deep: u8) -> Opt
     operand_worth(sight, left, expr, deep)
 }
 
-// An element of a list that stands in a variable, which stays where it is.
-#[cycle(worth)]
-pub(crate) fn element_worth<'a>(
-    sight: &Sight<'a>,
-    left: &mut u32,
-    base: &Expr,
-    place: &Expr,
-    deep: u8,
-) -> Option<&'a Value>
-    ensures value { IfSome result (λ v. IsWorth sight.now.world.now sight.now.active.now left.old (index (tree base.now) (tree place.now)) (value_tree v.now) left.new) }
-    ensures ticks { left.new ≤ left.old }
-{
-    take(left)?;
-    let list = variable_of(sight.active, base)?;
-    if !is_list(list) {
-        return None;
-    }
-    take(left)?;
-    let place = operand_worth(sight, left, place, deep)?;
-    element_at(list, place)
-}
-
-// Whether a value has elements: what has none is looked at before its place is evaluated.
-#[inline(always)]
-fn is_list(value: &Value) -> bool {
-    matches!(value, Value::List(_))
-}
-
-// The element at a place of a list.
-#[inline]
-fn element_at(list: &Value, place: i32) -> Option<&Value>
-    ensures { IfSome result (λ v. index_of (value_tree list.now) (integer place) ≡ Ok (value_tree v.now)) }
-{
-    match list {
-        Value::List(list) => list.elements().get(places_before(place)?),
-        _ => None,
-    }
-}
-
-/// How many stand before a place, which is counted from 1.
-#[inline]
-pub fn places_before(place: i32) -> Option<usize>
-    ensures { IfSome result (λ k. place ≡ pos (suc k)) }
-{
-    if place < 1 {
-        return None;
-    }
-    Some(place as usize - 1)
-}
-
 // The value of a variable, where the expression is one that is set.
 #[inline(always)]
 pub(crate) fn variable_of<'a>(active: &'a Activation, expr: &Expr) -> Option<&'a Value>
@@ -374,13 +321,21 @@ pub(crate) fn variable_found<'a>(active: &'a Activation, expr: &Expr) -> Option<
 
 /// The same value, where there is memory for it. An integer is looked at where it stands.
 #[inline(always)]
-pub(crate) fn copied(value: &Value) -> Option<Value>
+pub fn copied(value: &Value) -> Option<Value>
     ensures { IfSome result (λ v. value_tree v ≡ value_tree value.now) }
 {
     match value {
         Value::Int(number) => Some(Value::Int(*number)),
-        _ => value.try_clone().ok(),
+        _ => other_copied(value),
     }
+}
+
+// The same of a value of another type. Not inlined, so that integers pay nothing for it.
+#[inline(never)]
+fn other_copied(value: &Value) -> Option<Value>
+    ensures { IfSome result (λ v. value_tree v ≡ value_tree value.now) }
+{
+    value.try_clone().ok()
 }
 
 #[inline]

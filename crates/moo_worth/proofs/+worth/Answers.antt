@@ -14,12 +14,27 @@ use Rattle.moo_worth.proofs.Called.{pushed}
 use Rattle.moo_worth.proofs.Timeless.{function_worth}
 use Rattle.moo_worth.proofs.+worth.Goals as goal
 
-pub worth::element_worth-returns-clause-value : goal.worth::element_worth-returns-clause-value
-worth::element_worth-returns-clause-value t c =
+pub elements::element_searched-returns-clause-value : goal.elements::element_searched-returns-clause-value
+elements::element_searched-returns-clause-value t c =
     let world = c.args.sight.now.world.now in
     let active = c.args.sight.now.active.now in
     let fits : SFits w32 c.in_ok-place.place = search rules in
-    map_some c.element_at.result (λ v h. element_worth world active c.in_ok-take.ensures.taken (leaf_worth world active c.in_ok-take-2.ensures.taken c.in_ok-list.ensures) c.in_ok-place.ensures.value h) (rw (to_z-of_z w32 c.in_ok-place.place fits) at c.element_at.ensures)
+    map_some c.element_at.result (λ v h. element_worth world active c.in_ok-take.ensures.taken c.in_ok-list.ensures.value c.in_ok-place.ensures.value h) (rw (to_z-of_z w32 c.in_ok-place.place fits) at c.element_at.ensures)
+
+pub elements::container_worth-returns-in_ok-take-in_default : goal.elements::container_worth-returns-in_ok-take-in_default
+elements::container_worth-returns-in_ok-take-in_default t c =
+    record { value = leaf_worth c.args.sight.now.world.now c.args.sight.now.active.now c.in_ok-take-in_default.ensures.taken c.in_ok-value-in_default.ensures; ticks = c.take.ensures.ticks }
+
+pub elements::part_copied-returns-in-Some-clause-value : goal.elements::part_copied-returns-in-Some-clause-value
+elements::part_copied-returns-in-Some-clause-value t c =
+    map_some c.copied.result (λ v h. rw h (c.in-Some.ensures.value c.args.sight.now.world.now)) c.copied.ensures
+
+pub elements::part_copied-returns-clause-value : goal.elements::part_copied-returns-clause-value
+elements::part_copied-returns-clause-value t c =
+    let world = c.args.sight.now.world.now in
+    let active = c.args.sight.now.active.now in
+    let fits : SFits w32 c.in_ok-place.place = search rules in
+    map_some c.part_at.result (λ v h. element_worth world active c.in_ok-take.ensures.taken c.in_ok-container.ensures.value c.in_ok-place.ensures.value h) (rw (to_z-of_z w32 c.in_ok-place.place fits) at c.part_at.ensures)
 
 pub worth::operator_worth-returns-clause-value : goal.worth::operator_worth-returns-clause-value
 worth::operator_worth-returns-clause-value t c =

@@ -30,8 +30,17 @@ decreases-worth::operator_worth l = 8 * l.left.now + 2
 abbrev pub decreases-worth::part_worth : goal.decreases-worth::part_worth
 decreases-worth::part_worth l = 8 * l.left.now + 3
 
-abbrev pub decreases-worth::element_worth : goal.decreases-worth::element_worth
-decreases-worth::element_worth l = 8 * l.left.now + 1
+abbrev pub decreases-elements::element_worth : goal.decreases-elements::element_worth
+decreases-elements::element_worth l = 8 * l.left.now + 1
+
+abbrev pub decreases-elements::element_searched : goal.decreases-elements::element_searched
+decreases-elements::element_searched l = 8 * l.left.now
+
+abbrev pub decreases-elements::container_worth : goal.decreases-elements::container_worth
+decreases-elements::container_worth l = 8 * l.left.now + 2
+
+abbrev pub decreases-elements::part_copied : goal.decreases-elements::part_copied
+decreases-elements::part_copied l = 8 * l.left.now + 1
 
 abbrev pub decreases-worth::unary_worth : goal.decreases-worth::unary_worth
 decreases-worth::unary_worth l = 8 * l.left.now + 1

@@ -2,7 +2,7 @@ use Rattle.std.proofs.Common.{w32, rules}
 use Rattle.std.proofs.lemmas.Int.{to_z-of_z}
 use mir.Val.{SFits}
 use Rattle.moo_worth.proofs.AtOnce.{element_there}
-use Rattle.moo_worth.proofs.worth.element_at.Goals as goal
+use Rattle.moo_worth.proofs.elements.element_at.Goals as goal
 
 pub returns-in_ok-places_before-in-List : goal.returns-in_ok-places_before-in-List
 returns-in_ok-places_before-in-List c =

@@ -1,6 +1,6 @@
 use Rattle.std.proofs.Common.{arith}
 use Rattle.moo_worth.proofs.AtOnce.{operator_worth, map_some}
-use Rattle.moo_worth.proofs.joined.joined_worth.Goals as goal
+use Rattle.moo_worth.proofs.joined.operands_joined.Goals as goal
 
 pub returns : goal.returns
 returns c =

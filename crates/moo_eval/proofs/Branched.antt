@@ -1,5 +1,5 @@
 -- Branches that are known at once.
-use Rattle.std.proofs.Common.{◌≡◌, ℕ, ◌<◌, ◌-◌, List, Ok, refl}
+use Rattle.std.proofs.Common.{ℕ, ◌<◌, ◌-◌, List, Ok}
 use Rattle.moo_program.specs.Tree.{Expr, Stmt, branches, Arms, elseif, Block}
 use Rattle.moo_table.specs.World.{World}
 use Rattle.moo_outcome.specs.declared.frame.Activation.{Activation}
@@ -8,9 +8,10 @@ use Rattle.moo_outcome.specs.Outcome.{next}
 use Rattle.moo_outcome.specs.State.{Context}
 use Rattle.moo_code_function.specs.Telling.{Faults}
 use Rattle.moo_call.specs.Seen.{state_at}
-use Rattle.moo_fast_path.specs.Branching.{Chooses, none_chosen, else_chosen, test_passes, test_fails, IsDone, is_set, is_grown, is_placed, is_written, AreDone, none_done, one_done}
+use Rattle.moo_fast_path.specs.Branching.{Chooses, none_chosen, else_chosen, test_passes, test_fails, IsDone, is_set, is_grown, is_placed, is_written, is_scattered, AreDone, none_done, one_done}
 use Rattle.moo_semantics.specs.Meaning.{Runs, RunsAll, ends, proceeds, Selects, none_selected, else_runs, arm_runs, arm_passed, statement_begins, selects}
 use Rattle.moo_eval.proofs.Foreseen.{set_ahead, grown_ahead, placed_ahead, written_ahead}
+use Rattle.moo_eval.proofs.Scattered.{scattered_ahead}
 use Rattle.moo_eval.proofs.Known.{worth_gives}
 
 -- a statement that is known at once
@@ -19,6 +20,7 @@ one_runs c (is_set h p) = set_ahead c h p
 one_runs c (is_grown h l p) = grown_ahead c h l p
 one_runs c (is_placed h p) = placed_ahead c h p
 one_runs c (is_written h p) = written_ahead c h p
+one_runs c (is_scattered h p) = scattered_ahead c h p
 
 -- the statements of an arm that are no more than one
 row_runs : {w w' : World} {active active' : Activation} {n m : ℕ} {notices : List Notice} {b : Block} (c : Context) → AreDone w active w' active' n m b → RunsAll Faults c b (state_at n notices w active) (Ok next) (state_at m notices w' active')

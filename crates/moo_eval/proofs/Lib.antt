@@ -13,6 +13,7 @@ mod Foreseen
 mod Fits
 mod Functions
 mod Known
+mod Scattered
 mod Branched
 mod Turned
 mod Returned

@@ -48,11 +48,6 @@ called_ahead stack active' {n = n} {notices = notices} h r sets keeps =
     statement_begins (omega (arith, h)) (performed (omega (arith, h)) (assigned (call_answered stack notices (rw two at r)) (same_state (sym sets) (sym keeps))))
 
 -- an object and a name that are known
-pub named_ahead : (w : World) (active : Activation) {n : ℕ} {notices : List Notice} {a b : Expr} {x y : Tree} (c : Context) → 1 < n → IsLeaf (variables_of active.variables) a x → IsLeaf (variables_of active.variables) b y → GivesBoth c a b x y (state_at n notices w active) (state_at (n - 2) notices w active)
-named_ahead w active {n = n} {notices = notices} {b = b} {y = y} c h f g =
-    let two : n - 1 - 1 ≡ n - 2 = omega arith in
-    record {
-      between = state_at (n - 1) notices w active;
-      base = leaf_gives (omega (arith, h)) f;
-      name = subst (λ k. Evaluates Faults c b (state_at (n - 1) notices w active) (Ok y) (state_at k notices w active)) two (leaf_gives (omega (arith, h)) g);
-    }
+pub named_ahead : (w : World) (active : Activation) {n m k : ℕ} {notices : List Notice} {a b : Expr} {x y : Tree} (c : Context) → IsWorth w active n a x m → (0 < m) × (k ≡ m - 1) → IsLeaf (variables_of active.variables) b y → GivesBoth c a b x y (state_at n notices w active) (state_at k notices w active)
+named_ahead w active {m = m} {notices = notices} c f z g =
+    record { between = state_at m notices w active; base = worth_gives f c notices; name = rw z.1 (leaf_gives z.0 g) }

@@ -25,7 +25,7 @@ use moo_world::World;
 use moo_worth::integers::is_other_than_0;
 use moo_worth::worth::{Sight, number_worth, worth};
 use moo_worth::{
-    are_leaves, is_leaf, known_leaf, leaf_at_a_glance, leaves_at_a_glance, may_be_part, test_worth,
+    are_leaves, is_leaf, known_leaf, leaf_at_a_glance, leaves_at_a_glance, test_worth,
 };
 
 impl Task {
@@ -155,7 +155,7 @@ impl Task {
             return self.sets_operator(world, active, name, *operator, first, second);
         }
         let Some(number) = leaf_at_a_glance(active, value) else {
-            return may_be_part(value) && self.sets_known(world, active, name, value);
+            return self.sets_part(world, active, name, value);
         };
         self.puts_number(active, name, number, 1)
     }
@@ -259,10 +259,10 @@ impl Task {
         is_leaf(value) && self.sets_known(world, active, name, value)
     }
 
-    // Sets a variable to what is known at once and is no operator between two operands. Not inlined, so that what sets variables to
-    // numbers and to sums pays nothing for it.
+    /// Sets a variable to what is known at once and is no operator between two operands. Not inlined, so that what sets variables to
+    /// numbers and to sums pays nothing for it.
     #[inline(never)]
-    fn sets_known(
+    pub(crate) fn sets_known(
         &mut self,
         world: &World,
         active: &mut Activation,

@@ -93,8 +93,9 @@ impl Task {
     }
 
     /// An assignment to a variable, whose own value is not used. What it is set to is evaluated node by node: it is not known at
-    /// once, where it is of a kind that may be.
+    /// once, where it is of a kind that may be. Not inlined, so that nested statements hold no room for it.
     #[cycle(evaluation)]
+    #[inline(never)]
     pub(crate) fn assign_alone(
         &mut self,
         world: &mut World,

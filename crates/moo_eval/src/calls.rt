@@ -11,7 +11,6 @@ ghost use Rattle.moo_program.specs.Tree.{no_statement};
 ghost use Rattle.moo_outcome.specs.declared.frame.Activation.{Activation};
 ghost use Rattle.moo_outcome.specs.State.{Context};
 ghost use Rattle.moo_outcome.specs.Outcome.{stops};
-ghost use Rattle.moo_table.specs.World.{World as WorldModel};
 ghost use Rattle.moo_access.specs.SeenCalled.{entered_of};
 ghost use Rattle.moo_hook.specs.Calls.{caller_of};
 ghost use Rattle.moo_hook.specs.Seen.{progress_of};
@@ -32,7 +31,9 @@ use moo_outcome::{Activation, CallStack, Failure, Flow, Gathered, Stop, caught};
 use moo_program::{Codes, Expr, Item};
 use moo_value::{MooStr, Value};
 use moo_world::World;
-use moo_worth::{object_leaf, text_written};
+use moo_worth::ticks::take;
+use moo_worth::worth::Sight;
+use moo_worth::{object_worth, text_written};
 
 impl Task {
     #[cycle(evaluation)]
@@ -91,7 +92,7 @@ impl Task {
         ensures stops { IfErr result (λ stop. HadMemory stop → (items : Items) → EvaluatesAll Faults (context_of stack.now indexed.entry) (element (tree base.now) (element (tree name.now) items)) (state_of self.old world.old active.old) (Err (stops (stop_of stop))) (state_of self.new world.new active.new)) }
         ensures ticks { self.new.ticks_left ≤ self.old.ticks_left }
     {
-        if let Some(both) = self.callee_at_once(active, base, name) {
+        if let Some(both) = self.callee_at_once(world, active, base, name) {
             return Ok(both);
         }
         let base = self.evaluate(world, active, stack, indexed, base)?;
@@ -99,27 +100,31 @@ impl Task {
         Ok((base, name))
     }
 
-    // The object that a verb is called on, where it is written out or stands in a variable, and the verb's name, where that is written
-    // out, if two ticks are left, which are taken then. Else nothing has begun.
-    #[inline(always)]
+    // The object that a verb is called on, where it is known at once, and the verb's name, where that is written out, if all their ticks
+    // are left, which are taken then. Else nothing has begun.
+    #[inline(never)]
     fn callee_at_once(
         &mut self,
+        world: &World,
         active: &Activation,
         base: &Expr,
         name: &Expr,
     ) -> Option<(Value, Value)>
-        ensures some { IfSome result (λ p. (w : WorldModel) (c : Context) → GivesBoth c (tree base.now) (tree name.now) (tree_of p.0) (tree_of p.1) (state_of self.old w active.now) (state_of self.new w active.now)) }
+        ensures some { IfSome result (λ p. (c : Context) → GivesBoth c (tree base.now) (tree name.now) (tree_of p.0) (tree_of p.1) (state_of self.old world.now active.now) (state_of self.new world.now active.now)) }
         ensures none { IfNone result (self.new ≡ self.old) }
         ensures ticks { self.new.ticks_left ≤ self.old.ticks_left }
     {
-        let this = object_leaf(active, base)?;
         let written = text_written(name)?;
+        let mut left = self.ticks_left.left() as u32;
+        let sight = Sight {
+            world,
+            active,
+            alloc: self.alloc,
+        };
+        let this = object_worth(&sight, &mut left, base)?;
+        take(&mut left)?;
         let name = copied_text(written)?;
-        let left = self.ticks_left.left() as u32;
-        if left < 2 {
-            return None;
-        }
-        self.ticks_left.leave(left - 2);
+        self.ticks_left.leave(left);
         Some((Value::Obj(this), Value::Str(name)))
     }
 

@@ -99,6 +99,7 @@ impl Task {
             Form::Setting => self.sets_otherwise(world, active, statement),
             Form::Property => Ok(self.writes_at_once(world, active, statement)),
             Form::Place => self.places_at_once(world, active, statement),
+            Form::Scatter => self.scatters_at_once(world, active, statement),
             Form::Branch => self.branches_at_once(world, active, statement),
             Form::Call | Form::Other => Ok(false),
         }
@@ -124,10 +125,10 @@ impl Task {
         self.completes_at_once(world, active, statement)
     }
 
-    // Runs a statement that sets a variable, a property or a place of a list to what is known at once, puts that behind a list, or chooses
-    // an arm of no more than one such statement, and tells whether it was one. Else nothing has begun. Memory may be wanting where a list
+    // Runs a statement that sets a variable, a property or a place of a list to what is known at once, puts that behind a list, scatters it,
+    // or chooses an arm of no more than one such statement, and tells whether it was one. Else nothing has begun. Memory may be wanting where a list
     // is shared.
-    #[inline(always)]
+    #[inline(never)]
     fn completes_at_once(
         &mut self,
         world: &mut World,

@@ -3,3 +3,4 @@ mod InPlace
 mod Limits
 mod Written
 mod Branched
+mod Dealt

@@ -2,13 +2,13 @@
 use Rattle.std.specs.Prelude.{◌≡◌, ◌<◌, ◌-◌, ℕ, List, true, false}
 use Rattle.moo_value.specs.Tree.{Tree}
 use Rattle.moo_operation.specs.Truth.{is_true}
-use Rattle.moo_program.specs.Tree.{Expr, variable, property, assign, Stmt, performs, Arms, no_else, otherwise, elseif, Block, no_statement, then}
+use Rattle.moo_program.specs.Tree.{Expr, Items, variable, property, list, assign, Stmt, performs, Arms, no_else, otherwise, elseif, Block, no_statement, then}
 use Rattle.moo_table.specs.World.{World}
 use Rattle.moo_outcome.specs.declared.frame.Activation.{Activation}
 use Rattle.moo_worth.specs.Worth.{IsWorth}
 use Rattle.moo_fast_path.specs.Element.{sets_place}
 use Rattle.moo_fast_path.specs.Growth.{Lengthens}
-use Rattle.moo_fast_path.specs.Changes.{IsSet, IsWritten, IsPlaced, IsGrown}
+use Rattle.moo_fast_path.specs.Changes.{IsSet, IsWritten, IsPlaced, IsGrown, IsScattered}
 
 -- of these arms the statements run, since the tests are so, and nothing changes but the ticks
 pub data Chooses (w : World) (active : Activation) : ℕ → Arms → Block → ℕ → Type 0 where
@@ -38,6 +38,9 @@ pub data IsDone (w : World) (active : Activation) : World → Activation → ℕ
   is_written : {w' : World} {n n' : ℕ} {a b e : Expr} →
       1 < n → IsWritten w w' active (n - 2) n' a b e →
       IsDone w active w' active n n' (performs (assign (property a b) e))
+  is_scattered : {active' : Activation} {n n' : ℕ} {items : Items} {e : Expr} →
+      1 < n → IsScattered w active active' (n - 2) n' items e →
+      IsDone w active w active' n n' (performs (assign (list items) e))
 
 -- no statement has run, or one
 pub data AreDone (w : World) (active : Activation) : World → Activation → ℕ → ℕ → Block → Type 0 where

@@ -4,13 +4,14 @@ use Rattle.moo_value.specs.Tree.{Tree, list_of}
 use Rattle.moo_value.specs.Compare.{folded}
 use Rattle.moo_operation.specs.Assignment.{with_index_of}
 use Rattle.moo_operation.specs.Places.{made_list}
-use Rattle.moo_program.specs.Tree.{Expr}
+use Rattle.moo_program.specs.Tree.{Expr, Items}
 use Rattle.moo_table.specs.World.{World}
 use Rattle.moo_outcome.specs.Variables.{bind, with_variable}
 use Rattle.moo_outcome.specs.Seen.{variables_of}
 use Rattle.moo_outcome.specs.declared.frame.Activation.{Activation}
 use Rattle.moo_access.specs.Calls.{write_property}
 use Rattle.moo_worth.specs.Worth.{IsWorth}
+use Rattle.moo_fast_path.specs.Scattering.{IsDealt}
 
 -- a variable is set to what an expression gives so, and nothing else changes but the ticks
 pub record IsSet (w : World) (active active' : Activation) (before after : ℕ) (name : List ℕ) (e : Expr) : Type 0 where
@@ -55,3 +56,10 @@ pub record IsGrown (w : World) (active active' : Activation) (before after : ℕ
   pub is : made_list (elements ++ value ∷ []) ≡ Ok whole
   pub sets : variables_of active'.variables ≡ with_variable (variables_of active.variables) (bind name whole)
   pub keeps : active'.programmer ≡ active.programmer
+
+-- names are set to the elements of a list that an expression gives so, and nothing else changes but the ticks
+pub record IsScattered (w : World) (active active' : Activation) (before after : ℕ) (items : Items) (e : Expr) : Type 0 where
+  pub value : Tree
+  pub told : ℕ
+  pub gives : IsWorth w active before e value told
+  pub is_dealt : IsDealt active active' told after items value

@@ -1,4 +1,5 @@
 pub mod Growth
 pub mod Element
+pub mod Scattering
 pub mod Changes
 pub mod Branching

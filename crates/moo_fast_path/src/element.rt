@@ -1,22 +1,25 @@
 //! Places of lists and strings that are set in the variable that holds them, as by `l[i] = x`.
-ghost use Rattle.std.specs.Prelude.{◌≡◌, ◌≤◌, Ok, Err, IfOk, IfErr, IsTrue, IsFalse, OnOk};
-ghost use Rattle.moo_value.specs.Tree.{Tree};
+ghost use Rattle.std.specs.Prelude.{◌≡◌, ◌≤◌, ℕ, Ok, Err, IfOk, IfErr, IsTrue, IsFalse, OnOk};
+ghost use Rattle.moo_value.specs.Tree.{Tree, integer};
 ghost use Rattle.moo_value.specs.View.{tree as value_tree};
 ghost use Rattle.moo_operation.specs.Assignment.{with_index_of};
+ghost use Rattle.moo_program.specs.Tree.{Expr as ExprTree};
 ghost use Rattle.moo_program.specs.View.{tree};
+ghost use Rattle.moo_table.specs.World.{World as WorldModel};
 ghost use Rattle.moo_outcome.specs.Outcome.{answers};
 ghost use Rattle.moo_outcome.specs.Variables.{bind, with_variable};
 ghost use Rattle.moo_outcome.specs.Seen.{variables_of, failure_of, HadMemoryIn};
+ghost use Rattle.moo_worth.specs.Worth.{IsWorth};
 ghost use Rattle.moo_fast_path.specs.Changes.{IsPlaced};
 
-use crate::in_place::{put_at, put_integer_at};
+use crate::in_place::{put_at, put_integer_at, put_number_at};
 use moo_operation::{index_refusal, with_index};
 use moo_outcome::{Activation, Failure, Variables};
 use moo_program::{Expr, Name};
 use moo_value::Value;
 use moo_world::World;
 use moo_worth::worth::Sight;
-use moo_worth::{integer_part, value_part};
+use moo_worth::{integer_part, may_be_near, near_number, shallow_number, value_part};
 use std::alloc::{AllocError, Global};
 
 /// Sets a place of a variable to what is known at once. The ticks are taken of those that are left.
@@ -34,13 +37,106 @@ pub fn places(
     ensures kept { IfOk result (λ b. IsFalse b → active.new ≡ active.old) }
     ensures ticks { left.new ≤ left.old }
 {
+    let mut near = *left;
+    match shallow_number(active, &mut near, place) {
+        Some(place) => {
+            *left = near;
+            places_near(alloc, world, active, left, name, place, value)
+        }
+        None => places_searched(alloc, world, active, left, name, place, value),
+    }
+}
+
+// The same of a place that isn't known at a glance. Not inlined, so that one that is pays nothing for it.
+#[inline(never)]
+fn places_searched(
+    alloc: Global,
+    world: &World,
+    active: &mut Activation,
+    left: &mut u32,
+    name: &Name,
+    place: &Expr,
+    value: &Expr,
+) -> Result<bool, AllocError>
+    ensures placed { IfOk result (λ b. IsTrue b → IsPlaced world.now active.old active.new left.old left.new name.now (tree place.now) (tree value.now)) }
+    ensures kept { IfOk result (λ b. IsFalse b → active.new ≡ active.old) }
+    ensures ticks { left.new ≤ left.old }
+{
     let sight = Sight {
         world,
         active,
         alloc,
     };
-    let Some(place) = integer_part(&sight, left, place) else {
-        return Ok(false);
+    match integer_part(&sight, left, place) {
+        Some(place) => places_value(alloc, world, active, left, name, place, value),
+        None => Ok(false),
+    }
+}
+
+// Sets a place that is known. An integer that is known at a glance, in the place of another, is put there first.
+#[inline(always)]
+fn places_near(
+    alloc: Global,
+    world: &World,
+    active: &mut Activation,
+    left: &mut u32,
+    name: &Name,
+    place: i32,
+    value: &Expr,
+) -> Result<bool, AllocError>
+    ensures placed { IfOk result (λ b. IsTrue b → (at : ExprTree) (before : ℕ) → IsWorth world.now active.old before at (integer place) left.old → IsPlaced world.now active.old active.new before left.new name.now at (tree value.now)) }
+    ensures kept { IfOk result (λ b. IsFalse b → active.new ≡ active.old) }
+    ensures ticks { left.new ≤ left.old }
+{
+    if may_be_near(value) && places_number(active, left, name, place, value) {
+        return Ok(true);
+    }
+    places_value(alloc, world, active, left, name, place, value)
+}
+
+// Puts an integer that is known at a glance in the place of another, and tells whether it did. Else nothing has changed.
+#[inline(always)]
+fn places_number(
+    active: &mut Activation,
+    left: &mut u32,
+    name: &Name,
+    place: i32,
+    value: &Expr,
+) -> bool
+    ensures placed { IsTrue result → (w : WorldModel) (at : ExprTree) (before : ℕ) → IsWorth w active.old before at (integer place) left.old → IsPlaced w active.old active.new before left.new name.now at (tree value.now) }
+    ensures kept { IsFalse result → (active.new ≡ active.old) × (left.new ≡ left.old) }
+    ensures ticks { left.new ≤ left.old }
+{
+    let mut near = *left;
+    let Some(number) = near_number(active, &mut near, value) else {
+        return false;
+    };
+    if !put_number_at(&mut active.variables, name, place, number) {
+        return false;
+    }
+    *left = near;
+    true
+}
+
+// Puts any value that is known at once at a place. Not inlined, so that what is known at a glance pays nothing for it.
+#[inline(never)]
+fn places_value(
+    alloc: Global,
+    world: &World,
+    active: &mut Activation,
+    left: &mut u32,
+    name: &Name,
+    place: i32,
+    value: &Expr,
+) -> Result<bool, AllocError>
+    ensures placed { IfOk result (λ b. IsTrue b → (at : ExprTree) (before : ℕ) → IsWorth world.now active.old before at (integer place) left.old → IsPlaced world.now active.old active.new before left.new name.now at (tree value.now)) }
+    ensures kept { IfOk result (λ b. IsFalse b → active.new ≡ active.old) }
+    ensures ticks { left.new ≤ left.old }
+{
+    let sight = Sight {
+        world,
+        active,
+        alloc,
     };
     let Some(value) = value_part(&sight, left, value) else {
         return Ok(false);

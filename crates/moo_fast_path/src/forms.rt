@@ -1,11 +1,11 @@
 //! Forms of statements and expressions that have a way of their own.
 ghost use Rattle.std.specs.Prelude.{◌≡◌, IfSome};
-ghost use Rattle.moo_program.specs.Tree.{variable, index, property, assign, performs};
-ghost use Rattle.moo_program.specs.View.{tree, statement as statement_of};
+ghost use Rattle.moo_program.specs.Tree.{variable, index, property, list, assign, performs};
+ghost use Rattle.moo_program.specs.View.{tree, items_of, statement as statement_of};
 ghost use Rattle.moo_fast_path.specs.Element.{sets_place};
 
 use crate::appending::may_be_list_append;
-use moo_program::{Expr, Name, Stmt};
+use moo_program::{Expr, Item, Name, Stmt};
 use moo_worth::may_have_worth;
 
 /// The name and the value of an assignment to a variable alone.
@@ -100,6 +100,23 @@ pub fn as_writing(statement: &Stmt) -> Option<(&Expr, &Expr, &Expr)>
     Some((base, name, value))
 }
 
+/// The names and the value of a statement that scatters a list.
+#[inline]
+pub fn as_scattering(statement: &Stmt) -> Option<(&[Item], &Expr)>
+    ensures { IfSome result (λ p. statement_of statement.now ≡ performs (assign (list (items_of p.0.now)) (tree p.1.now))) }
+{
+    let Stmt::Expression(expr) = statement else {
+        return None;
+    };
+    let Expr::Assign(target, value) = &**expr else {
+        return None;
+    };
+    let Expr::List(items) = &**target else {
+        return None;
+    };
+    Some((items, value))
+}
+
 /// What a statement may be that is known at once: a hint, so that it is looked at in one way alone.
 #[derive(Clone, Copy)]
 pub enum Form {
@@ -111,6 +128,8 @@ pub enum Form {
     Property,
     /// Sets a place of a variable.
     Place,
+    /// Sets names to the elements of a list.
+    Scatter,
     /// An `if`.
     Branch,
     /// Nothing of these.
@@ -135,6 +154,7 @@ fn form_of_assignment(target: &Expr, value: &Expr) -> Form {
     match target {
         Expr::Property(..) if may_have_worth(value) => Form::Property,
         Expr::Index(..) if may_have_worth(value) => Form::Place,
+        Expr::List(_) if may_have_worth(value) => Form::Scatter,
         Expr::Variable(_) => form_of_setting(value),
         _ => Form::Other,
     }

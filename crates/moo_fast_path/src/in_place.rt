@@ -15,7 +15,7 @@ use moo_operation::index_refusal;
 use moo_outcome::Variables;
 use moo_program::Name;
 use moo_value::{ListFault, MooList, Value};
-use moo_worth::worth::places_before;
+use moo_worth::places_before;
 use std::alloc::{AllocError, Global};
 
 /// Puts a value at a place of the list or string in a variable, where that raises nothing and the variable has a slot, and tells whether
@@ -55,13 +55,22 @@ pub(crate) fn put_integer_at(
     ensures put { IsTrue result → (x w : Tree) × (variables_of variables.old (folded name.now) ≡ Some x) × (with_index_of x (integer place) (value_tree value.now) ≡ Ok w) × (variables_of variables.new ≡ with_variable (variables_of variables.old) (bind name.now w)) }
     ensures kept { IsFalse result → variables.new ≡ variables.old }
 {
-    let Value::Int(number) = value else {
-        return false;
-    };
+    match value {
+        Value::Int(number) => put_number_at(variables, name, place, *number),
+        _ => false,
+    }
+}
+
+/// The same of an integer.
+#[inline(always)]
+pub(crate) fn put_number_at(variables: &mut Variables, name: &Name, place: i32, number: i32) -> bool
+    ensures put { IsTrue result → (x w : Tree) × (variables_of variables.old (folded name.now) ≡ Some x) × (with_index_of x (integer place) (integer number) ≡ Ok w) × (variables_of variables.new ≡ with_variable (variables_of variables.old) (bind name.now w)) }
+    ensures kept { IsFalse result → variables.new ≡ variables.old }
+{
     let Some(before) = places_before(place) else {
         return false;
     };
-    variables.put_element(name, before, *number)
+    variables.put_element(name, before, number)
 }
 
 /// Puts a value behind the list in a variable, where that raises nothing and the variable has a slot, and tells whether it did.

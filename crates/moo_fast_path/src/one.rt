@@ -6,8 +6,9 @@ ghost use Rattle.moo_fast_path.specs.Branching.{IsDone};
 ghost use Rattle.moo_fast_path.specs.Changes.{IsSet};
 
 use crate::element::places;
-use crate::forms::{Form, as_placing, as_setting, as_writing, form_of};
+use crate::forms::{Form, as_placing, as_scattering, as_setting, as_writing, form_of};
 use crate::growing::{as_growing, grows};
+use crate::scattering::scatters;
 use crate::setting::{put_number, puts, puts_joined};
 use crate::writing::writes;
 use moo_outcome::Activation;
@@ -17,8 +18,8 @@ use moo_world::World;
 use moo_worth::worth::{Sight, number_worth};
 use std::alloc::{AllocError, Global};
 
-/// Runs a statement that sets a variable, a property or a place of a list to what is known at once, or puts that behind a list, and tells
-/// whether it was one. The ticks are taken of those that are left. Memory may be wanting where a list is shared.
+/// Runs a statement that sets a variable, a property or a place of a list to what is known at once, puts that behind a list or scatters
+/// it, and tells whether it was one. The ticks are taken of those that are left. Memory may be wanting where a list is shared.
 #[inline(always)]
 pub(crate) fn runs_one(
     alloc: Global,
@@ -35,6 +36,7 @@ pub(crate) fn runs_one(
         Form::Setting => sets_or_grows(alloc, world, active, left, statement),
         Form::Property => Ok(writes_one(alloc, world, active, left, statement)),
         Form::Place => places_one(alloc, world, active, left, statement),
+        Form::Scatter => scatters_one(alloc, world, active, left, statement),
         Form::Call | Form::Branch | Form::Other => Ok(false),
     }
 }
@@ -176,6 +178,29 @@ fn places_one(
     }
     *left -= 2;
     places(alloc, world, active, left, name, place, value)
+}
+
+// Runs a statement that scatters a list, likewise.
+#[inline(never)]
+fn scatters_one(
+    alloc: Global,
+    world: &World,
+    active: &mut Activation,
+    left: &mut u32,
+    statement: &Stmt,
+) -> Result<bool, AllocError>
+    ensures done { IfOk result (λ b. IsTrue b → IsDone world.now active.old world.now active.new left.old left.new (statement_of statement.now)) }
+    ensures kept { IfOk result (λ b. IsFalse b → active.new ≡ active.old) }
+    ensures ticks { left.new ≤ left.old }
+{
+    let Some((items, value)) = as_scattering(statement) else {
+        return Ok(false);
+    };
+    if *left < 2 {
+        return Ok(false);
+    }
+    *left -= 2;
+    scatters(alloc, world, active, left, items, value)
 }
 
 // Runs a statement that sets a property, likewise.

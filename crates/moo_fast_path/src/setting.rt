@@ -16,7 +16,7 @@ use moo_program::{Expr, Item, Name};
 use moo_value::{MooStr, Value};
 use moo_world::World;
 use moo_worth::worth::{Sight, worth};
-use moo_worth::{joined_worth, length_worth, part_copied};
+use moo_worth::{joined_worth, length_worth, value_copied};
 use std::alloc::Global;
 
 /// Sets a variable to what is known at once and is no operator between two operands. The ticks are taken of those that are left.
@@ -91,7 +91,7 @@ fn puts_value(
         active,
         alloc,
     };
-    match part_copied(&sight, left, value) {
+    match value_copied(&sight, left, value) {
         Some(value) => put_value(active, name, value),
         None => {
             *left = all;

@@ -1,9 +1,10 @@
 //! Properties that are set to what is known at once.
 ghost use Rattle.std.specs.Prelude.{◌≡◌, ◌≤◌, Ok, IsTrue, IsFalse};
-ghost use Rattle.moo_value.specs.Tree.{object, string};
+ghost use Rattle.moo_value.specs.Tree.{Tree, object, string};
 ghost use Rattle.moo_value.specs.View.{tree as value_tree};
 ghost use Rattle.moo_program.specs.View.{tree};
 ghost use Rattle.moo_access.specs.Calls.{write_property};
+ghost use Rattle.moo_worth.specs.Worth.{IsWorth};
 ghost use Rattle.moo_fast_path.specs.Changes.{IsWritten};
 
 use moo_outcome::Activation;
@@ -11,7 +12,7 @@ use moo_program::Expr;
 use moo_value::{MooStr, Value};
 use moo_world::World;
 use moo_worth::worth::Sight;
-use moo_worth::{name_worth, object_worth, value_part};
+use moo_worth::{name_worth, near_number, object_worth, value_part};
 use std::alloc::Global;
 
 /// Sets a property to what is known at once. The ticks are taken of those that are left.
@@ -39,6 +40,36 @@ pub fn writes(
     };
     let Some(name) = name_worth(active, left, name) else {
         return false;
+    };
+    let all = *left;
+    match near_number(active, left, value) {
+        Some(number) => set_property(world, active.programmer, o, name, Value::Int(number)),
+        None => {
+            *left = all;
+            writes_value(alloc, world, active, left, o, name, value)
+        }
+    }
+}
+
+// The same of what is no integer that is known at a glance. Not inlined, so that what is one pays nothing for it.
+#[inline(never)]
+fn writes_value(
+    alloc: Global,
+    world: &mut World,
+    active: &Activation,
+    left: &mut u32,
+    o: i32,
+    name: &MooStr,
+    value: &Expr,
+) -> bool
+    ensures set { IsTrue result → (v : Tree) × IsWorth world.old active.now left.old (tree value.now) v left.new × (write_property world.old active.now.programmer (object o) (string name.now) v ≡ Ok world.new) }
+    ensures kept { IsFalse result → world.new ≡ world.old }
+    ensures ticks { left.new ≤ left.old }
+{
+    let sight = Sight {
+        world,
+        active,
+        alloc,
     };
     let Some(value) = value_part(&sight, left, value) else {
         return false;

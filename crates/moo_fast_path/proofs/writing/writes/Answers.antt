@@ -4,8 +4,14 @@ use mir.Syntax.{w32}
 use mir.Val.{SFits}
 use Rattle.moo_fast_path.proofs.writing.writes.Goals as goal
 
-pub returns-clause-written : goal.returns-clause-written
-returns-clause-written c =
+pub returns-in-Some-near_number-clause-written : goal.returns-in-Some-near_number-clause-written
+returns-in-Some-near_number-clause-written c =
     let rights : SFits w32 c.args.active.now.programmer = search rules in
     let fits : SFits w32 c.in-Some.o = search rules in
-    λ t. record { base = _; name = _; value = _; named = _; told = _; gives_base = c.in-Some.ensures.value; gives_name = c.in-Some-name_worth.ensures.value _; gives_value = c.in-Some-value_part.ensures.value; writes = rw (to_z-of_z w32 c.args.active.now.programmer rights, to_z-of_z w32 c.in-Some.o fits) at (c.set_property.ensures.set t) }
+    let number : SFits w32 c.in-Some-near_number.number = search rules in
+    λ t. record { base = _; name = _; value = _; named = _; told = _; gives_base = c.in-Some.ensures.value; gives_name = c.in-Some-name_worth.ensures.value _; gives_value = c.in-Some-near_number.ensures.value _; writes = rw (to_z-of_z w32 c.args.active.now.programmer rights, to_z-of_z w32 c.in-Some.o fits, to_z-of_z w32 c.in-Some-near_number.number number) at (c.set_property.ensures.set t) }
+
+pub returns-in-None-clause-written : goal.returns-in-None-clause-written
+returns-in-None-clause-written c =
+    let fits : SFits w32 c.in-Some.o = search rules in
+    λ t. let h = rw (to_z-of_z w32 c.in-Some.o fits) at (c.writes_value.ensures.set t) in record { base = _; name = _; value = h.0; named = _; told = _; gives_base = c.in-Some.ensures.value; gives_name = c.in-Some-name_worth.ensures.value _; gives_value = h.1; writes = h.2 }

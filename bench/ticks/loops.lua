@@ -243,6 +243,38 @@ loops["least"] = function()
     end
 end
 
+loops["grid"] = function()
+    local m = {{1, 2, 3}, {4, 5, 6}, {7, 8, 9}}
+    local x = 0
+    local i = 0
+    while i < 4000 do
+        x = x + m[i % 3 + 1][2]
+        i = i + 1
+    end
+end
+
+loops["characters"] = function()
+    local s = "the quick brown fox"
+    local x = 0
+    local i = 0
+    while i < 4000 do
+        if s:sub(i % 19 + 1, i % 19 + 1) == "o" then
+            x = i
+        end
+        i = i + 1
+    end
+end
+
+loops["scatter"] = function()
+    local l = {1, 2}
+    local a, b
+    local i = 0
+    while i < 4000 do
+        a, b = table.unpack(l)
+        i = i + 1
+    end
+end
+
 for task = 1, tonumber(arg[2]) do
     loops[arg[1]]()
 end

@@ -20,3 +20,6 @@ choice~i = 0; while (i < 4000) x = i < 2000 ? 1 | 2; i = i + 1; endwhile
 long-names~result_value = 0; counter_number = 0; while (counter_number < 4000) result_value = result_value + counter_number; counter_number = counter_number + 1; endwhile
 typeof~x = 0; i = 0; while (i < 4000) if (typeof(i) == 0) x = i; endif i = i + 1; endwhile
 least~x = 0; i = 0; while (i < 4000) x = min(i, 7); i = i + 1; endwhile
+grid~m = {{1, 2, 3}, {4, 5, 6}, {7, 8, 9}}; x = 0; i = 0; while (i < 4000) x = x + m[i % 3 + 1][2]; i = i + 1; endwhile
+characters~s = "the quick brown fox"; x = 0; i = 0; while (i < 4000) if (s[i % 19 + 1] == "o") x = i; endif i = i + 1; endwhile
+scatter~l = {1, 2}; i = 0; while (i < 4000) {a, b} = l; i = i + 1; endwhile

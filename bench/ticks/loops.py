@@ -195,6 +195,33 @@ def least():
         i = i + 1
 
 
+def grid():
+    m = [[1, 2, 3], [4, 5, 6], [7, 8, 9]]
+    x = 0
+    i = 0
+    while i < 4000:
+        x = x + m[i % 3][1]
+        i = i + 1
+
+
+def characters():
+    s = "the quick brown fox"
+    x = 0
+    i = 0
+    while i < 4000:
+        if s[i % 19] == "o":
+            x = i
+        i = i + 1
+
+
+def scatter():
+    l = [1, 2]
+    i = 0
+    while i < 4000:
+        a, b = l
+        i = i + 1
+
+
 loop = globals()[{"while": "while_"}.get(sys.argv[1], sys.argv[1].replace("-", "_"))]
 for task in range(int(sys.argv[2])):
     loop()

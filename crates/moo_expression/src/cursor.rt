@@ -4,7 +4,7 @@ ghost use Rattle.std.specs.Prelude.{◌≡◌, ℕ, ◌+◌, ◌≤◌, ◌<◌,
 
 use crate::fault::Fault;
 use moo_grammar::{Level, Operator, operator_at};
-use moo_program::Literal;
+use moo_program::{Literal, Text};
 use moo_token::{Keyword, Sign, Spot, Token};
 use moo_value::MooStr;
 
@@ -232,7 +232,7 @@ impl Cursor<'_> {
             Token::Integer(number) => Literal::Integer(*number),
             Token::Object(number) => Literal::Object(*number),
             Token::Error(error) => Literal::Error(*error),
-            Token::Str(text) => Literal::Str(text.try_clone()?),
+            Token::Str(text) => Literal::Str(Text::new(text.try_clone()?)),
             _ => return Ok(None),
         };
         self.at += 1;

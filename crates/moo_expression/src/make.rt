@@ -2,6 +2,7 @@
 ghost use Rattle.std.specs.Prelude.{◌≡◌, ◌+◌, ◌-◌, ◌≤◌, ◌<◌, max, min, MatchResult};
 ghost use Rattle.moo_program.specs.Limits.{height as height_of};
 ghost use Rattle.moo_program.specs.Tree as tree;
+ghost use Rattle.moo_program.specs.declared.tree.Literal.TheVariants as literal;
 ghost use Rattle.moo_program.specs.View.{root, tree as tree_of};
 ghost use Rattle.moo_expression.specs.declared.fault.Fault.TheVariants.{Memory, TooDeep};
 ghost use Rattle.moo_grammar.specs.Grammar.{negated, joined};
@@ -12,7 +13,8 @@ use crate::fault::Fault;
 use crate::node::Node;
 use moo_grammar::Operator;
 use moo_program::operator::UnaryOperator;
-use moo_program::{Expr, Literal};
+use moo_program::{Expr, Literal, Text};
+use moo_value::MooStr;
 use std::alloc::Global;
 
 /// How many nodes may stand below a node, where so many may stand from it on.
@@ -63,6 +65,13 @@ pub fn constant(alloc: Global, literal: Literal) -> Result<Node, Fault>
 {
     let tree = Box::new(alloc, Expr::Literal(literal))?;
     Ok(Node { tree, height: 1 })
+}
+
+/// A string that is written out as a name.
+pub fn name_constant(alloc: Global, name: MooStr) -> Result<Node, Fault>
+    ensures { MatchResult result (λ n. root n.tree ≡ tree.literal (literal.Str name)) (λ f. f ≡ Memory) }
+{
+    constant(alloc, Literal::Str(Text::new(name)))
 }
 
 /// The operator between the two operands.

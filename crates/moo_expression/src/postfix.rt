@@ -9,12 +9,12 @@ ghost use Rattle.moo_expression.specs.Outcome.{Moves, IsRead, IsReadBy, HasFaile
 use crate::cursor::Cursor;
 use crate::fault::Fault;
 use crate::levels::expression;
-use crate::make::{beside, constant, node_over};
+use crate::make::{beside, name_constant, node_over};
 use crate::members::arguments;
 use crate::node::Node;
 use crate::place::Place;
 use crate::primary::primary;
-use moo_program::{Expr, Literal};
+use moo_program::Expr;
 use moo_token::Sign;
 use std::alloc::Global;
 
@@ -109,7 +109,7 @@ fn member_name(alloc: Global, tokens: &mut Cursor, place: Place, room: u32) -> R
     ensures failed { IfErr result (λ f. IsUnnamed place.names place.inside room tokens.old tokens.new f) }
 {
     if let Some(name) = tokens.take_name()? {
-        return constant(alloc, Literal::Str(name));
+        return name_constant(alloc, name);
     }
     tokens.expect(Sign::LeftParen)?;
     let name = expression(alloc, tokens, place, room)?;

@@ -10,7 +10,7 @@ ghost use Rattle.moo_expression.specs.Outcome.{Moves, IsRead, IsReadBy, HasFaile
 use crate::cursor::Cursor;
 use crate::fault::Fault;
 use crate::levels::expression;
-use crate::make::{below, beside, constant, node_over};
+use crate::make::{below, beside, constant, name_constant, node_over};
 use crate::members::{arguments, members};
 use crate::node::{Caught, Node};
 use crate::place::Place;
@@ -104,7 +104,7 @@ fn behind_dollar(alloc: Global, tokens: &mut Cursor, place: Place, room: u32) ->
         return node_over(alloc, Expr::Length, 0, room);
     };
     let object = constant(alloc, Literal::Object(0))?;
-    let name = constant(alloc, Literal::Str(name))?;
+    let name = name_constant(alloc, name)?;
     if !tokens.take(Sign::LeftParen) {
         return node_over(alloc, Expr::Property(object.tree, name.tree), 1, room);
     }

@@ -25,7 +25,7 @@ pub fn literal_value(literal: &Literal) -> Result<Value, AllocError>
         Literal::Integer(number) => Ok(Value::Int(*number)),
         Literal::Object(number) => Ok(Value::Obj(*number)),
         Literal::Error(code) => Ok(Value::Err(*code)),
-        Literal::Str(text) => Ok(Value::Str(text.try_clone()?)),
+        Literal::Str(text) => Ok(Value::Str(text.string().try_clone()?)),
     }
 }
 

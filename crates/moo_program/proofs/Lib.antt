@@ -7,3 +7,4 @@ pub mod VariableSteps
 pub mod EachOnce
 pub mod GivenNames
 pub mod Spelled
+pub mod Numbered

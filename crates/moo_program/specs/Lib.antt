@@ -8,3 +8,4 @@ pub mod Code
 pub mod Slots
 pub mod Given
 pub mod Spelling
+pub mod NameNumber

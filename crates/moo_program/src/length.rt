@@ -174,8 +174,8 @@ fn literal_rest(literal: &Literal, room: usize) -> Option<usize>
         Literal::Object(number) => room.checked_sub(1)?.checked_sub(number_length(*number)),
         Literal::Error(error) => room.checked_sub(error.name().len()),
         Literal::Str(text) => {
-            let rest = room.checked_sub(2)?.checked_sub(text.len())?;
-            rest.checked_sub(escapes(text.as_bytes()))
+            let rest = room.checked_sub(2)?.checked_sub(text.string().len())?;
+            rest.checked_sub(escapes(text.string().as_bytes()))
         }
     }
 }

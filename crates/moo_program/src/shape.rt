@@ -36,7 +36,9 @@ pub fn constant_name(value: &Expr) -> Option<&MooStr>
     ensures { MatchOption result (constant_name (tree value.now) ≡ None) (λ name. constant_name (tree value.now) ≡ Some name.now) }
 {
     match value {
-        Expr::Literal(Literal::Str(text)) if is_name(text.as_bytes()) => Some(text),
+        Expr::Literal(Literal::Str(text)) if is_name(text.string().as_bytes()) => Some(
+            text.string(),
+        ),
         _ => None,
     }
 }

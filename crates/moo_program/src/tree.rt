@@ -1,6 +1,7 @@
 //! The tree of a program.
 use crate::name::Name;
 use crate::operator::{BinaryOperator, LogicOperator, UnaryOperator};
+use crate::text::Text;
 use moo_value::{ErrorCode, MooStr};
 
 /// A value that is written out in a program.
@@ -9,7 +10,7 @@ pub enum Literal {
     Integer(i32),
     Object(i32),
     Error(ErrorCode),
-    Str(MooStr),
+    Str(Text),
 }
 
 /// An expression.

@@ -14,6 +14,6 @@ pub(crate) fn write_literal(literal: &Literal, line: &mut Line) -> Result<(), Al
         Literal::Integer(number) => line.number(*number),
         Literal::Object(number) => line.object(*number),
         Literal::Error(error) => line.text(error.name().as_bytes()),
-        Literal::Str(string) => line.quoted(string.as_bytes()),
+        Literal::Str(text) => line.quoted(text.string().as_bytes()),
     }
 }

@@ -826,13 +826,13 @@ postfix::member_name-returns-in_err-name-clause-failed t c =
 
 pub postfix::member_name-returns-in-Some-clause-failed : goal.postfix::member_name-returns-in-Some-clause-failed
 postfix::member_name-returns-in-Some-clause-failed t c =
-    unmade_constant c.args.place.names c.args.place.inside c.args.room c.args.tokens.now c.take_name.new.self (literal.Str c.in-Some.name) c.constant.result c.constant.ensures
+    unmade_constant c.args.place.names c.args.place.inside c.args.room c.args.tokens.now c.take_name.new.self (literal.Str c.in-Some.name) c.name_constant.result c.name_constant.ensures
 
 pub postfix::member_name-returns-in-Some-clause-read : goal.postfix::member_name-returns-in-Some-clause-read
 unfolding grammar
 postfix::member_name-returns-in-Some-clause-read t c =
     let k = rw c.in-Some.is at c.in_ok-name.ensures in
-    if_constant (λ e. IsNamed c.args.place.names c.args.place.inside c.args.room c.args.tokens.now c.take_name.new.self e) (literal.Str c.in-Some.name) c.constant.result c.constant.ensures (record {
+    if_constant (λ e. IsNamed c.args.place.names c.args.place.inside c.args.room c.args.tokens.now c.take_name.new.self e) (literal.Str c.in-Some.name) c.name_constant.result c.name_constant.ensures (record {
       leads = λ m. record {
         reads = λ g a e u d. took k refl d;
         fails = λ g a u d. took_fails k refl d;

@@ -7,3 +7,4 @@ mod Letters
 mod Alone
 mod Verbs
 mod Numbers
+mod Numbered

@@ -1,14 +1,16 @@
 // The cells of properties.
-ghost use Rattle.std.specs.Prelude.{◌≡◌, ◌≤◌, IfOk, IfSome, IfNone, None, Some, is_some};
+ghost use Rattle.std.specs.Prelude.{◌≡◌, ◌≢◌, ◌≤◌, IfOk, IfSome, IfNone, IsTrue, None, Some, is_some, true};
 ghost use Rattle.std.specs.Option.{option_copied, option_map};
 ghost use Rattle.moo_value.specs.Compare.{folded};
 ghost use Rattle.moo_value.specs.View.{tree};
+ghost use Rattle.moo_program.specs.NameNumber.{IsNumberOf};
 ghost use Rattle.moo_object.specs.BuiltIn.{built_in_of};
 ghost use Rattle.moo_object.specs.Cells.{is_key, is_named, key_of, cleared, own_cell, emptied, with_info, renamed};
 
 use crate::bits::{bit, take_bit};
 use crate::built_in_property::built_in;
 use crate::name::{folded_name, same_name};
+use moo_program::{Text, name_number};
 use moo_value::{MooStr, Value};
 use std::alloc::{AllocError, Global};
 use std::marker::Model;
@@ -52,6 +54,8 @@ impl PropPerms {
 pub struct PropCell {
     definer: usize,
     name: MooStr,
+    // A number that no name of other letters has, or one that no name has.
+    number: u64,
     owner: i32,
     perms: PropPerms,
     // Whether a built-in property has the name, and hides this one.
@@ -81,7 +85,22 @@ impl Model for PropCell {
       value = option_map tree c.value;
     } };
 
-    ghost invariant = { λ c. c.is_hidden ≡ is_some (built_in_of (folded c.name)) };
+    ghost use Rattle.std.specs.Prelude.{◌≢◌};
+    ghost use Rattle.moo_program.specs.NameNumber.{IsNumberOf};
+
+    ghost invariant = { λ c. (c.is_hidden ≡ is_some (built_in_of (folded c.name))) × (c.number ≢ 0) × (c.number ≢ 38 → IsNumberOf c.number (folded c.name)) };
+}
+
+// A number that no name has: its last digit is 0.
+const NO_NAME: u64 = 38;
+
+// The number of a name, or one that no name has.
+fn known_number(name: &[u8]) -> u64
+    ensures some { result ≢ 0 }
+    ensures known { result ≢ 38 → IsNumberOf result (folded name.now) }
+{
+    let number = name_number(name);
+    if number == 0 { NO_NAME } else { number }
 }
 
 impl PropCell {
@@ -96,9 +115,11 @@ impl PropCell {
         ensures { result ≡ record { definer = definer; name = folded name; owner = owner; perms = perms; value = option_map tree value } }
     {
         let is_hidden = built_in(name.as_bytes()).is_some();
+        let number = known_number(name.as_bytes());
         PropCell {
             definer,
             name,
+            number,
             owner,
             perms,
             is_hidden,
@@ -117,9 +138,11 @@ impl PropCell {
         ensures { result ≡ own_cell definer (folded name) (tree value) owner perms }
     {
         let is_hidden = built_in(name.as_bytes()).is_some();
+        let number = known_number(name.as_bytes());
         PropCell {
             definer,
             name,
+            number,
             owner,
             perms,
             is_hidden,
@@ -153,6 +176,14 @@ impl PropCell {
         ensures { result ≡ is_named (folded name.now) self.now }
     {
         same_name(self.name.as_bytes(), name)
+    }
+
+    /// Whether its number tells that this is the cell of a name that is written out. Else it may be that cell as well.
+    #[inline(always)]
+    pub fn is_known_as(&self, name: &Text) -> bool
+        ensures { IsTrue result → is_named (folded name.now) self.now ≡ true }
+    {
+        self.number == name.number()
     }
 
     /// Whether this and another are cells for the same definition.
@@ -197,6 +228,7 @@ impl PropCell {
         Ok(PropCell {
             definer: self.definer,
             name: self.name.try_clone()?,
+            number: self.number,
             owner: if self.perms.change_owner {
                 owner
             } else {
@@ -219,6 +251,7 @@ impl PropCell {
         Ok(PropCell {
             definer: self.definer,
             name: self.name.try_clone()?,
+            number: self.number,
             owner: self.owner,
             perms: self.perms,
             is_hidden: self.is_hidden,
@@ -254,6 +287,7 @@ impl PropCell {
         ensures { self.new ≡ renamed (folded name) self.old }
     {
         self.is_hidden = built_in(name.as_bytes()).is_some();
+        self.number = known_number(name.as_bytes());
         self.name = name;
     }
 }

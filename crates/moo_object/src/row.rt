@@ -1,5 +1,5 @@
 // The cells of an object.
-ghost use Rattle.std.specs.Prelude.{◌≡◌, ◌<◌, [], ◌==◌, OnOk, OnErr, length, filter, map, not, false, position, slice_get};
+ghost use Rattle.std.specs.Prelude.{◌≡◌, ◌<◌, [], ◌==◌, OnOk, OnErr, IfSome, length, filter, map, not, true, false, position, slice_get};
 ghost use Rattle.std.specs.Option.{ForSome, option_copied, option_and_then};
 ghost use Rattle.std.specs.List.{list_any};
 ghost use Rattle.moo_value.specs.Compare.{folded};
@@ -9,6 +9,7 @@ ghost use Rattle.moo_object.specs.Verbs.{changed_at};
 ghost use Rattle.moo_object.specs.Rows.{put_before, taken_before, with_new_name};
 
 use crate::cell::{PropCell, PropPerms};
+use moo_program::Text;
 use moo_value::{MooStr, Value};
 use std::alloc::{AllocError, Global};
 use std::marker::Model;
@@ -189,6 +190,27 @@ pub fn cell_named<'a>(cells: &'a [PropCell], name: &[u8]) -> Option<&'a PropCell
     ensures { option_copied result ≡ cell_named cells.now (folded name.now) }
 {
     cells.iter().find(|cell| cell.is_named(name))
+}
+
+/// A place of a cell of a name that is written out: as far from the last one as such a cell was found last, if its number tells that it
+/// is one.
+#[inline(always)]
+pub fn place_known(cells: &[PropCell], name: &Text) -> Option<usize>
+    ensures { IfSome result (λ place. (place < length cells.now) × IfSome (slice_get cells.now place) (λ c. is_named (folded name.now) c ≡ true)) }
+{
+    let place = cells.len().checked_sub(name.hint())?;
+    let cell = cells.get(place)?;
+    if cell.is_known_as(name) {
+        Some(place)
+    } else {
+        None
+    }
+}
+
+/// Notes how far the cell of a name that is written out stands from the last one. That is as far in all rows that have the cell from one
+/// definition.
+pub fn note_place(cells: &[PropCell], name: &Text, place: usize) {
+    name.note(cells.len().saturating_sub(place));
 }
 
 /// The place of the cell of a name.

@@ -28,3 +28,4 @@ pub mod Respelling
 pub mod NamesMet
 pub mod Placing
 pub mod NewNames
+pub mod Once

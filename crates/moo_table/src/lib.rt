@@ -15,6 +15,7 @@ pub mod properties;
 pub mod recycling;
 pub mod renaming;
 pub mod verbs;
+pub mod written;
 
 /// How many object numbers may be given out, how many properties and verbs an object may have,
 /// and how many players there may be.

@@ -1,9 +1,10 @@
 -- Properties read and set with the rights of a programmer.
-use Rattle.std.proofs.Common.{◌≡◌, ℕ, ℤ, List, [], ◌∷◌, Option, Some, None, Bool, true, false, refl, sym, ◌∙◌, ap, ⊎_elim, is_some, get_or, set, IsSome}
-use Rattle.std.specs.List.{position}
+use Rattle.std.proofs.Common.{◌≡◌, ℕ, ℤ, List, [], ◌∷◌, Option, Some, None, Bool, true, false, refl, sym, ◌∙◌, ap, ⊎_elim, is_some, get_or, set, length, ltb, IsSome}
+use Rattle.std.specs.List.{find, position, position_or_len}
 use Rattle.std.specs.Option.{option_map, unwrap_or}
-use Rattle.std.proofs.lemmas.Bool.{cases_Bool, false≢true}
-use Rattle.std.proofs.lemmas.Option.{slice_get-get_or}
+use Rattle.std.proofs.lemmas.Bool.{cases_Bool, false≢true, ltb-false}
+use Rattle.std.proofs.lemmas.List.Folds.{find_at}
+use Rattle.std.proofs.lemmas.Option.{slice_get-get_or, slice_get_past}
 use Rattle.moo_value.specs.Compare.{folded}
 use Rattle.moo_value.specs.Tree.{Tree}
 use Rattle.moo_object.specs.BuiltIn.{built_in_of}
@@ -86,9 +87,17 @@ module _ (w : World) (p o : ℤ) (x : ℕ) (name : List ℕ) (numbered : number_
   writable_sets place v h = let plain = h.plain in rw (numbered, plain) refl
 
 -- the cell at the place that was found
-placed_cell : (name : List ℕ) (cells : List Cell) (place : ℕ) (c : Cell) → position (is_named name) cells ≡ Some place → c ≡ get_or cells place c → cell_named cells name ≡ Some c
+pub placed_cell : (name : List ℕ) (cells : List Cell) (place : ℕ) (c : Cell) → position (is_named name) cells ≡ Some place → c ≡ get_or cells place c → cell_named cells name ≡ Some c
 placed_cell name cells place c is here =
     sym (placed_found (is_named name) cells place is) ∙ slice_get-get_or cells place c (placed (is_named name) cells place is).1 ∙ ap (λ d. Some d) (sym here)
+
+-- and no cell where none is found
+pub unplaced : {X : Type 0} (t : X → Bool) (xs : List X) → position t xs ≡ None → find t xs ≡ None
+unplaced t xs is =
+    ⊎_elim
+    (λ low. let some : Some (position_or_len t xs) ≡ None = (rw low at is) in absurd (cc))
+    (λ past. find_at t xs ∙ slice_get_past xs (position_or_len t xs) (ltb-false (position_or_len t xs) (length xs) past))
+    (cases_Bool (ltb (position_or_len t xs) (length xs)))
 
 pub writable_here : (w : World) (p : ℤ) (x : ℕ) (name : List ℕ) (cells : List Cell) (place : ℕ) (c : Cell) → (thing_of w.objects x).cells ≡ cells → position (is_named name) cells ≡ Some place →
     c ≡ get_or cells place c → false ≡ is_some (built_in_of c.name) → may_write_cell w p (Some c) ≡ true → IsWritable w p x name place

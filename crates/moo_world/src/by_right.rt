@@ -1,11 +1,13 @@
 //! Properties read and set with the rights of a programmer. The cell that tells of the right is the one that is read
 //! or set, so that it is looked for once.
 
-ghost use Rattle.std.specs.Prelude.{◌≡◌, IsSome, IfSome, Some};
+ghost use Rattle.std.specs.Prelude.{◌≡◌, IsSome, IfSome, IsTrue, Some, is_some, true};
 ghost use Rattle.std.specs.Option.{option_map, option_copied};
+ghost use Rattle.std.specs.List.{position};
 ghost use Rattle.moo_value.specs.Compare.{folded};
 ghost use Rattle.moo_value.specs.View.{tree};
-ghost use Rattle.moo_object.specs.Cells.{cell_named};
+ghost use Rattle.moo_object.specs.BuiltIn.{built_in_of};
+ghost use Rattle.moo_object.specs.Cells.{cell_named, is_named};
 ghost use Rattle.moo_table.specs.World.{object_of, thing_of};
 ghost use Rattle.moo_table.specs.Properties.{read};
 ghost use Rattle.moo_world.specs.ByRight.{readable_cell, readable_at, readable_value, IsReadable, IsWritable, set_by_raises};
@@ -15,9 +17,11 @@ ghost use Rattle.moo_world.specs.Calls.{Changes, number_of, TakesNoMemory};
 use crate::World;
 use crate::fault::WorldFault;
 use crate::rights::Rights;
-use moo_object::{PropCell, place_named};
+use moo_object::{PropCell, built_in, place_named};
+use moo_program::Text;
 use moo_table::looking::nearest_value;
 use moo_table::properties::{cell_in, cells_in, set_at_in};
+use moo_table::written::{nearest_written, place_written};
 use moo_value::{ErrorCode, Value};
 
 impl World {
@@ -33,24 +37,80 @@ impl World {
         }
     }
 
+    /// The same, where the name is written out.
+    #[inline(always)]
+    pub fn readable_written(&self, programmer: i32, o: i32, name: &Text) -> Option<&Value>
+        ensures value { option_map tree (option_copied result) ≡ readable_value self.now programmer (number_of self.now.objects o) (folded name.now) }
+        ensures right { IfSome result (λ v. IsReadable self.now programmer o name.now (tree v.now)) }
+    {
+        match self.number(o) {
+            Some(x) => self.readable_written_from(programmer, x, name),
+            None => None,
+        }
+    }
+
     #[inline(always)]
     fn readable_from(&self, programmer: i32, x: usize, name: &[u8]) -> Option<&Value>
         requires { IsSome (object_of self.now.objects x) }
         ensures { option_map tree (option_copied result) ≡ readable_at self.now programmer x (folded name.now) }
     {
-        match self.readable_cell(programmer, x, name) {
+        let found = self.cell_found(x, name);
+        match self.readable_cell(programmer, x, name, found) {
             Some(cell) => self.value_of_cell(x, cell, name),
+            None => None,
+        }
+    }
+
+    #[inline(always)]
+    fn readable_written_from(&self, programmer: i32, x: usize, name: &Text) -> Option<&Value>
+        requires { IsSome (object_of self.now.objects x) }
+        ensures { option_map tree (option_copied result) ≡ readable_at self.now programmer x (folded name.now) }
+    {
+        if is_built_in(name) {
+            return None;
+        }
+        let found = self.cell_written(x, name);
+        match self.readable_cell(programmer, x, name.string().as_bytes(), found) {
+            Some(cell) => self.value_written(x, cell, name),
+            None => None,
+        }
+    }
+
+    // A valid object's cell of a name.
+    #[inline(always)]
+    fn cell_found(&self, x: usize, name: &[u8]) -> Option<&PropCell>
+        requires { IsSome (object_of self.now.objects x) }
+        ensures { option_copied result ≡ cell_named (thing_of self.now.objects x).cells (folded name.now) }
+    {
+        cell_in(&self.objects[x], name)
+    }
+
+    // The same, where the name is written out.
+    #[inline(always)]
+    fn cell_written(&self, x: usize, name: &Text) -> Option<&PropCell>
+        requires { IsSome (object_of self.now.objects x) }
+        ensures { option_copied result ≡ cell_named (thing_of self.now.objects x).cells (folded name.now) }
+    {
+        self.is_well_formed();
+        let cells = cells_in(&self.objects[x]);
+        match place_written(cells, name) {
+            Some(place) => Some(&cells[place]),
             None => None,
         }
     }
 
     // A valid object's cell of a name, where no built-in property hides it and the programmer may read it.
     #[inline(always)]
-    fn readable_cell(&self, programmer: i32, x: usize, name: &[u8]) -> Option<&PropCell>
-        requires { IsSome (object_of self.now.objects x) }
+    fn readable_cell<'a>(
+        &'a self,
+        programmer: i32,
+        x: usize,
+        name: &[u8],
+        found: Option<&'a PropCell>,
+    ) -> Option<&'a PropCell>
+        requires { option_copied found ≡ cell_named (thing_of self.now.objects x).cells (folded name.now) }
         ensures { option_copied result ≡ readable_cell self.now programmer x (folded name.now) }
     {
-        let found = cell_in(&self.objects[x], name);
         let Some(cell) = found else {
             return None;
         };
@@ -83,6 +143,20 @@ impl World {
         }
     }
 
+    // The same, where the name is written out.
+    #[inline(always)]
+    fn value_written<'a>(&'a self, x: usize, cell: &'a PropCell, name: &Text) -> Option<&'a Value>
+        requires valid { IsSome (object_of self.now.objects x) }
+        requires named { cell_named (thing_of self.now.objects x).cells (folded name.now) ≡ Some cell.now }
+        ensures { option_map tree (option_copied result) ≡ read self.now x (folded name.now) }
+    {
+        self.is_well_formed();
+        match cell.value() {
+            Some(value) => Some(value),
+            None => nearest_written(&self.objects, &self.inheritance, x, cell.definer(), name),
+        }
+    }
+
     /// Sets a property by its name with the rights of a programmer: what setting it raises comes before want of the
     /// right.
     #[inline(always)]
@@ -102,6 +176,24 @@ impl World {
         }
     }
 
+    /// The same, where the name is written out.
+    #[inline(always)]
+    pub fn set_written_by(
+        &mut self,
+        programmer: i32,
+        o: i32,
+        name: &Text,
+        value: Value,
+    ) -> Result<(), WorldFault>
+        ensures world { Changes result self.old self.new (set_by_raises self.old programmer o name.now (tree value)) (world_set self.old (number_of self.old.objects o) (folded name.now) (tree value)) }
+        ensures memory { TakesNoMemory result }
+    {
+        match self.number(o) {
+            Some(x) => self.set_valid_written_by(programmer, o, x, name, value),
+            None => Err(WorldFault::Raise(ErrorCode::InvalidIndirection)),
+        }
+    }
+
     // The same, of a valid object.
     #[inline(always)]
     fn set_valid_by(
@@ -117,7 +209,46 @@ impl World {
         ensures world { Changes result self.old self.new (set_by_raises self.old programmer o name.now (tree value)) (world_set self.old (number_of self.old.objects o) (folded name.now) (tree value)) }
         ensures memory { TakesNoMemory result }
     {
-        match self.writable_place(programmer, x, name) {
+        let place = self.writable_place(programmer, x, name);
+        self.set_found_by(programmer, o, x, name, place, value)
+    }
+
+    #[inline(always)]
+    fn set_valid_written_by(
+        &mut self,
+        programmer: i32,
+        o: i32,
+        x: usize,
+        name: &Text,
+        value: Value,
+    ) -> Result<(), WorldFault>
+        requires valid { IsSome (object_of self.old.objects x) }
+        requires numbered { number_of self.old.objects o ≡ Some x }
+        ensures world { Changes result self.old self.new (set_by_raises self.old programmer o name.now (tree value)) (world_set self.old (number_of self.old.objects o) (folded name.now) (tree value)) }
+        ensures memory { TakesNoMemory result }
+    {
+        let place = self.writable_written(programmer, x, name);
+        self.set_found_by(programmer, o, x, name.string().as_bytes(), place, value)
+    }
+
+    // The same, where the place is known at which it may be set.
+    #[inline(always)]
+    fn set_found_by(
+        &mut self,
+        programmer: i32,
+        o: i32,
+        x: usize,
+        name: &[u8],
+        place: Option<usize>,
+        value: Value,
+    ) -> Result<(), WorldFault>
+        requires valid { IsSome (object_of self.old.objects x) }
+        requires numbered { number_of self.old.objects o ≡ Some x }
+        requires writable { IfSome place (λ at. IsWritable self.old programmer x (folded name.now) at) }
+        ensures world { Changes result self.old self.new (set_by_raises self.old programmer o name.now (tree value)) (world_set self.old (number_of self.old.objects o) (folded name.now) (tree value)) }
+        ensures memory { TakesNoMemory result }
+    {
+        match place {
             Some(place) => {
                 let _weight = value.weight();
                 set_at_in(&mut self.objects[x], place, value);
@@ -135,6 +266,28 @@ impl World {
     {
         let cells = cells_in(&self.objects[x]);
         let place = place_named(cells, name)?;
+        self.writable_at(programmer, x, name, place)
+    }
+
+    #[inline(always)]
+    fn writable_written(&self, programmer: i32, x: usize, name: &Text) -> Option<usize>
+        requires { IsSome (object_of self.now.objects x) }
+        ensures { IfSome result (λ place. IsWritable self.now programmer x (folded name.now) place) }
+    {
+        self.is_well_formed();
+        let cells = cells_in(&self.objects[x]);
+        let place = place_written(cells, name)?;
+        self.writable_at(programmer, x, name.string().as_bytes(), place)
+    }
+
+    // The place where the cell of a name stands, on the same terms.
+    #[inline(always)]
+    fn writable_at(&self, programmer: i32, x: usize, name: &[u8], place: usize) -> Option<usize>
+        requires valid { IsSome (object_of self.now.objects x) }
+        requires at { position (is_named (folded name.now)) (thing_of self.now.objects x).cells ≡ Some place }
+        ensures { IfSome result (λ place. IsWritable self.now programmer x (folded name.now) place) }
+    {
+        let cells = cells_in(&self.objects[x]);
         let found = cells.get(place);
         let Some(cell) = found else {
             return None;
@@ -169,4 +322,19 @@ impl World {
         }
         self.set(o, name, value)
     }
+}
+
+// Whether a built-in property has the name that is written out. It is asked where no cell of that name was ever found, and else not told.
+#[inline(always)]
+fn is_built_in(name: &Text) -> bool
+    ensures { IsTrue result → is_some (built_in_of (folded name.now)) ≡ true }
+{
+    name.hint() == 0 && has_built_in_name(name)
+}
+
+#[inline(never)]
+fn has_built_in_name(name: &Text) -> bool
+    ensures { result ≡ is_some (built_in_of (folded name.now)) }
+{
+    built_in(name.string().as_bytes()).is_some()
 }

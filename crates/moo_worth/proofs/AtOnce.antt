@@ -13,9 +13,9 @@ use Rattle.moo_value.specs.TreeCode.{trees_of-elements_of}
 use Rattle.moo_value.specs.Compare.{folded}
 use Rattle.moo_program.specs.declared.operator.BinaryOperator.{BinaryOperator}
 use Rattle.moo_program.specs.declared.tree.Literal.{Literal}
-use Rattle.moo_program.specs.Tree.{Expr, literal, literal_value, variable, binary, index, property, call, element, no_items}
+use Rattle.moo_program.specs.Tree.{Expr, literal, literal_value, variable, binary, index, range, list, property, call, Items, element, no_items}
 use Rattle.moo_operation.specs.Operators.{binary_of}
-use Rattle.moo_operation.specs.Places.{index_of, or_range, length_of}
+use Rattle.moo_operation.specs.Places.{index_of, range_of, or_range, length_of, made_list}
 use Rattle.moo_function.specs.declared.function.Function.TheVariants.{Length}
 use Rattle.moo_function.specs.Names.{function_of}
 use Rattle.moo_outcome.specs.declared.frame.Activation.{Activation}
@@ -23,7 +23,7 @@ use Rattle.moo_outcome.specs.Seen.{variables_of}
 use Rattle.moo_table.specs.World.{World}
 use Rattle.moo_access.specs.Calls.{read_property}
 use Rattle.moo_worth.specs.Leaves.{IsLeaf, literal_leaf, variable_leaf}
-use Rattle.moo_worth.specs.Worth.{IsWorth, leaf_known, operator_known, element_known, property_known, function_known, none_worth, next_worth}
+use Rattle.moo_worth.specs.Worth.{IsWorth, IsPlace, AreWorth, leaf_known, operator_known, element_known, place_known, part_known, list_known, property_known, function_known, none_worth, next_worth}
 
 -- a number, or a variable that is set
 pub leaf_worth : (w : World) (active : Activation) {e : Expr} {v : Tree} {n n' : ℕ} → (0 < n) × (n' ≡ n - 1) → IsLeaf (variables_of active.variables) e v → IsWorth w active n e v n'
@@ -33,7 +33,16 @@ pub operator_worth : (w : World) (active : Activation) {op : BinaryOperator} {a 
 operator_worth w active z f g h = operator_known z.0 z.1 f g h
 
 pub element_worth : (w : World) (active : Activation) {a i : Expr} {x y v : Tree} {n n' n'' n3 : ℕ} → (0 < n) × (n' ≡ n - 1) → IsWorth w active n' a x n'' → IsWorth w active n'' i y n3 → index_of x y ≡ Ok v → IsWorth w active n (index a i) v n3
-element_worth w active z f g h = element_known z.0 z.1 f g h
+element_worth w active z f g h = element_known z.0 z.1 f (place_known g) h
+
+pub placed_worth : (w : World) (active : Activation) {a i : Expr} {x y v : Tree} {n n' n'' n3 : ℕ} → (0 < n) × (n' ≡ n - 1) → IsWorth w active n' a x n'' → IsPlace w active x n'' i y n3 → index_of x y ≡ Ok v → IsWorth w active n (index a i) v n3
+placed_worth w active z f g h = element_known z.0 z.1 f g h
+
+pub range_worth : (w : World) (active : Activation) {a i j : Expr} {x y z v : Tree} {n n' n'' n3 n4 : ℕ} → (0 < n) × (n' ≡ n - 1) → IsWorth w active n' a x n'' → IsPlace w active x n'' i y n3 → IsPlace w active x n3 j z n4 → range_of x y z ≡ Ok v → IsWorth w active n (range a i j) v n4
+range_worth w active t f g k h = part_known t.0 t.1 f g k h
+
+pub list_worth : (w : World) (active : Activation) {items : Items} {vs : List Tree} {v : Tree} {n n' n'' : ℕ} → (0 < n) × (n' ≡ n - 1) → AreWorth w active n' items vs n'' → made_list vs ≡ Ok v → IsWorth w active n (list items) v n''
+list_worth w active t d h = list_known t.0 t.1 d h
 
 pub property_worth : (w : World) (active : Activation) {a b : Expr} {x y v : Tree} {n n' n'' n3 : ℕ} → (0 < n) × (n' ≡ n - 1) → IsWorth w active n' a x n'' → IsWorth w active n'' b y n3 → read_property w active.programmer x y ≡ Ok v → IsWorth w active n (property a b) v n3
 property_worth w active z f g h = property_known z.0 z.1 f g h

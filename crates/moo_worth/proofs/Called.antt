@@ -32,7 +32,7 @@ use Rattle.moo_access.specs.Entering.{found_verb, has_frame_left, player_of_call
 use Rattle.moo_access.proofs.Entered.{taken}
 use Rattle.moo_table.specs.World.{World}
 use Rattle.moo_worth.specs.Leaves.{IsLeaf}
-use Rattle.moo_worth.specs.Worth.{leaf_known, operator_known, element_known, property_known}
+use Rattle.moo_worth.specs.Worth.{leaf_known, operator_known, element_known, place_known, property_known}
 use Rattle.moo_worth.specs.Told.{IsTold, IsToldTo, IsToldWorth, is_light, are_light}
 use Rattle.moo_worth.specs.Calls.{ReturnsFirst, IsReturned}
 use Rattle.moo_worth.specs.declared.told.Told.{Told}
@@ -66,7 +66,7 @@ told_property told z f g h = λ variables is. property_known z.0 z.1 (f variable
 pub told_argument : (told : Told) {a i : Expr} {y v : Tree} {n n' n'' n3 : ℕ} → (0 < n) × (n' ≡ n - 1) → (0 < n') × (n'' ≡ n' - 1) → (0 < n'') × (n3 ≡ n'' - 1) → ((variables : List ℕ → Option Tree) (args : Tree) → variables (codes "args") ≡ Some args → IsLeaf variables a args × IsLeaf variables i y) → index_of (list_of (trees told.args.now)) y ≡ Ok v → IsToldWorth told n (index a i) v n3
 told_argument told z z' z'' l h = λ variables is.
     let leaves = l variables (list_of (trees told.args.now)) is.has_args in
-    element_known z.0 z.1 (leaf_known z'.0 z'.1 leaves.0) (leaf_known z''.0 z''.1 leaves.1) h
+    element_known z.0 z.1 (leaf_known z'.0 z'.1 leaves.0) (place_known (leaf_known z''.0 z''.1 leaves.1)) h
 
 -- the first statement of a verb's program
 pub returns_first : (verb : Verb) (b : Block) (ss : List Stmt) (s : Stmt) (rest : List Stmt) (e : Expr) → verb.program ≡ Some b → block ss ≡ b → ss ≡ s ∷ rest → statement s ≡ returns e → ReturnsFirst verb e

@@ -1,3 +1,4 @@
 pub mod AtOnce
 pub mod Timeless
 pub mod Called
+mod LettersAt

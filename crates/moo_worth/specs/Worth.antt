@@ -4,10 +4,10 @@ use Rattle.moo_value.specs.Tree.{Tree}
 use Rattle.moo_program.specs.declared.operator.BinaryOperator.{BinaryOperator}
 use Rattle.moo_program.specs.declared.operator.LogicOperator.{LogicOperator}
 use Rattle.moo_program.specs.declared.operator.UnaryOperator.{UnaryOperator}
-use Rattle.moo_program.specs.Tree.{Expr, unary, binary, logic, conditional, index, property, call, Items, element, no_items}
+use Rattle.moo_program.specs.Tree.{Expr, length_mark, unary, binary, logic, conditional, index, range, list, property, call, Items, element, no_items}
 use Rattle.moo_operation.specs.Operators.{unary_of, binary_of}
 use Rattle.moo_operation.specs.Truth.{is_true, is_decided}
-use Rattle.moo_operation.specs.Places.{index_of}
+use Rattle.moo_operation.specs.Places.{index_of, range_of, length_of, made_list}
 use Rattle.moo_function.specs.declared.function.Function.{Function}
 use Rattle.moo_function.specs.Names.{function_of}
 use Rattle.moo_value_function.specs.Calls.{plain_answer}
@@ -43,14 +43,29 @@ mutual
         0 < n → n' ≡ n - 1 → IsWorthWith w variables programmer n' e x n'' → is_true x ≡ false → IsWorthWith w variables programmer n'' b y n3 →
         IsWorthWith w variables programmer n (conditional e a b) y n3
     element_known : {a i : Expr} {x y v : Tree} {n n' n'' n3 : ℕ} →
-        0 < n → n' ≡ n - 1 → IsWorthWith w variables programmer n' a x n'' → IsWorthWith w variables programmer n'' i y n3 → index_of x y ≡ Ok v →
+        0 < n → n' ≡ n - 1 → IsWorthWith w variables programmer n' a x n'' → IsPlaceWith w variables programmer x n'' i y n3 → index_of x y ≡ Ok v →
         IsWorthWith w variables programmer n (index a i) v n3
+    part_known : {a i j : Expr} {x y z v : Tree} {n n' n'' n3 n4 : ℕ} →
+        0 < n → n' ≡ n - 1 → IsWorthWith w variables programmer n' a x n'' → IsPlaceWith w variables programmer x n'' i y n3 → IsPlaceWith w variables programmer x n3 j z n4 → range_of x y z ≡ Ok v →
+        IsWorthWith w variables programmer n (range a i j) v n4
+    list_known : {items : Items} {vs : List Tree} {v : Tree} {n n' n'' : ℕ} →
+        0 < n → n' ≡ n - 1 → AreWorthWith w variables programmer n' items vs n'' → made_list vs ≡ Ok v →
+        IsWorthWith w variables programmer n (list items) v n''
     property_known : {a b : Expr} {x y v : Tree} {n n' n'' n3 : ℕ} →
         0 < n → n' ≡ n - 1 → IsWorthWith w variables programmer n' a x n'' → IsWorthWith w variables programmer n'' b y n3 → read_property w programmer x y ≡ Ok v →
         IsWorthWith w variables programmer n (property a b) v n3
     function_known : {f : List ℕ} {g : Function} {items : Items} {vs : List Tree} {v : Tree} {n n' n'' : ℕ} →
         0 < n → n' ≡ n - 1 → AreWorthWith w variables programmer n' items vs n'' → function_of f ≡ Some g → ((moment : ℕ) → plain_answer g moment vs ≡ Some (Ok v)) →
         IsWorthWith w variables programmer n (call f items) v n''
+
+  -- the same of a place of a value: `$` is the value's length
+  pub data IsPlaceWith (w : World) (variables : List ℕ → Option Tree) (programmer : ℤ) : Tree → ℕ → Expr → Tree → ℕ → Type 0 where
+    place_known : {e : Expr} {x y : Tree} {n n' : ℕ} →
+        IsWorthWith w variables programmer n e y n' →
+        IsPlaceWith w variables programmer x n e y n'
+    place_last : {x y : Tree} {n n' : ℕ} →
+        0 < n → n' ≡ n - 1 → length_of x ≡ Ok y →
+        IsPlaceWith w variables programmer x n length_mark y n'
 
   -- the items, none of which is a splice, have these values, from left to right
   pub data AreWorthWith (w : World) (variables : List ℕ → Option Tree) (programmer : ℤ) : ℕ → Items → List Tree → ℕ → Type 0 where
@@ -66,3 +81,6 @@ IsWorth w active = IsWorthWith w (variables_of active.variables) active.programm
 
 abbrev pub AreWorth : World → Activation → ℕ → Items → List Tree → ℕ → Type 0
 AreWorth w active = AreWorthWith w (variables_of active.variables) active.programmer
+
+abbrev pub IsPlace : World → Activation → Tree → ℕ → Expr → Tree → ℕ → Type 0
+IsPlace w active = IsPlaceWith w (variables_of active.variables) active.programmer

@@ -12,8 +12,8 @@ use crate::elements::{element_at, is_list};
 use crate::glance::{are_leaves, leaves_at_a_glance};
 use crate::integers::number_of;
 use crate::leaves::leaf_at_a_glance;
-use crate::properties::{object_leaf, readable};
-use crate::strings::text_leaf;
+use crate::properties::{object_leaf, readable, readable_written};
+use crate::strings::{name_written, text_leaf};
 use crate::ticks::{take, take_three};
 use crate::worth::variable_of;
 use moo_outcome::Activation;
@@ -90,6 +90,30 @@ pub fn element_at_a_glance<'a>(
 /// is.
 #[inline(always)]
 pub fn property_at_a_glance<'a>(
+    world: &'a World,
+    active: &Activation,
+    left: &mut u32,
+    base: &Expr,
+    name: &Expr,
+) -> Option<&'a Value>
+    ensures value { IfSome result (λ v. IsWorth world.now active.now left.old (property (tree base.now) (tree name.now)) (value_tree v.now) left.new) }
+    ensures ticks { left.new ≤ left.old }
+{
+    let Some(name) = name_written(name) else {
+        return property_named(world, active, left, base, name);
+    };
+    // No cell of the name was ever found: it may be a built-in one.
+    if name.hint() == 0 {
+        return None;
+    }
+    let o = object_leaf(active, base)?;
+    take_three(left)?;
+    readable_written(world, active.programmer, o, name)
+}
+
+// The same, where the name stands in a variable. Not inlined, so that one that is written out pays nothing for it.
+#[inline(never)]
+fn property_named<'a>(
     world: &'a World,
     active: &Activation,
     left: &mut u32,

@@ -3,16 +3,18 @@
 ghost use Rattle.std.specs.Prelude.{◌≡◌, ◌≤◌, suc, pos, Ok, IfSome};
 ghost use Rattle.moo_value.specs.Tree.{integer};
 ghost use Rattle.moo_value.specs.View.{tree as value_tree};
-ghost use Rattle.moo_program.specs.Tree.{index};
+ghost use Rattle.moo_program.specs.Tree.{index, length_mark};
+ghost use Rattle.moo_outcome.specs.declared.frame.Activation.{Activation as ActivationModel};
 ghost use Rattle.moo_program.specs.View.{tree};
 ghost use Rattle.moo_operation.specs.Places.{index_of};
 ghost use Rattle.moo_table.specs.World.{World as WorldModel};
-ghost use Rattle.moo_worth.specs.Worth.{IsWorth};
+ghost use Rattle.moo_worth.specs.Worth.{IsWorth, IsPlace};
 
 use crate::counted::element_at_a_glance;
+use crate::lengths::measured;
 use crate::properties::property_seen;
 use crate::ticks::take;
-use crate::worth::{Sight, copied, operand_worth, variable_of};
+use crate::worth::{DEEPEST, Sight, copied, operand_worth, variable_of};
 use moo_operation as operation;
 use moo_outcome::Activation;
 use moo_program::Expr;
@@ -76,14 +78,14 @@ fn element_searched<'a>(
     if !is_list(list) {
         return None;
     }
-    let place = operand_worth(sight, left, place, deep)?;
+    let place = place_worth(sight, left, list, place, deep)?;
     element_at(list, place)
 }
 
-// What stands in a variable, in a property or at a place of a list, where it stands.
+/// What stands in a variable, in a property or at a place of a list, where it stands.
 #[cycle(worth)]
 #[inline(always)]
-fn container_worth<'a>(
+pub(crate) fn container_worth<'a>(
     sight: &Sight<'a>,
     left: &mut u32,
     expr: &Expr,
@@ -105,6 +107,34 @@ fn container_worth<'a>(
     }
 }
 
+/// A place of what stands there: `$` is its length.
+#[cycle(worth)]
+#[inline(always)]
+pub(crate) fn place_worth(
+    sight: &Sight<'_>,
+    left: &mut u32,
+    container: &Value,
+    place: &Expr,
+    deep: u8,
+) -> Option<i32>
+    ensures value { IfSome result (λ k. IsPlace sight.now.world.now sight.now.active.now (value_tree container.now) left.old (tree place.now) (integer k) left.new) }
+    ensures ticks { left.new ≤ left.old }
+{
+    if let Expr::Length = place {
+        return length_taken(left, container);
+    }
+    operand_worth(sight, left, place, deep)
+}
+
+// The length of what is indexed, which takes a tick.
+fn length_taken(left: &mut u32, container: &Value) -> Option<i32>
+    ensures value { IfSome result (λ k. (w : WorldModel) (a : ActivationModel) → IsPlace w a (value_tree container.now) left.old length_mark (integer k) left.new) }
+    ensures ticks { left.new ≤ left.old }
+{
+    take(left)?;
+    measured(container)
+}
+
 // The value of an element, or the string of a character, as above.
 #[cycle(worth)]
 #[inline(never)]
@@ -123,10 +153,35 @@ pub(crate) fn part_copied(
         return copied(value);
     }
     *left = all;
+    part_searched(sight, left, base, place, deep)
+}
+
+// The same at any place of what stands in a variable, in a property or in a list.
+#[cycle(worth)]
+#[inline(always)]
+fn part_searched(
+    sight: &Sight<'_>,
+    left: &mut u32,
+    base: &Expr,
+    place: &Expr,
+    deep: u8,
+) -> Option<Value>
+    ensures value { IfSome result (λ v. IsWorth sight.now.world.now sight.now.active.now left.old (index (tree base.now) (tree place.now)) (value_tree v) left.new) }
+    ensures ticks { left.new ≤ left.old }
+{
     take(left)?;
     let container = container_worth(sight, left, base, deep)?;
-    let place = operand_worth(sight, left, place, deep)?;
+    let place = place_worth(sight, left, container, place, deep)?;
     part_at(sight.alloc, container, place)
+}
+
+/// The value of an element that is not known at a glance, or the string of a character.
+#[inline(never)]
+pub fn other_part(sight: &Sight<'_>, left: &mut u32, base: &Expr, place: &Expr) -> Option<Value>
+    ensures value { IfSome result (λ v. IsWorth sight.now.world.now sight.now.active.now left.old (index (tree base.now) (tree place.now)) (value_tree v) left.new) }
+    ensures ticks { left.new ≤ left.old }
+{
+    part_searched(sight, left, base, place, DEEPEST)
 }
 
 // The element or the character at a place.

@@ -151,10 +151,10 @@ fn is_timeless(function: Function) -> bool
     }
 }
 
-// The values of its arguments, from left to right.
+/// The values of its arguments, or of the items of a list, from left to right.
 #[cycle(worth)]
 #[inline(always)]
-fn function_arguments(
+pub(crate) fn function_arguments(
     sight: &Sight<'_>,
     left: &mut u32,
     items: &[Item],

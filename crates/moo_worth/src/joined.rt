@@ -8,6 +8,7 @@ ghost use Rattle.moo_program.specs.View.{tree};
 ghost use Rattle.moo_operation.specs.Operators.{binary_of};
 ghost use Rattle.moo_worth.specs.Worth.{IsWorth};
 
+use crate::characters::part_compared;
 use crate::known::is_part;
 use crate::leaves::leaf_value;
 use crate::strings::sum_worth;
@@ -151,4 +152,27 @@ pub(crate) fn compared_worth<'a>(
     }
     let value = joined_worth(sight, left, operator, first, second)?;
     integer_of(Some(&value))
+}
+
+/// The same where one of the operands is an element or a character and the other a string that is written out. If the string stands
+/// second, nothing is copied.
+#[inline(always)]
+pub(crate) fn tested_worth<'a>(
+    sight: &Sight<'a>,
+    left: &mut u32,
+    operator: BinaryOperator,
+    first: &'a Expr,
+    second: &'a Expr,
+) -> Option<i32>
+    ensures value { IfSome result (λ n. IsWorth sight.now.world.now sight.now.active.now left.old (binary operator (tree first.now) (tree second.now)) (integer n) left.new) }
+    ensures ticks { left.new ≤ left.old }
+{
+    let all = *left;
+    if let Expr::Index(base, place) = first {
+        if let Some(number) = part_compared(sight, left, operator, base, place, second) {
+            return Some(number);
+        }
+    }
+    *left = all;
+    compared_worth(sight, left, operator, first, second)
 }

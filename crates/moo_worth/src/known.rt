@@ -4,7 +4,7 @@ use crate::lengths::{as_element, may_be_length};
 use moo_program::{Expr, Item, Literal};
 use moo_value::MooStr;
 
-// How many arguments of a function are looked at.
+// How many arguments of a function, or items of a list, are looked at.
 const MOST_ARGUMENTS: usize = 8;
 
 /// Whether the worth of an expression may be known at once.
@@ -52,26 +52,55 @@ pub(crate) fn is_part(value: &Expr) -> bool {
     matches!(value, Expr::Index(..))
 }
 
-// An element, a property, or a call of a function over values alone.
+// An element, a part, a list, a property, or a call of a function over values alone.
 #[inline]
 fn may_be_seen(value: &Expr) -> bool {
     match value {
         Expr::Index(..) | Expr::Property(..) => true,
+        Expr::Range(_, low, high) => may_be_bound(low) && may_be_bound(high),
+        Expr::List(items) => !begins_with_splice(items),
         Expr::Call(name, items) => may_be_length(name) || may_be_function(name, items),
         _ => false,
     }
+}
+
+// One of the places between which a part stands.
+#[inline]
+fn may_be_bound(place: &Expr) -> bool {
+    match place {
+        Expr::Length => true,
+        Expr::Binary(_, first, second) => is_leaf(first) && is_leaf(second),
+        Expr::Call(name, _) => may_be_length(name),
+        _ => is_leaf(place),
+    }
+}
+
+// What begins so mostly grows where it lies.
+#[inline(always)]
+fn begins_with_splice(items: &[Item]) -> bool {
+    matches!(items.first(), Some(Item::Splice(_)))
+}
+
+/// Whether a list that is written out may be known: so many items are elements alone, and of the kinds that arguments of such a function
+/// are.
+#[inline(always)]
+pub(crate) fn may_be_made(items: &[Item]) -> bool {
+    items.len() <= MOST_ARGUMENTS && may_be_arguments(items)
 }
 
 // A call by a name that may be such a function's, whose arguments may be known: so many are elements alone, and of kinds that may be. A
 // call among them is looked at by its name alone. Not inlined, so that what else is looked at pays nothing for it.
 #[inline(never)]
 fn may_be_function(name: &MooStr, items: &[Item]) -> bool {
-    if !may_be_of_values(name) || items.len() > MOST_ARGUMENTS {
-        return false;
-    }
+    may_be_of_values(name) && items.len() <= MOST_ARGUMENTS && may_be_arguments(items)
+}
+
+#[inline(always)]
+fn may_be_arguments(items: &[Item]) -> bool {
     for item in items {
         let may_be = match as_element(item) {
             Some(Expr::Call(name, _)) => may_be_quick(name),
+            Some(Expr::List(inner)) => inner.len() <= MOST_ARGUMENTS,
             Some(
                 Expr::Literal(_)
                 | Expr::Variable(_)

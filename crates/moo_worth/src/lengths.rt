@@ -61,9 +61,9 @@ pub(crate) fn only_element(items: &[Item]) -> Option<&Expr>
     if rest.is_empty() { Some(only) } else { None }
 }
 
-// How many bytes a string has, or elements a list.
+/// How many bytes a string has, or elements a list.
 #[inline]
-fn measured(value: &Value) -> Option<i32>
+pub(crate) fn measured(value: &Value) -> Option<i32>
     ensures { IfSome result (λ n. length_of (value_tree value.now) ≡ Ok (integer n)) }
 {
     match operation::length_of(value) {

@@ -8,7 +8,7 @@ ghost use Rattle.moo_program.specs.View.{tree};
 ghost use Rattle.moo_worth.specs.Worth.{IsWorth};
 
 use crate::elements::part_copied;
-use crate::joined::compared_worth;
+use crate::joined::{compared_worth, tested_worth};
 use crate::known::{may_be_operand, tests_part};
 use crate::leaves::{is_leaf, leaf_at_a_glance};
 use crate::properties::property_seen;
@@ -100,7 +100,7 @@ fn decided_worth(
         return None;
     }
     if tests_part(first, second) {
-        return compared_worth(sight, left, operator, first, second);
+        return tested_worth(sight, left, operator, first, second);
     }
     let all = *left;
     let number = match number_worth(sight, left, operator, first, second) {

@@ -11,11 +11,11 @@ ghost use Rattle.moo_worth.specs.Leaves.{IsLeaf};
 ghost use Rattle.moo_worth.specs.Worth.{IsWorth};
 
 use crate::counted::property_at_a_glance;
-use crate::strings::text_leaf;
+use crate::strings::{name_written, text_leaf};
 use crate::ticks::{take, take_three};
 use crate::worth::{Sight, copied, integer_of, variable_found};
 use moo_outcome::Activation;
-use moo_program::{Expr, Literal};
+use moo_program::{Expr, Literal, Text};
 use moo_value::{MooStr, Value};
 use moo_world::{Rights, World};
 use std::alloc::Global;
@@ -62,16 +62,90 @@ pub(crate) fn property_number(
     }
 }
 
-// Any such property, the built-in ones among them.
+/// The value of any such property, the built-in ones among them, that is not known at a glance, and of one of the object that such a
+/// property holds.
 #[inline(never)]
-fn property_worth(sight: &Sight<'_>, left: &mut u32, base: &Expr, name: &Expr) -> Option<Value>
+pub fn property_worth(sight: &Sight<'_>, left: &mut u32, base: &Expr, name: &Expr) -> Option<Value>
+    ensures value { IfSome result (λ v. IsWorth sight.now.world.now sight.now.active.now left.old (property (tree base.now) (tree name.now)) (value_tree v) left.new) }
+    ensures ticks { left.new ≤ left.old }
+{
+    if let Expr::Property(holder, held) = base {
+        return held_worth(sight, left, holder, held, name);
+    }
+    object_property(sight, left, base, name)
+}
+
+// The value of a property of the object that another property holds.
+#[inline(never)]
+fn held_worth(
+    sight: &Sight<'_>,
+    left: &mut u32,
+    holder: &Expr,
+    held: &Expr,
+    name: &Expr,
+) -> Option<Value>
+    ensures value { IfSome result (λ v. IsWorth sight.now.world.now sight.now.active.now left.old (property (property (tree holder.now) (tree held.now)) (tree name.now)) (value_tree v) left.new) }
+    ensures ticks { left.new ≤ left.old }
+{
+    let written = name_written(name)?;
+    take(left)?;
+    let o = object_held(sight, left, holder, held)?;
+    take(left)?;
+    property_written(
+        sight.alloc,
+        sight.world,
+        sight.active.programmer,
+        o,
+        written,
+    )
+}
+
+// The object that a property holds, whose own object and name are written out or stand in variables.
+#[inline(always)]
+fn object_held(sight: &Sight<'_>, left: &mut u32, base: &Expr, name: &Expr) -> Option<i32>
+    ensures value { IfSome result (λ o. IsWorth sight.now.world.now sight.now.active.now left.old (property (tree base.now) (tree name.now)) (object o) left.new) }
+    ensures ticks { left.new ≤ left.old }
+{
+    let all = *left;
+    match property_seen(sight, left, base, name) {
+        Some(value) => object_of(value),
+        None => {
+            *left = all;
+            let value = object_property(sight, left, base, name)?;
+            object_of(&value)
+        }
+    }
+}
+
+// The value of a property of an object that is written out or stands in a variable.
+#[inline(always)]
+fn object_property(sight: &Sight<'_>, left: &mut u32, base: &Expr, name: &Expr) -> Option<Value>
+    ensures value { IfSome result (λ v. IsWorth sight.now.world.now sight.now.active.now left.old (property (tree base.now) (tree name.now)) (value_tree v) left.new) }
+    ensures ticks { left.new ≤ left.old }
+{
+    let Some(written) = name_written(name) else {
+        return named_worth(sight, left, base, name);
+    };
+    let o = object_leaf(sight.active, base)?;
+    take_three(left)?;
+    property_written(
+        sight.alloc,
+        sight.world,
+        sight.active.programmer,
+        o,
+        written,
+    )
+}
+
+// The same, where the name stands in a variable.
+fn named_worth(sight: &Sight<'_>, left: &mut u32, base: &Expr, name: &Expr) -> Option<Value>
     ensures value { IfSome result (λ v. IsWorth sight.now.world.now sight.now.active.now left.old (property (tree base.now) (tree name.now)) (value_tree v) left.new) }
     ensures ticks { left.new ≤ left.old }
 {
     let name = text_leaf(sight.active, name)?;
     let o = object_leaf(sight.active, base)?;
     take_three(left)?;
-    property_in_order(sight.alloc, sight.world, sight.active.programmer, o, name)
+    property_read(sight.alloc, sight.world, sight.active.programmer, o, name)
 }
 
 /// The value of such a property that isn't built in. It stays where it is. Not inlined, so that what looks at other expressions too pays
@@ -104,6 +178,36 @@ pub(crate) fn property_read(
         Some(value) => copied(value),
         None => property_in_order(alloc, world, programmer, o, name),
     }
+}
+
+/// The same, where the name is written out.
+#[inline(always)]
+pub(crate) fn property_written(
+    alloc: Global,
+    world: &World,
+    programmer: i32,
+    o: i32,
+    name: &Text,
+) -> Option<Value>
+    ensures { IfSome result (λ v. read_property world.now programmer (object o) (string name.now) ≡ Ok (value_tree v)) }
+{
+    match readable_written(world, programmer, o, name) {
+        Some(value) => copied(value),
+        None => property_in_order(alloc, world, programmer, o, name.string()),
+    }
+}
+
+// The value that the programmer reads of a property that isn't built in, whose name is written out.
+#[inline(always)]
+pub(crate) fn readable_written<'a>(
+    world: &'a World,
+    programmer: i32,
+    o: i32,
+    name: &Text,
+) -> Option<&'a Value>
+    ensures { IfSome result (λ v. read_property world.now programmer (object o) (string name.now) ≡ Ok (value_tree v.now)) }
+{
+    world.readable_written(programmer, o, name)
 }
 
 // The value that the programmer reads of a property that isn't built in.
@@ -192,7 +296,7 @@ fn property_object(sight: &Sight<'_>, left: &mut u32, base: &Expr, name: &Expr) 
     object_of(&value)
 }
 
-/// The name of a property that is set, likewise.
+/// The name of a property that is set, and its ticks as above.
 #[inline(always)]
 pub fn name_worth<'a>(active: &'a Activation, left: &mut u32, name: &'a Expr) -> Option<&'a MooStr>
     ensures value { IfSome result (λ s. (w : WorldModel) → IsWorth w active.now left.old (tree name.now) (string s.now) left.new) }

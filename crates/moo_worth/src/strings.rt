@@ -16,7 +16,7 @@ use crate::ticks::take;
 use crate::worth::{DEEPEST, Sight, variable_found};
 use moo_outcome::Activation;
 use moo_program::operator::BinaryOperator;
-use moo_program::{Expr, Literal};
+use moo_program::{Expr, Literal, Text};
 use moo_value::{MooStr, Value};
 use std::alloc::Global;
 
@@ -83,6 +83,27 @@ fn text_worth<'a>(sight: &Sight<'a>, left: &mut u32, expr: &'a Expr) -> Option<&
     }
 }
 
+/// The string that is written out, with what it is known by as a name.
+#[inline(always)]
+pub fn name_written(expr: &Expr) -> Option<&Text>
+    ensures { IfSome result (λ s. (variables : List ℕ → Option Tree) → IsLeaf variables (tree expr.now) (string s.now)) }
+{
+    match expr {
+        Expr::Literal(literal) => name_literal(literal),
+        _ => None,
+    }
+}
+
+#[inline(always)]
+fn name_literal(literal: &Literal) -> Option<&Text>
+    ensures { IfSome result (λ s. value_of_literal literal.now ≡ string s.now) }
+{
+    match literal {
+        Literal::Str(text) => Some(text),
+        _ => None,
+    }
+}
+
 /// The string that is written out.
 #[inline]
 pub fn text_written(expr: &Expr) -> Option<&MooStr>
@@ -110,7 +131,7 @@ fn text_literal(literal: &Literal) -> Option<&MooStr>
     ensures { IfSome result (λ s. value_of_literal literal.now ≡ string s.now) }
 {
     match literal {
-        Literal::Str(text) => Some(text),
+        Literal::Str(text) => Some(text.string()),
         _ => None,
     }
 }

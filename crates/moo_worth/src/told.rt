@@ -16,11 +16,12 @@ ghost use Rattle.moo_worth.specs.Told.{IsToldTo, IsToldWorth, are_light, is_ligh
 use crate::elements::places_before;
 use crate::joined::applied;
 use crate::leaves::written_out;
-use crate::properties::property_read;
+use crate::properties::{property_read, property_written};
+use crate::strings::name_written;
 use crate::ticks::take;
 use crate::worth::{copied, integer_literal};
 use moo_program::operator::BinaryOperator;
-use moo_program::{Expr, Given, Name};
+use moo_program::{Expr, Given, Name, Text};
 use moo_value::{MooStr, Value};
 use moo_world::World;
 use std::alloc::Global;
@@ -67,8 +68,22 @@ impl Told<'_> {
     {
         take(left)?;
         let base = self.operand(left, base)?;
+        if let Some(written) = name_written(name) {
+            take(left)?;
+            return self.read_written(&base, written);
+        }
         let name = self.operand(left, name)?;
         self.read(&base, &name)
+    }
+
+    // The value of a property that the verb's programmer may read, whose name is written out.
+    fn read_written(&self, base: &Value, name: &Text) -> Option<Value>
+        ensures { IfSome result (λ v. read_property self.now.world.now self.now.programmer (value_tree base.now) (string name.now) ≡ Ok (value_tree v)) }
+    {
+        match base {
+            Value::Obj(o) => property_written(self.alloc, self.world, self.programmer, *o, name),
+            _ => None,
+        }
     }
 
     // The value of a property that the verb's programmer may read.

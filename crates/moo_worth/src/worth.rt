@@ -1,6 +1,6 @@
 //! Expressions whose worth is known at once, since nothing can stop them and they change nothing: numbers, variables that hold one,
-//! operators and choices between these, elements and lengths of what stands in a variable, properties, and calls of functions over values
-//! alone.
+//! operators and choices between these, elements, parts and lengths of what stands in a variable, properties, lists that are written out,
+//! and calls of functions over values alone.
 ghost use Rattle.std.specs.Prelude.{◌≡◌, ◌≤◌, Some, IfSome};
 ghost use Rattle.moo_value.specs.Tree.{integer};
 ghost use Rattle.moo_value.specs.View.{tree as value_tree};
@@ -17,6 +17,7 @@ use crate::integers::{decides, is_other_than_0, number_behind, number_of};
 use crate::joined::leaves_compared;
 use crate::leaves::{held, is_leaf, leaf_at_a_glance, written_out};
 use crate::lengths::may_be_length;
+use crate::lists::{list_worth, range_worth};
 use crate::properties::{property_copied, property_number};
 use crate::ticks::{take, take_three};
 use moo_outcome::Activation;
@@ -26,7 +27,7 @@ use moo_value::Value;
 use moo_world::World;
 use std::alloc::Global;
 
-/// How many operators, indexes and calls may stand in each other. What is deeper is evaluated part by part, so that how often a part is looked
+/// How many operators, indexes, lists and calls may stand in each other. What is deeper is evaluated part by part, so that how often a part is looked
 /// at doesn't grow with what stands round it.
 pub(crate) const DEEPEST: u8 = 4;
 
@@ -38,8 +39,8 @@ pub struct Sight<'a> {
     pub alloc: Global,
 }
 
-/// The value of a literal, of a variable, of an operator or a choice between integers, of a comparison of leaves, of an element, of a
-/// property or of a call of a function over values alone, where it is known at once. Its ticks are taken of those that are left, where
+/// The value of a literal, of a variable, of an operator or a choice between integers, of a comparison of leaves, of an element or a part,
+/// of a property, of a list that is written out or of a call of a function over values alone, where it is known at once. Its ticks are taken of those that are left, where
 /// they are so many.
 #[inline(always)]
 pub fn worth(sight: &Sight<'_>, left: &mut u32, expr: &Expr) -> Option<Value>
@@ -71,6 +72,11 @@ pub(crate) fn value_worth(sight: &Sight<'_>, left: &mut u32, expr: &Expr, deep: 
         }
         Expr::Index(base, place) => part_copied(sight, left, base, place, deep),
         Expr::Property(base, name) => property_copied(sight, left, base, name),
+        Expr::List(items) => list_worth(sight, left, items, deep),
+        // A long part is made only where it stands in nothing else, so that it isn't made again and again.
+        Expr::Range(base, low, high) if deep == DEEPEST => {
+            range_worth(sight, left, base, low, high)
+        }
         Expr::Call(name, items) if !may_be_length(name) => {
             function_worth(sight, left, name, items, deep, false)
         }

@@ -8,8 +8,8 @@ use Rattle.moo_program.specs.View.{items_of}
 use Rattle.moo_program.proofs.Rows.{row_items}
 use Rattle.moo_outcome.proofs.Rest.{drop_next}
 use Rattle.moo_worth.specs.Leaves.{variable_leaf}
-use Rattle.moo_worth.specs.Worth.{AreWorth, none_worth, next_worth, unary_known, decided_known, undecided_known, true_known, false_known}
-use Rattle.moo_worth.proofs.AtOnce.{leaf_worth, operator_worth, element_worth, written_leaf, map_some}
+use Rattle.moo_worth.specs.Worth.{AreWorth, place_known, none_worth, next_worth, unary_known, decided_known, undecided_known, true_known, false_known}
+use Rattle.moo_worth.proofs.AtOnce.{leaf_worth, operator_worth, placed_worth, range_worth, list_worth, written_leaf, map_some}
 use Rattle.moo_worth.proofs.Called.{pushed}
 use Rattle.moo_worth.proofs.Timeless.{function_worth}
 use Rattle.moo_worth.proofs.+worth.Goals as goal
@@ -19,7 +19,7 @@ elements::element_searched-returns-clause-value t c =
     let world = c.args.sight.now.world.now in
     let active = c.args.sight.now.active.now in
     let fits : SFits w32 c.in_ok-place.place = search rules in
-    map_some c.element_at.result (λ v h. element_worth world active c.in_ok-take.ensures.taken c.in_ok-list.ensures.value c.in_ok-place.ensures.value h) (rw (to_z-of_z w32 c.in_ok-place.place fits) at c.element_at.ensures)
+    map_some c.element_at.result (λ v h. placed_worth world active c.in_ok-take.ensures.taken c.in_ok-list.ensures.value c.in_ok-place.ensures.value h) (rw (to_z-of_z w32 c.in_ok-place.place fits) at c.element_at.ensures)
 
 pub elements::container_worth-returns-in_ok-take-in_default : goal.elements::container_worth-returns-in_ok-take-in_default
 elements::container_worth-returns-in_ok-take-in_default t c =
@@ -29,12 +29,12 @@ pub elements::part_copied-returns-in-Some-clause-value : goal.elements::part_cop
 elements::part_copied-returns-in-Some-clause-value t c =
     map_some c.copied.result (λ v h. rw h (c.in-Some.ensures.value c.args.sight.now.world.now)) c.copied.ensures
 
-pub elements::part_copied-returns-clause-value : goal.elements::part_copied-returns-clause-value
-elements::part_copied-returns-clause-value t c =
+pub elements::part_searched-returns-clause-value : goal.elements::part_searched-returns-clause-value
+elements::part_searched-returns-clause-value t c =
     let world = c.args.sight.now.world.now in
     let active = c.args.sight.now.active.now in
     let fits : SFits w32 c.in_ok-place.place = search rules in
-    map_some c.part_at.result (λ v h. element_worth world active c.in_ok-take.ensures.taken c.in_ok-container.ensures.value c.in_ok-place.ensures.value h) (rw (to_z-of_z w32 c.in_ok-place.place fits) at c.part_at.ensures)
+    map_some c.part_at.result (λ v h. placed_worth world active c.in_ok-take.ensures.taken c.in_ok-container.ensures.value c.in_ok-place.ensures.value h) (rw (to_z-of_z w32 c.in_ok-place.place fits) at c.part_at.ensures)
 
 pub worth::operator_worth-returns-clause-value : goal.worth::operator_worth-returns-clause-value
 worth::operator_worth-returns-clause-value t c =
@@ -129,3 +129,23 @@ functions::function_worth-returns-in-Some-two_elements-clause-value t c =
     let world = c.args.sight.now.world.now in
     let active = c.args.sight.now.active.now in
     rw c.in-Some-two_elements.ensures (map_some c.answered-in-Some-two_elements.result (λ v h. function_worth world active c.in_ok-take.ensures.taken (next_worth c.in_ok-first.ensures.value (next_worth c.in_ok-second.ensures.value none_worth)) c.in_ok-function.ensures.0 h) c.answered-in-Some-two_elements.ensures)
+
+pub elements::place_worth-returns-clause-value : goal.elements::place_worth-returns-clause-value
+elements::place_worth-returns-clause-value t c =
+    map_some c.operand_worth.result (λ k h. place_known h) c.operand_worth.ensures.value
+
+pub lists::list_worth-returns-clause-value : goal.lists::list_worth-returns-clause-value
+lists::list_worth-returns-clause-value t c =
+    map_some c.made.result (λ v h. list_worth c.args.sight.now.world.now c.args.sight.now.active.now c.in_ok-take.ensures.taken c.in_ok-values.ensures.value h) c.made.ensures
+
+pub lists::range_worth-returns-clause-value : goal.lists::range_worth-returns-clause-value
+lists::range_worth-returns-clause-value t c =
+    let world = c.args.sight.now.world.now in
+    let active = c.args.sight.now.active.now in
+    let first : SFits w32 c.in_ok-low.low = search rules in
+    let second : SFits w32 c.in_ok-high.high = search rules in
+    map_some c.part_between.result (λ v h. range_worth world active c.in_ok-take.ensures.taken c.in_ok-container.ensures.value c.in_ok-low.ensures.value c.in_ok-high.ensures.value h) (rw (to_z-of_z w32 c.in_ok-low.low first, to_z-of_z w32 c.in_ok-high.high second) at c.part_between.ensures)
+
+pub worth::value_worth-returns-in-List-clause-value : goal.worth::value_worth-returns-in-List-clause-value
+worth::value_worth-returns-in-List-clause-value t c =
+    rw (c.in-List.is, row_items, ← c.deref-in-List.ensures.value) c.list_worth.ensures.value

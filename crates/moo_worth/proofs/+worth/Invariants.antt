@@ -42,6 +42,18 @@ decreases-elements::container_worth l = 8 * l.left.now + 2
 abbrev pub decreases-elements::part_copied : goal.decreases-elements::part_copied
 decreases-elements::part_copied l = 8 * l.left.now + 1
 
+abbrev pub decreases-elements::part_searched : goal.decreases-elements::part_searched
+decreases-elements::part_searched l = 8 * l.left.now
+
+abbrev pub decreases-elements::place_worth : goal.decreases-elements::place_worth
+decreases-elements::place_worth l = 8 * l.left.now + 5
+
+abbrev pub decreases-lists::list_worth : goal.decreases-lists::list_worth
+decreases-lists::list_worth l = 8 * l.left.now + 1
+
+abbrev pub decreases-lists::range_worth : goal.decreases-lists::range_worth
+decreases-lists::range_worth l = 8 * l.left.now + 1
+
 abbrev pub decreases-worth::unary_worth : goal.decreases-worth::unary_worth
 decreases-worth::unary_worth l = 8 * l.left.now + 1
 

@@ -11,4 +11,4 @@ returns-clause-value c =
     let fits : SFits w32 c.in_ok-o.o = search rules in
     let rights : SFits w32 c.args.active.now.programmer = search rules in
     let ticks = three_parts c.in_ok-take_three.ensures.taken in
-    map_some c.readable.result (λ v h. property_worth world active ticks.0 (leaf_worth world active ticks.1 c.in_ok-o.ensures) (leaf_worth world active ticks.2 c.in_ok-name.ensures) h) (rw (to_z-of_z w32 c.in_ok-o.o fits, to_z-of_z w32 c.args.active.now.programmer rights) at c.readable.ensures)
+    map_some c.readable_written.result (λ v h. property_worth world active ticks.0 (leaf_worth world active ticks.1 c.in_ok-o.ensures) (leaf_worth world active ticks.2 (c.in-Some.ensures _)) h) (rw (to_z-of_z w32 c.in_ok-o.o fits, to_z-of_z w32 c.args.active.now.programmer rights) at c.readable_written.ensures)

@@ -2,7 +2,7 @@ use Rattle.std.proofs.Common.{w32, rules}
 use Rattle.std.proofs.lemmas.Int.{to_z-of_z}
 use mir.Val.{SFits}
 use Rattle.moo_worth.proofs.AtOnce.{leaf_worth, property_worth, three_parts, map_some}
-use Rattle.moo_worth.proofs.properties.property_worth.Goals as goal
+use Rattle.moo_worth.proofs.properties.named_worth.Goals as goal
 
 pub returns-clause-value : goal.returns-clause-value
 returns-clause-value c =
@@ -11,4 +11,4 @@ returns-clause-value c =
     let fits : SFits w32 c.in_ok-o.o = search rules in
     let rights : SFits w32 c.args.sight.now.active.now.programmer = search rules in
     let ticks = three_parts c.in_ok-take_three.ensures.taken in
-    map_some c.property_in_order.result (λ v h. property_worth world active ticks.0 (leaf_worth world active ticks.1 c.in_ok-o.ensures) (leaf_worth world active ticks.2 c.in_ok-name.ensures) h) (rw (to_z-of_z w32 c.in_ok-o.o fits, to_z-of_z w32 c.args.sight.now.active.now.programmer rights) at c.property_in_order.ensures)
+    map_some c.property_read.result (λ v h. property_worth world active ticks.0 (leaf_worth world active ticks.1 c.in_ok-o.ensures) (leaf_worth world active ticks.2 c.in_ok-name.ensures) h) (rw (to_z-of_z w32 c.in_ok-o.o fits, to_z-of_z w32 c.args.sight.now.active.now.programmer rights) at c.property_read.ensures)

@@ -317,12 +317,13 @@ impl Task {
     }
 }
 
-// Whether the worth of a part of an expression may be known at once. Of calls that of `length` alone is looked at, so that nested calls
-// hold no room for more than `evaluate_node`.
+// Whether the worth of a part of an expression may be known at once. Of calls that of `length` alone is looked at, and no list and no range
+// is, so that nested ones hold no room for more than `evaluate_node`.
 #[inline]
 fn may_be_known_within(expr: &Expr) -> bool {
     match expr {
         Expr::Call(name, _) => matches!(name.as_bytes(), [b'l' | b'L', _, _, _, _, _]),
+        Expr::List(_) | Expr::Range(..) => false,
         _ => may_have_worth(expr),
     }
 }

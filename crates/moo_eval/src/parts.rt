@@ -14,8 +14,10 @@ use moo_fast_path::put_value;
 use moo_outcome::Activation;
 use moo_program::{Expr, Name};
 use moo_world::World;
-use moo_worth::worth::{Sight, worth};
-use moo_worth::{copied, element_at_a_glance, may_be_part, property_at_a_glance};
+use moo_worth::worth::Sight;
+use moo_worth::{
+    copied, element_at_a_glance, may_be_part, other_part, property_at_a_glance, property_worth,
+};
 
 impl Task {
     /// Runs a statement that sets a variable to what is neither a leaf nor an operator between two operands, where it is known at once, and
@@ -35,11 +37,11 @@ impl Task {
         match value {
             Expr::Index(base, place) => {
                 self.sets_element(active, name, base, place)
-                    || self.sets_worth(world, active, name, value)
+                    || self.sets_other_part(world, active, name, base, place)
             }
             Expr::Property(base, named) => {
                 self.sets_property(world, active, name, base, named)
-                    || self.sets_worth(world, active, name, value)
+                    || self.sets_other_property(world, active, name, base, named)
             }
             _ => may_be_part(value) && self.sets_known(world, active, name, value),
         }
@@ -108,16 +110,17 @@ impl Task {
         true
     }
 
-    // The same of any element and any property. Not inlined, so that what is looked at where it stands pays nothing for it.
+    // The same of any element, and of a character. Not inlined, so that what is looked at where it stands pays nothing for it.
     #[inline(never)]
-    fn sets_worth(
+    fn sets_other_part(
         &mut self,
         world: &World,
         active: &mut Activation,
         name: &Name,
-        value: &Expr,
+        base: &Expr,
+        place: &Expr,
     ) -> bool
-        ensures done { IsTrue result → (c : Context) → Runs Faults c (performs (assign (variable name.now) (tree value.now))) (state_of self.old world.now active.old) (Ok next) (state_of self.new world.now active.new) }
+        ensures done { IsTrue result → (c : Context) → Runs Faults c (performs (assign (variable name.now) (index (tree base.now) (tree place.now)))) (state_of self.old world.now active.old) (Ok next) (state_of self.new world.now active.new) }
         ensures fewer { IsTrue result → self.new.ticks_left < self.old.ticks_left }
         ensures kept { IsFalse result → (self.new ≡ self.old) × (active.new ≡ active.old) }
     {
@@ -131,7 +134,41 @@ impl Task {
             active,
             alloc: self.alloc,
         };
-        let Some(value) = worth(&sight, &mut left, value) else {
+        let Some(value) = other_part(&sight, &mut left, base, place) else {
+            return false;
+        };
+        if !put_value(active, name, value) {
+            return false;
+        }
+        self.ticks_left.leave(left);
+        true
+    }
+
+    // The same of any property. Not inlined, likewise.
+    #[inline(never)]
+    fn sets_other_property(
+        &mut self,
+        world: &World,
+        active: &mut Activation,
+        name: &Name,
+        base: &Expr,
+        named: &Expr,
+    ) -> bool
+        ensures done { IsTrue result → (c : Context) → Runs Faults c (performs (assign (variable name.now) (property (tree base.now) (tree named.now)))) (state_of self.old world.now active.old) (Ok next) (state_of self.new world.now active.new) }
+        ensures fewer { IsTrue result → self.new.ticks_left < self.old.ticks_left }
+        ensures kept { IsFalse result → (self.new ≡ self.old) × (active.new ≡ active.old) }
+    {
+        let mut left = self.ticks_left.left() as u32;
+        if left < 2 {
+            return false;
+        }
+        left -= 2;
+        let sight = Sight {
+            world,
+            active,
+            alloc: self.alloc,
+        };
+        let Some(value) = property_worth(&sight, &mut left, base, named) else {
             return false;
         };
         if !put_value(active, name, value) {

@@ -195,7 +195,7 @@ fn may_be_one(statement: &Stmt) -> bool {
     };
     !matches!(
         &**value,
-        Expr::VerbCall(..) | Expr::Range(..) | Expr::Assign(..) | Expr::Catch(..)
+        Expr::VerbCall(..) | Expr::Assign(..) | Expr::Catch(..)
     )
 }
 

@@ -1,5 +1,5 @@
 //! Properties that are set to what is known at once.
-ghost use Rattle.std.specs.Prelude.{◌≡◌, ◌≤◌, Ok, IsTrue, IsFalse};
+ghost use Rattle.std.specs.Prelude.{◌≡◌, ◌≤◌, ℕ, Ok, IsTrue, IsFalse};
 ghost use Rattle.moo_value.specs.Tree.{Tree, object, string};
 ghost use Rattle.moo_value.specs.View.{tree as value_tree};
 ghost use Rattle.moo_program.specs.View.{tree};
@@ -8,11 +8,12 @@ ghost use Rattle.moo_worth.specs.Worth.{IsWorth};
 ghost use Rattle.moo_fast_path.specs.Changes.{IsWritten};
 
 use moo_outcome::Activation;
-use moo_program::Expr;
+use moo_program::{Expr, Text};
 use moo_value::{MooStr, Value};
 use moo_world::World;
+use moo_worth::ticks::take;
 use moo_worth::worth::Sight;
-use moo_worth::{name_worth, near_number, object_worth, value_part};
+use moo_worth::{name_worth, name_written, near_number, object_worth, value_part};
 use std::alloc::Global;
 
 /// Sets a property to what is known at once. The ticks are taken of those that are left.
@@ -38,20 +39,52 @@ pub fn writes(
     let Some(o) = object_worth(&sight, left, base) else {
         return false;
     };
-    let Some(name) = name_worth(active, left, name) else {
+    let Some(text) = name_written(name) else {
+        return writes_named(alloc, world, active, left, o, name, value);
+    };
+    let Some(()) = take(left) else {
         return false;
     };
     let all = *left;
     match near_number(active, left, value) {
-        Some(number) => set_property(world, active.programmer, o, name, Value::Int(number)),
+        Some(number) => set_written(world, active.programmer, o, text, Value::Int(number)),
         None => {
             *left = all;
-            writes_value(alloc, world, active, left, o, name, value)
+            writes_value(alloc, world, active, left, o, text, value)
         }
     }
 }
 
-// The same of what is no integer that is known at a glance. Not inlined, so that what is one pays nothing for it.
+// The same, where the name of the property stands in a variable. Not inlined, so that one that is written out pays nothing for it.
+#[inline(never)]
+fn writes_named(
+    alloc: Global,
+    world: &mut World,
+    active: &Activation,
+    left: &mut u32,
+    o: i32,
+    name: &Expr,
+    value: &Expr,
+) -> bool
+    ensures set { IsTrue result → (n v : Tree) × (told : ℕ) × IsWorth world.old active.now left.old (tree name.now) n told × IsWorth world.old active.now told (tree value.now) v left.new × (write_property world.old active.now.programmer (object o) n v ≡ Ok world.new) }
+    ensures kept { IsFalse result → world.new ≡ world.old }
+    ensures ticks { left.new ≤ left.old }
+{
+    let sight = Sight {
+        world,
+        active,
+        alloc,
+    };
+    let Some(name) = name_worth(active, left, name) else {
+        return false;
+    };
+    let Some(value) = value_part(&sight, left, value) else {
+        return false;
+    };
+    set_property(world, active.programmer, o, name, value)
+}
+
+// The same of what is no integer that is known at a glance. Not inlined, likewise.
 #[inline(never)]
 fn writes_value(
     alloc: Global,
@@ -59,7 +92,7 @@ fn writes_value(
     active: &Activation,
     left: &mut u32,
     o: i32,
-    name: &MooStr,
+    name: &Text,
     value: &Expr,
 ) -> bool
     ensures set { IsTrue result → (v : Tree) × IsWorth world.old active.now left.old (tree value.now) v left.new × (write_property world.old active.now.programmer (object o) (string name.now) v ≡ Ok world.new) }
@@ -74,7 +107,7 @@ fn writes_value(
     let Some(value) = value_part(&sight, left, value) else {
         return false;
     };
-    set_property(world, active.programmer, o, name, value)
+    set_written(world, active.programmer, o, name, value)
 }
 
 // Sets a property with the rights of a programmer, and tells whether nothing is raised.
@@ -84,4 +117,13 @@ fn set_property(world: &mut World, programmer: i32, o: i32, name: &MooStr, value
     ensures kept { IsFalse result → world.new ≡ world.old }
 {
     world.set_by(programmer, o, name.as_bytes(), value).is_ok()
+}
+
+// The same of one whose name is written out.
+#[inline(always)]
+fn set_written(world: &mut World, programmer: i32, o: i32, name: &Text, value: Value) -> bool
+    ensures set { IsTrue result → write_property world.old programmer (object o) (string name.now) (value_tree value) ≡ Ok world.new }
+    ensures kept { IsFalse result → world.new ≡ world.old }
+{
+    world.set_written_by(programmer, o, name, value).is_ok()
 }

@@ -8,4 +8,4 @@ pub returns-clause-set : goal.returns-clause-set
 returns-clause-set c =
     let rights : SFits w32 c.args.active.now.programmer = search rules in
     let fits : SFits w32 c.args.o = search rules in
-    λ t. (_, c.in-Some.ensures.value, rw (to_z-of_z w32 c.args.active.now.programmer rights, to_z-of_z w32 c.args.o fits) at (c.set_property.ensures.set t))
+    λ t. (_, c.in-Some.ensures.value, rw (to_z-of_z w32 c.args.active.now.programmer rights, to_z-of_z w32 c.args.o fits) at (c.set_written.ensures.set t))

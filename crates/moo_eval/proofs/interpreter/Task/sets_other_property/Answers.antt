@@ -3,7 +3,7 @@ use Rattle.std.proofs.lemmas.Bool.Decides.{nat_tests}
 use mir.Syntax.{w32}
 use mir.Val.{SFits}
 use Rattle.moo_eval.proofs.Foreseen.{set_ahead, ticks_seen}
-use Rattle.moo_eval.proofs.interpreter.Task.sets_worth.Goals as goal
+use Rattle.moo_eval.proofs.interpreter.Task.sets_other_property.Goals as goal
 
 pub returns-clause-done : goal.returns-clause-done
 returns-clause-done c =

@@ -275,6 +275,48 @@ loops["scatter"] = function()
     end
 end
 
+loops["many-properties"] = function()
+    local thing = {}
+    for number = 1, 30 do
+        thing["property_" .. number] = number
+    end
+    local x
+    local i = 0
+    while i < 4000 do
+        x = thing.property_20
+        i = i + 1
+    end
+end
+
+loops["new-list"] = function()
+    local x
+    local i = 0
+    while i < 4000 do
+        x = {i, 2, 3}
+        i = i + 1
+    end
+end
+
+loops["last"] = function()
+    local l = {1, 2, 3, 4, 5}
+    local x
+    local i = 0
+    while i < 4000 do
+        x = l[#l]
+        i = i + 1
+    end
+end
+
+loops["part"] = function()
+    local l = {1, 2, 3, 4, 5}
+    local x
+    local i = 0
+    while i < 4000 do
+        x = {table.unpack(l, 2)}
+        i = i + 1
+    end
+end
+
 for task = 1, tonumber(arg[2]) do
     loops[arg[1]]()
 end

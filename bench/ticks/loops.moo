@@ -23,3 +23,7 @@ least~x = 0; i = 0; while (i < 4000) x = min(i, 7); i = i + 1; endwhile
 grid~m = {{1, 2, 3}, {4, 5, 6}, {7, 8, 9}}; x = 0; i = 0; while (i < 4000) x = x + m[i % 3 + 1][2]; i = i + 1; endwhile
 characters~s = "the quick brown fox"; x = 0; i = 0; while (i < 4000) if (s[i % 19 + 1] == "o") x = i; endif i = i + 1; endwhile
 scatter~l = {1, 2}; i = 0; while (i < 4000) {a, b} = l; i = i + 1; endwhile
+many-properties~i = 0; while (i < 4000) x = #1.property_20; i = i + 1; endwhile
+new-list~i = 0; while (i < 4000) x = {i, 2, 3}; i = i + 1; endwhile
+last~l = {1, 2, 3, 4, 5}; i = 0; while (i < 4000) x = l[$]; i = i + 1; endwhile
+part~l = {1, 2, 3, 4, 5}; i = 0; while (i < 4000) x = l[2..$]; i = i + 1; endwhile

@@ -222,6 +222,41 @@ def scatter():
         i = i + 1
 
 
+def many_properties():
+    class Thing:
+        pass
+    thing = Thing()
+    for number in range(1, 31):
+        setattr(thing, f"property_{number}", number)
+    i = 0
+    while i < 4000:
+        x = thing.property_20
+        i = i + 1
+
+
+def new_list():
+    i = 0
+    while i < 4000:
+        x = [i, 2, 3]
+        i = i + 1
+
+
+def last():
+    l = [1, 2, 3, 4, 5]
+    i = 0
+    while i < 4000:
+        x = l[-1]
+        i = i + 1
+
+
+def part():
+    l = [1, 2, 3, 4, 5]
+    i = 0
+    while i < 4000:
+        x = l[1:]
+        i = i + 1
+
+
 loop = globals()[{"while": "while_"}.get(sys.argv[1], sys.argv[1].replace("-", "_"))]
 for task in range(int(sys.argv[2])):
     loop()

@@ -1,5 +1,6 @@
-# Prints the database of a world whose player #1, a wizard, has a verb for each loop of loops.moo, and one `start` of no turn. Each tells the ticks
-# that are left at its end. #0 has the property `size`, the verb `id`, which returns its argument, and `kept`, which sets a variable first.
+# Prints the database of a world whose player #1, a wizard, has thirty properties, a verb for each loop of loops.moo, and one `start` of no turn.
+# Each verb tells the ticks that are left at its end. #0 has the property `size`, the verb `id`, which returns its argument, and `kept`, which sets a
+# variable first.
 function head(o, name, flags) {
     print "#" o; print name; print ""; print flags; print 1; print -1; print -1; print -1; print -1; print -1; print -1
 }
@@ -15,7 +16,7 @@ BEGIN {
     print 1; print "size"; print 1; print 0; print 0; print 1; print 5
     head(1, "Wizard", 7)
     print many; for (i = 1; i <= many; i++) verb(name[i], 13)
-    print 0; print 0
+    print 30; for (i = 1; i <= 30; i++) print "property_" i; print 30; for (i = 1; i <= 30; i++) { print 0; print i; print 0; print 5 }
     print "#0:0"; print "return #1;"; print "."
     print "#0:1"; print "return args[1];"; print "."
     print "#0:2"; print "y = args[1];"; print "return y;"; print "."

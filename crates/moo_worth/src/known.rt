@@ -58,7 +58,7 @@ fn may_be_seen(value: &Expr) -> bool {
     match value {
         Expr::Index(..) | Expr::Property(..) => true,
         Expr::Range(_, low, high) => may_be_bound(low) && may_be_bound(high),
-        Expr::List(items) => !begins_with_splice(items),
+        Expr::List(items) => !has_outer_splice(items),
         Expr::Call(name, items) => may_be_length(name) || may_be_function(name, items),
         _ => false,
     }
@@ -75,10 +75,10 @@ fn may_be_bound(place: &Expr) -> bool {
     }
 }
 
-// What begins so mostly grows where it lies.
+// Whether a list begins or ends with a splice, as one that grows does.
 #[inline(always)]
-fn begins_with_splice(items: &[Item]) -> bool {
-    matches!(items.first(), Some(Item::Splice(_)))
+fn has_outer_splice(items: &[Item]) -> bool {
+    matches!(items.first(), Some(Item::Splice(_))) || matches!(items.last(), Some(Item::Splice(_)))
 }
 
 /// Whether a list that is written out may be known: so many items are elements alone, and of the kinds that arguments of such a function

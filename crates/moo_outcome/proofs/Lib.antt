@@ -11,3 +11,4 @@ pub mod Stored
 pub mod Told
 pub mod Measured
 pub mod Rows
+pub mod Staying

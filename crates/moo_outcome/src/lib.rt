@@ -19,6 +19,7 @@ mod scatter;
 mod shared_values;
 mod slots;
 mod spelling;
+mod standing;
 mod surroundings;
 mod traceback;
 mod variables;

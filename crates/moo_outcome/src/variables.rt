@@ -24,7 +24,7 @@ use std::alloc::{AllocError, Global};
 #[derive(Drop)]
 pub struct Variables {
     given: GivenValues,
-    own: Slots,
+    pub(crate) own: Slots,
     /// The newest last, which hides older ones of its name.
     others: Vec<Variable>,
 }

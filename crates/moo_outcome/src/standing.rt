@@ -1,0 +1,64 @@
+//! Variables by the slots in which they stand.
+ghost use Rattle.std.specs.Prelude.{◌≡◌, ◌<◌, ℕ, List, Some, length, slice_set, IsTrue, IsFalse, IfSome};
+ghost use Rattle.moo_value.specs.Tree.{Tree, integer, list_of};
+ghost use Rattle.moo_value.specs.Size.{IsWithinLimits};
+ghost use Rattle.moo_value.specs.View.{tree};
+ghost use Rattle.moo_value.specs.Compare.{folded};
+ghost use Rattle.moo_outcome.specs.Variables.{bind, with_variable};
+ghost use Rattle.moo_outcome.specs.Seen.{variables_of};
+ghost use Rattle.moo_outcome.specs.Held.{IsHeld};
+ghost use Rattle.moo_outcome.specs.Standing.{StandsIn};
+
+use crate::variables::Variables;
+use moo_program::Name;
+use moo_value::Value;
+
+impl Variables {
+    /// The slot of a variable that is set, where it is known without a search. It keeps its slot as long as the frame runs.
+    pub fn standing(&self, name: &Name) -> Option<usize>
+        ensures { IfSome result (λ slot. StandsIn self.now name.now slot) }
+    {
+        self.own.known_slot(name)
+    }
+
+    /// The value in a slot.
+    #[inline(always)]
+    pub fn standing_value(&self, slot: usize) -> &Value
+        requires { IsHeld self.now.own slot }
+        ensures { (name : List ℕ) → StandsIn self.now name slot → variables_of self.now (folded name) ≡ Some (tree result.now) }
+    {
+        self.own.held(slot)
+    }
+
+    /// Sets the variable in a slot.
+    #[inline(always)]
+    pub fn put_standing(&mut self, slot: usize, value: Value)
+        requires { IsHeld self.old.own slot }
+        ensures put { (name : List ℕ) → StandsIn self.old name slot → variables_of self.new ≡ with_variable (variables_of self.old) (bind name (tree value)) }
+        ensures stand { (name : List ℕ) (other : ℕ) → StandsIn self.old name other → StandsIn self.new name other }
+    {
+        self.own.set_held(slot, value);
+    }
+
+    /// The same to an integer. One that holds an integer is changed where it stands.
+    #[inline(always)]
+    pub fn put_standing_integer(&mut self, slot: usize, number: i32)
+        requires { IsHeld self.old.own slot }
+        ensures put { (name : List ℕ) → StandsIn self.old name slot → variables_of self.new ≡ with_variable (variables_of self.old) (bind name (integer number)) }
+        ensures stand { (name : List ℕ) (other : ℕ) → StandsIn self.old name other → StandsIn self.new name other }
+    {
+        self.own.set_held_integer(slot, number);
+    }
+
+    /// Puts an integer at a place of the list in a slot, in the place of another integer, where nothing else shares the list, and tells
+    /// whether it did. `index` is counted from 0. No memory is asked for.
+    #[inline(always)]
+    pub fn put_standing_element(&mut self, slot: usize, index: usize, number: i32) -> bool
+        requires { IsHeld self.old.own slot }
+        ensures put { IsTrue result → (name : List ℕ) → StandsIn self.old name slot → (ts : List Tree) × (variables_of self.old (folded name) ≡ Some (list_of ts)) × (index < length ts) × IsWithinLimits (list_of (slice_set ts index (integer number))) × (variables_of self.new ≡ with_variable (variables_of self.old) (bind name (list_of (slice_set ts index (integer number))))) }
+        ensures stand { (name : List ℕ) (other : ℕ) → StandsIn self.old name other → StandsIn self.new name other }
+        ensures kept { IsFalse result → self.new ≡ self.old }
+    {
+        self.own.put_held_element(slot, index, number)
+    }
+}

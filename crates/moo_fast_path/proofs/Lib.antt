@@ -1,5 +1,5 @@
 pub mod Refused
-mod InPlace
+pub mod InPlace
 mod Limits
 mod Written
 mod Branched

@@ -66,9 +66,9 @@ pub fn chosen_arm<'a>(
     other_arm(arms)
 }
 
-// The statements that run where the first test is false, if there is no other.
+/// The statements that run where the first test is false, if there is no other.
 #[inline(always)]
-fn other_arm(arms: &[Arm]) -> Option<&[Stmt]>
+pub fn other_arm(arms: &[Arm]) -> Option<&[Stmt]>
     ensures { IfSome result (λ row. (w : WorldModel) (a : ActivationModel) (n : ℕ) → Chooses w a n (arms_of arms.now) (block row.now) n) }
 {
     let Some((first, _)) = arms.split_first() else {

@@ -16,7 +16,7 @@ mod setting;
 mod writing;
 
 pub use appending::as_appended;
-pub use branching::{as_branch, chosen_arm, runs_only};
+pub use branching::{as_branch, chosen_arm, other_arm, runs_only};
 pub use element::{places, set_at};
 pub use forms::{
     Form, as_assignment, as_place_assignment, as_placing, as_scattering, as_setting, as_variable,
@@ -26,4 +26,4 @@ pub use growing::{as_growing, grows};
 pub use growth::{as_longer, set_longer};
 pub use scattering::scatters;
 pub use setting::{put_number, put_value, puts, puts_joined};
-pub use writing::writes;
+pub use writing::{set_written, writes};

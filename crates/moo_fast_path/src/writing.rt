@@ -119,9 +119,9 @@ fn set_property(world: &mut World, programmer: i32, o: i32, name: &MooStr, value
     world.set_by(programmer, o, name.as_bytes(), value).is_ok()
 }
 
-// The same of one whose name is written out.
+/// Sets a property whose name is written out with the rights of a programmer, and tells whether nothing is raised.
 #[inline(always)]
-fn set_written(world: &mut World, programmer: i32, o: i32, name: &Text, value: Value) -> bool
+pub fn set_written(world: &mut World, programmer: i32, o: i32, name: &Text, value: Value) -> bool
     ensures set { IsTrue result → write_property world.old programmer (object o) (string name.now) (value_tree value) ≡ Ok world.new }
     ensures kept { IsFalse result → world.new ≡ world.old }
 {

@@ -192,15 +192,15 @@ fn part_at(alloc: Global, container: &Value, place: i32) -> Option<Value>
     operation::index(alloc, container, &Value::Int(place)).ok()
 }
 
-// Whether a value has elements: what has none is looked at before its place is evaluated.
+/// Whether a value has elements: what has none is looked at before its place is evaluated.
 #[inline(always)]
-pub(crate) fn is_list(value: &Value) -> bool {
+pub fn is_list(value: &Value) -> bool {
     matches!(value, Value::List(_))
 }
 
-// The element at a place of a list.
+/// The element at a place of a list.
 #[inline(always)]
-pub(crate) fn element_at(list: &Value, place: i32) -> Option<&Value>
+pub fn element_at(list: &Value, place: i32) -> Option<&Value>
     ensures { IfSome result (λ v. index_of (value_tree list.now) (integer place) ≡ Ok (value_tree v.now)) }
 {
     match list {

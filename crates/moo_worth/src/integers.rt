@@ -43,7 +43,7 @@ fn integers(operator: BinaryOperator, a: &Value, b: &Value) -> Option<i32>
 
 /// The number that an operator gives for two integers, or `None` where it may fail.
 #[inline(always)]
-pub(crate) fn number_of(operator: BinaryOperator, a: i32, b: i32) -> Option<i32>
+pub fn number_of(operator: BinaryOperator, a: i32, b: i32) -> Option<i32>
     ensures { IfSome result (λ n. binary_of operator (integer a) (integer b) ≡ Ok (integer n)) }
 {
     match operator {

@@ -25,13 +25,15 @@ pub use calls::{as_return, called_worth, returned_worth};
 pub use counted::{
     element_at_a_glance, may_be_near, near_number, property_at_a_glance, shallow_number,
 };
-pub use elements::{other_part, places_before};
+pub use elements::{element_at, is_list, other_part, places_before};
 pub use glance::{are_leaves, leaves_at_a_glance};
 pub use joined::joined_worth;
 pub use known::{may_be_known, may_be_part, may_have_worth};
 pub use leaves::{is_leaf, known_leaf, leaf_at_a_glance};
 pub use lengths::{as_element, length_worth};
 pub use parts::{integer_part, test_worth, value_copied, value_part};
-pub use properties::{name_worth, object_leaf, object_worth, property_worth};
+pub use properties::{
+    name_worth, object_leaf, object_of, object_worth, property_worth, readable_written,
+};
 pub use strings::{name_written, text_written};
-pub use worth::copied;
+pub use worth::{copied, integer_of};

@@ -197,9 +197,9 @@ pub(crate) fn property_written(
     }
 }
 
-// The value that the programmer reads of a property that isn't built in, whose name is written out.
+/// The value that the programmer reads of a property that isn't built in, whose name is written out.
 #[inline(always)]
-pub(crate) fn readable_written<'a>(
+pub fn readable_written<'a>(
     world: &'a World,
     programmer: i32,
     o: i32,
@@ -264,7 +264,7 @@ fn object_literal(literal: &Literal) -> Option<i32>
 
 /// The object that a value is.
 #[inline]
-pub(crate) fn object_of(value: &Value) -> Option<i32>
+pub fn object_of(value: &Value) -> Option<i32>
     ensures { IfSome result (λ o. value_tree value.now ≡ object o) }
 {
     match value {

@@ -16,7 +16,7 @@ pub fn take(left: &mut u32) -> Option<()>
 
 /// Three ticks, where so many are left.
 #[inline(always)]
-pub(crate) fn take_three(left: &mut u32) -> Option<()>
+pub fn take_three(left: &mut u32) -> Option<()>
     ensures taken { IfSome result (λ _. (2 < left.old) × (left.new ≡ left.old - 3)) }
     ensures ticks { left.new ≤ left.old }
 {

@@ -354,8 +354,9 @@ pub(crate) fn integer_literal(literal: &Literal) -> Option<i32>
     }
 }
 
+/// The integer that a value is.
 #[inline]
-pub(crate) fn integer_of(value: Option<&Value>) -> Option<i32>
+pub fn integer_of(value: Option<&Value>) -> Option<i32>
     ensures { IfSome result (λ n. indexed_of value.entry ≡ Some (integer n)) }
 {
     match value {

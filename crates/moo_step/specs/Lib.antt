@@ -1,0 +1,3 @@
+pub mod Ready
+pub mod Turn
+pub mod Running

@@ -9,6 +9,7 @@ use Rattle.moo_outcome.specs.State.{Context}
 use Rattle.moo_code_function.specs.Telling.{Faults}
 use Rattle.moo_call.specs.Seen.{state_at}
 use Rattle.moo_fast_path.specs.Branching.{Chooses, none_chosen, else_chosen, test_passes, test_fails, IsDone, is_set, is_grown, is_placed, is_written, is_scattered, AreDone, none_done, one_done}
+use Rattle.moo_step.specs.Running.{HasRun, alone, branched}
 use Rattle.moo_semantics.specs.Meaning.{Runs, RunsAll, ends, proceeds, Selects, none_selected, else_runs, arm_runs, arm_passed, statement_begins, selects}
 use Rattle.moo_eval.proofs.Foreseen.{set_ahead, grown_ahead, placed_ahead, written_ahead}
 use Rattle.moo_eval.proofs.Scattered.{scattered_ahead}
@@ -37,3 +38,8 @@ arms_run {notices = notices} c (test_fails g p r) d = arm_passed (worth_gives g 
 -- an `if` runs the arm that its tests choose
 pub branched_ahead : {w w' : World} {active active' : Activation} {n m k : ℕ} {notices : List Notice} {e : Expr} {b b' : Block} {arms : Arms} (c : Context) → 0 < n → Chooses w active (n - 1) (elseif e b arms) b' m → AreDone w active w' active' m k b' → Runs Faults c (branches e b arms) (state_at n notices w active) (Ok next) (state_at k notices w' active')
 branched_ahead c h r d = statement_begins h (selects (arms_run c r d))
+
+-- a statement that was ready
+pub has_run : {w w' : World} {active active' : Activation} {n m : ℕ} {notices : List Notice} {t : Stmt} (c : Context) → HasRun w active w' active' n m t → Runs Faults c t (state_at n notices w active) (Ok next) (state_at m notices w' active')
+has_run c (alone d) = one_runs c d
+has_run c (branched h r d) = branched_ahead c h r d

@@ -17,3 +17,4 @@ mod Scattered
 mod Branched
 mod Turned
 mod Returned
+mod InTurn

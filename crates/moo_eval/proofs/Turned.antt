@@ -1,5 +1,5 @@
 -- Loops from within a turn on.
-use Rattle.std.proofs.Common.{◌≡◌, ℕ, ℤ, pos, ◌+ℤ◌, List, [], ◌∷◌, true, Option, Some, None, Result, Ok, refl, int_le}
+use Rattle.std.proofs.Common.{◌≡◌, ℕ, ◌+◌, ◌-◌, ℤ, pos, ◌+ℤ◌, List, [], ◌∷◌, true, Option, Some, None, Result, Ok, Err, IfOk, IfSome, IfNone, refl, ap, int_le, arith}
 use Rattle.moo_value.specs.Tree.{Tree}
 use Rattle.moo_program.specs.Tree.{Expr, Block, no_statement}
 use Rattle.moo_outcome.specs.Outcome.{Flow, Stop, next}
@@ -7,7 +7,11 @@ use Rattle.moo_outcome.specs.Leading.{numbered}
 use Rattle.moo_outcome.specs.declared.leading.Span.{Span}
 use Rattle.moo_outcome.specs.State.{Context}
 use Rattle.moo_outcome.specs.Variables.{Binding, bind}
-use Rattle.moo_access.specs.State.{State}
+use Rattle.moo_table.specs.World.{World}
+use Rattle.moo_outcome.specs.declared.frame.Activation.{Activation}
+use Rattle.moo_outcome.specs.declared.notice.Notice.{Notice}
+use Rattle.moo_call.specs.Seen.{state_at}
+use Rattle.moo_access.specs.State.{State, ticked}
 use Rattle.moo_code_function.specs.Telling.{Telling}
 use Rattle.moo_semantics.specs.Meaning.{RunsAll, Turns, Loops, Visits, Counts, ends, turns, loop_left, loop_then, visit_left, visit_then, count_left, count_then}
 use Rattle.moo_eval.specs.Turning.{EndsTurn, Within, turn_left, turn_done, IsTested, IsBegun}
@@ -34,3 +38,19 @@ visits_within g f (turn_done h d) = visit_then (turn_within g f h) d
 pub counts_within : {T : Telling} {c : Context} {x : List ℕ} {span : Span} {n : ℤ} {b left : Block} {s s' s'' s3 : State} {o : Result Flow Stop} → int_le n span.high ≡ true → IsBegun (bind x (numbered span.are_objects n) ∷ []) s s' → IsAhead T c left s'' b s' → Within T c (Some x) left (Counts T c x span (n +ℤ pos 1) b) s'' o s3 → Counts T c x span n b s o s3
 counts_within z g f (turn_left h) = count_left z (turn_within g f h)
 counts_within z g f (turn_done h d) = count_then z (turn_within g f h) d
+
+-- the tick of a turn
+pub tick_taken : (n : ℕ) (notices : List Notice) (w : World) (active : Activation) → ticked (state_at (n + 1) notices w active) ≡ state_at n notices w active
+tick_taken n notices w active = let one : (n + 1) - 1 ≡ n = omega arith in ap (λ k. state_at k notices w active) one
+
+-- of statements that are left, if there are any
+pub ok_some : {A E : Type 0} {P Q : A → Type 0} (r : Result (Option A) E) → ((x : A) → P x → Q x) → IfOk r (λ o. IfSome o P) → IfOk r (λ o. IfSome o Q)
+ok_some (Ok (Some x)) f h = f x h
+ok_some (Ok None) f h = tt
+ok_some (Err e) f h = tt
+
+-- where none is left
+pub ok_none : {A E P Q : Type 0} (r : Result (Option A) E) → (P → Q) → IfOk r (λ o. IfNone o P) → IfOk r (λ o. IfNone o Q)
+ok_none (Ok (Some x)) f h = tt
+ok_none (Ok None) f h = f h
+ok_none (Err e) f h = tt

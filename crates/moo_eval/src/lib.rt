@@ -17,12 +17,14 @@ mod line;
 mod loops;
 mod operators;
 mod parts;
+mod readied;
 mod returning;
 mod scattering;
 mod statement;
 mod task;
 mod trying;
 mod turning;
+mod turns;
 mod typed;
 mod writing;
 

@@ -31,15 +31,17 @@ use std::alloc::AllocError;
 
 impl Task {
     /// Runs turns of a `while`, as far as its test and the statements are known at once: the statements that are left of the turn in which
-    /// it stands then, or `None` where it stands before a test. Not inlined: nested loops would each hold its room on the stack.
+    /// it stands then, or `None` where it stands before a test. `turns` counts down, and the turn at which it comes to 0 isn't begun. Not
+    /// inlined: nested loops would each hold its room on the stack.
     #[inline(never)]
-    pub(crate) fn turns_ahead<'a>(
+    pub(crate) fn some_turns<'a>(
         &mut self,
         world: &mut World,
         active: &mut Activation,
         test: &Expr,
         body: &'a [Stmt],
         stack: &CallStack<'_>,
+        turns: &mut u32,
     ) -> Result<Option<&'a [Stmt]>, AllocError>
         ensures within { IfOk result (λ r. IfSome r (λ left. (own : Option (List ℕ)) (o : Result Flow Stop) (s : State) → Within Faults (context_of stack.now None) own (block left.now) (Loops Faults (context_of stack.now None) own (tree test.now) (block body.now)) (state_of self.new world.new active.new) o s → Loops Faults (context_of stack.now None) own (tree test.now) (block body.now) (state_of self.old world.old active.old) o s)) }
         ensures before { IfOk result (λ r. IfNone r ((own : Option (List ℕ)) (o : Result Flow Stop) (s : State) → Loops Faults (context_of stack.now None) own (tree test.now) (block body.now) (state_of self.new world.new active.new) o s → Loops Faults (context_of stack.now None) own (tree test.now) (block body.now) (state_of self.old world.old active.old) o s)) }
@@ -47,6 +49,10 @@ impl Task {
         ensures ticks { self.new.ticks_left ≤ self.old.ticks_left }
     {
         'turns: loop {
+            *turns = turns.saturating_sub(1);
+            if *turns == 0 {
+                return Ok(None);
+            }
             if !self.begins_turn(world, active, test) {
                 return Ok(None);
             }
@@ -117,7 +123,7 @@ impl Task {
     /// Runs turns of a `for` over values, from the next one on, likewise: the statements that are left of the turn of the value that is
     /// next then, or `None` where it stands before that value's turn or all have had theirs.
     #[inline(never)]
-    pub(crate) fn values_ahead<'a>(
+    pub(crate) fn some_values<'a>(
         &mut self,
         world: &mut World,
         active: &mut Activation,
@@ -126,6 +132,7 @@ impl Task {
         next: &mut usize,
         body: &'a [Stmt],
         stack: &CallStack<'_>,
+        turns: &mut u32,
     ) -> Result<Option<&'a [Stmt]>, AllocError>
         ensures within { IfOk result (λ r. IfSome r (λ left. (o : Result Flow Stop) (s : State) → Within Faults (context_of stack.now None) (Some name.now) (block left.now) (Visits Faults (context_of stack.now None) name.now (trees (drop (next.new + 1) values.now)) (block body.now)) (state_of self.new world.new active.new) o s → Visits Faults (context_of stack.now None) name.now (trees (drop next.old values.now)) (block body.now) (state_of self.old world.old active.old) o s)) }
         ensures before { IfOk result (λ r. IfNone r ((o : Result Flow Stop) (s : State) → Visits Faults (context_of stack.now None) name.now (trees (drop next.new values.now)) (block body.now) (state_of self.new world.new active.new) o s → Visits Faults (context_of stack.now None) name.now (trees (drop next.old values.now)) (block body.now) (state_of self.old world.old active.old) o s)) }
@@ -134,6 +141,10 @@ impl Task {
         ensures ticks { self.new.ticks_left ≤ self.old.ticks_left }
     {
         'values: while let Some(value) = values.get(*next) {
+            *turns = turns.saturating_sub(1);
+            if *turns == 0 {
+                return Ok(None);
+            }
             let begun = self.begins_value(active, name, value)?;
             if !begun {
                 return Ok(None);
@@ -149,7 +160,7 @@ impl Task {
 
     /// Runs turns of a `for` over numbers, from the next one on, likewise.
     #[inline(never)]
-    pub(crate) fn numbers_ahead<'a>(
+    pub(crate) fn some_numbers<'a>(
         &mut self,
         world: &mut World,
         active: &mut Activation,
@@ -158,6 +169,7 @@ impl Task {
         next: &mut i64,
         body: &'a [Stmt],
         stack: &CallStack<'_>,
+        turns: &mut u32,
     ) -> Result<Option<&'a [Stmt]>, AllocError>
         requires { negsuc 2147483647 ≤ℤ next.old }
         ensures within { IfOk result (λ r. IfSome r (λ left. (o : Result Flow Stop) (s : State) → Within Faults (context_of stack.now None) (Some name.now) (block left.now) (Counts Faults (context_of stack.now None) name.now span.now (next.new +ℤ pos 1) (block body.now)) (state_of self.new world.new active.new) o s → Counts Faults (context_of stack.now None) name.now span.now next.old (block body.now) (state_of self.old world.old active.old) o s)) }
@@ -169,6 +181,10 @@ impl Task {
         ensures ticks { self.new.ticks_left ≤ self.old.ticks_left }
     {
         'numbers: while *next <= i64::from(span.high) {
+            *turns = turns.saturating_sub(1);
+            if *turns == 0 {
+                return Ok(None);
+            }
             let value = span.value(*next as i32);
             if !self.begins_visit(active, name, value) {
                 return Ok(None);

@@ -1,20 +1,12 @@
-use Rattle.std.proofs.Common.{arith, None, sym, ◌∙◌}
-use Rattle.std.proofs.lemmas.Bool.{eqb-true}
-use Rattle.moo_outcome.specs.Seen.{context_of}
-use Rattle.moo_eval.specs.Turning.{turn_done}
-use Rattle.moo_eval.proofs.Foreseen.{nothing_left}
-use Rattle.moo_eval.proofs.Turned.{loops_within, turn_over}
+use Rattle.moo_eval.proofs.Turned.{ok_some, ok_none}
 use Rattle.moo_eval.proofs.interpreter.Task.turns_ahead.Goals as goal
 
-pub turns-preserved : goal.turns-preserved
-turns-preserved c =
-    let nothing = nothing_left c.in_ok-left.left.now (eqb-true _ _ (sym c.is_empty.ensures ∙ c.if-not-is_empty.false)) in
-    record { ticks = omega (arith, c.begins_turn.ensures.fewer c.if-not-begins_turn.false, c.turns.invariant.ticks); rest = λ own o s d. c.turns.invariant.rest own o s (loops_within (c.begins_turn.ensures.tested c.if-not-begins_turn.false (context_of c.args.stack.now None)) c.in_ok-left.ensures.rest (turn_done (rw nothing turn_over) d)) }
+pub returns-clause-within : goal.returns-clause-within
+returns-clause-within c =
+    let before = rw c.in_default.is at c.in_ok-left.ensures.before in
+    ok_some c.further_turns.result (λ left h own o s d. before own o s (h own o s d)) c.further_turns.ensures.within
 
-pub returns-then-not-begins_turn-clause-before : goal.returns-then-not-begins_turn-clause-before
-returns-then-not-begins_turn-clause-before c =
-    λ own o s d. c.turns.invariant.rest own o s (rw (c.begins_turn.ensures.kept c.if-not-begins_turn.true) at d)
-
-pub returns-then-not-is_empty-clause-within : goal.returns-then-not-is_empty-clause-within
-returns-then-not-is_empty-clause-within c =
-    λ own o s d. c.turns.invariant.rest own o s (loops_within (c.begins_turn.ensures.tested c.if-not-begins_turn.false (context_of c.args.stack.now None)) c.in_ok-left.ensures.rest d)
+pub returns-clause-before : goal.returns-clause-before
+returns-clause-before c =
+    let before = rw c.in_default.is at c.in_ok-left.ensures.before in
+    ok_none c.further_turns.result (λ h own o s d. before own o s (h own o s d)) c.further_turns.ensures.before

@@ -6,7 +6,7 @@ use Rattle.moo_access.specs.State.{State}
 use Rattle.moo_code_function.specs.Telling.{Faults}
 use Rattle.moo_semantics.specs.Meaning.{Loops}
 use Rattle.moo_eval.specs.Seen.{state_of}
-use Rattle.moo_eval.proofs.interpreter.Task.turns_ahead.Given as goal
+use Rattle.moo_eval.proofs.interpreter.Task.some_turns.Given as goal
 
 -- what the loop does from here is what it does from its start
 abbrev pub invariant-turns : goal.invariant-turns

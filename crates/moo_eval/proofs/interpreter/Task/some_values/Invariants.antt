@@ -7,7 +7,7 @@ use Rattle.moo_access.specs.State.{State}
 use Rattle.moo_code_function.specs.Telling.{Faults}
 use Rattle.moo_semantics.specs.Meaning.{Visits}
 use Rattle.moo_eval.specs.Seen.{state_of}
-use Rattle.moo_eval.proofs.interpreter.Task.values_ahead.Given as goal
+use Rattle.moo_eval.proofs.interpreter.Task.some_values.Given as goal
 
 -- what the rest of the values does is what it does from the function's start
 abbrev pub invariant-values : goal.invariant-values

@@ -1,0 +1,26 @@
+use Rattle.std.proofs.Common.{◌≤◌, ℕ, List, negsuc, Result}
+use Rattle.std.specs.Prelude.{◌≤ℤ◌}
+use Rattle.moo_program.specs.View.{block}
+use Rattle.moo_program.specs.declared.tree.Stmt.{Stmt}
+use Rattle.moo_outcome.specs.Outcome.{Flow, Stop}
+use Rattle.moo_outcome.specs.State.{Context}
+use Rattle.moo_outcome.specs.Standing.{StandsIn}
+use Rattle.moo_access.specs.State.{State}
+use Rattle.moo_code_function.specs.Telling.{Faults}
+use Rattle.moo_step.specs.Ready.{Stay, AreReady}
+use Rattle.moo_semantics.specs.Meaning.{Counts}
+use Rattle.moo_eval.specs.Seen.{state_of}
+use Rattle.moo_eval.proofs.interpreter.Task.ready_numbers.Given as goal
+
+-- what the loop does from here is what it does from the function's start
+abbrev pub invariant-numbers : goal.invariant-numbers
+invariant-numbers l = record {
+  ticks : l.self.ticks_left ≤ l.fn.self.ticks_left;
+  low : negsuc 2147483647 ≤ℤ l.next;
+  later : l.fn.next ≤ℤ l.next;
+  stay : Stay l.fn.active.variables l.active.variables;
+  rest : (c : Context) (name : List ℕ) (b : List Stmt) → StandsIn l.fn.active.variables name l.slot → AreReady l.fn.active.variables l.turn b → (o : Result Flow Stop) (s : State) → Counts Faults c name l.span l.next (block b) (state_of l.self l.world l.active) o s → Counts Faults c name l.span l.fn.next (block b) (state_of l.fn.self l.fn.world l.fn.active) o s;
+}
+
+abbrev pub decreases-numbers : goal.decreases-numbers
+decreases-numbers l = l.self.ticks_left

@@ -1,6 +1,6 @@
 use Rattle.std.proofs.Common.{arith}
 use Rattle.moo_value.proofs.Replaced.{measured_alike}
-use Rattle.moo_value.proofs.list.puts_integer.Goals as goal
+use Rattle.moo_value.proofs.elements.puts_integer.Goals as goal
 
 pub returns-clause-alike : goal.returns-clause-alike
 returns-clause-alike c = λ w d m.

@@ -1,0 +1,118 @@
+// The elements of lists, copied only where they are shared.
+ghost use Rattle.std.specs.Prelude.{◌≡◌, ◌<◌, ◌++◌, ◌∷◌, [], length, vec_len, slice_set, ℕ, IsTrue, IsFalse, IfOk, OnOk};
+ghost use Rattle.moo_value.specs.Inner.{IsMeasuredList};
+ghost use Rattle.moo_value.specs.Held.{IsAlike};
+ghost use Rattle.moo_value.specs.View.{trees};
+ghost use Rattle.moo_value.specs.declared.value.Value.TheVariants.{Int};
+
+use crate::string::total_length;
+use crate::value::Value;
+use std::alloc::{AllocError, Global};
+use std::rc::Rc;
+
+// The elements with this value behind them, copied only where another list shares them.
+pub(crate) fn with_last(
+    alloc: Global,
+    elements: Rc<Vec<Value>>,
+    value: Value,
+) -> Result<Rc<Vec<Value>>, AllocError>
+    ensures { IfOk result (λ all. all.value.items ≡ elements.value.items ++ value ∷ []) }
+{
+    let mut elements = elements;
+    if let Some(own) = Rc::get_mut(&mut elements) {
+        own.push(value)?;
+        return Ok(elements);
+    }
+    let mut copies = copied(alloc, &elements)?;
+    copies.push(value)?;
+    Ok(Rc::new(alloc, copies)?)
+}
+
+// The elements with this value in place of one, likewise.
+pub(crate) fn with_put(
+    alloc: Global,
+    elements: Rc<Vec<Value>>,
+    index: usize,
+    value: Value,
+) -> Result<Rc<Vec<Value>>, AllocError>
+    requires { index < vec_len elements.value }
+    ensures { IfOk result (λ all. all.value.items ≡ slice_set elements.value.items index value) }
+{
+    let mut elements = elements;
+    if let Some(own) = Rc::get_mut(&mut elements) {
+        put(own, index, value);
+        return Ok(elements);
+    }
+    let mut copies = copied(alloc, &elements)?;
+    put(&mut copies, index, value);
+    Ok(Rc::new(alloc, copies)?)
+}
+
+// Puts an integer in the place of another, and tells whether one stands there.
+#[tactic(auto, using(crate::proofs::Replaced::measured_alike, crate::proofs::Replaced::put_back))]
+#[inline]
+pub(crate) fn puts_integer(elements: &mut Vec<Value>, index: usize, number: i32) -> bool
+    ensures put { IsTrue result → (index < length elements.old.items) × (elements.new.items ≡ slice_set elements.old.items index (Int number)) }
+    ensures alike { (w d : ℕ) → IsMeasuredList w d (trees elements.old.items) → IsMeasuredList w d (trees elements.new.items) }
+    ensures kept { IsFalse result → elements.new.items ≡ elements.old.items }
+{
+    if index >= elements.len() {
+        return false;
+    }
+    replaces_integer(&mut elements[index], number)
+}
+
+// The same of the place.
+#[inline]
+fn replaces_integer(place: &mut Value, number: i32) -> bool
+    ensures put { IsTrue result → place.new ≡ Int number }
+    ensures alike { IsAlike place.old place.new }
+    ensures kept { IsFalse result → place.new ≡ place.old }
+{
+    match place {
+        Value::Int(held) => {
+            *held = number;
+            true
+        }
+        _ => false,
+    }
+}
+
+fn put(elements: &mut Vec<Value>, index: usize, value: Value)
+    requires { index < vec_len elements.old }
+    ensures { elements.new.items ≡ slice_set elements.old.items index value }
+{
+    elements[index] = value;
+}
+
+pub(crate) fn copied(alloc: Global, elements: &[Value]) -> Result<Vec<Value>, AllocError>
+    ensures { IfOk result (λ v. v.items ≡ elements.now) }
+{
+    let mut copies = Vec::with_capacity(alloc, elements.len())?;
+    push_copies(&mut copies, elements)?;
+    Ok(copies)
+}
+
+pub(crate) fn copied_in_a_row(
+    alloc: Global,
+    front: &[Value],
+    middle: &[Value],
+    back: &[Value],
+) -> Result<Vec<Value>, AllocError>
+    ensures { IfOk result (λ v. v.items ≡ front.now ++ middle.now ++ back.now) }
+{
+    let mut copies = Vec::with_capacity(alloc, total_length(front, middle, back))?;
+    push_copies(&mut copies, front)?;
+    push_copies(&mut copies, middle)?;
+    push_copies(&mut copies, back)?;
+    Ok(copies)
+}
+
+fn push_copies(copies: &mut Vec<Value>, elements: &[Value]) -> Result<(), AllocError>
+    ensures { OnOk result (copies.new.items ≡ copies.old.items ++ elements.now) }
+{
+    for element in elements {
+        copies.push(element.try_clone()?)?;
+    }
+    Ok(())
+}

@@ -42,6 +42,7 @@ pub(crate) fn set_integer(place: &mut Value, number: i32)
 }
 
 // The same where another value stands there: a function of its own, so that what holds an integer pays nothing for it.
+#[cold]
 #[inline(never)]
 fn replace_by_integer(place: &mut Value, number: i32)
     ensures { place.new ≡ Int number }

@@ -9,6 +9,7 @@ mod catching;
 mod frame;
 mod gathered;
 mod given_values;
+mod growing;
 mod handling;
 mod integers;
 pub mod laws;

@@ -1,5 +1,5 @@
 //! The slots of the variables of a program.
-ghost use Rattle.std.specs.Prelude.{◌≡◌, ◌≢◌, ℕ, [], ◌+◌, ◌<◌, ◌≤◌, ◌++◌, List, Some, None, map, set, position, length, get_or, option_map, vec_len, vec_capacity, IsTrue, IsFalse, IfOk, IfSome, IfNone};
+ghost use Rattle.std.specs.Prelude.{◌≡◌, ◌≢◌, ℕ, [], ◌∷◌, ◌+◌, ◌<◌, ◌≤◌, ◌++◌, List, Some, None, map, set, position, length, get_or, option_map, vec_len, vec_capacity, IsTrue, IsFalse, IfOk, IfSome, IfNone};
 ghost use Rattle.std.specs.Str.{bytes_eq};
 ghost use Rattle.moo_value.specs.Tree.{Tree, IsText, integer, list_of};
 ghost use Rattle.moo_value.specs.Size.{IsWithinLimits};
@@ -14,6 +14,7 @@ ghost use Rattle.moo_outcome.specs.Held.{with_held, IsHeld};
 ghost use Rattle.moo_outcome.specs.Seen.{slot_value};
 ghost use Rattle.moo_outcome.specs.Slotted.{values_in, unset_slot, with_value, AreSlotsOf};
 
+use crate::growing::push_in;
 use crate::integers::{put_element_in, set_integer};
 use moo_grammar::Program;
 use moo_program::Name;
@@ -144,6 +145,17 @@ impl Slots {
         put_element(&mut self.slots, slot, index, number)
     }
 
+    /// Puts a value behind the list in such a slot, where nothing else shares the list, the list with it is within the limits and there is
+    /// memory for it, and tells whether it did. Else the value is let go.
+    #[inline(always)]
+    pub(crate) fn push_held(&mut self, slot: usize, value: Value) -> bool
+        requires { IsHeld self.old slot }
+        ensures put { IsTrue result → (ts : List Tree) × (get_or self.old.values slot None ≡ Some (ListOf ts)) × IsWithinLimits (list_of (ts ++ tree value ∷ [])) × (self.new ≡ with_held self.old slot (ListOf (ts ++ tree value ∷ []))) }
+        ensures kept { IsFalse result → self.new ≡ self.old }
+    {
+        push_value(&mut self.slots, slot, value)
+    }
+
     /// Sets a slot, which has the numbers of its name from then on.
     pub(crate) fn set(&mut self, slot: usize, value: Value)
         requires { slot < length self.old.values }
@@ -225,6 +237,17 @@ fn put_element(all: &mut Vec<Slot>, slot: usize, index: usize, number: i32) -> b
     put_element_in(&mut all[slot].value, index, number)
 }
 
+// Puts a value behind the list in a slot, and tells whether it did.
+#[inline(always)]
+fn push_value(all: &mut Vec<Slot>, slot: usize, value: Value) -> bool
+    requires { slot < length all.old.items }
+    ensures put { IsTrue result → (ts : List Tree) × ((get_or all.old.items slot unset_slot).value ≡ ListOf ts) × IsWithinLimits (list_of (ts ++ tree value ∷ [])) × (all.new.items ≡ set all.old.items slot (with_value (get_or all.old.items slot unset_slot) (ListOf (ts ++ tree value ∷ [])))) }
+    ensures are { (names : List (List ℕ)) → AreSlotsOf all.old.items names → AreSlotsOf all.new.items names }
+    ensures kept { IsFalse result → all.new.items ≡ all.old.items }
+{
+    push_in(&mut all[slot].value, value)
+}
+
 // The slots of these names, none set. Where every frame has all of them, none has a slot.
 #[inline(always)]
 fn unset_slots(alloc: Global, names: &[Name]) -> Result<Vec<Slot>, AllocError>
@@ -280,6 +303,7 @@ fn own_slot(program: &Program, name: &Name) -> Option<usize>
 }
 
 // The same by a search: a function of its own, so that what is found without one pays nothing for it.
+#[cold]
 #[inline(never)]
 fn searched_slot(program: &Program, name: &Name) -> Option<usize>
     ensures { result ≡ position (λ own. bytes_eq (folded own) (folded name.now)) (slots program.now) }

@@ -1,5 +1,5 @@
 //! Variables by the slots in which they stand.
-ghost use Rattle.std.specs.Prelude.{◌≡◌, ◌<◌, ℕ, List, Some, length, slice_set, IsTrue, IsFalse, IfSome};
+ghost use Rattle.std.specs.Prelude.{◌≡◌, ◌<◌, ◌++◌, ◌∷◌, [], ℕ, List, Some, length, slice_set, IsTrue, IsFalse, IfSome};
 ghost use Rattle.moo_value.specs.Tree.{Tree, integer, list_of};
 ghost use Rattle.moo_value.specs.Size.{IsWithinLimits};
 ghost use Rattle.moo_value.specs.View.{tree};
@@ -60,5 +60,17 @@ impl Variables {
         ensures kept { IsFalse result → self.new ≡ self.old }
     {
         self.own.put_held_element(slot, index, number)
+    }
+
+    /// Puts a value behind the list in a slot, where nothing else shares the list, the list with it is within the limits and there is memory
+    /// for it, and tells whether it did. Else the value is let go.
+    #[inline(always)]
+    pub fn push_standing(&mut self, slot: usize, value: Value) -> bool
+        requires { IsHeld self.old.own slot }
+        ensures put { IsTrue result → (name : List ℕ) → StandsIn self.old name slot → (ts : List Tree) × (variables_of self.old (folded name) ≡ Some (list_of ts)) × IsWithinLimits (list_of (ts ++ tree value ∷ [])) × (variables_of self.new ≡ with_variable (variables_of self.old) (bind name (list_of (ts ++ tree value ∷ [])))) }
+        ensures stand { (name : List ℕ) (other : ℕ) → StandsIn self.old name other → StandsIn self.new name other }
+        ensures kept { IsFalse result → self.new ≡ self.old }
+    {
+        self.own.push_held(slot, value)
     }
 }

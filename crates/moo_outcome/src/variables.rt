@@ -132,6 +132,7 @@ impl Variables {
     }
 
     // The same by a search: a function of its own, so that what is known without one pays nothing for it.
+    #[cold]
     #[inline(never)]
     fn put_searched(&mut self, name: &Name, value: Value) -> bool
         ensures own { IsTrue result → own_variables self.new ≡ with_variable (own_variables self.old) (bind name.now (tree value)) }
@@ -175,6 +176,7 @@ impl Variables {
     }
 
     // The same, wherever the name stands: a function of its own, for what is set seldom.
+    #[cold]
     #[inline(never)]
     fn put_anywhere(&mut self, name: &Name, number: i32) -> bool
         ensures put { IsTrue result → variables_of self.new ≡ with_variable (variables_of self.old) (bind name.now (integer number)) }
@@ -224,6 +226,7 @@ impl Variables {
         }
     }
 
+    #[cold]
     #[inline(never)]
     fn searched(&self, name: &Name) -> Option<&Value>
         ensures { option_map (λ v. tree v.now) result ≡ own_variables self.now (folded name.now) }
@@ -274,6 +277,7 @@ impl Variables {
         }
     }
 
+    #[cold]
     #[inline(never)]
     fn searched_integer(&self, name: &Name) -> Option<i32>
         ensures { IfSome result (λ n. own_variables self.now (folded name.now) ≡ Some (integer n)) }

@@ -32,8 +32,6 @@ pub use known::{may_be_known, may_be_part, may_have_worth};
 pub use leaves::{is_leaf, known_leaf, leaf_at_a_glance};
 pub use lengths::{as_element, length_worth};
 pub use parts::{integer_part, test_worth, value_copied, value_part};
-pub use properties::{
-    name_worth, object_leaf, object_of, object_worth, property_worth, readable_written,
-};
+pub use properties::{name_worth, object_leaf, object_worth, property_worth, readable_written};
 pub use strings::{name_written, text_written};
 pub use worth::{copied, integer_of};

@@ -264,7 +264,7 @@ fn object_literal(literal: &Literal) -> Option<i32>
 
 /// The object that a value is.
 #[inline]
-pub fn object_of(value: &Value) -> Option<i32>
+pub(crate) fn object_of(value: &Value) -> Option<i32>
     ensures { IfSome result (λ o. value_tree value.now ≡ object o) }
 {
     match value {

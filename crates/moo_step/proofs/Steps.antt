@@ -32,7 +32,7 @@ use Rattle.moo_step.specs.declared.step.Branch.{Branch}
 use Rattle.moo_step.specs.declared.step.Part.{Part}
 use Rattle.moo_step.specs.declared.step.Part.TheVariants as part_case
 use Rattle.moo_step.specs.declared.step.Ready.{Ready}
-use Rattle.moo_step.specs.Ready.{Stay, IsVariableIn, IsOperandOf, IsPairOf, IsNearOf, IsNestedOf, IsNumberOf, SetsIn, IsElementOf, IsStepOf, IsRowOf, IsBranchOf, IsPartOf, AreReadyBefore, IsTestOf}
+use Rattle.moo_step.specs.Ready.{Stay, IsVariableIn, IsOperandOf, IsPairOf, IsNearOf, IsNestedOf, IsNumberOf, SetsIn, IsElementOf, GrowsIn, IsStepOf, IsRowOf, IsBranchOf, IsPartOf, AreReadyBefore, IsTestOf}
 
 -- a statement that sets a variable in a slot to what is known at once is done
 pub set_done : (w : World) (old new : Activation) (n k : ℕ) (slot : ℕ) (e : Expr) (t : Stmt) (v : Tree) → 1 < n → SetsIn old.variables slot e t → IsWorth w old (n - 2) e v k → ((name : List ℕ) → StandsIn old.variables name slot → variables_of new.variables ≡ with_variable (variables_of old.variables) (bind name v)) → new.programmer ≡ old.programmer → IsDone w old w new n k t
@@ -42,6 +42,10 @@ set_done w old new n k slot e t v h s g p q = rw s.is (is_set h (record { value 
 pub held_operand : (vs : Variables) (o : Operand) (slot : ℕ) (r : Option ℤ) (v : Value) → o ≡ operand_case.Slot slot → ((name : List ℕ) → StandsIn vs name slot → variables_of vs (folded name) ≡ Some (tree v)) → IfSome r (λ n. Some (tree v) ≡ Some (integer n)) → IfSome r (λ n. (e : Expr) → IsOperandOf vs o e → IsLeaf (variables_of vs) e (integer n))
 held_operand vs o slot None v is g h = tt
 held_operand vs o slot (Some n) v is g h = λ e f. let f = rw is at f in rw f.is (variable_leaf (g f.name f.stands ∙ h))
+
+-- the value of a variable in a slot
+pub variable_held : (vs : Variables) (slot : ℕ) (e : Expr) (v : Value) → IsVariableIn vs slot e → ((name : List ℕ) → StandsIn vs name slot → variables_of vs (folded name) ≡ Some (tree v)) → IsLeaf (variables_of vs) e (tree v)
+variable_held vs slot e v p g = rw p.is (variable_leaf (g p.name p.stands))
 
 -- what is ready stays so while what stands in slots does
 variable_stays : (old new : Variables) → Stay old new → (slot : ℕ) (e : Expr) → IsVariableIn old slot e → IsVariableIn new slot e
@@ -71,14 +75,21 @@ setting_stays old new f slot e t h = record { name = h.name; is = h.is; stands =
 element_stays : (old new : Variables) → Stay old new → (list : ℕ) (place : Number) (e : Expr) → IsElementOf old list place e → IsElementOf new list place e
 element_stays old new f list place e h = record { a = h.a; i = h.i; is = h.is; holds = variable_stays old new f list h.a h.holds; at = number_stays old new f place h.i h.at }
 
+growing_stays : (old new : Variables) → Stay old new → (slot : ℕ) (last : Expr) (t : Stmt) → GrowsIn old slot last t → GrowsIn new slot last t
+growing_stays old new f slot last t h = record { name = h.name; e = h.e; is = h.is; lengthens = h.lengthens; stands = f h.name slot h.stands }
+
 step_stays : (old new : Variables) → Stay old new → (s : Step) (t : Stmt) → IsStepOf old s t → IsStepOf new s t
-step_stays old new f (step_case.Copied slot o) t h = (h.0, operand_stays old new f o h.0 h.1, setting_stays old new f slot h.0 t h.2)
+step_stays old new f (step_case.Copied slot from) t h = (h.0, variable_stays old new f from h.0 h.1, setting_stays old new f slot h.0 t h.2)
+step_stays old new f (step_case.Given slot n) t h = (h.0, h.1, setting_stays old new f slot h.0 t h.2)
 step_stays old new f (step_case.Paired slot p) t h = (h.0, pair_stays old new f p h.0 h.1, setting_stays old new f slot h.0 t h.2)
 step_stays old new f (step_case.Nested slot n) t h = (h.0, nested_stays old new f n h.0 h.1, setting_stays old new f slot h.0 t h.2)
 step_stays old new f (step_case.Element slot list place) t h = (h.0, element_stays old new f list place h.0 h.1, setting_stays old new f slot h.0 t h.2)
 step_stays old new f (step_case.Property slot base name) t h = (h.0, h.1, setting_stays old new f slot _ t h.2)
 step_stays old new f (step_case.Other slot value) t h = setting_stays old new f slot _ t h
 step_stays old new f (step_case.Placed slot place value) t h = record { name = h.name; i = h.i; e = h.e; is = h.is; stands = f h.name slot h.stands; at = number_stays old new f place h.i h.at; gives = near_stays old new f value h.e h.gives }
+step_stays old new f (step_case.Grown slot value) t h = (h.0, near_stays old new f value h.0 h.1, growing_stays old new f slot h.0 t h.2)
+step_stays old new f (step_case.Gathered slot from) t h = (h.0, variable_stays old new f from h.0 h.1, growing_stays old new f slot h.0 t h.2)
+step_stays old new f (step_case.Lengthened slot last) t h = growing_stays old new f slot _ t h
 step_stays old new f (step_case.Written base name value) t h = record { n = h.n; e = h.e; is = h.is; named = h.named; gives = near_stays old new f value h.e h.gives }
 
 pub test_stays : (old new : Variables) → Stay old new → (test : Test) (e : Expr) → IsTestOf old test e → IsTestOf new test e

@@ -1,5 +1,5 @@
 -- What the steps of a turn stand for.
-use Rattle.std.specs.Prelude.{◌≡◌, ℕ, List, [], ◌∷◌, Option, Some, None}
+use Rattle.std.specs.Prelude.{◌≡◌, ℕ, ℤ, List, [], ◌∷◌, Option, Some, None}
 use Rattle.moo_value.specs.Tree.{Tree, integer, string}
 use Rattle.moo_program.specs.Tree.{Expr, binary, variable, index, property, assign, Stmt, performs, branches, Arms, Block, no_statement, then}
 use Rattle.moo_program.specs.View.{tree, statement}
@@ -10,6 +10,7 @@ use Rattle.moo_worth.specs.Leaves.{IsLeaf}
 use Rattle.moo_table.specs.World.{World}
 use Rattle.moo_outcome.specs.declared.frame.Activation.{Activation}
 use Rattle.moo_fast_path.specs.Element.{sets_place}
+use Rattle.moo_fast_path.specs.Growth.{Lengthens}
 use Rattle.moo_fast_path.specs.Branching.{Chooses}
 use Rattle.moo_step.specs.declared.step.Operand.{Operand}
 use Rattle.moo_step.specs.declared.step.Operand.TheVariants as operand_case
@@ -76,9 +77,13 @@ pub record SetsIn (vs : Variables) (slot : ℕ) (e : Expr) (t : Stmt) : Type 0 w
   pub is : t ≡ performs (assign (variable name) e)
   pub stands : StandsIn vs name slot
 
--- to an operand
-abbrev pub CopiesIn : Variables → ℕ → Operand → Stmt → Type 0
-CopiesIn vs slot o t = (e : Expr) × IsOperandOf vs o e × SetsIn vs slot e t
+-- to the variable in another
+abbrev pub CopiesIn : Variables → ℕ → ℕ → Stmt → Type 0
+CopiesIn vs slot from t = (e : Expr) × IsVariableIn vs from e × SetsIn vs slot e t
+
+-- to an integer that is written out
+abbrev pub GivenIn : Variables → ℕ → ℤ → Stmt → Type 0
+GivenIn vs slot n t = (e : Expr) × IsWrittenOut (integer n) e × SetsIn vs slot e t
 
 -- to an operator between two
 abbrev pub PairsIn : Variables → ℕ → Pair → Stmt → Type 0
@@ -114,6 +119,22 @@ pub record PlacesIn (vs : Variables) (slot : ℕ) (place : Number) (value : Near
   pub at : IsNumberOf vs place i
   pub gives : IsNearOf vs value e
 
+-- a statement puts what an expression gives behind the list of the variable in a slot
+pub record GrowsIn (vs : Variables) (slot : ℕ) (last : Expr) (t : Stmt) : Type 0 where
+  pub name : List ℕ
+  pub e : Expr
+  pub is : t ≡ performs (assign (variable name) e)
+  pub lengthens : Lengthens name last e
+  pub stands : StandsIn vs name slot
+
+-- a number
+abbrev pub GrownIn : Variables → ℕ → Near → Stmt → Type 0
+GrownIn vs slot value t = (last : Expr) × IsNearOf vs value last × GrowsIn vs slot last t
+
+-- what the variable in another slot holds
+abbrev pub GatheredIn : Variables → ℕ → ℕ → Stmt → Type 0
+GatheredIn vs slot from t = (last : Expr) × IsVariableIn vs from last × GrowsIn vs slot last t
+
 -- a statement sets a property to a number
 pub record WritesOf (vs : Variables) (base : Expr) (name : List ℕ) (value : Near) (t : Stmt) : Type 0 where
   pub n : Expr
@@ -124,13 +145,17 @@ pub record WritesOf (vs : Variables) (base : Expr) (name : List ℕ) (value : Ne
 
 -- a step is that of a statement
 abbrev pub IsStepOf : Variables → Step → Stmt → Type 0
-IsStepOf vs (step_case.Copied slot o) t = CopiesIn vs slot o t
+IsStepOf vs (step_case.Copied slot from) t = CopiesIn vs slot from t
+IsStepOf vs (step_case.Given slot n) t = GivenIn vs slot n t
 IsStepOf vs (step_case.Paired slot p) t = PairsIn vs slot p t
 IsStepOf vs (step_case.Nested slot n) t = NestsIn vs slot n t
 IsStepOf vs (step_case.Element slot list place) t = ElementIn vs slot list place t
 IsStepOf vs (step_case.Property slot base name) t = PropertyIn vs slot (tree base.now) name.now t
 IsStepOf vs (step_case.Other slot value) t = SetsIn vs slot (tree value.now) t
 IsStepOf vs (step_case.Placed slot place value) t = PlacesIn vs slot place value t
+IsStepOf vs (step_case.Grown slot value) t = GrownIn vs slot value t
+IsStepOf vs (step_case.Gathered slot from) t = GatheredIn vs slot from t
+IsStepOf vs (step_case.Lengthened slot last) t = GrowsIn vs slot (tree last.now) t
 IsStepOf vs (step_case.Written base name value) t = WritesOf vs (tree base.now) name.now value t
 
 -- a test is that of an expression

@@ -3,6 +3,7 @@
 #![tactic(auto)]
 
 mod branch;
+mod grow;
 mod number;
 mod ready;
 mod run;

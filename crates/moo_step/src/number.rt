@@ -14,15 +14,15 @@ use moo_worth::integers::number_of;
 use moo_worth::ticks::{take, take_three};
 use moo_worth::worth::integer_of;
 
-/// The integer of an operand, if it is one.
+// The integer of an operand, if it is one.
 #[inline(always)]
-pub(crate) fn operand_number(active: &Activation, operand: &Operand) -> Option<i32>
+fn operand_number(active: &Activation, operand: &Operand) -> Option<i32>
     requires { (e : ExprTree) × IsOperandOf active.now.variables operand.now e }
     ensures { IfSome result (λ n. (e : ExprTree) → IsOperandOf active.now.variables operand.now e → IsLeaf (variables_of active.now.variables) e (integer n)) }
 {
     match operand {
         Operand::Number(number) => Some(*number),
-        Operand::Slot(slot) => integer_of(Some(active.variables.standing_value(*slot))),
+        Operand::Slot(slot) => integer_of(Some(active.variables.standing_value(*slot as usize))),
     }
 }
 

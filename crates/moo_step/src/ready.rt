@@ -1,21 +1,23 @@
 //! Statements and tests that are made ready, with variables by their slots.
 ghost use Rattle.std.specs.Prelude.{IfSome};
-ghost use Rattle.moo_program.specs.Tree.{Stmt as StmtTree, branches, literal as literal_of, variable, index, property};
+ghost use Rattle.moo_program.specs.Tree.{Expr as ExprTree, Stmt as StmtTree, branches, literal as literal_of, variable, index, property, performs, assign};
 ghost use Rattle.moo_program.specs.View.{tree, block, arms_of, statement as statement_of};
 ghost use Rattle.moo_outcome.specs.declared.variables.Variables.{Variables};
 ghost use Rattle.moo_outcome.specs.Standing.{StandsIn};
+ghost use Rattle.moo_fast_path.specs.Growth.{Lengthens};
 ghost use Rattle.moo_step.specs.Ready.{IsOperandOf, IsPairOf, IsNearOf, IsNestedOf, IsNumberOf, SetsIn, IsStepOf, IsRowOf, IsElseOf, IsBranchOf, IsPartOf, AreReady, IsTestOf};
 
 use crate::step::{Branch, Near, Nested, Number, Operand, Pair, Part, Ready, Step, Test};
 use moo_fast_path::{
-    Form, as_branch, as_placing, as_setting, as_variable, as_writing, form_of, may_grow, other_arm,
+    Form, as_branch, as_growing, as_placing, as_setting, as_variable, as_writing, form_of,
+    other_arm,
 };
 use moo_outcome::Activation;
 use moo_program::operator::BinaryOperator;
 use moo_program::{Arm, Expr, Literal, Name, Stmt};
 use moo_value::Value;
 use moo_worth::integers::number_of;
-use moo_worth::{name_written, object_leaf};
+use moo_worth::{may_have_worth, name_written, object_leaf};
 use std::alloc::Global;
 
 /// The test of a loop, or of an `if`.
@@ -110,10 +112,13 @@ fn step_of<'a>(active: &Activation, statement: &'a Stmt) -> Option<Step<'a>>
 fn setting<'a>(active: &Activation, statement: &'a Stmt) -> Option<Step<'a>>
     ensures { IfSome result (λ step. IsStepOf active.now.variables step (statement_of statement.now)) }
 {
-    if may_grow(statement) {
-        return None;
+    if let Some((name, last)) = as_growing(statement) {
+        return growing(active, name, last);
     }
     let (name, value) = as_setting(statement)?;
+    if !may_have_worth(value) {
+        return None;
+    }
     let slot = slot_of(active, name)?;
     Some(match known_step(active, slot, value) {
         Some(step) => step,
@@ -121,22 +126,38 @@ fn setting<'a>(active: &Activation, statement: &'a Stmt) -> Option<Step<'a>>
     })
 }
 
-// The step of a number of few operators, of an element of a variable, or of a property.
-fn known_step<'a>(active: &Activation, slot: usize, value: &'a Expr) -> Option<Step<'a>>
+// The step of a statement that puts something behind the list in a variable.
+fn growing<'a>(active: &Activation, name: &Name, last: &'a Expr) -> Option<Step<'a>>
+    ensures { IfSome result (λ step. (e : ExprTree) → Lengthens name.now (tree last.now) e → IsStepOf active.now.variables step (performs (assign (variable name.now) e))) }
+{
+    let slot = slot_of(active, name)?;
+    if let Expr::Variable(from) = last {
+        return Some(Step::Gathered(slot, slot_of(active, from)?));
+    }
+    Some(match near(active, last) {
+        Some(number) => Step::Grown(slot, number),
+        None => Step::Lengthened(slot, last),
+    })
+}
+
+// The step of a variable, of a number of few operators, of an element of a variable, or of a property.
+fn known_step<'a>(active: &Activation, slot: u32, value: &'a Expr) -> Option<Step<'a>>
     ensures { IfSome result (λ step. (t : StmtTree) → SetsIn active.now.variables slot (tree value.now) t → IsStepOf active.now.variables step t) }
 {
     match value {
         Expr::Index(base, place) => set_element(active, slot, base, place),
         Expr::Property(base, name) => set_property(active, slot, base, name),
+        Expr::Variable(name) => Some(Step::Copied(slot, slot_of(active, name)?)),
         _ => set_number(active, slot, value),
     }
 }
 
-fn set_number<'a>(active: &Activation, slot: usize, value: &Expr) -> Option<Step<'a>>
+fn set_number<'a>(active: &Activation, slot: u32, value: &Expr) -> Option<Step<'a>>
     ensures { IfSome result (λ step. (t : StmtTree) → SetsIn active.now.variables slot (tree value.now) t → IsStepOf active.now.variables step t) }
 {
     match number(active, value)? {
-        Number::Near(Near::Operand(operand)) => Some(Step::Copied(slot, operand)),
+        Number::Near(Near::Operand(Operand::Slot(from))) => Some(Step::Copied(slot, from)),
+        Number::Near(Near::Operand(Operand::Number(number))) => Some(Step::Given(slot, number)),
         Number::Near(Near::Pair(pair)) => Some(Step::Paired(slot, pair)),
         Number::Nested(nested) => Some(Step::Nested(slot, nested)),
     }
@@ -144,7 +165,7 @@ fn set_number<'a>(active: &Activation, slot: usize, value: &Expr) -> Option<Step
 
 fn set_element<'a>(
     active: &Activation,
-    slot: usize,
+    slot: u32,
     base: &'a Expr,
     place: &'a Expr,
 ) -> Option<Step<'a>>
@@ -157,7 +178,7 @@ fn set_element<'a>(
 
 fn set_property<'a>(
     active: &Activation,
-    slot: usize,
+    slot: u32,
     base: &'a Expr,
     name: &'a Expr,
 ) -> Option<Step<'a>>
@@ -247,8 +268,19 @@ fn is_plain(operator: BinaryOperator) -> bool {
     number_of(operator, 1, 1).is_some()
 }
 
-// The slot of a variable that is set. It is looked for where it isn't known: an arm that never ran has names that were never found.
-fn slot_of(active: &Activation, name: &Name) -> Option<usize>
+// The slot of a variable that is set, in the words of steps. No program has names for so many that one doesn't fit.
+fn slot_of(active: &Activation, name: &Name) -> Option<u32>
+    ensures { IfSome result (λ slot. StandsIn active.now.variables name.now slot) }
+{
+    let slot = found_slot(active, name)?;
+    if slot > u32::MAX as usize {
+        return None;
+    }
+    Some(slot as u32)
+}
+
+// It is looked for where it isn't known: an arm that never ran has names that were never found.
+fn found_slot(active: &Activation, name: &Name) -> Option<usize>
     ensures { IfSome result (λ slot. StandsIn active.now.variables name.now slot) }
 {
     if let Some(slot) = active.variables.standing(name) {
@@ -282,7 +314,7 @@ fn variable_operand(active: &Activation, name: &Name) -> Option<Operand>
     ensures { IfSome result (λ o. IsOperandOf active.now.variables o (variable name.now)) }
 {
     let slot = slot_of(active, name)?;
-    if let Value::Int(_) = active.variables.standing_value(slot) {
+    if let Value::Int(_) = active.variables.standing_value(slot as usize) {
         return Some(Operand::Slot(slot));
     }
     None

@@ -6,10 +6,11 @@ ghost use Rattle.moo_program.specs.View.{tree};
 ghost use Rattle.moo_table.specs.World.{World as WorldModel};
 ghost use Rattle.moo_worth.specs.Worth.{IsWorth};
 ghost use Rattle.moo_fast_path.specs.Branching.{IsDone};
-ghost use Rattle.moo_step.specs.Ready.{Stay, IsElementOf, IsStepOf, CopiesIn, PairsIn, NestsIn, ElementIn, PropertyIn, SetsIn, PlacesIn, WritesOf};
+ghost use Rattle.moo_step.specs.Ready.{Stay, IsElementOf, IsStepOf, CopiesIn, GivenIn, PairsIn, NestsIn, ElementIn, PropertyIn, SetsIn, PlacesIn, WritesOf};
 
-use crate::number::{near_number, nested_number, number, operand_number, pair_number};
-use crate::step::{Near, Nested, Number, Operand, Pair, Step};
+use crate::grow::{gathers, grows, lengthens};
+use crate::number::{near_number, nested_number, number, pair_number};
+use crate::step::{Near, Nested, Number, Pair, Step};
 use moo_fast_path::set_written;
 use moo_outcome::Activation;
 use moo_program::{Expr, Text};
@@ -39,15 +40,17 @@ pub(crate) fn runs(
     ensures fewer { IsTrue result → left.new < left.old }
     ensures ticks { left.new ≤ left.old }
 {
-    match step {
-        Step::Copied(slot, from) => copies(active, left, *slot, from),
-        Step::Paired(slot, pair) => pairs(active, left, *slot, pair),
-        _ => leaves(left, runs_apart(alloc, world, active, *left, step)),
+    if let Step::Copied(slot, from) = step {
+        return copies(active, left, *slot, *from);
     }
+    if let Step::Paired(slot, pair) = step {
+        return pairs(active, left, *slot, pair);
+    }
+    leaves(left, runs_apart(alloc, world, active, *left, step))
 }
 
 // The same of one that isn't run where it stands: the ticks that are left then of so many.
-#[inline(always)]
+#[inline(never)]
 fn runs_apart(
     alloc: Global,
     world: &mut World,
@@ -63,11 +66,15 @@ fn runs_apart(
 {
     match step {
         Step::Copied(..) | Step::Paired(..) => None,
+        Step::Given(slot, number) => gives(active, left, *slot, *number),
         Step::Nested(slot, nested) => nests(active, left, *slot, nested),
         Step::Element(slot, list, place) => sets_element(active, left, *slot, *list, place),
         Step::Property(slot, base, name) => sets_property(world, active, left, *slot, base, name),
         Step::Other(slot, value) => sets_other(alloc, world, active, left, *slot, value),
         Step::Placed(slot, place, value) => places(active, left, *slot, place, value),
+        Step::Grown(slot, value) => grows(active, left, *slot, value),
+        Step::Gathered(slot, from) => gathers(active, left, *slot, *from),
+        Step::Lengthened(slot, last) => lengthens(alloc, world, active, left, *slot, last),
         Step::Written(base, name, value) => writes(world, active, left, base, name, value),
     }
 }
@@ -87,11 +94,11 @@ pub(crate) fn leaves(left: &mut u32, ran: Option<u32>) -> bool
     }
 }
 
-// Sets the variable in a slot to an operand.
+// Sets the variable in a slot to that in another. An integer is looked at first.
 #[inline(always)]
-fn copies(active: &mut Activation, left: &mut u32, slot: usize, from: &Operand) -> bool
-    requires { (t : StmtTree) × CopiesIn active.old.variables slot from.now t }
-    ensures done { IsTrue result → (w : WorldModel) (t : StmtTree) → CopiesIn active.old.variables slot from.now t → IsDone w active.old w active.new left.old left.new t }
+fn copies(active: &mut Activation, left: &mut u32, slot: u32, from: u32) -> bool
+    requires { (t : StmtTree) × CopiesIn active.old.variables slot from t }
+    ensures done { IsTrue result → (w : WorldModel) (t : StmtTree) → CopiesIn active.old.variables slot from t → IsDone w active.old w active.new left.old left.new t }
     ensures stay { Stay active.old.variables active.new.variables }
     ensures kept { IsFalse result → active.new ≡ active.old }
     ensures fewer { IsTrue result → left.new < left.old }
@@ -100,17 +107,52 @@ fn copies(active: &mut Activation, left: &mut u32, slot: usize, from: &Operand) 
     if *left < 3 {
         return false;
     }
-    let Some(number) = operand_number(active, from) else {
-        return false;
-    };
-    active.variables.put_standing_integer(slot, number);
-    *left -= 3;
-    true
+    if let Value::Int(number) = active.variables.standing_value(from as usize) {
+        let number = *number;
+        active.variables.put_standing_integer(slot as usize, number);
+        *left -= 3;
+        return true;
+    }
+    leaves(left, copies_other(active, *left, slot, from))
+}
+
+// The same of one that is no integer: the ticks that are left then of so many. Not inlined, so that integers pay nothing for it.
+#[cold]
+#[inline(never)]
+fn copies_other(active: &mut Activation, left: u32, slot: u32, from: u32) -> Option<u32>
+    requires { (t : StmtTree) × CopiesIn active.old.variables slot from t }
+    ensures done { IfSome result (λ k. (w : WorldModel) (t : StmtTree) → CopiesIn active.old.variables slot from t → IsDone w active.old w active.new left k t) }
+    ensures stay { Stay active.old.variables active.new.variables }
+    ensures kept { IfNone result (active.new ≡ active.old) }
+    ensures fewer { IfSome result (λ k. k < left) }
+{
+    if left < 3 {
+        return None;
+    }
+    let value = copied(active.variables.standing_value(from as usize))?;
+    active.variables.put_standing(slot as usize, value);
+    Some(left - 3)
+}
+
+// Sets it to an integer that is written out, likewise.
+#[inline(never)]
+fn gives(active: &mut Activation, left: u32, slot: u32, number: i32) -> Option<u32>
+    requires { (t : StmtTree) × GivenIn active.old.variables slot number t }
+    ensures done { IfSome result (λ k. (w : WorldModel) (t : StmtTree) → GivenIn active.old.variables slot number t → IsDone w active.old w active.new left k t) }
+    ensures stay { Stay active.old.variables active.new.variables }
+    ensures kept { IfNone result (active.new ≡ active.old) }
+    ensures fewer { IfSome result (λ k. k < left) }
+{
+    if left < 3 {
+        return None;
+    }
+    active.variables.put_standing_integer(slot as usize, number);
+    Some(left - 3)
 }
 
 // Sets it to an operator between operands.
 #[inline(always)]
-fn pairs(active: &mut Activation, left: &mut u32, slot: usize, pair: &Pair) -> bool
+fn pairs(active: &mut Activation, left: &mut u32, slot: u32, pair: &Pair) -> bool
     requires { (t : StmtTree) × PairsIn active.old.variables slot pair.now t }
     ensures done { IsTrue result → (w : WorldModel) (t : StmtTree) → PairsIn active.old.variables slot pair.now t → IsDone w active.old w active.new left.old left.new t }
     ensures stay { Stay active.old.variables active.new.variables }
@@ -124,14 +166,14 @@ fn pairs(active: &mut Activation, left: &mut u32, slot: usize, pair: &Pair) -> b
     let Some(number) = pair_number(active, pair) else {
         return false;
     };
-    active.variables.put_standing_integer(slot, number);
+    active.variables.put_standing_integer(slot as usize, number);
     *left -= 5;
     true
 }
 
-// Sets it to an operator between such: the ticks that are left then of so many.
+// Sets it to an operator between such, likewise.
 #[inline(never)]
-fn nests(active: &mut Activation, left: u32, slot: usize, nested: &Nested) -> Option<u32>
+fn nests(active: &mut Activation, left: u32, slot: u32, nested: &Nested) -> Option<u32>
     requires { (t : StmtTree) × NestsIn active.old.variables slot nested.now t }
     ensures done { IfSome result (λ k. (w : WorldModel) (t : StmtTree) → NestsIn active.old.variables slot nested.now t → IsDone w active.old w active.new left k t) }
     ensures stay { Stay active.old.variables active.new.variables }
@@ -143,7 +185,7 @@ fn nests(active: &mut Activation, left: u32, slot: usize, nested: &Nested) -> Op
     }
     let mut left = left - 2;
     let number = nested_number(active, &mut left, nested)?;
-    active.variables.put_standing_integer(slot, number);
+    active.variables.put_standing_integer(slot as usize, number);
     Some(left)
 }
 
@@ -152,8 +194,8 @@ fn nests(active: &mut Activation, left: u32, slot: usize, nested: &Nested) -> Op
 fn sets_element(
     active: &mut Activation,
     left: u32,
-    slot: usize,
-    list: usize,
+    slot: u32,
+    list: u32,
     place: &Number,
 ) -> Option<u32>
     requires { (t : StmtTree) × ElementIn active.old.variables slot list place.now t }
@@ -169,11 +211,11 @@ fn sets_element(
     let value = element(active, &mut left, list, place)?;
     if let Value::Int(number) = value {
         let number = *number;
-        active.variables.put_standing_integer(slot, number);
+        active.variables.put_standing_integer(slot as usize, number);
         return Some(left);
     }
     let value = copied(value)?;
-    active.variables.put_standing(slot, value);
+    active.variables.put_standing(slot as usize, value);
     Some(left)
 }
 
@@ -182,14 +224,14 @@ fn sets_element(
 fn element<'a>(
     active: &'a Activation,
     left: &mut u32,
-    list: usize,
+    list: u32,
     place: &Number,
 ) -> Option<&'a Value>
     requires { (e : ExprTree) × IsElementOf active.now.variables list place.now e }
     ensures value { IfSome result (λ v. (w : WorldModel) (e : ExprTree) → IsElementOf active.now.variables list place.now e → IsWorth w active.now left.old e (value_tree v.now) left.new) }
     ensures ticks { left.new ≤ left.old }
 {
-    let list = active.variables.standing_value(list);
+    let list = active.variables.standing_value(list as usize);
     if !is_list(list) {
         return None;
     }
@@ -205,7 +247,7 @@ fn sets_property(
     world: &World,
     active: &mut Activation,
     left: u32,
-    slot: usize,
+    slot: u32,
     base: &Expr,
     name: &Text,
 ) -> Option<u32>
@@ -221,11 +263,13 @@ fn sets_property(
     let o = object_leaf(active, base)?;
     let value = readable_written(world, active.programmer, o, name)?;
     if let Value::Int(number) = value {
-        active.variables.put_standing_integer(slot, *number);
+        active
+            .variables
+            .put_standing_integer(slot as usize, *number);
         return Some(left - 5);
     }
     let value = copied(value)?;
-    active.variables.put_standing(slot, value);
+    active.variables.put_standing(slot as usize, value);
     Some(left - 5)
 }
 
@@ -236,7 +280,7 @@ fn sets_other(
     world: &World,
     active: &mut Activation,
     left: u32,
-    slot: usize,
+    slot: u32,
     value: &Expr,
 ) -> Option<u32>
     requires { (t : StmtTree) × SetsIn active.old.variables slot (tree value.now) t }
@@ -250,11 +294,12 @@ fn sets_other(
     }
     let mut left = left - 2;
     let value = other_value(alloc, world, active, &mut left, value)?;
-    active.variables.put_standing(slot, value);
+    active.variables.put_standing(slot as usize, value);
     Some(left)
 }
 
-fn other_value(
+#[inline(always)]
+pub(crate) fn other_value(
     alloc: Global,
     world: &World,
     active: &Activation,
@@ -287,7 +332,7 @@ fn other_value(
 fn places(
     active: &mut Activation,
     left: u32,
-    slot: usize,
+    slot: u32,
     place: &Number,
     value: &Near,
 ) -> Option<u32>
@@ -304,7 +349,10 @@ fn places(
     let place = number(active, &mut left, place)?;
     let value = near_number(active, &mut left, value)?;
     let before = places_before(place)?;
-    if !active.variables.put_standing_element(slot, before, value) {
+    if !active
+        .variables
+        .put_standing_element(slot as usize, before, value)
+    {
         return None;
     }
     Some(left)

@@ -8,7 +8,7 @@ pub enum Operand {
     /// An integer.
     Number(i32),
     /// The slot, counted from 0.
-    Slot(usize),
+    Slot(u32),
 }
 
 /// An operator between two of these.
@@ -44,20 +44,28 @@ pub enum Number {
 /// A statement that sets something.
 #[derive(Drop)]
 pub enum Step<'a> {
-    /// Sets the variable in a slot, counted from 0, to an operand.
-    Copied(usize, Operand),
+    /// Sets the variable in a slot, counted from 0, to that in another.
+    Copied(u32, u32),
     /// To an operator between two operands.
-    Paired(usize, Pair),
+    Paired(u32, Pair),
+    /// To an integer that is written out.
+    Given(u32, i32),
     /// To an operator between such.
-    Nested(usize, Nested),
+    Nested(u32, Nested),
     /// To an element of the list in another slot.
-    Element(usize, usize, Number),
+    Element(u32, u32, Number),
     /// To a property of an object.
-    Property(usize, &'a Expr, &'a Text),
+    Property(u32, &'a Expr, &'a Text),
     /// To another value that is known at once.
-    Other(usize, &'a Expr),
+    Other(u32, &'a Expr),
     /// Sets a place of the list in a slot to an integer.
-    Placed(usize, Number, Near),
+    Placed(u32, Number, Near),
+    /// Puts an integer behind the list in a slot.
+    Grown(u32, Near),
+    /// Puts what the variable in another slot holds behind it.
+    Gathered(u32, u32),
+    /// Puts another value that is known at once behind it.
+    Lengthened(u32, &'a Expr),
     /// Sets a property to an integer.
     Written(&'a Expr, &'a Text, Near),
 }

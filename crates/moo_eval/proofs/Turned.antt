@@ -1,5 +1,6 @@
 -- Loops from within a turn on.
-use Rattle.std.proofs.Common.{◌≡◌, ℕ, ◌+◌, ◌-◌, ℤ, pos, ◌+ℤ◌, List, [], ◌∷◌, true, Option, Some, None, Result, Ok, Err, IfOk, IfSome, IfNone, refl, ap, int_le, arith}
+use Rattle.std.proofs.Common.{◌≡◌, ℕ, zero, suc, ◌<◌, ◌+◌, ◌-◌, ℤ, pos, ◌+ℤ◌, List, [], ◌∷◌, true, Option, Some, None, Result, Ok, Err, IfOk, IfSome, IfNone, length, get_or, drop, refl, sym, ap, ◌∙◌, int_le, arith}
+use Rattle.std.proofs.lemmas.List.{length-drop, drop-drop}
 use Rattle.moo_value.specs.Tree.{Tree}
 use Rattle.moo_program.specs.Tree.{Expr, Block, no_statement}
 use Rattle.moo_outcome.specs.Outcome.{Flow, Stop, next}
@@ -43,6 +44,24 @@ counts_within z g f (turn_done h d) = count_then z (turn_within g f h) d
 pub tick_taken : (n : ℕ) (notices : List Notice) (w : World) (active : Activation) → ticked (state_at (n + 1) notices w active) ≡ state_at n notices w active
 tick_taken n notices w active = let one : (n + 1) - 1 ≡ n = omega arith in ap (λ k. state_at k notices w active) one
 
+-- a list by its first element and the others
+pub first_and_rest : {X : Type 0} (xs : List X) (x : X) → 0 < length xs → x ≡ get_or xs 0 x → xs ≡ x ∷ drop 1 xs
+first_and_rest [] x h e = absurd (omega (arith, h))
+first_and_rest (y ∷ ys) x h e = ap (λ z. z ∷ ys) (sym e)
+
+-- how many elements come before the last ones of a list
+pub drop_rest : {X : Type 0} (xs : List X) (k : ℕ) → drop (length xs - length (drop k xs)) xs ≡ drop k xs
+drop_rest xs zero = let none : length xs - length xs ≡ 0 = omega arith in ap (λ n. drop n xs) none
+drop_rest [] (suc k) = refl
+drop_rest (x ∷ xs) (suc k) =
+    let one : suc (length xs) - length (drop k xs) ≡ suc (length xs - length (drop k xs)) = omega (arith, length-drop k xs) in
+    ap (λ n. drop n (x ∷ xs)) one ∙ drop_rest xs k
+
+pub rest_of : {X : Type 0} (xs rest : List X) (n done : ℕ) → rest ≡ drop done (drop n xs) → drop (length xs - length rest) xs ≡ rest
+rest_of xs rest n done e =
+    let whole : rest ≡ drop (n + done) xs = e ∙ drop-drop done n xs in
+    ap (λ r. drop (length xs - length r) xs) whole ∙ drop_rest xs (n + done) ∙ sym whole
+
 -- of statements that are left, if there are any
 pub ok_some : {A E : Type 0} {P Q : A → Type 0} (r : Result (Option A) E) → ((x : A) → P x → Q x) → IfOk r (λ o. IfSome o P) → IfOk r (λ o. IfSome o Q)
 ok_some (Ok (Some x)) f h = f x h
@@ -54,3 +73,7 @@ pub ok_none : {A E P Q : Type 0} (r : Result (Option A) E) → (P → Q) → IfO
 ok_none (Ok (Some x)) f h = tt
 ok_none (Ok None) f h = f h
 ok_none (Err e) f h = tt
+
+pub none_on : {A P Q : Type 0} (r : Option A) → (P → Q) → IfNone r P → IfNone r Q
+none_on (Some x) f h = tt
+none_on None f h = f h

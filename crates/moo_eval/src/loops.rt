@@ -11,6 +11,7 @@ ghost use Rattle.moo_code_function.specs.Telling.{Faults};
 ghost use Rattle.moo_eval.specs.Seen.{state_of};
 
 use crate::interpreter::Task;
+use crate::turns::{first_ready, first_ready_between, first_ready_of};
 use moo_operation::spliced;
 use moo_outcome::{Activation, CallStack, Flow, Span, Stop, after_turn, no_turn};
 use moo_program::{Expr, Name, Stmt};
@@ -101,8 +102,9 @@ impl Task {
         ensures meaning { IsKnown result → Loops Faults (context_of stack.now None) own.now (tree test.now) (block body.now) (state_of self.old world.old active.old) (seen_flow result) (state_of self.new world.new active.new) }
         ensures ticks { self.new.ticks_left ≤ self.old.ticks_left }
     {
+        let mut plain = first_ready();
         'turns: loop {
-            if let Some(left) = self.turns_ahead(world, active, test, body, stack)? {
+            if let Some(left) = self.turns_ahead(world, active, test, body, stack, &mut plain)? {
                 if let Some(flow) = self.end_turn(world, active, stack, own.as_ref(), left)? {
                     return Ok(flow);
                 }
@@ -153,8 +155,11 @@ impl Task {
         ensures ticks { self.new.ticks_left ≤ self.old.ticks_left }
     {
         let mut next = 0;
+        let mut plain = first_ready_of(values.len());
         'values: loop {
-            let left = self.values_ahead(world, active, name, values, &mut next, body, stack)?;
+            let left = self.values_ahead(
+                world, active, name, values, &mut next, body, stack, &mut plain,
+            )?;
             let flow = if let Some(left) = left {
                 self.end_turn(world, active, stack, Some(name.text()), left)?
             } else if let Some(value) = values.get(next) {
@@ -208,8 +213,18 @@ impl Task {
         ensures ticks { self.new.ticks_left ≤ self.old.ticks_left }
     {
         let mut number = i64::from(span.low);
+        let mut plain = first_ready_between(span.low, span.high);
         'numbers: loop {
-            let left = self.numbers_ahead(world, active, name, &span, &mut number, body, stack)?;
+            let left = self.numbers_ahead(
+                world,
+                active,
+                name,
+                &span,
+                &mut number,
+                body,
+                stack,
+                &mut plain,
+            )?;
             let flow = if let Some(left) = left {
                 self.end_turn(world, active, stack, Some(name.text()), left)?
             } else if number <= i64::from(span.high) {

@@ -111,36 +111,37 @@ impl Task {
         true
     }
 
-    /// Runs turns of a `for` over values that are ready, from the next one on, likewise: the statements that are left of the turn of the
-    /// value that is next then, or `None` where it stands before that value's turn or all have had theirs. Its variable stands in this slot.
+    /// Runs turns of a `for` over these values that are ready, likewise: the values that are left then, and the statements that are left of
+    /// the first one's turn, or `None` where the loop stands before that turn or all have had theirs. Its variable stands in this slot.
     #[inline(never)]
-    pub(crate) fn ready_values<'a>(
+    pub(crate) fn ready_values<'a, 'v>(
         &mut self,
         world: &mut World,
         active: &mut Activation,
         slot: usize,
-        values: &[Value],
-        next: &mut usize,
+        values: &'v [Value],
         turn: &[Ready<'a>],
-    ) -> Option<&'a [Stmt]>
+    ) -> (&'v [Value], Option<&'a [Stmt]>)
         requires slot { (name : List ℕ) × StandsIn active.old.variables name slot }
         requires turn { (b : List CodeStmt) × AreReady active.old.variables turn.now b }
-        ensures within { IfSome result (λ left. (c : Context) (name : List ℕ) (b : List CodeStmt) → StandsIn active.old.variables name slot → AreReady active.old.variables turn.now b → (o : Result Flow Stop) (s : State) → Within Faults c (Some name) (block left.now) (Visits Faults c name (trees (drop (next.new + 1) values.now)) (block b)) (state_of self.new world.new active.new) o s → Visits Faults c name (trees (drop next.old values.now)) (block b) (state_of self.old world.old active.old) o s) }
-        ensures before { IfNone result ((c : Context) (name : List ℕ) (b : List CodeStmt) → StandsIn active.old.variables name slot → AreReady active.old.variables turn.now b → (o : Result Flow Stop) (s : State) → Visits Faults c name (trees (drop next.new values.now)) (block b) (state_of self.new world.new active.new) o s → Visits Faults c name (trees (drop next.old values.now)) (block b) (state_of self.old world.old active.old) o s) }
-        ensures there { IfSome result (λ _. next.new < length values.now) }
-        ensures fewer { IfSome result (λ _. self.new.ticks_left < self.old.ticks_left) }
+        ensures within { IfSome result.1 (λ left. (c : Context) (name : List ℕ) (b : List CodeStmt) → StandsIn active.old.variables name slot → AreReady active.old.variables turn.now b → (o : Result Flow Stop) (s : State) → Within Faults c (Some name) (block left.now) (Visits Faults c name (trees (drop 1 result.0.now)) (block b)) (state_of self.new world.new active.new) o s → Visits Faults c name (trees values.now) (block b) (state_of self.old world.old active.old) o s) }
+        ensures before { IfNone result.1 ((c : Context) (name : List ℕ) (b : List CodeStmt) → StandsIn active.old.variables name slot → AreReady active.old.variables turn.now b → (o : Result Flow Stop) (s : State) → Visits Faults c name (trees result.0.now) (block b) (state_of self.new world.new active.new) o s → Visits Faults c name (trees values.now) (block b) (state_of self.old world.old active.old) o s) }
+        ensures rest { (done : ℕ) × (result.0.now ≡ drop done values.now) }
+        ensures there { IfSome result.1 (λ _. 0 < length result.0.now) }
+        ensures fewer { IfSome result.1 (λ _. self.new.ticks_left < self.old.ticks_left) }
         ensures ticks { self.new.ticks_left ≤ self.old.ticks_left }
     {
-        'values: while let Some(value) = values.get(*next) {
+        let mut rest = values;
+        'values: while let Some(value) = rest.first() {
             if !self.begins_ready_value(active, slot, value) {
-                return None;
+                return (rest, None);
             }
             if let Some(left) = self.run_ready(world, active, turn) {
-                return Some(left);
+                return (rest, Some(left));
             }
-            *next += 1;
+            rest = values_from(rest, 1);
         }
-        None
+        (rest, None)
     }
 
     // Whether a tick is left for a turn of a `for` of this value, for which there is memory: then the one is taken and the variable in the
@@ -180,7 +181,8 @@ impl Task {
         self.begins_ready_value(active, slot, &value)
     }
 
-    /// Runs turns of a `for` over numbers that are ready, likewise.
+    /// Runs turns of a `for` over numbers that are ready, from this one on, likewise: the number at which the loop stands then, and the
+    /// statements that are left of its turn, or `None` where it stands before that turn or all numbers have had theirs.
     #[inline(never)]
     pub(crate) fn ready_numbers<'a>(
         &mut self,
@@ -188,31 +190,41 @@ impl Task {
         active: &mut Activation,
         slot: usize,
         span: &Span,
-        next: &mut i64,
+        from: i64,
         turn: &[Ready<'a>],
-    ) -> Option<&'a [Stmt]>
-        requires low { negsuc 2147483647 ≤ℤ next.old }
+    ) -> (i64, Option<&'a [Stmt]>)
+        requires low { negsuc 2147483647 ≤ℤ from }
         requires slot { (name : List ℕ) × StandsIn active.old.variables name slot }
         requires turn { (b : List CodeStmt) × AreReady active.old.variables turn.now b }
-        ensures within { IfSome result (λ left. (c : Context) (name : List ℕ) (b : List CodeStmt) → StandsIn active.old.variables name slot → AreReady active.old.variables turn.now b → (o : Result Flow Stop) (s : State) → Within Faults c (Some name) (block left.now) (Counts Faults c name span.now (next.new +ℤ pos 1) (block b)) (state_of self.new world.new active.new) o s → Counts Faults c name span.now next.old (block b) (state_of self.old world.old active.old) o s) }
-        ensures before { IfNone result ((c : Context) (name : List ℕ) (b : List CodeStmt) → StandsIn active.old.variables name slot → AreReady active.old.variables turn.now b → (o : Result Flow Stop) (s : State) → Counts Faults c name span.now next.new (block b) (state_of self.new world.new active.new) o s → Counts Faults c name span.now next.old (block b) (state_of self.old world.old active.old) o s) }
-        ensures later { next.old ≤ℤ next.new }
-        ensures fits { FitsSigned w64 next.new }
-        ensures high { IfSome result (λ _. int_le next.new span.now.high ≡ true) }
-        ensures fewer { IfSome result (λ _. self.new.ticks_left < self.old.ticks_left) }
+        ensures within { IfSome result.1 (λ left. (c : Context) (name : List ℕ) (b : List CodeStmt) → StandsIn active.old.variables name slot → AreReady active.old.variables turn.now b → (o : Result Flow Stop) (s : State) → Within Faults c (Some name) (block left.now) (Counts Faults c name span.now (result.0 +ℤ pos 1) (block b)) (state_of self.new world.new active.new) o s → Counts Faults c name span.now from (block b) (state_of self.old world.old active.old) o s) }
+        ensures before { IfNone result.1 ((c : Context) (name : List ℕ) (b : List CodeStmt) → StandsIn active.old.variables name slot → AreReady active.old.variables turn.now b → (o : Result Flow Stop) (s : State) → Counts Faults c name span.now result.0 (block b) (state_of self.new world.new active.new) o s → Counts Faults c name span.now from (block b) (state_of self.old world.old active.old) o s) }
+        ensures later { from ≤ℤ result.0 }
+        ensures fits { FitsSigned w64 result.0 }
+        ensures high { IfSome result.1 (λ _. int_le result.0 span.now.high ≡ true) }
+        ensures fewer { IfSome result.1 (λ _. self.new.ticks_left < self.old.ticks_left) }
         ensures ticks { self.new.ticks_left ≤ self.old.ticks_left }
     {
-        'numbers: while *next <= i64::from(span.high) {
-            if !self.begins_ready_number(active, slot, span, *next as i32) {
-                return None;
+        let mut next = from;
+        'numbers: while next <= i64::from(span.high) {
+            if !self.begins_ready_number(active, slot, span, next as i32) {
+                return (next, None);
             }
             if let Some(left) = self.run_ready(world, active, turn) {
-                return Some(left);
+                return (next, Some(left));
             }
-            *next += 1;
+            next += 1;
         }
-        None
+        (next, None)
     }
+}
+
+/// The values from a place on, which counts from 0.
+#[inline(always)]
+pub(crate) fn values_from(values: &[Value], place: usize) -> &[Value]
+    requires { place ≤ length values.now }
+    ensures { result.now ≡ drop place values.now }
+{
+    &values[place..]
 }
 
 // Sets the variable in a slot, where there is memory for the value.
@@ -227,6 +239,18 @@ fn puts_standing(active: &mut Activation, slot: usize, value: &Value) -> bool
         active.variables.put_standing_integer(slot, *number);
         return true;
     }
+    puts_other(active, slot, value)
+}
+
+// The same of one that is no integer. Not inlined, so that integers pay nothing for it.
+#[cold]
+#[inline(never)]
+fn puts_other(active: &mut Activation, slot: usize, value: &Value) -> bool
+    requires { (name : List ℕ) × StandsIn active.old.variables name slot }
+    ensures put { IsTrue result → (name : List ℕ) → StandsIn active.old.variables name slot → (variables_of active.new.variables ≡ with_variable (variables_of active.old.variables) (bind name (value_tree value.now))) × (active.new.programmer ≡ active.old.programmer) }
+    ensures stay { Stay active.old.variables active.new.variables }
+    ensures kept { IsFalse result → active.new ≡ active.old }
+{
     match value.try_clone() {
         Ok(value) => {
             active.variables.put_standing(slot, value);

@@ -14,6 +14,7 @@ ghost use Rattle.moo_eval.specs.Turning.{Within};
 ghost use Rattle.moo_eval.specs.Seen.{state_of};
 
 use crate::interpreter::Task;
+use crate::readied::values_from;
 use moo_outcome::{Activation, CallStack, Span};
 use moo_program::{Expr, Name, Stmt};
 use moo_step::{Ready, ready_test, ready_turn};
@@ -21,12 +22,33 @@ use moo_value::Value;
 use moo_world::World;
 use std::alloc::AllocError;
 
-// Which turn of a loop is the first that is made ready. To make a turn ready takes as long as some ten to thirty short ones save by it.
-const FIRST_READY: u32 = 24;
+// Before which turn a `while` is made ready: to make a loop ready takes as long as some six to ten turns save by it.
+const FIRST_READY: u32 = 12;
+
+// How many turns a `for` has at least that is made ready.
+const LONG: u32 = 12;
+
+/// Before which turn a `while` is made ready.
+pub(crate) fn first_ready() -> u32 {
+    FIRST_READY
+}
+
+/// Before which turn a `for` of so many turns is made ready: the second, since the first one sets what isn't set yet, or none where they are
+/// few.
+pub(crate) fn first_ready_of(turns: usize) -> u32 {
+    if turns < LONG as usize { u32::MAX } else { 2 }
+}
+
+/// The same of a `for` from a number to another.
+pub(crate) fn first_ready_between(low: i32, high: i32) -> u32 {
+    let turns = i64::from(high) - i64::from(low) + 1;
+    if turns < i64::from(LONG) { u32::MAX } else { 2 }
+}
 
 impl Task {
     /// Runs turns of a `while`, as far as its test and the statements are known at once: the statements that are left of the turn in which
-    /// it stands then, or `None` where it stands before a test. Its turns are made ready behind the first ones, if they can be.
+    /// it stands then, or `None` where it stands before a test. `plain` says before which of its turns it is made ready, if it can be, and is
+    /// doubled for the next time.
     pub(crate) fn turns_ahead<'a>(
         &mut self,
         world: &mut World,
@@ -34,13 +56,15 @@ impl Task {
         test: &'a Expr,
         body: &'a [Stmt],
         stack: &CallStack<'_>,
+        plain: &mut u32,
     ) -> Result<Option<&'a [Stmt]>, AllocError>
         ensures within { IfOk result (λ r. IfSome r (λ left. (own : Option (List ℕ)) (o : Result Flow Stop) (s : State) → Within Faults (context_of stack.now None) own (block left.now) (Loops Faults (context_of stack.now None) own (tree test.now) (block body.now)) (state_of self.new world.new active.new) o s → Loops Faults (context_of stack.now None) own (tree test.now) (block body.now) (state_of self.old world.old active.old) o s)) }
         ensures before { IfOk result (λ r. IfNone r ((own : Option (List ℕ)) (o : Result Flow Stop) (s : State) → Loops Faults (context_of stack.now None) own (tree test.now) (block body.now) (state_of self.new world.new active.new) o s → Loops Faults (context_of stack.now None) own (tree test.now) (block body.now) (state_of self.old world.old active.old) o s)) }
         ensures fewer { IfOk result (λ r. IfSome r (λ _. self.new.ticks_left < self.old.ticks_left)) }
         ensures ticks { self.new.ticks_left ≤ self.old.ticks_left }
     {
-        let mut turns = FIRST_READY;
+        let mut turns = *plain;
+        *plain = plain.saturating_mul(2);
         if let Some(left) = self.some_turns(world, active, test, body, stack, &mut turns)? {
             return Ok(Some(left));
         }
@@ -99,6 +123,7 @@ impl Task {
         next: &mut usize,
         body: &'a [Stmt],
         stack: &CallStack<'_>,
+        plain: &mut u32,
     ) -> Result<Option<&'a [Stmt]>, AllocError>
         ensures within { IfOk result (λ r. IfSome r (λ left. (o : Result Flow Stop) (s : State) → Within Faults (context_of stack.now None) (Some name.now) (block left.now) (Visits Faults (context_of stack.now None) name.now (trees (drop (next.new + 1) values.now)) (block body.now)) (state_of self.new world.new active.new) o s → Visits Faults (context_of stack.now None) name.now (trees (drop next.old values.now)) (block body.now) (state_of self.old world.old active.old) o s)) }
         ensures before { IfOk result (λ r. IfNone r ((o : Result Flow Stop) (s : State) → Visits Faults (context_of stack.now None) name.now (trees (drop next.new values.now)) (block body.now) (state_of self.new world.new active.new) o s → Visits Faults (context_of stack.now None) name.now (trees (drop next.old values.now)) (block body.now) (state_of self.old world.old active.old) o s)) }
@@ -106,7 +131,8 @@ impl Task {
         ensures fewer { IfOk result (λ r. IfSome r (λ _. self.new.ticks_left < self.old.ticks_left)) }
         ensures ticks { self.new.ticks_left ≤ self.old.ticks_left }
     {
-        let mut turns = FIRST_READY;
+        let mut turns = *plain;
+        *plain = plain.saturating_mul(2);
         if let Some(left) = self.some_values(
             world, active, name, values, next, body, stack, &mut turns,
         )? {
@@ -140,7 +166,13 @@ impl Task {
             let mut turns = u32::MAX;
             return self.some_values(world, active, name, values, next, body, stack, &mut turns);
         };
-        Ok(self.ready_values(world, active, slot, values, next, &turn))
+        if *next > values.len() {
+            return Ok(None);
+        }
+        let ahead = values_from(values, *next);
+        let (rest, left) = self.ready_values(world, active, slot, ahead, &turn);
+        *next = values.len() - rest.len();
+        Ok(left)
     }
 
     /// Runs turns of a `for` over numbers, from the next one on, likewise.
@@ -153,6 +185,7 @@ impl Task {
         next: &mut i64,
         body: &'a [Stmt],
         stack: &CallStack<'_>,
+        plain: &mut u32,
     ) -> Result<Option<&'a [Stmt]>, AllocError>
         requires { negsuc 2147483647 ≤ℤ next.old }
         ensures within { IfOk result (λ r. IfSome r (λ left. (o : Result Flow Stop) (s : State) → Within Faults (context_of stack.now None) (Some name.now) (block left.now) (Counts Faults (context_of stack.now None) name.now span.now (next.new +ℤ pos 1) (block body.now)) (state_of self.new world.new active.new) o s → Counts Faults (context_of stack.now None) name.now span.now next.old (block body.now) (state_of self.old world.old active.old) o s)) }
@@ -163,7 +196,8 @@ impl Task {
         ensures fewer { IfOk result (λ r. IfSome r (λ _. self.new.ticks_left < self.old.ticks_left)) }
         ensures ticks { self.new.ticks_left ≤ self.old.ticks_left }
     {
-        let mut turns = FIRST_READY;
+        let mut turns = *plain;
+        *plain = plain.saturating_mul(2);
         if let Some(left) = self.some_numbers(
             world, active, name, span, next, body, stack, &mut turns,
         )? {
@@ -200,6 +234,8 @@ impl Task {
             let mut turns = u32::MAX;
             return self.some_numbers(world, active, name, span, next, body, stack, &mut turns);
         };
-        Ok(self.ready_numbers(world, active, slot, span, next, &turn))
+        let (at, left) = self.ready_numbers(world, active, slot, span, *next, &turn);
+        *next = at;
+        Ok(left)
     }
 }

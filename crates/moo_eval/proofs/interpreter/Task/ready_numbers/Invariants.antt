@@ -17,9 +17,9 @@ abbrev pub invariant-numbers : goal.invariant-numbers
 invariant-numbers l = record {
   ticks : l.self.ticks_left ≤ l.fn.self.ticks_left;
   low : negsuc 2147483647 ≤ℤ l.next;
-  later : l.fn.next ≤ℤ l.next;
+  later : l.fn.from ≤ℤ l.next;
   stay : Stay l.fn.active.variables l.active.variables;
-  rest : (c : Context) (name : List ℕ) (b : List Stmt) → StandsIn l.fn.active.variables name l.slot → AreReady l.fn.active.variables l.turn b → (o : Result Flow Stop) (s : State) → Counts Faults c name l.span l.next (block b) (state_of l.self l.world l.active) o s → Counts Faults c name l.span l.fn.next (block b) (state_of l.fn.self l.fn.world l.fn.active) o s;
+  rest : (c : Context) (name : List ℕ) (b : List Stmt) → StandsIn l.fn.active.variables name l.slot → AreReady l.fn.active.variables l.turn b → (o : Result Flow Stop) (s : State) → Counts Faults c name l.span l.next (block b) (state_of l.self l.world l.active) o s → Counts Faults c name l.span l.fn.from (block b) (state_of l.fn.self l.fn.world l.fn.active) o s;
 }
 
 abbrev pub decreases-numbers : goal.decreases-numbers

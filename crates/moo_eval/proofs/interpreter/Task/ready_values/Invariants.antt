@@ -1,4 +1,4 @@
-use Rattle.std.proofs.Common.{◌≤◌, ℕ, List, Result, drop}
+use Rattle.std.proofs.Common.{◌≡◌, ◌≤◌, ℕ, List, Result, drop}
 use Rattle.moo_value.specs.View.{trees}
 use Rattle.moo_program.specs.View.{block}
 use Rattle.moo_program.specs.declared.tree.Stmt.{Stmt}
@@ -17,7 +17,8 @@ abbrev pub invariant-values : goal.invariant-values
 invariant-values l = record {
   ticks : l.self.ticks_left ≤ l.fn.self.ticks_left;
   stay : Stay l.fn.active.variables l.active.variables;
-  rest : (c : Context) (name : List ℕ) (b : List Stmt) → StandsIn l.fn.active.variables name l.slot → AreReady l.fn.active.variables l.turn b → (o : Result Flow Stop) (s : State) → Visits Faults c name (trees (drop l.next l.values)) (block b) (state_of l.self l.world l.active) o s → Visits Faults c name (trees (drop l.fn.next l.values)) (block b) (state_of l.fn.self l.fn.world l.fn.active) o s;
+  part : (done : ℕ) × (l.rest ≡ drop done l.values);
+  rest : (c : Context) (name : List ℕ) (b : List Stmt) → StandsIn l.fn.active.variables name l.slot → AreReady l.fn.active.variables l.turn b → (o : Result Flow Stop) (s : State) → Visits Faults c name (trees l.rest) (block b) (state_of l.self l.world l.active) o s → Visits Faults c name (trees l.values) (block b) (state_of l.fn.self l.fn.world l.fn.active) o s;
 }
 
 abbrev pub decreases-values : goal.decreases-values

@@ -18,7 +18,7 @@ HERE = pathlib.Path(__file__).resolve().parent
 MOO = str(pathlib.Path(sys.argv[1]).resolve())
 
 # The files of rows: one that is lost, or has another name, is told.
-FILES = [f"{name}.rows" for name in "answers at_once begins branches calls expressions frames functions hooks hostile in_place known_calls limits lists loops names operations parts ready scatters statements table values verbs".split()]
+FILES = [f"{name}.rows" for name in "answers at_once begins branches calls expressions frames functions growing hooks hostile in_place known_calls limits lists loops names operations parts ready scatters statements table values verbs".split()]
 
 
 class Broken(Exception):

@@ -70,6 +70,14 @@ flush
 line 1 look
 """
 
+GROWN = b"""open 1
+line 1 ;r = {}; for i in [1..60] r = {@r, i}; endfor return r;
+line 1 ;r = {}; for v in ({1, "two", #3, {4}, 5, 6, "seven", 8, 9, 10, 11, 12, 13}) r = {@r, v}; y = v; endfor return {r, y};
+line 1 ;r = {}; i = 0; while (i < 40) i = i + 1; r = listappend(r, "a" + "b"); endwhile return r;
+line 1 ;r = {}; for i in [1..30] r = {@r, i * 2}; if (i % 7 == 0) q = r; endif endfor return {r, q};
+line 1 ;return 7;
+"""
+
 
 def faults(calls):
     """Each call of the disk that a script makes, failing."""
@@ -89,6 +97,7 @@ WORKS = [(f"moo expr, {line.decode()}", ["expr"], line + b"\n", []) for line in 
     ("moo script, a checkpoint", ["script", SMALL], SAVED, faults(5)),
     ("moo script, three lives", ["script", SMALL], LIVES, faults(14)),
     ("moo script, typed", ["script", SMALL], TYPED, faults(6)),
+    ("moo script, lists that grow", ["script", SMALL], GROWN, []),
     ("moo script, a damaged world", ["script", DAMAGED], SAVED, []),
     ("moo, nothing asked", ["nothing"], b"", []),
 ]

@@ -1,4 +1,4 @@
-//! Words that are no names.
+//! The keywords of the language.
 ghost use Rattle.std.specs.Prelude.{◌≡◌, find};
 ghost use Rattle.moo_token.specs.Words.{keyword_text, keyword_of, is_spelled, first_letter, likely};
 
@@ -26,7 +26,7 @@ pub enum Keyword {
 }
 
 impl Keyword {
-    /// How the keyword is written.
+    /// Returns the keyword's spelling.
     pub fn text(self) -> &'static str
         ensures { result.now ≡ keyword_text self }
     {
@@ -53,7 +53,7 @@ impl Keyword {
         }
     }
 
-    /// The keyword that the word is, in any case.
+    /// Returns the keyword that the word is, in any case, or `None` if it is none.
     pub fn of(word: &[u8]) -> Option<Keyword>
         ensures { result ≡ keyword_of word.now }
     {
@@ -61,7 +61,7 @@ impl Keyword {
     }
 }
 
-// The first of the keywords that is spelled so.
+// Returns the first of these keywords that the word spells, in any case.
 fn first_spelled(keywords: &[Keyword], word: &[u8]) -> Option<Keyword>
     ensures { result ≡ find (is_spelled word.now) keywords.now }
 {
@@ -77,7 +77,7 @@ fn is_spelled(keyword: Keyword, word: &[u8]) -> bool
     keyword.text().as_bytes().eq_ignore_ascii_case(word)
 }
 
-// The first letter of a word, as a small one, or 0 where there is none.
+// Returns the first letter of a word in lower case, or 0 if the word is empty.
 fn first_letter(word: &[u8]) -> u8
     ensures { result ≡ first_letter word.now }
 {
@@ -87,7 +87,7 @@ fn first_letter(word: &[u8]) -> u8
     }
 }
 
-// The keywords of this length that begin with this small letter.
+// Returns the keywords of this length that begin with this lower-case letter.
 fn likely(length: usize, letter: u8) -> &'static [Keyword]
     ensures { result.now ≡ likely length letter }
 {

@@ -1,4 +1,4 @@
-//! The names of texts: those that are spelled alike share one string.
+//! A cache of the names in texts: equal names share one string.
 ghost use Rattle.std.specs.Prelude.{◌≡◌, ◌<◌, IfOk};
 ghost use Rattle.moo_value.specs.Size.{IsString};
 
@@ -8,19 +8,19 @@ use std::alloc::{AllocError, Global};
 
 const ROWS: usize = 256;
 
-/// The number of no name.
+/// Marks a row that has no name.
 const NONE: u16 = u16::MAX;
 
-/// Names that have been met, one in each row. Texts whose names are read with the same ones share their strings.
+/// A cache of names, one for each row. Texts that are read with the same cache share the strings of their names.
 #[derive(Drop)]
 pub struct Known {
     names: Vec<MooStr>,
-    /// The number of the name in each row.
+    /// The index in `names` of the name in each row.
     rows: [u16; ROWS],
 }
 
 impl Known {
-    /// No names.
+    /// Returns an empty cache.
     pub fn new(alloc: Global) -> Known {
         Known {
             names: Vec::new(alloc),
@@ -28,7 +28,7 @@ impl Known {
         }
     }
 
-    /// The string of a name: the one that it had before, if that is still known, or a new one.
+    /// Returns the string of a name: the cached one if the cache still holds it, or a new one.
     pub(crate) fn string(&mut self, alloc: Global, name: &[u8]) -> Result<MooStr, AllocError>
         requires { IsString name.now }
         ensures { IfOk result (λ s. s ≡ name.now) }
@@ -42,7 +42,7 @@ impl Known {
         }
     }
 
-    // The string of a name that takes the place of another one.
+    // Returns a new string for a name, which replaces another name in the cache.
     #[inline(never)]
     fn replaced(&mut self, alloc: Global, number: usize, name: &[u8]) -> Result<MooStr, AllocError>
         requires { IsString name.now }
@@ -55,7 +55,7 @@ impl Known {
         Ok(string)
     }
 
-    // The string of the first name of a row.
+    // Returns a new string for a name, which takes an empty row of the cache.
     #[inline(never)]
     fn added(&mut self, alloc: Global, row: usize, name: &[u8]) -> Result<MooStr, AllocError>
         requires row { row < 256 }
@@ -71,7 +71,7 @@ impl Known {
     }
 }
 
-// The row of a name, by its length and three of its letters: alone, no two letters share one.
+// Returns the row of a name, a hash of its length and three of its bytes. Names of one letter have different rows.
 fn row(name: &[u8]) -> usize
     ensures { result < 256 }
 {

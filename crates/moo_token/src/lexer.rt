@@ -1,4 +1,4 @@
-//! The tokens of a text.
+//! The lexer: it reads the tokens of a text.
 ghost use Rattle.std.specs.Prelude.{◌≡◌, ◌<◌, ◌≤◌, ◌++◌, ◌∷◌, [], length, drop, IsTrue, IfOk, IfSome, MatchOption, OnOk, MatchBool};
 ghost use Rattle.moo_value.specs.Size.{IsString};
 ghost use Rattle.moo_token.specs.Lexing.{begins_blank, begins_comment, ends_comment, IsReading};
@@ -42,13 +42,13 @@ fn ends_comment(bytes: &[u8]) -> bool
     }
 }
 
-/// For how many tokens of so many lines there is room at first.
+/// Returns the initial capacity, in tokens, for a text of so many lines.
 fn first_room(lines: usize) -> usize {
     lines.clamp(8, 128) * 8
 }
 
-/// Passes what stands at the front of a line's rest: a blank, a part of a comment or a token. Tells its length, or
-/// `None` where no token stands there, which ends the spots with `Bad`.
+/// Reads what a line's rest begins with: a blank, a part of a comment or a token. Returns its length, or `None` if no
+/// token begins there; the spots then end with `Bad`.
 fn pass(
     alloc: Global,
     known: &mut Known,
@@ -94,7 +94,7 @@ fn keep(spots: &mut Vec<Spot>, token: Token, line: usize) -> Result<(), AllocErr
     }
 }
 
-/// Passes a line, and tells whether it could be passed whole. If not, the spots end with `Bad`.
+/// Reads a line. Returns whether all of it could be read; if not, the spots end with `Bad`.
 fn pass_line(
     alloc: Global,
     known: &mut Known,
@@ -116,15 +116,15 @@ fn pass_line(
     Ok(true)
 }
 
-/// The tokens of the text of these lines, each with its line. Where the text has none, its tokens up to the first place
-/// where none stands, or up to a comment that is never closed, and there `Bad` as the last.
+/// Returns the tokens of these lines, each with its line. If the text is no list of tokens, `Bad` ends the result: it
+/// marks the first place where no token begins, or a comment that is never closed.
 pub fn tokens(alloc: Global, lines: &[MooStr]) -> Result<Vec<Spot>, AllocError>
     ensures { IfOk result (λ spots. IsReading lines.now spots.items) }
 {
     tokens_with(alloc, &mut Known::new(alloc), lines)
 }
 
-/// The same, where names that are known have the strings that they had before.
+/// Returns the tokens as `tokens` does, with the strings of names from a cache.
 pub fn tokens_with(
     alloc: Global,
     known: &mut Known,

@@ -1,4 +1,4 @@
-//! The token at the front of bytes.
+//! The token that bytes begin with.
 ghost use Rattle.std.specs.Prelude.{◌≡◌, ◌<◌, ◌≤◌, ◌+◌, length, take, false, Some, IfOk, IfSome};
 ghost use Rattle.std.specs.List.{prefix_len, list_all};
 ghost use Rattle.moo_value.specs.Size.{IsString};
@@ -39,7 +39,8 @@ fn is_word(bytes: &[u8]) -> bool
     }
 }
 
-/// Whether the bytes are a name: a letter or `_`, then letters, digits and `_`, and neither a keyword nor an error's name.
+/// Is true if the bytes are a name: a letter or `_`, then letters, digits and `_`, and neither a keyword nor an error's
+/// name.
 #[tactic(auto, unfolding(crate::specs::Spelling::is_name))]
 pub fn is_name(bytes: &[u8]) -> bool
     ensures { result ≡ is_name bytes.now }
@@ -47,7 +48,7 @@ pub fn is_name(bytes: &[u8]) -> bool
     is_word(bytes) && Keyword::of(bytes).is_none() && ErrorCode::from_name(bytes).is_none()
 }
 
-/// How many bytes at the front can go on with a name.
+/// Returns how many bytes at the front can be part of a name.
 fn name_length(bytes: &[u8]) -> usize
     ensures is { result ≡ prefix_len continues_name bytes.now }
     ensures fits { result ≤ length bytes.now }
@@ -55,7 +56,7 @@ fn name_length(bytes: &[u8]) -> usize
     bytes.iter().take_while(|b| continues_name(**b)).count()
 }
 
-/// How many digits stand at the front.
+/// Returns how many digits the bytes begin with.
 fn digits_length(bytes: &[u8]) -> usize
     ensures is { result ≡ prefix_len is_digit bytes.now }
     ensures fits { result ≤ length bytes.now }
@@ -63,7 +64,7 @@ fn digits_length(bytes: &[u8]) -> usize
     bytes.iter().take_while(|b| b.is_ascii_digit()).count()
 }
 
-/// The number that digits write, modulo 2^32 with a sign.
+/// Returns the number that the digits write, modulo 2^32 as a signed number.
 fn wrapped(digits: &[u8]) -> i32
     ensures { result ≡ wrapped digits.now }
 {
@@ -87,7 +88,7 @@ fn begins_fraction(bytes: &[u8]) -> bool
     }
 }
 
-/// The integer at the front, and its length.
+/// Returns the integer that the bytes begin with, and its length.
 #[tactic(auto, unfolding(crate::specs::Tokens::integer_at))]
 fn integer_at(bytes: &[u8]) -> Option<(Token, usize)>
     requires { 0 < prefix_len is_digit bytes.now }
@@ -101,7 +102,7 @@ fn integer_at(bytes: &[u8]) -> Option<(Token, usize)>
     Some((Token::Integer(wrapped(&bytes[..length])), length))
 }
 
-/// The object number behind a `#`, and its length.
+/// Returns the object number after a `#`, and its length.
 #[tactic(auto, unfolding(crate::specs::Tokens::object_at))]
 fn object_at(bytes: &[u8]) -> Option<(i32, usize)>
     ensures is { result ≡ object_at bytes.now }
@@ -115,7 +116,7 @@ fn object_at(bytes: &[u8]) -> Option<(i32, usize)>
     number_at(bytes)
 }
 
-/// The number at the front, and how many digits it has.
+/// Returns the number that the bytes begin with, and how many digits it has.
 #[tactic(auto, unfolding(crate::specs::Tokens::number_at))]
 fn number_at(bytes: &[u8]) -> Option<(i32, usize)>
     ensures is { result ≡ number_at bytes.now }
@@ -128,7 +129,7 @@ fn number_at(bytes: &[u8]) -> Option<(i32, usize)>
     Some((wrapped(&bytes[..length]), length))
 }
 
-/// The string of bytes that are part of a string.
+/// Returns a string of a copy of these bytes, which are part of a string.
 pub(crate) fn copied(alloc: Global, bytes: &[u8]) -> Result<MooStr, AllocError>
     requires { IsString bytes.now }
     ensures { IfOk result (λ s. s ≡ bytes.now) }
@@ -140,7 +141,7 @@ pub(crate) fn copied(alloc: Global, bytes: &[u8]) -> Result<MooStr, AllocError>
     }
 }
 
-/// The same of bytes that need no copy.
+/// Returns a string of these bytes without a copy.
 fn owned(alloc: Global, bytes: Vec<u8>) -> Result<MooStr, AllocError>
     requires { IsString bytes.items }
     ensures { IfOk result (λ s. s ≡ bytes.items) }
@@ -152,7 +153,7 @@ fn owned(alloc: Global, bytes: Vec<u8>) -> Result<MooStr, AllocError>
     }
 }
 
-/// The token that a word is.
+/// Returns the token of a word: a keyword, an error or a name.
 fn word(alloc: Global, known: &mut Known, bytes: &[u8]) -> Result<Token, AllocError>
     requires { IsString bytes.now }
     ensures { IfOk result (λ t. t ≡ word bytes.now) }
@@ -166,7 +167,7 @@ fn word(alloc: Global, known: &mut Known, bytes: &[u8]) -> Result<Token, AllocEr
     Ok(Token::Name(known.string(alloc, bytes)?))
 }
 
-/// How many bytes stand before the closing quote, where no backslash does.
+/// Returns how many bytes are before the closing quote, or `None` if a backslash comes first or no quote does.
 fn plain_length(bytes: &[u8]) -> Option<usize>
     ensures is { IfSome result (λ n. Some (take n bytes.now, n + 1) ≡ unquoted false bytes.now) }
     ensures fits { IfSome result (λ n. n < length bytes.now) }
@@ -183,7 +184,7 @@ fn plain_length(bytes: &[u8]) -> Option<usize>
     None
 }
 
-/// The string behind its opening quote, and the number of bytes up to and with its closing quote.
+/// Returns the string after its opening quote, and the number of bytes up to and including its closing quote.
 fn unquoted(alloc: Global, bytes: &[u8]) -> Result<Option<(MooStr, usize)>, AllocError>
     requires { IsString bytes.now }
     ensures is { IfOk result (λ found. found ≡ unquoted false bytes.now) }
@@ -196,7 +197,7 @@ fn unquoted(alloc: Global, bytes: &[u8]) -> Result<Option<(MooStr, usize)>, Allo
     Ok(Some((text, length + 1)))
 }
 
-/// The same, byte by byte.
+/// Reads a string byte by byte and drops the backslashes. Returns what `unquoted` does.
 fn unescaped(alloc: Global, bytes: &[u8]) -> Result<Option<(MooStr, usize)>, AllocError>
     requires { IsString bytes.now }
     ensures is { IfOk result (λ found. found ≡ unquoted false bytes.now) }
@@ -222,7 +223,7 @@ fn unescaped(alloc: Global, bytes: &[u8]) -> Result<Option<(MooStr, usize)>, All
     Ok(None)
 }
 
-/// The token at the front, and its length.
+/// Returns the token that the bytes begin with, and its length.
 #[tactic(auto, unfolding(crate::specs::Tokens::token_at))]
 pub(crate) fn token_at(
     alloc: Global,

@@ -1,4 +1,4 @@
-// The elements of lists, copied only where they are shared.
+// The elements of lists, which are copied only if another list shares them.
 ghost use Rattle.std.specs.Prelude.{◌≡◌, ◌<◌, ◌++◌, ◌∷◌, [], length, vec_len, slice_set, ℕ, IsTrue, IsFalse, IfOk, OnOk};
 ghost use Rattle.moo_value.specs.Inner.{IsMeasuredList};
 ghost use Rattle.moo_value.specs.Held.{IsAlike};
@@ -10,7 +10,7 @@ use crate::value::Value;
 use std::alloc::{AllocError, Global};
 use std::rc::Rc;
 
-// The elements with this value behind them, copied only where another list shares them.
+// Appends a value to the elements. Copies them only if another list shares them.
 pub(crate) fn with_last(
     alloc: Global,
     elements: Rc<Vec<Value>>,
@@ -28,7 +28,7 @@ pub(crate) fn with_last(
     Ok(Rc::new(alloc, copies)?)
 }
 
-// The elements with this value in place of one, likewise.
+// Replaces the element at `index` by a value. Copies the elements only if another list shares them.
 pub(crate) fn with_put(
     alloc: Global,
     elements: Rc<Vec<Value>>,
@@ -48,7 +48,7 @@ pub(crate) fn with_put(
     Ok(Rc::new(alloc, copies)?)
 }
 
-// Puts an integer in the place of another, and tells whether one stands there.
+// Replaces the element at `index` by an integer if it is an integer. Returns whether it was.
 #[tactic(auto, using(crate::proofs::Replaced::measured_alike, crate::proofs::Replaced::put_back))]
 #[inline]
 pub(crate) fn puts_integer(elements: &mut Vec<Value>, index: usize, number: i32) -> bool
@@ -62,7 +62,7 @@ pub(crate) fn puts_integer(elements: &mut Vec<Value>, index: usize, number: i32)
     replaces_integer(&mut elements[index], number)
 }
 
-// The same of the place.
+// Replaces a value by an integer if it is an integer. Returns whether it was.
 #[inline]
 fn replaces_integer(place: &mut Value, number: i32) -> bool
     ensures put { IsTrue result → place.new ≡ Int number }

@@ -11,7 +11,7 @@ ghost use Rattle.moo_value.specs.Compare.{fold_letters, folded, order};
 ghost use Rattle.moo_value.specs.Equal.{IsEqual};
 ghost use Rattle.moo_value.specs.Text.{literal};
 
-/// Folding takes A to Z in strings as a to z, inside lists too, and leaves all else as it is.
+/// Proves that folding maps A to Z in strings to a to z, inside lists too, and changes nothing else.
 pub fn letters_are_folded()
     ensures capitals { (b : ℕ) → 65 ≤ b → b ≤ 90 → to_ascii_lowercase b ≡ b + 32 }
     ensures others { (b : ℕ) → (b < 65) ⊎ (90 < b) → to_ascii_lowercase b ≡ b }
@@ -22,42 +22,42 @@ pub fn letters_are_folded()
     ensures errors { (e : ErrorCode) → fold_letters (error e) ≡ error e }
 {}
 
-/// What `==` of the language takes as equal: the same number, object or error; strings with the same bytes but for
-/// the case of letters; lists of as many elements, each equal.
+/// Proves what `==` of the language holds of: equal numbers of one type or equal errors; strings with the same bytes
+/// except for the case of letters; lists of the same length whose elements are equal.
 pub fn equal_but_for_letters()
     ensures { (t u : Tree) → (fold_letters t ≡ fold_letters u) ↔ IsEqual t u }
 {}
 
-/// `==` of the language is reflexive, symmetric and transitive.
+/// Proves that `==` of the language is reflexive, symmetric and transitive.
 pub fn equal_is_an_equivalence()
     ensures reflexive { (t : Tree) → IsEqual t t }
     ensures symmetric { (t u : Tree) → IsEqual t u → IsEqual u t }
     ensures transitive { (t u v : Tree) → IsEqual t u → IsEqual u v → IsEqual t v }
 {}
 
-/// Values of the program that stand for one value are one value.
+/// Proves that two values of the program with the same tree are the same value.
 pub fn same_is_equality()
     ensures { (v w : Value) → tree v ≡ tree w → v ≡ w }
 {}
 
-/// The order of two values is that of the two swapped, reversed.
+/// Proves that swapping two values reverses their order.
 pub fn order_is_reversed()
     ensures { (t u : Tree) → order u t ≡ option_map ordering_reverse (order t u) }
 {}
 
-/// What comes before a value comes before all that the value comes before, and what is equal to it, as `==`
-/// has it, is ordered to any other as it is.
+/// Proves that the order is transitive, and that values that are equal under `==` have the same order to every other
+/// value.
 pub fn order_is_transitive()
     ensures less { (t u v : Tree) → order t u ≡ Some Ordering.Less → order u v ≡ Some Ordering.Less → order t v ≡ Some Ordering.Less }
     ensures equal { (t u v : Tree) → fold_letters t ≡ fold_letters u → order t v ≡ order u v }
 {}
 
-/// Two values of which neither comes first are equal as `==` has it.
+/// Proves that two values of which neither is the lesser are equal under `==`.
 pub fn ordered_as_equal_is_equal()
     ensures { (t u : Tree) → order t u ≡ Some Ordering.Equal → fold_letters t ≡ fold_letters u }
 {}
 
-/// Equal values have one literal, but for letters.
+/// Proves that the literals of equal values are equal except for the case of letters.
 pub fn equal_values_read_alike()
     ensures { (t u : Tree) → fold_letters t ≡ fold_letters u → folded (literal t) ≡ folded (literal u) }
 {}

@@ -1,4 +1,4 @@
-//! A place among tokens.
+//! A cursor over the tokens of a text.
 ghost use Rattle.moo_grammar.specs.Predictive.{begins_statement};
 ghost use Rattle.std.specs.Prelude.{◌≡◌, ℕ, ◌+◌, ◌≤◌, ◌<◌, ◌∷◌, Bool, true, false, drop, length};
 
@@ -8,7 +8,7 @@ use moo_program::{Literal, Text};
 use moo_token::{Keyword, Sign, Spot, Token};
 use moo_value::MooStr;
 
-/// The tokens that are still to be read.
+/// A position among the tokens. The tokens from it on are still to be read.
 #[derive(Drop)]
 pub struct Cursor<'a> {
     pub spots: &'a [Spot],
@@ -23,7 +23,7 @@ impl Cursor<'_> {
     ghost use Rattle.moo_expression.specs.Cursor.{left, Takes, TakesLiteral, TakesOperator, TakesMinuses, Stays, StaysUnless};
     ghost use Rattle.moo_expression.specs.declared.fault.Fault.TheVariants.{Memory, Unexpected};
 
-    /// Whether the sign comes next.
+    /// Is true if the sign comes next.
     pub fn is_at(&self, sign: Sign) -> bool
         ensures { result ≡ next_passes (is_sign sign) (left self.now) }
     {
@@ -38,7 +38,7 @@ impl Cursor<'_> {
         }
     }
 
-    /// Whether a parenthesis or a brace closes next.
+    /// Is true if a closing parenthesis or brace comes next.
     pub fn is_at_closer(&self) -> bool
         ensures { result ≡ next_passes is_closer (left self.now) }
     {
@@ -53,7 +53,7 @@ impl Cursor<'_> {
         }
     }
 
-    /// The sign has to come next where it is needed. It isn't taken.
+    /// Refuses the next token with `Unexpected` if the sign is needed and does not come next. Takes no token.
     pub fn require(&self, needed: bool, sign: Sign) -> Result<(), Fault>
         ensures { MatchResult result
             (λ _. needed ≡ true → next_passes (is_sign sign) (left self.now) ≡ true)
@@ -65,7 +65,7 @@ impl Cursor<'_> {
         Ok(())
     }
 
-    /// Whether no token stands next in the text.
+    /// Is true if `Bad` comes next.
     pub fn is_at_bad(&self) -> bool
         ensures { result ≡ next_passes is_bad (left self.now) }
     {
@@ -78,7 +78,7 @@ impl Cursor<'_> {
         )
     }
 
-    /// Whether a statement begins next.
+    /// Is true if a statement begins with the next token.
     pub fn is_at_statement(&self) -> bool
         ensures { result ≡ next_passes begins_statement (left self.now) }
     {
@@ -88,7 +88,7 @@ impl Cursor<'_> {
         }
     }
 
-    /// Whether the keyword comes next.
+    /// Is true if the keyword comes next.
     pub fn is_at_keyword(&self, keyword: Keyword) -> bool
         ensures { result ≡ next_passes (is_keyword keyword) (left self.now) }
     {
@@ -103,7 +103,7 @@ impl Cursor<'_> {
         }
     }
 
-    /// The name that comes next, if one does. It isn't taken.
+    /// Returns the name that comes next, if one does. Takes no token.
     pub fn name_next(&self) -> Option<&MooStr>
         ensures { MatchOption result (next_passes (λ x. is_some (name_at x)) (left self.now) ≡ false) (λ name. left self.now ≡ Token.Name name.now ∷ words (drop (self.now.at + 1) self.now.spots.now)) }
     {
@@ -118,7 +118,7 @@ impl Cursor<'_> {
         }
     }
 
-    /// Takes the sign, if it comes next.
+    /// Takes the sign if it comes next. Returns whether it did.
     pub fn take(&mut self, sign: Sign) -> bool
         ensures { MatchBool result (Takes (Token.Sign sign) self.old self.new) (Stays (is_sign sign) self.old self.new) }
     {
@@ -138,7 +138,7 @@ impl Cursor<'_> {
         true
     }
 
-    /// Takes the sign, which has to come next.
+    /// Takes the sign. Refuses any other token with `Unexpected`.
     pub fn expect(&mut self, sign: Sign) -> Result<(), Fault>
         ensures { MatchResult result (λ _. Takes (Token.Sign sign) self.old self.new) (λ f. (f ≡ Unexpected) × Stays (is_sign sign) self.old self.new) }
     {
@@ -149,14 +149,14 @@ impl Cursor<'_> {
         }
     }
 
-    /// Takes the sign, if it may stand there and comes next.
+    /// Takes the sign if it is allowed and comes next. Returns whether it did.
     pub fn take_where(&mut self, may_stand: bool, sign: Sign) -> bool
         ensures { MatchBool result ((may_stand ≡ true) × Takes (Token.Sign sign) self.old self.new) (StaysUnless may_stand (is_sign sign) self.old self.new) }
     {
         if may_stand { self.take(sign) } else { false }
     }
 
-    /// Takes the keyword, if it comes next.
+    /// Takes the keyword if it comes next. Returns whether it did.
     pub fn take_keyword(&mut self, keyword: Keyword) -> bool
         ensures { MatchBool result (Takes (Token.Keyword keyword) self.old self.new) (Stays (is_keyword keyword) self.old self.new) }
     {
@@ -176,7 +176,7 @@ impl Cursor<'_> {
         true
     }
 
-    /// Takes the keyword, which has to come next.
+    /// Takes the keyword. Refuses any other token with `Unexpected`.
     pub fn expect_keyword(&mut self, keyword: Keyword) -> Result<(), Fault>
         ensures { MatchResult result (λ _. Takes (Token.Keyword keyword) self.old self.new) (λ f. (f ≡ Unexpected) × Stays (is_keyword keyword) self.old self.new) }
     {
@@ -187,7 +187,7 @@ impl Cursor<'_> {
         }
     }
 
-    /// Whether an operator of the level comes next.
+    /// Is true if an operator of the level comes next.
     #[inline]
     pub fn is_at_operator(&self, level: Level) -> bool
         ensures { result ≡ next_passes (λ x. is_some (operator_at level x)) (left self.now) }
@@ -198,7 +198,7 @@ impl Cursor<'_> {
         }
     }
 
-    /// Takes an operator of the level, if one comes next.
+    /// Takes an operator of the level if one comes next.
     pub fn take_operator(&mut self, level: Level) -> Option<Operator>
         ensures { MatchOption result (Stays (λ x. is_some (operator_at level x)) self.old self.new) (λ o. TakesOperator level o self.old self.new) }
     {
@@ -208,7 +208,7 @@ impl Cursor<'_> {
         Some(found)
     }
 
-    /// Takes a run of minuses, and tells how many they were.
+    /// Takes all minuses that come next. Returns how many it took.
     pub fn take_minuses(&mut self) -> usize
         ensures { TakesMinuses result self.old self.new }
     {
@@ -219,7 +219,7 @@ impl Cursor<'_> {
         count
     }
 
-    /// Takes a literal, if one comes next.
+    /// Takes a literal if one comes next.
     pub fn take_literal(&mut self) -> Result<Option<Literal>, Fault>
         ensures { MatchResult result
             (λ found. MatchOption found (Stays (λ x. is_some (literal_at x)) self.old self.new) (λ l. TakesLiteral l self.old self.new))
@@ -239,7 +239,7 @@ impl Cursor<'_> {
         Ok(Some(found))
     }
 
-    /// Takes a name, if one comes next.
+    /// Takes a name if one comes next.
     pub fn take_name(&mut self) -> Result<Option<MooStr>, Fault>
         ensures { MatchResult result
             (λ found. MatchOption found (Stays (λ x. is_some (name_at x)) self.old self.new) (λ s. Takes (Token.Name s) self.old self.new))

@@ -1,20 +1,20 @@
-//! Why no tree was read, within the parser.
+//! The parser's faults.
 use std::alloc::{AllocError, AllocFailed};
 
-/// Why no tree was read.
+/// Why the parser read no tree.
 #[derive(Clone, Copy, PartialEq, Eq)]
 pub enum Fault {
-    /// No program goes on with the next token.
+    /// No program continues with the next token.
     Unexpected,
-    /// The `=` that comes next has no target before it.
+    /// The expression before the `=` that comes next is no target.
     BadTarget,
-    /// The name before the parenthesis that comes next may not be called.
+    /// The name before the parenthesis that comes next is no function that may be called.
     UnknownFunction,
-    /// The jump or the name that comes next has no loop round it.
+    /// The jump that comes next is in no loop, or the name that comes next is that of no loop around it.
     BadLoopName,
-    /// More nodes stand on a path than may.
+    /// A path would have more nodes than a program may have.
     TooDeep,
-    /// There was no memory for the tree.
+    /// Out of memory.
     Memory,
 }
 

@@ -112,7 +112,7 @@ fn product(alloc: Global, tokens: &mut Cursor, place: Place, room: u32) -> Resul
     more(alloc, tokens, Level::Product, front, place, room)
 }
 
-// What stands behind the first operand of a chain: mostly nothing.
+// Parses the rest of a chain after its first operand, which is usually empty.
 #[cycle(parser)]
 #[inline(always)]
 fn more(
@@ -192,7 +192,7 @@ fn power(alloc: Global, tokens: &mut Cursor, place: Place, room: u32) -> Result<
     raised(alloc, tokens, base, place, room)
 }
 
-// A power, behind the sign.
+// Parses the rest of a power after its sign.
 #[cycle(parser)]
 #[inline(never)]
 fn raised(

@@ -1,5 +1,5 @@
-//! A parser of expressions: from a place among tokens to the tree that stands there.
-//! A room behind `moo_syntax`.
+//! The parser of expressions: it reads a tree from the tokens at a cursor.
+//! An internal crate of `moo_syntax`.
 #![tactic(auto)]
 
 mod cursor;

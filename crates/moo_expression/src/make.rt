@@ -1,4 +1,4 @@
-//! Nodes over nodes, within the room that there is.
+//! Constructors of nodes, which refuse paths that are too long.
 ghost use Rattle.std.specs.Prelude.{◌≡◌, ◌+◌, ◌-◌, ◌≤◌, ◌<◌, max, min, MatchResult};
 ghost use Rattle.moo_program.specs.Limits.{height as height_of};
 ghost use Rattle.moo_program.specs.Tree as tree;
@@ -17,14 +17,16 @@ use moo_program::{Expr, Literal, Text};
 use moo_value::MooStr;
 use std::alloc::Global;
 
-/// How many nodes may stand below a node, where so many may stand from it on.
+/// Returns how many nodes a path may have below a node, if it may have `room` from that node on. Refuses a `room` of 0
+/// with `TooDeep`.
 pub fn below(room: u32) -> Result<u32, Fault>
     ensures { MatchResult result (λ r. r + 1 ≡ room) (λ f. (f ≡ TooDeep) × (room ≡ 0)) }
 {
     room.checked_sub(1).ok_or(Fault::TooDeep)
 }
 
-/// How many nodes may stand beside a part of this height, where so many may stand from the node over both on.
+/// Returns how many nodes a path may have below a node over a part of this height, if it may have `room` from that node
+/// on. Refuses a part that is too high with `TooDeep`.
 pub fn beside(height: u32, room: u32) -> Result<u32, Fault>
     ensures { MatchResult result (λ r. (r + 1 ≡ room) × (height < room)) (λ f. (f ≡ TooDeep) × (room ≤ height)) }
 {
@@ -35,8 +37,8 @@ pub fn beside(height: u32, room: u32) -> Result<u32, Fault>
     }
 }
 
-/// How many nodes may stand behind so many minuses, where so many may stand from the first minus on. A number takes minuses in, so
-/// that it fits behind any of them.
+/// Returns how many nodes a path may have after these minuses, if it may have `room` from the first minus on. A number
+/// absorbs its minuses, so that it fits after any of them.
 pub fn behind_minuses(minuses: usize, room: u32) -> u32
     ensures { result ≡ max (room - minuses) (min room 1) }
 {
@@ -44,7 +46,8 @@ pub fn behind_minuses(minuses: usize, room: u32) -> u32
     room.saturating_sub(minuses).max(room.min(1))
 }
 
-/// A node over others, of which the highest has this height.
+/// Makes a node over others, of which the highest has the height `below`. Refuses more than `room` nodes on a path with
+/// `TooDeep`.
 pub fn node_over(alloc: Global, tree: Expr, below: u32, room: u32) -> Result<Node, Fault>
     requires { height_of (tree_of tree) ≡ below + 1 }
     ensures { IsMade (tree_of tree) room result }
@@ -59,7 +62,7 @@ pub fn node_over(alloc: Global, tree: Expr, below: u32, room: u32) -> Result<Nod
     })
 }
 
-/// A constant.
+/// Makes a node of a literal.
 pub fn constant(alloc: Global, literal: Literal) -> Result<Node, Fault>
     ensures { MatchResult result (λ n. root n.tree ≡ tree.literal literal) (λ f. f ≡ Memory) }
 {
@@ -67,14 +70,14 @@ pub fn constant(alloc: Global, literal: Literal) -> Result<Node, Fault>
     Ok(Node { tree, height: 1 })
 }
 
-/// A string that is written out as a name.
+/// Makes a string literal of a name.
 pub fn name_constant(alloc: Global, name: MooStr) -> Result<Node, Fault>
     ensures { MatchResult result (λ n. root n.tree ≡ tree.literal (literal.Str name)) (λ f. f ≡ Memory) }
 {
     constant(alloc, Literal::Str(Text::new(name)))
 }
 
-/// The operator between the two operands.
+/// Makes a node of the operator and its two operands.
 pub fn join(
     alloc: Global,
     operator: Operator,
@@ -105,7 +108,7 @@ pub fn join(
     }
 }
 
-/// A minus before the operand: one before an integer literal is part of the literal.
+/// Puts a minus before the operand. A minus before an integer literal becomes part of the literal.
 fn negate(alloc: Global, operand: Node, room: u32) -> Result<Node, Fault>
     ensures { IsMade (negated (root operand.tree)) room result }
 {
@@ -126,7 +129,7 @@ fn negate(alloc: Global, operand: Node, room: u32) -> Result<Node, Fault>
     )
 }
 
-/// So many minuses before the operand.
+/// Puts this many minuses before the operand.
 pub fn negate_times(alloc: Global, minuses: usize, operand: Node, room: u32) -> Result<Node, Fault>
     requires { operand.height ≤ room }
     ensures { IsMade (negations minuses (root operand.tree)) room result }

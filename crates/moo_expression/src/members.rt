@@ -1,4 +1,4 @@
-//! A parser of the items of lists, the arguments of calls and the pieces of scatters.
+//! The parser of the items of lists, the arguments of calls and the pieces of scatters.
 ghost use Rattle.std.specs.Prelude.{true, IfOk, IfErr};
 ghost use Rattle.moo_program.specs.Limits.{height};
 ghost use Rattle.moo_program.specs.View.{items_of};

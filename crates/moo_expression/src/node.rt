@@ -1,4 +1,4 @@
-//! Trees, each with the most nodes on a path of it.
+//! Trees with their heights: the most nodes on a path of them.
 ghost use Rattle.std.specs.Prelude.{◌≡◌, ◌∷◌, ◌++◌, [], max, IfErr, IfOk, OnOk};
 ghost use Rattle.moo_program.specs.Limits.{height as height_of, items_height, codes_height};
 ghost use Rattle.moo_program.specs.View.{root, items_of, codes_of};
@@ -11,7 +11,7 @@ use crate::fault::Fault;
 use moo_program::{Codes, Expr, Item};
 use std::alloc::Global;
 
-/// An expression, and the most nodes on a path of it.
+/// An expression and its height.
 #[derive(Drop)]
 pub struct Node {
     pub tree: Box<Expr>,
@@ -19,7 +19,7 @@ pub struct Node {
     ghost in_step: { height ≡ height_of (root tree) },
 }
 
-/// An item of a list, and the most nodes on a path of it.
+/// An item of a list and its height.
 #[derive(Drop)]
 pub struct Member {
     pub item: Item,
@@ -27,7 +27,7 @@ pub struct Member {
     ghost in_step: { height ≡ item_height item },
 }
 
-/// The items of a list, the most nodes on a path of one, and whether there is a `?` piece among them.
+/// The items of a list, the greatest of their heights, and whether one of them is a `?` piece.
 #[derive(Drop)]
 pub struct Members {
     pub items: Vec<Item>,
@@ -37,7 +37,7 @@ pub struct Members {
     ghost told: { optional ≡ has_optional (items_of items.items) },
 }
 
-/// The errors of a catch, and the most nodes on a path of one.
+/// The errors of a catch and the greatest of their heights.
 #[derive(Drop)]
 pub struct Caught {
     pub codes: Codes,
@@ -46,7 +46,7 @@ pub struct Caught {
 }
 
 impl Members {
-    /// No items.
+    /// Returns an empty list of items.
     pub fn new(alloc: Global) -> Members
         ensures { result.items.items ≡ [] }
     {
@@ -57,7 +57,7 @@ impl Members {
         }
     }
 
-    /// No items yet, with room for a few.
+    /// Returns an empty list of items with capacity for two.
     pub fn begun(alloc: Global) -> Result<Members, Fault>
         ensures ok { IfOk result (λ m. m.items.items ≡ []) }
         ensures err { IfErr result (λ f. f ≡ Memory) }
@@ -69,7 +69,7 @@ impl Members {
         })
     }
 
-    /// Puts the item behind the others.
+    /// Appends the item.
     pub fn push(&mut self, member: Member) -> Result<(), Fault>
         ensures items { OnOk result (self.new.items.items ≡ self.old.items.items ++ member.item ∷ []) }
         ensures height { OnOk result (self.new.height ≡ max self.old.height member.height) }
@@ -83,7 +83,7 @@ impl Members {
     }
 }
 
-/// Whether there is a `?` piece among the items, with one item more.
+/// Is true if the item is a `?` piece or `optional` is true.
 fn optional_with(optional: bool, item: &Item) -> bool
     ensures { result ≡ optional_with optional item.now }
 {

@@ -1,10 +1,10 @@
-//! Where an expression stands.
+//! The context of an expression.
 use moo_grammar::Names;
 
-/// Where an expression stands, and which functions it may call.
+/// The context of an expression, and the functions that it may call.
 #[derive(Clone, Copy)]
 pub struct Place {
-    /// Whether it stands inside an index, where `$` may stand.
+    /// Whether the expression is inside an index, where `$` is allowed.
     pub inside: bool,
     pub names: Names,
 }

@@ -1,4 +1,4 @@
-//! A parser of what stands behind a base: properties, verb calls and indices.
+//! The parser of properties, verb calls and indices after a base.
 ghost use Rattle.std.specs.Prelude.{◌+◌, ◌≤◌, true, false, IfOk, IfErr};
 ghost use Rattle.moo_program.specs.Limits.{height};
 ghost use Rattle.moo_program.specs.View.{root};

@@ -1,4 +1,4 @@
-//! A parser of what begins an operand: constants, names, calls, lists and catches.
+//! The parser of primary expressions: constants, names, calls, lists and catches.
 ghost use Rattle.std.specs.Prelude.{true, false, IfOk, IfErr};
 ghost use Rattle.moo_token.specs.declared.token.Token.TheVariants as token;
 ghost use Rattle.moo_program.specs.Limits.{height};

@@ -1,4 +1,4 @@
-//! The rules that a program keeps beside its forms.
+//! The rules that a program obeys besides its forms.
 ghost use Rattle.std.specs.Prelude.{◌≡◌, true, false, MatchResult};
 ghost use Rattle.moo_program.specs.Target.{is_target};
 ghost use Rattle.moo_program.specs.View.{tree};
@@ -10,7 +10,7 @@ use moo_grammar::Names;
 use moo_program::{Expr, is_target};
 use moo_value::MooStr;
 
-/// What stands before `=` has to be a target.
+/// Refuses an expression that is no target of an assignment with `BadTarget`.
 pub fn expect_target(target: &Expr) -> Result<(), Fault>
     ensures { MatchResult result (λ _. is_target (tree target.now) ≡ true) (λ f. (f ≡ BadTarget) × (is_target (tree target.now) ≡ false)) }
 {
@@ -21,7 +21,7 @@ pub fn expect_target(target: &Expr) -> Result<(), Fault>
     }
 }
 
-/// The name of a function has to be one that may be called.
+/// Refuses the name of a function that may not be called with `UnknownFunction`.
 pub fn expect_callable(names: Names, name: &MooStr) -> Result<(), Fault>
     ensures { MatchResult result (λ _. may_call names name.now ≡ true) (λ f. (f ≡ UnknownFunction) × (may_call names name.now ≡ false)) }
 {

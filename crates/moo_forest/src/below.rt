@@ -1,4 +1,4 @@
-//! The list of what is right below a node, as it is lent.
+//! A borrowed list of the children of a node.
 
 ghost use Rattle.std.specs.Prelude.{◌≡◌, ◌++◌, ◌∷◌, [], IfOk, MatchOption};
 ghost use Rattle.std.specs.List.{slice_get};
@@ -30,7 +30,7 @@ impl<'a> Below<'a> {
         Below { slots }
     }
 
-    /// The oldest of them.
+    /// Returns the oldest node, or `None` if the list is empty.
     pub fn first(self) -> Option<usize>
         ensures { result ≡ slice_get self.entry 0 }
     {
@@ -38,7 +38,7 @@ impl<'a> Below<'a> {
         left.next()
     }
 
-    /// The newest of them, which is no longer among them then.
+    /// Removes and returns the newest node, or returns `None` if the list is empty.
     pub fn take_last(&mut self) -> Option<usize>
         ensures { MatchOption result ((self.old ≡ []) × (self.new ≡ [])) (λ x. self.old ≡ self.new ++ x ∷ []) }
     {
@@ -51,7 +51,7 @@ impl<'a> Below<'a> {
         None
     }
 
-    /// A copy of the list.
+    /// Copies the list.
     pub fn to_vec(self, alloc: Global) -> Result<Vec<usize>, AllocError>
         ensures { IfOk result (λ xs. xs.items ≡ self.entry) }
     {

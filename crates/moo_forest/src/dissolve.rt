@@ -1,4 +1,4 @@
-//! A node taken out of its forest, and those right below it given to another.
+//! Removal of a node from its forest: the nodes right below it move to another.
 
 ghost use Rattle.std.specs.Prelude.{◌≡◌, ◌<◌, OnOk, OnErr, length, vec_len, false};
 ghost use Rattle.std.specs.Option.{ForSome};
@@ -12,8 +12,8 @@ use crate::places::{put_all_below, take_out};
 use std::alloc::{AllocError, Global};
 
 impl Forest {
-    /// Joins a node to none. Those right below it go to the heir, last in its list and in their
-    /// order, or where there is no heir to none.
+    /// Takes a node out of its tree. The nodes right below it go to the end of the heir's list, in their order, or
+    /// become roots if there is no heir. Out of memory nothing changes.
     pub fn dissolve(
         &mut self,
         alloc: Global,
@@ -37,7 +37,7 @@ impl Forest {
     }
 }
 
-/// Puts another node right above each of these.
+/// Sets the node right above each of these nodes.
 pub fn join_all(nodes: &mut Vec<Node>, xs: &[usize], to: Option<usize>)
     requires { All (λ x. x < vec_len nodes.old) xs.now }
     ensures { nodes.new.items ≡ with_all_joined nodes.old.items xs.now to }

@@ -1,4 +1,4 @@
-//! Lists of nodes from which one leaves in constant time: it leaves a gap behind.
+//! Lists of nodes from which a removal takes constant time, because it leaves an empty slot.
 
 ghost use Rattle.std.specs.Prelude.{◌≡◌, ◌+◌, ◌<◌, ◌≤◌, ◌++◌, ◌∷◌, [], length, IfOk, OnOk, OnErr, MatchOption, Some, None, map, count_by, nat_eq, slice_index_or};
 ghost use Rattle.moo_forest.specs.Forest.{without};
@@ -8,13 +8,13 @@ use crate::below::Below;
 use std::alloc::{AllocError, Global};
 use std::marker::Model;
 
-/// A list of nodes, in slots of which some may be empty.
+/// A list of nodes in slots, some of which may be empty.
 #[derive(Drop)]
 pub struct Gapped {
     slots: Vec<Option<usize>>,
-    // How many slots are empty.
+    // The number of empty slots.
     gaps: usize,
-    // How many slots at the front are known to be empty.
+    // The number of slots at the front that are known to be empty.
     front: usize,
 }
 
@@ -40,19 +40,19 @@ impl Gapped {
         }
     }
 
-    /// The nodes in their order.
+    /// Returns the nodes in order.
     pub fn below(&self) -> Below<'_>
         ensures { result ≡ self.now }
     {
         Below::new(&self.slots[self.front..])
     }
 
-    /// How many slots there are.
+    /// Returns the number of slots.
     pub fn slots(&self) -> usize {
         self.slots.len()
     }
 
-    /// What stands in a slot.
+    /// Returns the node in a slot, or `None` if the slot is empty or does not exist.
     pub fn slot(&self, place: usize) -> Option<usize> {
         if place < self.slots.len() {
             self.slots[place]
@@ -61,7 +61,7 @@ impl Gapped {
         }
     }
 
-    /// Adds a node in a slot behind the others.
+    /// Appends a node. Out of memory nothing changes.
     pub fn push(&mut self, x: usize) -> Result<(), AllocError>
         ensures ok { OnOk result (self.new ≡ self.old ++ x ∷ []) }
         ensures err { OnErr result (self.new ≡ self.old) }
@@ -70,7 +70,7 @@ impl Gapped {
         Ok(())
     }
 
-    /// Adds nodes, in their order. Where memory is short, nothing changes.
+    /// Appends nodes in their order. Out of memory nothing changes.
     pub fn push_all(&mut self, xs: &[usize]) -> Result<(), AllocError>
         ensures ok { OnOk result (self.new ≡ self.old ++ xs.now) }
         ensures err { OnErr result (self.new ≡ self.old) }
@@ -79,8 +79,7 @@ impl Gapped {
         Ok(())
     }
 
-    /// Takes a node out, which is there at most once. Its slot is the one at `place`, or is
-    /// searched for where another stands there.
+    /// Removes a node, which is in the list at most once. Looks first at the slot `place`, and then searches all slots.
     pub fn remove(&mut self, x: usize, place: usize)
         requires { count_by (nat_eq x) self.old ≤ 1 }
         ensures { self.new ≡ without x self.old }
@@ -92,12 +91,12 @@ impl Gapped {
         }
     }
 
-    /// Whether more than half of the slots are empty.
+    /// Is true if more than half of the slots are empty.
     pub fn is_sparse(&self) -> bool {
         self.gaps > self.slots.len() / 2
     }
 
-    /// Takes the empty slots out.
+    /// Removes the empty slots.
     pub fn pack(&mut self)
         ensures { self.new ≡ self.old }
     {
@@ -106,7 +105,7 @@ impl Gapped {
         self.front = 0;
     }
 
-    /// Takes all out.
+    /// Removes all nodes.
     pub fn clear(&mut self)
         ensures { self.new ≡ [] }
     {
@@ -130,7 +129,7 @@ fn push_all(slots: &mut Vec<Option<usize>>, xs: &[usize]) -> Result<(), AllocErr
     Ok(())
 }
 
-// The slot in which a node stands: the one at this place, if it does.
+// Returns the slot of a node: the one at `place` if the node is there.
 fn slot_of(slots: &[Option<usize>], x: usize, place: usize) -> Option<usize>
     ensures { MatchOption result (count_by (nat_eq x) (present slots.now) ≡ 0) (λ i. (i < length slots.now) × (slice_index_or slots.now i None ≡ Some x)) }
 {
@@ -145,7 +144,7 @@ fn slot_of(slots: &[Option<usize>], x: usize, place: usize) -> Option<usize>
     None
 }
 
-// How many slots at the front are empty, of which so many are known.
+// Returns how many slots at the front are empty, if the first `known` of them are.
 fn empty_at_front(slots: &[Option<usize>], known: usize) -> usize
     requires { BeginsEmpty known slots.now }
     ensures { BeginsEmpty result slots.now }

@@ -1,6 +1,6 @@
 //! Forests: trees of numbered nodes, each with the list of its children in order.
-//! The world has two: what an object inherits from, and where it is.
-//! A room behind `moo_world`.
+//! The world has two: the inheritance of objects and their locations.
+//! An internal crate of `moo_world`.
 #![tactic(auto)]
 
 ghost use Rattle.std.specs.Prelude.{◌≡◌, ◌≢◌, ◌+◌, ◌<◌, ◌++◌, ◌∷◌, [], ◌↔◌, Option, length, IsTrue, IfOk, OnOk, OnErr, IsOk, true, false, vec_len, slice_index_or, take, ◌-◌};
@@ -26,8 +26,8 @@ use std::alloc::{AllocError, Global};
 use std::marker::Model;
 pub use walk::Step;
 
-/// Nodes numbered from 0. Going up from any of them ends, and each stands in the list of the node
-/// right above it, once, and in no other.
+/// Nodes with numbers from 0. The path up from each node ends. Each node is once in the list of the node right above
+/// it, and in no other list.
 #[derive(Drop)]
 pub struct Forest {
     nodes: Vec<Node>,
@@ -45,7 +45,7 @@ impl Model for Forest {
 }
 
 impl Forest {
-    /// A forest without nodes.
+    /// Makes a forest without nodes.
     pub fn new(alloc: Global) -> Self
         ensures { result ≡ [] }
     {
@@ -54,7 +54,7 @@ impl Forest {
         }
     }
 
-    /// The forest of these nodes.
+    /// Makes the forest of these nodes.
     pub fn from_nodes(nodes: Vec<Node>) -> Self
         requires { IsForest nodes.items }
         ensures { result ≡ nodes.items }
@@ -64,21 +64,21 @@ impl Forest {
         Forest { nodes }
     }
 
-    /// What every forest keeps.
+    /// Proves that the nodes form a forest.
     pub fn is_forest(&self)
         ensures { IsForest self.now }
     {
         let _nodes = &self.nodes;
     }
 
-    /// How many nodes there are.
+    /// Returns the number of nodes.
     pub fn len(&self) -> usize
         ensures { result ≡ length self.now }
     {
         self.nodes.len()
     }
 
-    /// Adds a node that is joined to none.
+    /// Adds a root without children. Out of memory nothing changes.
     pub fn add(&mut self, alloc: Global) -> Result<(), AllocError>
         ensures ok { OnOk result (self.new ≡ self.old ++ alone ∷ []) }
         ensures err { OnErr result (self.new ≡ self.old) }
@@ -87,7 +87,7 @@ impl Forest {
         Ok(())
     }
 
-    /// The node right above.
+    /// Returns the node right above, or `None` for a root.
     pub fn above(&self, x: usize) -> Option<usize>
         requires { x < length self.now }
         ensures value { result ≡ above_of self.now x }
@@ -96,7 +96,7 @@ impl Forest {
         self.nodes[x].above()
     }
 
-    /// The nodes right below, the newest last.
+    /// Returns the nodes right below, the newest last.
     pub fn below(&self, x: usize) -> Below<'_>
         requires { x < length self.now }
         ensures { result ≡ below_of self.now x }
@@ -104,7 +104,7 @@ impl Forest {
         self.nodes[x].below()
     }
 
-    /// Whether `x` is `top` or stands below it.
+    /// Is true if `x` is `top` or is below it.
     pub fn is_within(&self, x: usize, top: usize) -> bool
         requires { x < length self.now }
         ensures { result ≡ is_within self.now x top }
@@ -125,8 +125,8 @@ impl Forest {
         false
     }
 
-    /// Moves a node, which becomes the newest in its new place. Nothing changes where it is there
-    /// already, and no memory is taken.
+    /// Moves a node to the end of another's list, or makes it a root. If it is there already, nothing changes and no
+    /// memory is allocated. Out of memory nothing changes.
     pub fn move_to(&mut self, x: usize, to: Option<usize>) -> Result<(), AllocError>
         requires node { x < length self.old }
         requires place { ForSome to (λ up. up < length self.old) }
@@ -146,7 +146,7 @@ impl Forest {
         Ok(())
     }
 
-    /// Adds a node below another, or one that is joined to none.
+    /// Adds a node at the end of another's list, or as a root. Out of memory nothing changes.
     pub fn add_below(&mut self, alloc: Global, to: Option<usize>) -> Result<(), AllocError>
         requires { ForSome to (λ up. up < length self.old) }
         ensures ok { OnOk result (self.new ≡ moved (self.old ++ alone ∷ []) (length self.old) to) }
@@ -161,7 +161,7 @@ impl Forest {
         Ok(())
     }
 
-    /// Takes the last node away, which is joined to none.
+    /// Removes the last node, which has neither a node above nor nodes below.
     pub fn remove_last(&mut self)
         requires { slice_index_or self.old (length self.old - 1) alone ≡ alone }
         ensures { self.new ≡ take (length self.old - 1) self.old }

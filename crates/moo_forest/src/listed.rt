@@ -1,4 +1,4 @@
-//! Whether the list of each node holds just the nodes that it is right above.
+//! The check that the list of each node holds just its children.
 
 ghost use Rattle.std.specs.Prelude.{◌≡◌, ℕ, ◌+◌, ◌<◌, ◌≤◌, ◌≢◌, List, [], length, Option, Some, false, true, MatchOption, MatchBool, IfOk, slice_index_or};
 ghost use Rattle.moo_forest.specs.Forest.{Links, above_of, below_of};
@@ -7,8 +7,8 @@ ghost use Rattle.moo_forest.specs.Listed.{IsListed, IsLeastUnlisted, held, AreMa
 use crate::node::Node;
 use std::alloc::{AllocError, Global};
 
-/// The least node whose list is wrong: it has to hold each node that the node is right above,
-/// once, and no other.
+/// Returns the least node whose list is wrong. A right list holds each node that this node is right above, once, and no
+/// other.
 pub fn first_unlisted(alloc: Global, nodes: &[Node]) -> Result<Option<usize>, AllocError>
     ensures { IfOk result (λ r. MatchOption r ((x : ℕ) → x < length nodes.now → IsListed nodes.now x) (IsLeastUnlisted nodes.now)) }
 {
@@ -17,7 +17,8 @@ pub fn first_unlisted(alloc: Global, nodes: &[Node]) -> Result<Option<usize>, Al
     Ok(least_unlisted(nodes, &listed, limit))
 }
 
-// Marks what the lists hold, as far as the first that holds another's node, or one twice.
+// Marks the nodes in the lists, up to the first list that holds another's child, or one twice. Returns the node of that
+// list, or the number of nodes.
 fn mark_lists(nodes: &[Node], listed: &mut [bool]) -> usize
     requires len { length listed.old ≡ length nodes.now }
     requires clear { (y : ℕ) → slice_index_or listed.old y false ≡ false }
@@ -48,7 +49,7 @@ fn mark_list(nodes: &[Node], listed: &mut [bool], x: usize) -> bool
     true
 }
 
-// Whether `x` stands right above a node that has no mark yet.
+// Is true if `y` has no mark yet and `x` is right above it.
 fn is_fresh(nodes: &[Node], listed: &[bool], x: usize, y: usize) -> bool
     requires { length listed.now ≡ length nodes.now }
     ensures { MatchBool result
@@ -70,7 +71,7 @@ fn least_unlisted(nodes: &[Node], listed: &[bool], limit: usize) -> Option<usize
     }
 }
 
-// The least number that stands right above a node without a mark, or the limit.
+// Returns the least node that is right above a node without a mark, or the limit if none is less.
 fn least_above(nodes: &[Node], listed: &[bool], limit: usize) -> usize
     requires { length listed.now ≡ length nodes.now }
     ensures { IsLeast nodes.now listed.now limit result (length nodes.now) }

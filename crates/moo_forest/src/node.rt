@@ -6,13 +6,12 @@ use crate::gapped::Gapped;
 use std::alloc::{AllocError, Global};
 use std::marker::Model;
 
-/// What a node is joined to.
+/// A node: the one right above it and those right below it.
 #[derive(Drop)]
 pub struct Node {
     above: Option<usize>,
     below: Gapped,
-    // The slot in which the node stands in the list of the one right above it, which its leaving
-    // begins to look at.
+    // The slot of this node in the list of the one right above it, at which a removal looks first.
     place: usize,
 }
 
@@ -25,7 +24,7 @@ impl Model for Node {
 }
 
 impl Node {
-    /// A node with the one right above it, and those right below it in order.
+    /// Makes a node with the one right above it, and those right below it in order.
     pub fn new(alloc: Global, above: Option<usize>, below: &[usize]) -> Result<Self, AllocError>
         ensures { IfOk result (λ node. node ≡ record { above = above; below = below.now }) }
     {
@@ -35,7 +34,7 @@ impl Node {
         Ok(node)
     }
 
-    /// A node that is joined to none.
+    /// Makes a node with none above and none below.
     pub fn alone(alloc: Global) -> Self
         ensures { result ≡ alone }
     {
@@ -46,28 +45,28 @@ impl Node {
         }
     }
 
-    /// The node right above.
+    /// Returns the node right above, or `None` for a root.
     pub fn above(&self) -> Option<usize>
         ensures { result ≡ self.now.above }
     {
         self.above
     }
 
-    /// The nodes right below, the newest last.
+    /// Returns the nodes right below, the newest last.
     pub fn below(&self) -> Below<'_>
         ensures { result ≡ self.now.below }
     {
         self.below.below()
     }
 
-    /// Joins the node to another one above it, or to none. The list of that one is not changed.
+    /// Sets the node right above. Does not change that node's list.
     pub fn set_above(&mut self, to: Option<usize>)
         ensures { self.new ≡ record self.old { above = to } }
     {
         self.above = to;
     }
 
-    /// Adds one behind the others below. Where memory is short, nothing changes.
+    /// Appends a node to those below. Out of memory nothing changes.
     pub fn add_below(&mut self, x: usize) -> Result<(), AllocError>
         ensures ok { OnOk result (self.new ≡ record self.old { below = self.old.below ++ x ∷ [] }) }
         ensures err { OnErr result (self.new ≡ self.old) }
@@ -75,7 +74,7 @@ impl Node {
         self.below.push(x)
     }
 
-    /// Adds several, in their order. Where memory is short, nothing changes.
+    /// Appends nodes to those below, in their order. Out of memory nothing changes.
     pub fn add_all_below(&mut self, xs: &[usize]) -> Result<(), AllocError>
         ensures ok { OnOk result (self.new ≡ record self.old { below = self.old.below ++ xs.now }) }
         ensures err { OnErr result (self.new ≡ self.old) }
@@ -83,7 +82,7 @@ impl Node {
         self.below.push_all(xs)
     }
 
-    /// Joins the node to none.
+    /// Removes the node above and all nodes below.
     pub fn leave_all(&mut self)
         ensures { self.new ≡ alone }
     {
@@ -91,8 +90,7 @@ impl Node {
         self.below.clear();
     }
 
-    /// Takes a node out of those below, among which it is at most once. It costs constant time
-    /// where the node stands at `place`.
+    /// Removes a node from those below, among which it is at most once. Takes constant time if the node is at `place`.
     pub(crate) fn remove_below(&mut self, x: usize, place: usize)
         requires { count_by (nat_eq x) self.old.below ≤ 1 }
         ensures { self.new ≡ record self.old { below = without x self.old.below } }
@@ -100,29 +98,29 @@ impl Node {
         self.below.remove(x, place);
     }
 
-    /// Whether the list of those below is to be packed.
+    /// Is true if the list of those below should be packed.
     pub(crate) fn is_sparse(&self) -> bool {
         self.below.is_sparse()
     }
 
-    /// Takes the gaps out of the list of those below, in which they change their places.
+    /// Removes the empty slots from the list of those below, which changes the nodes' places.
     pub(crate) fn pack(&mut self)
         ensures { self.new ≡ self.old }
     {
         self.below.pack();
     }
 
-    /// How many places there are in the list of those below.
+    /// Returns the number of slots in the list of those below.
     pub(crate) fn places(&self) -> usize {
         self.below.slots()
     }
 
-    /// Who stands at a place in the list of those below.
+    /// Returns the node at a slot in the list of those below.
     pub(crate) fn at(&self, place: usize) -> Option<usize> {
         self.below.slot(place)
     }
 
-    /// Where the node stands in the list of the one right above it.
+    /// Returns the slot of this node in the list of the one right above it.
     pub(crate) fn place(&self) -> usize {
         self.place
     }

@@ -1,4 +1,4 @@
-//! The places of nodes in lists: nodes that come into a list, and that leave one.
+//! The slots of nodes in lists, as nodes are added and removed.
 
 ghost use Rattle.std.specs.Prelude.{◌≡◌, ◌<◌, ◌≤◌, OnOk, OnErr, vec_len, count_by, nat_eq};
 ghost use Rattle.std.specs.Option.{ForSome};
@@ -8,7 +8,7 @@ ghost use Rattle.moo_forest.specs.Steps.{with_newest, with_taken_out, with_all_n
 use crate::node::Node;
 use std::alloc::AllocError;
 
-/// Puts a node last in the list of another.
+/// Appends a node to the list of another. Out of memory nothing changes.
 pub fn put_below(nodes: &mut Vec<Node>, x: usize, to: Option<usize>) -> Result<(), AllocError>
     requires { ForSome to (λ up. up < vec_len nodes.old) }
     ensures ok { OnOk result (nodes.new.items ≡ with_newest nodes.old.items x to) }
@@ -22,7 +22,7 @@ pub fn put_below(nodes: &mut Vec<Node>, x: usize, to: Option<usize>) -> Result<(
     Ok(())
 }
 
-/// Puts nodes last in the list of another.
+/// Appends nodes to the list of another. Out of memory nothing changes.
 pub fn put_all_below(
     nodes: &mut Vec<Node>,
     xs: &[usize],
@@ -40,8 +40,8 @@ pub fn put_all_below(
     Ok(())
 }
 
-/// Takes a node out of the list of another, in which it stands at this place. A list of which
-/// more than half is empty is packed, so that what it costs is spread over those that left.
+/// Removes a node from the list of another, in which its slot is `place`. Packs a list of which more than half is
+/// empty, so that the cost is shared by the removals.
 pub fn take_out(nodes: &mut Vec<Node>, x: usize, from: Option<usize>, place: usize)
     requires node { ForSome from (λ up. up < vec_len nodes.old) }
     requires once { ForSome from (λ up. count_by (nat_eq x) (below_of nodes.old.items up) ≤ 1) }
@@ -56,7 +56,7 @@ pub fn take_out(nodes: &mut Vec<Node>, x: usize, from: Option<usize>, place: usi
     }
 }
 
-/// Writes down where each node stands in the list that has it.
+/// Stores in each node its slot in the list that holds it.
 pub fn note_all(nodes: &mut Vec<Node>)
     ensures { nodes.new.items ≡ nodes.old.items }
 {
@@ -65,7 +65,7 @@ pub fn note_all(nodes: &mut Vec<Node>)
     }
 }
 
-// Writes down where the nodes of a list stand in it, from a place on.
+// Stores in the nodes of a list their slots, from the slot `first` on.
 fn note_list(nodes: &mut Vec<Node>, up: usize, first: usize)
     requires { up < vec_len nodes.old }
     ensures { nodes.new.items ≡ nodes.old.items }

@@ -1,4 +1,4 @@
-//! Whether going up from each node ends.
+//! The check that the path up from each node ends.
 
 ghost use Rattle.std.specs.Prelude.{◌≡◌, ℕ, ◌+◌, ◌<◌, ◌≤◌, ◌^◌, length, Some, None, MatchOption, MatchBool, IfOk};
 ghost use Rattle.moo_forest.specs.Forest.{Links, above_of};
@@ -7,7 +7,7 @@ ghost use Rattle.moo_forest.specs.Rooted.{IsRooted, IsLeastEndless, MarksEnd};
 use crate::node::Node;
 use std::alloc::{AllocError, Global};
 
-/// The least node from which going up doesn't end.
+/// Returns the least node from which the path up does not end, or `None` if each path ends.
 pub fn first_endless(alloc: Global, nodes: &[Node]) -> Result<Option<usize>, AllocError>
     requires { length nodes.now < 2 ^ 63 }
     ensures { IfOk result (λ r. MatchOption r ((x : ℕ) → x < length nodes.now → IsRooted nodes.now x) (IsLeastEndless nodes.now)) }
@@ -30,7 +30,7 @@ fn first_in(nodes: &[Node], marks: &mut [usize]) -> Option<usize>
     None
 }
 
-// Whether going up from a node ends. Marks what it passes with `from + 1`.
+// Is true if the path up from a node ends. Marks the nodes that it passes with `from + 1`.
 fn is_rooted(nodes: &[Node], marks: &mut [usize], from: usize) -> bool
     requires len { length marks.old ≡ length nodes.now }
     requires small { length nodes.now < 2 ^ 63 }
@@ -52,7 +52,7 @@ fn is_rooted(nodes: &[Node], marks: &mut [usize], from: usize) -> bool
     true
 }
 
-// The number, where it is that of a node.
+// Returns the number if it is that of a node.
 fn node_of(nodes: &[Node], at: Option<usize>) -> Option<usize>
     ensures { MatchOption result ((x : ℕ) → at ≡ Some x → length nodes.now ≤ x) (λ x. (at ≡ Some x) × (x < length nodes.now)) }
 {

@@ -1,4 +1,4 @@
-//! A node taken out of its forest, and those right below it left without a node above them.
+//! Removal of a node from its forest: the nodes right below it become roots.
 
 ghost use Rattle.std.specs.Prelude.{◌≡◌, ◌<◌, None, length};
 ghost use Rattle.moo_forest.specs.Forest.{below_of, dissolved};
@@ -8,8 +8,8 @@ use crate::dissolve::join_all;
 use crate::places::take_out;
 
 impl Forest {
-    /// Joins a node, and those right below it, to none. Hand in a copy of its list: then the call
-    /// takes no memory.
+    /// Takes a node out of its tree, and makes it and the nodes right below it roots. `below` is a copy of the node's
+    /// list, so that the call allocates no memory.
     pub fn scatter(&mut self, x: usize, below: &[usize])
         requires node { x < length self.old }
         requires all { below.now ≡ below_of self.old x }

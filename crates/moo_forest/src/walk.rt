@@ -6,7 +6,7 @@ ghost use Rattle.moo_forest.specs.Walk.{IsWalkDown};
 use crate::{Below, Forest};
 use std::alloc::{AllocError, Global};
 
-/// A node met on a walk down, and the place in the walk of the node right above it.
+/// A node on a walk down, and the place in the walk of the node right above it.
 #[derive(Clone, Copy)]
 pub struct Step {
     pub node: usize,
@@ -14,7 +14,7 @@ pub struct Step {
 }
 
 impl Forest {
-    /// A node and all that stands below it, each after the node right above it.
+    /// Returns a node and all nodes below it, each after the node right above it.
     pub fn walk_down(&self, alloc: Global, x: usize) -> Result<Vec<Step>, AllocError>
         requires { x < length self.now }
         ensures { IfOk result (λ walk. IsWalkDown self.now x walk.items) }
@@ -32,7 +32,7 @@ impl Forest {
     }
 }
 
-// Adds the nodes right below one of the walk.
+// Appends the nodes right below a node of the walk.
 fn add_steps(walk: &mut Vec<Step>, below: Below<'_>, from: usize) -> Result<(), AllocError>
     ensures { OnOk result (walk.new.items ≡ walk.old.items ++ map (λ node. record { node = node; from = from }) below.entry) }
 {

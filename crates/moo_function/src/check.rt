@@ -1,4 +1,4 @@
-//! What is checked before a function looks at its arguments: how many there are, and what they are.
+//! The checks before a function reads its arguments: their number and their types.
 ghost use Rattle.std.specs.Prelude.{◌≡◌};
 ghost use Rattle.moo_value.specs.View.{tree, trees};
 ghost use Rattle.moo_function.specs.Table.{row};
@@ -10,7 +10,8 @@ use crate::table::{Kind, Row};
 use moo_value::{ErrorCode, Value};
 
 impl Function {
-    /// Why a call with these arguments is refused: E_ARGS for their number, else E_TYPE for one of a wrong type.
+    /// Checks the arguments of a call. Returns `E_ARGS` if their number is wrong, else `E_TYPE` if one has a wrong
+    /// type, else `None`.
     pub fn mismatch(self, args: &[Value]) -> Option<ErrorCode>
         ensures { result ≡ mismatch (row self) (trees args.now) }
     {
@@ -24,7 +25,7 @@ impl Function {
         None
     }
 
-    /// What the argument at a place has to be, counted from 0.
+    /// Returns the kind of the argument at a place, counted from 0.
     pub fn kind_at(self, place: usize) -> Kind
         ensures { result ≡ kind_at (row self) place }
     {

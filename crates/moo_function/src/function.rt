@@ -5,7 +5,7 @@ ghost use Rattle.moo_function.specs.Names.{function_of, is_called, of_length};
 
 use crate::likely::likely;
 
-/// A built-in function (the manual's chapter on built-in functions).
+/// A built-in function ('Built-in Functions' in the LambdaMOO Programmer's Manual).
 #[derive(Clone, Copy, PartialEq, Eq, Debug)]
 pub enum Function {
     TypeOf,
@@ -77,14 +77,14 @@ pub enum Function {
 }
 
 impl Function {
-    /// How the function is called, in small letters.
+    /// Returns the function's name, in lower case.
     pub fn name(self) -> &'static str
         ensures { result.now ≡ function_name self }
     {
         self.row().name
     }
 
-    /// The function of this name, in any case, or `None` where none has it.
+    /// Returns the function that has this name, in any case, or `None` if no function has it.
     #[tactic(auto, using(crate::proofs::Naming::found_by_length))]
     pub fn from_name(name: &[u8]) -> Option<Function>
         ensures { result ≡ function_of name.now }
@@ -96,7 +96,7 @@ impl Function {
     }
 }
 
-// The function whose name is this one, letter for letter: most calls are written so.
+// Returns the function that has this name in lower case, as most calls spell it.
 fn spelled_out(name: &[u8]) -> Option<Function>
     ensures { IfSome result (λ function. name.now ≡ function_name function) }
 {
@@ -107,7 +107,7 @@ fn spelled_out(name: &[u8]) -> Option<Function>
     Some(function)
 }
 
-// The first of the functions that is called so.
+// Returns the first of these functions that has this name, in any case.
 #[inline(never)]
 fn first_called(functions: &[Function], name: &[u8]) -> Option<Function>
     ensures { result ≡ find (is_called name.now) functions.now }
@@ -124,7 +124,7 @@ fn is_called(function: Function, name: &[u8]) -> bool
     function.name().as_bytes().eq_ignore_ascii_case(name)
 }
 
-// The functions whose names have this length.
+// Returns the functions whose names have this length.
 fn of_length(length: usize) -> &'static [Function]
     ensures { result.now ≡ of_length length }
 {

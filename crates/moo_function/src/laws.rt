@@ -1,7 +1,7 @@
-//! What the table keeps to.
+//! Laws of the table of functions.
 ghost use Rattle.moo_function.specs.Laws.{CallsByName};
 
-/// A name calls a function exactly where, letters folded, it is that function's.
+/// Proves that a name calls a function exactly if, in lower case, it is the function's name.
 pub fn calls_by_name()
     ensures { CallsByName }
 {}

@@ -1,6 +1,6 @@
-//! The table of the built-in functions: what each is called, which arguments it takes, and which calls are refused
-//! before a function looks at its arguments.
-//! A room behind `moo_builtin`.
+//! The table of the built-in functions: their names, their arguments, and the calls that are refused before a function
+//! reads its arguments.
+//! An internal crate of `moo_builtin`.
 #![tactic(auto)]
 
 mod check;

@@ -1,9 +1,9 @@
-//! A first look at a name: which function it may be, by its length and a letter or two.
+//! A first guess at the function that a name calls, from its length and a letter or two.
 
 use crate::function::Function;
 
-/// The only function whose name can be this one, in small letters: no other name of that length has the same letter there.
-/// It need not be its name.
+/// Returns the only function whose name can be this one, in lower case: no other name of that length has these letters.
+/// The function's name may still differ from it.
 pub(crate) fn likely(name: &[u8]) -> Option<Function> {
     match name.len() {
         3 => of_three(name[1]),

@@ -1,11 +1,11 @@
-//! The table of the built-in functions: what each is called, and which arguments it takes.
+//! The table of the built-in functions: their names and their arguments.
 ghost use Rattle.std.specs.Prelude.{◌≡◌};
 ghost use Rattle.moo_function.specs.Table as table;
 ghost use Rattle.moo_function.specs.Check.{seen};
 
 use crate::function::Function;
 
-/// What an argument has to be.
+/// The kind of an argument.
 #[derive(Clone, Copy, PartialEq, Eq, Debug)]
 pub enum Kind {
     /// Any value.
@@ -24,21 +24,22 @@ pub enum Kind {
     ValidObject,
     /// An object that need not be valid.
     AnyObject,
-    /// A verb of an object: a string that its names fit, or its place, counted from 1.
+    /// A verb of an object: a string that matches one of its names, or its place, counted from 1.
     Verb,
-    /// What a property is made with: `{owner, perms}`.
+    /// A new property's `{owner, perms}`.
     PropertyInfo,
-    /// What a property is given: `{owner, perms}` or `{owner, perms, name}`.
+    /// A change of a property: `{owner, perms}` or `{owner, perms, name}`.
     PropertyChange,
-    /// What a verb is given: `{owner, perms, names}`.
+    /// A verb's `{owner, perms, names}`.
     VerbInfo,
-    /// What a verb takes: `{dobj, prep, iobj}`.
+    /// A verb's argument specifiers: `{dobj, prep, iobj}`.
     VerbArguments,
     /// The lines of a program: a list of strings.
     Lines,
 }
 
-/// Which arguments a function takes: those that it needs, then those that may be left out, then any number more.
+/// A row of the table: the function's name, the arguments that it needs, those that may be left out, and the kind of
+/// any number more.
 #[derive(Clone, Copy)]
 pub struct Row {
     pub name: &'static str,
@@ -47,7 +48,7 @@ pub struct Row {
     pub more: Option<Kind>,
 }
 
-// Just these arguments.
+// Makes a row of a function that takes just these arguments.
 #[inline(always)]
 const fn takes(name: &'static str, needed: &'static [Kind]) -> Row
     ensures { seen result ≡ table.takes name.now needed.now }
@@ -55,7 +56,7 @@ const fn takes(name: &'static str, needed: &'static [Kind]) -> Row
     takes_perhaps(name, needed, &[])
 }
 
-// These, and perhaps others.
+// Makes a row of a function that takes these arguments and may take the optional ones.
 #[inline(always)]
 const fn takes_perhaps(
     name: &'static str,
@@ -72,7 +73,7 @@ const fn takes_perhaps(
     }
 }
 
-// These, and any number more.
+// Makes a row of a function that takes these arguments and any number more.
 #[inline(always)]
 const fn takes_more(name: &'static str, needed: &'static [Kind], more: Kind) -> Row
     ensures { seen result ≡ table.takes_more name.now needed.now more }
@@ -86,7 +87,7 @@ const fn takes_more(name: &'static str, needed: &'static [Kind], more: Kind) -> 
 }
 
 impl Function {
-    /// Its row of the table.
+    /// Returns the function's row of the table.
     #[inline(always)]
     pub fn row(self) -> Row
         ensures { seen result ≡ table.row self }

@@ -1,11 +1,11 @@
-//! The levels of the operators between two operands.
+//! The levels of the binary operators.
 ghost use Rattle.std.specs.Prelude.{◌≡◌};
 ghost use Rattle.moo_grammar.specs.Tokens.{sign_operator, operator_at};
 
 use moo_program::operator::{BinaryOperator, LogicOperator};
 use moo_token::{Keyword, Sign, Token};
 
-/// How tightly the operators of a chain bind, the loosest first.
+/// The precedence levels of binary operators, the loosest first.
 #[derive(Clone, Copy, PartialEq, Eq)]
 pub enum Level {
     /// `&&` and `||`
@@ -18,14 +18,14 @@ pub enum Level {
     Product,
 }
 
-/// An operator of a chain.
+/// An operator at one of these levels.
 #[derive(Clone, Copy, PartialEq, Eq)]
 pub enum Operator {
     Binary(BinaryOperator),
     Logic(LogicOperator),
 }
 
-/// The operator that the sign is in a chain of this level.
+/// Returns the operator that the sign is at this level, or `None` if it is none.
 fn sign_operator(level: Level, sign: Sign) -> Option<Operator>
     ensures { result ≡ sign_operator level sign }
 {
@@ -49,7 +49,7 @@ fn sign_operator(level: Level, sign: Sign) -> Option<Operator>
     }
 }
 
-/// The operator that the token is in a chain of this level.
+/// Returns the operator that the token is at this level, or `None` if it is none.
 pub fn operator_at(level: Level, token: &Token) -> Option<Operator>
     ensures { result ≡ operator_at level token.now }
 {

@@ -1,5 +1,5 @@
 //! The grammar of programs.
-//! A room behind `moo_syntax`.
+//! An internal crate of `moo_syntax`.
 #![tactic(auto)]
 
 pub mod laws;

@@ -1,20 +1,20 @@
-//! Which functions a program may call.
+//! The function names that a program may call.
 ghost use Rattle.std.specs.Prelude.{◌≡◌};
 ghost use Rattle.moo_grammar.specs.Rules.{may_call};
 
 use moo_function::Function;
 
-/// Which function names a program may use.
+/// The function names that a program may call.
 #[derive(Clone, Copy, Debug, PartialEq, Eq)]
 pub enum Names {
-    /// Every name.
+    /// All names.
     Any,
-    /// The names, in any case, of the built-in functions.
+    /// The names of the built-in functions, in any case.
     Known,
 }
 
 impl Names {
-    /// Whether a program may call a function of this name.
+    /// Is true if a program may call a function of this name.
     pub fn may_call(self, name: &[u8]) -> bool
         ensures { result ≡ may_call self name.now }
     {

@@ -1,4 +1,4 @@
-//! The slots of a program's variables by the order of their names, for a search.
+//! The slots of a program's variables, sorted by name for a binary search.
 ghost use Rattle.std.specs.Prelude.{◌≡◌, List, ℕ, position, IfOk};
 ghost use Rattle.std.specs.List.{IsDistinct};
 ghost use Rattle.std.specs.Ordering.{nat_cmp};
@@ -19,7 +19,7 @@ pub(crate) struct Slot {
     slot: usize,
 }
 
-/// The slots of these names, by the order of the names.
+/// Returns the slots of these names, sorted by name.
 pub(crate) fn ordered_slots(alloc: Global, names: &[Name]) -> Result<Vec<Slot>, AllocError>
     ensures { IfOk result (λ slots. AreOrdered names.now slots.items) }
 {
@@ -39,7 +39,7 @@ fn numbered(alloc: Global, names: &[Name]) -> Result<Vec<Slot>, AllocError>
     Ok(slots)
 }
 
-/// The slot of a name, letters folded as they are compared.
+/// Returns the slot of a name, in any case, or `None` if no slot has it.
 pub(crate) fn slot_among(slots: &[Slot], name: &[u8]) -> Option<usize>
     ensures { (names : List (List ℕ)) → AreOrdered names slots.now → IsDistinct bytes_eq names → result ≡ position (λ own. bytes_eq own (folded name.now)) names }
 {
@@ -50,7 +50,7 @@ pub(crate) fn slot_among(slots: &[Slot], name: &[u8]) -> Option<usize>
 }
 
 impl Slot {
-    // The order of the slot's name to another one, whose letters are folded.
+    // Compares the slot's name with another name in lower case.
     fn order_to(&self, name: &[u8]) -> Ordering
         ensures { result ≡ slice_cmp nat_cmp self.now.name (folded name.now) }
     {

@@ -1,4 +1,4 @@
-//! Programs.
+//! The programs of texts.
 ghost use Rattle.std.specs.Prelude.{◌≡◌, position, IfOk};
 ghost use Rattle.std.specs.Str.{bytes_eq};
 ghost use Rattle.moo_value.specs.Compare.{folded};
@@ -14,18 +14,18 @@ use std::alloc::{AllocError, Global};
 use std::marker::Model;
 use std::rc::Rc;
 
-/// A program of some text, within the limits, which doesn't change. A clone shares its parts.
+/// A program of some text, within the limits and immutable. A clone shares its parts.
 #[derive(Drop)]
 pub struct Program {
     parts: Rc<Parts>,
 }
 
-/// What the clones of a program share.
+/// The parts that the clones of a program share.
 #[derive(Drop)]
 struct Parts {
     statements: Vec<Stmt>,
     names: Vec<Name>,
-    /// The slots of the names, by the order of the names.
+    /// The slots, sorted by name.
     order: Vec<Slot>,
 }
 
@@ -50,7 +50,8 @@ impl Model for Program {
 }
 
 impl Program {
-    /// The program of these statements, which the caller has read from a text and found to be within the limits.
+    /// Makes the program of these statements, which the caller has parsed from a text and found to be within the
+    /// limits.
     pub fn try_new(alloc: Global, statements: Vec<Stmt>) -> Result<Program, AllocError>
         requires limits { IsWithinLimits (block statements.items) }
         requires text { HasText (block statements.items) }
@@ -69,14 +70,14 @@ impl Program {
         Ok(Program { parts })
     }
 
-    /// The program of no lines.
+    /// Makes the program of no lines.
     pub fn empty(alloc: Global) -> Result<Program, AllocError>
         ensures { IfOk result (λ p. p ≡ no_statement) }
     {
         Program::try_new(alloc, Vec::new(alloc))
     }
 
-    /// The same program, whose parts are shared.
+    /// Returns a clone, which shares the program's parts.
     #[inline(always)]
     pub fn try_clone(&self) -> Result<Program, AllocError>
         ensures { IfOk result (λ p. p ≡ self.now) }
@@ -85,7 +86,7 @@ impl Program {
         Ok(Program { parts })
     }
 
-    /// The statements, one after another.
+    /// Returns the statements, in order.
     pub fn statements(&self) -> &[Stmt]
         ensures statements { block result.now ≡ self.now }
         ensures limits { IsWithinLimits self.now }
@@ -94,14 +95,14 @@ impl Program {
         self.parts.statements.as_slice()
     }
 
-    /// The names of the program's variables, letters folded, each once, in the order in which they stand first in it.
+    /// Returns the names of the program's variables in lower case, each once, in the order of their first occurrences.
     pub fn slots(&self) -> &[Name]
         ensures { result.now ≡ slots self.now }
     {
         self.parts.names.as_slice()
     }
 
-    /// The slot of a name, its letters in any case, or `None` where no variable of the program has it.
+    /// Returns the slot of a name, in any case, or `None` if no variable of the program has it.
     pub fn slot_of(&self, name: &[u8]) -> Option<usize>
         ensures { result ≡ position (λ own. bytes_eq (folded own) (folded name.now)) (slots self.now) }
     {

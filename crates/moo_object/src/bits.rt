@@ -1,8 +1,8 @@
-// Truth values as the bits of a number.
+// Truth values as bits of a number.
 ghost use Rattle.std.specs.Prelude.{◌≡◌, ◌≤◌, ◌+◌, ◌*◌};
 ghost use Rattle.moo_object.specs.Flags.{bit};
 
-/// What a bit adds to a number.
+/// Returns the bit's weight if it is set, else 0.
 pub(crate) fn bit(is_set: bool, weight: u8) -> u8
     ensures value { result ≡ bit is_set weight }
     ensures bound { result ≤ weight }
@@ -10,7 +10,7 @@ pub(crate) fn bit(is_set: bool, weight: u8) -> u8
     if is_set { weight } else { 0 }
 }
 
-/// Takes the lowest bit off.
+/// Removes the lowest bit and returns it.
 pub(crate) fn take_bit(bits: &mut u8) -> bool
     ensures { bits.old ≡ bit result 1 + 2 * bits.new }
 {

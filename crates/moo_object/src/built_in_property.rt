@@ -1,4 +1,4 @@
-// The properties that each object has by itself.
+// The properties that every object has.
 ghost use Rattle.std.specs.Prelude.{◌≡◌, IfSome, IfNone, ◌≢◌};
 ghost use Rattle.std.specs.List.{find};
 ghost use Rattle.moo_value.specs.Compare.{folded};
@@ -6,7 +6,7 @@ ghost use Rattle.moo_object.specs.Names.{same_name};
 
 use crate::name::same_name;
 
-/// A property that each object has by itself. `Read`, `Write` and `Fertile` are named `r`, `w` and `f`.
+/// A property that every object has. `Read`, `Write` and `Fertile` are named `r`, `w` and `f`.
 #[derive(Clone, Copy, Debug, PartialEq, Eq)]
 pub enum BuiltInProperty {
     Name,
@@ -36,7 +36,7 @@ const ALL: [BuiltInProperty; 9] = [
 ];
 
 impl BuiltInProperty {
-    /// The name, in small letters.
+    /// Returns the property's name, in lower case.
     pub fn name(self) -> &'static [u8]
         ensures name { result.now ≡ built_in_name self }
         ensures small { folded (built_in_name self) ≡ built_in_name self }
@@ -55,7 +55,7 @@ impl BuiltInProperty {
     }
 }
 
-/// The built-in property of this name, whatever the case of its letters.
+/// Returns the built-in property that has this name, in any case, or `None` if none has it.
 pub fn built_in(name: &[u8]) -> Option<BuiltInProperty>
     ensures value { result ≡ built_in_of (folded name.now) }
     ensures found { IfSome result (λ property. folded name.now ≡ built_in_name property) }

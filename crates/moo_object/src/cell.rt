@@ -15,7 +15,7 @@ use moo_value::{MooStr, Value};
 use std::alloc::{AllocError, Global};
 use std::marker::Model;
 
-/// Who may do what with a property, beside its owner and wizards: read it, write it, and own the cells of new
+/// What others than a property's owner and wizards may do with it: read it, write it, and own the cells of new
 /// descendants.
 #[derive(Clone, Copy, Debug, PartialEq, Eq)]
 pub struct PropPerms {
@@ -27,14 +27,14 @@ pub struct PropPerms {
 impl PropPerms {
     ghost use Rattle.moo_object.specs.Numbers.{prop_perms_number};
 
-    /// The permissions as bits: 1 read, 2 write, 4 change of owner.
+    /// Returns the permissions as bits: 1 read, 2 write, 4 change of owner.
     pub fn number(self) -> u8
         ensures { result ≡ prop_perms_number self }
     {
         bit(self.read, 1) + bit(self.write, 2) + bit(self.change_owner, 4)
     }
 
-    /// The permissions that have this number, or `None` above 7.
+    /// Returns the permissions that have this number, or `None` if it is above 7.
     pub fn from_number(number: u8) -> Option<PropPerms>
         ensures found { IfSome result (λ perms. prop_perms_number perms ≡ number) }
         ensures none { IfNone result (8 ≤ number) }
@@ -49,16 +49,16 @@ impl PropPerms {
     }
 }
 
-/// The cell that an object has for a definition: clear, or with a value.
+/// An object's cell of a property definition: clear, or with a value.
 #[derive(Drop)]
 pub struct PropCell {
     definer: usize,
     name: MooStr,
-    // A number that no name of other letters has, or one that no name has.
+    // A number that encodes the name, or one that encodes no name.
     number: u64,
     owner: i32,
     perms: PropPerms,
-    // Whether a built-in property has the name, and hides this one.
+    // Whether a built-in property has the same name and hides this one.
     is_hidden: bool,
     value: Option<Value>,
 }
@@ -91,10 +91,10 @@ impl Model for PropCell {
     ghost invariant = { λ c. (c.is_hidden ≡ is_some (built_in_of (folded c.name))) × (c.number ≢ 0) × (c.number ≢ 38 → IsNumberOf c.number (folded c.name)) };
 }
 
-// A number that no name has: its last digit is 0.
+// A number that encodes no name: its last digit is 0.
 const NO_NAME: u64 = 38;
 
-// The number of a name, or one that no name has.
+// Returns the number of a name, or `NO_NAME` if it has none.
 fn known_number(name: &[u8]) -> u64
     ensures some { result ≢ 0 }
     ensures known { result ≢ 38 → IsNumberOf result (folded name.now) }
@@ -104,7 +104,7 @@ fn known_number(name: &[u8]) -> u64
 }
 
 impl PropCell {
-    /// The cell for a definition: clear, where there is no value.
+    /// Makes the cell of a definition: clear if there is no value.
     pub fn new(
         definer: usize,
         name: MooStr,
@@ -127,7 +127,7 @@ impl PropCell {
         }
     }
 
-    /// The cell of an object's own definition.
+    /// Makes the cell of an object's own definition.
     pub fn defined(
         definer: usize,
         name: MooStr,
@@ -150,35 +150,35 @@ impl PropCell {
         }
     }
 
-    /// The number of the object that has the definition.
+    /// Returns the number of the object that has the definition.
     pub fn definer(&self) -> usize
         ensures { result ≡ self.now.definer }
     {
         self.definer
     }
 
-    /// Whether this is the cell for a definition.
+    /// Is true if this is the cell of that object's definition of this name, in any case.
     pub fn is_for(&self, definer: usize, name: &[u8]) -> bool
         ensures { result ≡ is_key (definer, folded name.now) self.now }
     {
         self.definer == definer && same_name(self.name.as_bytes(), name)
     }
 
-    /// Whether a built-in property has the name, and hides this one.
+    /// Is true if a built-in property has the same name and hides this one.
     pub fn is_hidden(&self) -> bool
         ensures { result ≡ is_some (built_in_of self.now.name) }
     {
         self.is_hidden
     }
 
-    /// Whether this is the cell of a name.
+    /// Is true if the cell has this name, in any case.
     pub fn is_named(&self, name: &[u8]) -> bool
         ensures { result ≡ is_named (folded name.now) self.now }
     {
         same_name(self.name.as_bytes(), name)
     }
 
-    /// Whether its number tells that this is the cell of a name that is written out. Else it may be that cell as well.
+    /// Is true if the numbers prove that the cell has the literal's name. If it is false, the cell may still have it.
     #[inline(always)]
     pub fn is_known_as(&self, name: &Text) -> bool
         ensures { IsTrue result → is_named (folded name.now) self.now ≡ true }
@@ -186,42 +186,42 @@ impl PropCell {
         self.number == name.number()
     }
 
-    /// Whether this and another are cells for the same definition.
+    /// Is true if this and the other are cells of the same definition.
     pub fn has_key_of(&self, other: &PropCell) -> bool
         ensures { result ≡ is_key (key_of other.now) self.now }
     {
         self.is_for(other.definer, other.name.as_bytes())
     }
 
-    /// The name of the definition, letters folded.
+    /// Returns the name of the definition in lower case.
     pub fn folded_name(&self, alloc: Global) -> Result<MooStr, AllocError>
         ensures { IfOk result (λ name. name ≡ self.now.name) }
     {
         folded_name(alloc, &self.name)
     }
 
-    /// The number of the owner, which may be any number.
+    /// Returns the number of the owner, which may be any number.
     pub fn owner(&self) -> i32
         ensures { result ≡ self.now.owner }
     {
         self.owner
     }
 
-    /// What others than the owner and wizards may do.
+    /// Returns what others than the owner and wizards may do.
     pub fn perms(&self) -> PropPerms
         ensures { result ≡ self.now.perms }
     {
         self.perms
     }
 
-    /// The value, if the cell is not clear.
+    /// Returns the value, or `None` if the cell is clear.
     pub fn value(&self) -> Option<&Value>
         ensures { option_map tree (option_copied result) ≡ self.now.value }
     {
         self.value.as_ref()
     }
 
-    /// The clear cell that a new descendant with this owner gets from its parent's cell.
+    /// Returns the clear cell that a new descendant with this owner gets from its parent's cell.
     pub fn cleared(&self, owner: i32) -> Result<PropCell, AllocError>
         ensures { IfOk result (λ c. c ≡ cleared owner self.now) }
     {
@@ -240,7 +240,7 @@ impl PropCell {
         })
     }
 
-    /// The same cell. A string or a list in it is shared.
+    /// Returns a clone, which shares a string or a list in the cell.
     pub fn try_clone(&self) -> Result<PropCell, AllocError>
         ensures { IfOk result (λ c. c ≡ self.now) }
     {
@@ -259,7 +259,7 @@ impl PropCell {
         })
     }
 
-    /// Gives the cell a value.
+    /// Sets the value.
     #[inline(always)]
     pub fn set_value(&mut self, value: Value)
         ensures { self.new ≡ record self.old { value = Some (tree value) } }
@@ -267,14 +267,14 @@ impl PropCell {
         self.value = Some(value);
     }
 
-    /// Takes the value away.
+    /// Makes the cell clear.
     pub fn clear(&mut self)
         ensures { self.new ≡ emptied self.old }
     {
         self.value = None;
     }
 
-    /// Gives the cell another owner and other permissions.
+    /// Sets the owner and the permissions.
     pub fn set_info(&mut self, owner: i32, perms: PropPerms)
         ensures { self.new ≡ with_info owner perms self.old }
     {
@@ -282,7 +282,7 @@ impl PropCell {
         self.perms = perms;
     }
 
-    /// Gives the cell another name.
+    /// Sets the name.
     pub fn set_name(&mut self, name: MooStr)
         ensures { self.new ≡ renamed (folded name) self.old }
     {

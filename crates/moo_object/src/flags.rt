@@ -4,7 +4,7 @@ ghost use Rattle.moo_object.specs.Flags.{flags_number, no_flags};
 
 use crate::bits::{bit, take_bit};
 
-/// The flags of an object. The two obsolete ones mean nothing, and are kept.
+/// The flags of an object. The two obsolete ones have no meaning, but are kept.
 #[derive(Clone, Copy, Debug, PartialEq, Eq)]
 pub struct Flags {
     pub player: bool,
@@ -18,7 +18,7 @@ pub struct Flags {
 }
 
 impl Flags {
-    /// No flag set.
+    /// Returns flags of which none is set.
     pub fn none() -> Flags
         ensures { result ≡ no_flags }
     {
@@ -34,49 +34,50 @@ impl Flags {
         }
     }
 
-    /// The flags with `player` set or cleared.
+    /// Returns the flags with `player` set or cleared.
     pub fn with_player(self, player: bool) -> Flags
         ensures { result ≡ record self { player = player } }
     {
         Flags { player, ..self }
     }
 
-    /// The flags with `programmer` set or cleared.
+    /// Returns the flags with `programmer` set or cleared.
     pub fn with_programmer(self, programmer: bool) -> Flags
         ensures { result ≡ record self { programmer = programmer } }
     {
         Flags { programmer, ..self }
     }
 
-    /// The flags with `wizard` set or cleared.
+    /// Returns the flags with `wizard` set or cleared.
     pub fn with_wizard(self, wizard: bool) -> Flags
         ensures { result ≡ record self { wizard = wizard } }
     {
         Flags { wizard, ..self }
     }
 
-    /// The flags with `read` set or cleared.
+    /// Returns the flags with `read` set or cleared.
     pub fn with_read(self, read: bool) -> Flags
         ensures { result ≡ record self { read = read } }
     {
         Flags { read, ..self }
     }
 
-    /// The flags with `write` set or cleared.
+    /// Returns the flags with `write` set or cleared.
     pub fn with_write(self, write: bool) -> Flags
         ensures { result ≡ record self { write = write } }
     {
         Flags { write, ..self }
     }
 
-    /// The flags with `fertile` set or cleared.
+    /// Returns the flags with `fertile` set or cleared.
     pub fn with_fertile(self, fertile: bool) -> Flags
         ensures { result ≡ record self { fertile = fertile } }
     {
         Flags { fertile, ..self }
     }
 
-    /// The flags as bits: 1 player, 2 programmer, 4 wizard, 16 read, 32 write, 128 fertile, and 8 and 64 obsolete.
+    /// Returns the flags as bits: 1 player, 2 programmer, 4 wizard, 16 read, 32 write, 128 fertile, and 8 and 64
+    /// obsolete.
     pub fn number(self) -> u8
         ensures { result ≡ flags_number self }
     {
@@ -90,7 +91,7 @@ impl Flags {
             + bit(self.fertile, 128)
     }
 
-    /// The flags that have this number.
+    /// Returns the flags that have this number.
     pub fn from_number(number: u8) -> Flags
         ensures { flags_number result ≡ number }
     {

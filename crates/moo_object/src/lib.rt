@@ -1,5 +1,5 @@
-//! One object of the world by itself, and the names that go with it.
-//! A room behind `moo_world`.
+//! One object of the world, without its relations to others, and the rules of names.
+//! An internal crate of `moo_world`.
 #![tactic(auto)]
 
 mod bits;

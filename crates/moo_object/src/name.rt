@@ -1,4 +1,4 @@
-// Names, which are the same whatever the case of their letters.
+// Names, which are compared without regard to case.
 ghost use Rattle.std.specs.Prelude.{◌≡◌, ◌↔◌, ◌<◌, IfOk, IsTrue, filter, length, not, position, slice_set};
 ghost use Rattle.std.specs.Char.{to_ascii_lowercase};
 ghost use Rattle.std.specs.List.{list_any};
@@ -8,7 +8,7 @@ ghost use Rattle.moo_object.specs.Names.{same_name};
 use moo_value::MooStr;
 use std::alloc::{AllocError, Global};
 
-/// Whether two names are the same, A to Z taken as a to z.
+/// Is true if the two names are the same, in any case.
 #[tactic(auto, using(crate::proofs::Names::tested))]
 #[inline]
 pub fn same_name(one: &[u8], other: &[u8]) -> bool
@@ -21,7 +21,7 @@ pub fn same_name(one: &[u8], other: &[u8]) -> bool
     begin_alike(one, other)
 }
 
-// Whether two names of one length are the same.
+// Is true if two names of the same length are the same, in any case.
 #[inline]
 fn begin_alike(one: &[u8], other: &[u8]) -> bool
     requires { length one.now ≡ length other.now }
@@ -35,7 +35,7 @@ fn begin_alike(one: &[u8], other: &[u8]) -> bool
     true
 }
 
-// Mostly both are spelled alike, so that is looked at first.
+// Most names are spelled the same, so this compares the bytes first.
 #[inline]
 fn is_same_letter(one: u8, other: u8) -> bool
     ensures { IsTrue result ↔ (to_ascii_lowercase one ≡ to_ascii_lowercase other) }
@@ -43,7 +43,7 @@ fn is_same_letter(one: u8, other: u8) -> bool
     one == other || one.to_ascii_lowercase() == other.to_ascii_lowercase()
 }
 
-/// A name with its letters folded: A to Z as a to z.
+/// Returns a name in lower case.
 pub fn folded_name(alloc: Global, name: &MooStr) -> Result<MooStr, AllocError>
     ensures { IfOk result (λ s. s ≡ folded name.now) }
 {
@@ -51,7 +51,7 @@ pub fn folded_name(alloc: Global, name: &MooStr) -> Result<MooStr, AllocError>
     for byte in name.as_bytes() {
         bytes.push(byte.to_ascii_lowercase())?;
     }
-    // A string stays one with its letters folded, so that only memory can be wanting.
+    // A string in lower case is a string too, so that only the allocation can fail.
     MooStr::try_from_vec(alloc, bytes).map_err(|_| AllocError)
 }
 

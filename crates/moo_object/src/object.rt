@@ -1,4 +1,4 @@
-// An object by itself.
+// An object without its relations to others.
 ghost use Rattle.std.specs.Prelude.{◌≡◌, ◌<◌, IfOk, OnOk, OnErr, [], ◌∷◌, ◌++◌, length, filter, map, not, position, slice_set};
 ghost use Rattle.std.specs.List.{list_any};
 ghost use Rattle.moo_value.specs.Compare.{folded};
@@ -20,7 +20,7 @@ use moo_value::MooStr;
 use std::alloc::{AllocError, Global};
 use std::marker::Model;
 
-/// An object, but for what it is joined to: its parent, its place, its children and its contents.
+/// An object without its relations to others: its parent, its location, its children and its contents.
 #[derive(Drop)]
 pub struct Object {
     name: MooStr,
@@ -52,7 +52,7 @@ impl Model for Object {
 }
 
 impl Object {
-    /// An object without verbs, definitions and cells.
+    /// Makes an object without verbs, definitions and cells.
     pub fn new(alloc: Global, name: MooStr, owner: i32, flags: Flags) -> Object
         ensures { result ≡ record { name = name; owner = owner; flags = flags; verbs = []; defined = []; cells = [] } }
     {
@@ -66,7 +66,7 @@ impl Object {
         }
     }
 
-    /// The object of these parts: its cells are those of its own definitions, then its parent's, and so on.
+    /// Makes the object of these parts. The cells are those of its own definitions, then its parent's, and so on.
     pub fn from_parts(
         name: MooStr,
         owner: i32,
@@ -87,7 +87,7 @@ impl Object {
         }
     }
 
-    /// A new object under a parent with these cells: it has an empty name and no flags, and its cells are clear.
+    /// Makes a new child of a parent that has these cells. It has an empty name and no flags, and its cells are clear.
     pub fn child(alloc: Global, owner: i32, above: &[PropCell]) -> Result<Object, AllocError>
         ensures { IfOk result (λ o. o ≡ record { name = []; owner = owner; flags = no_flags; verbs = []; defined = []; cells = map (cleared owner) above.now }) }
     {
@@ -105,56 +105,56 @@ impl Object {
         })
     }
 
-    /// The name, as it is spelled.
+    /// Returns the name, as spelled.
     pub fn name(&self) -> &MooStr
         ensures { result.now ≡ self.now.name }
     {
         &self.name
     }
 
-    /// The number of the owner, which may be any number.
+    /// Returns the number of the owner, which may be any number.
     pub fn owner(&self) -> i32
         ensures { result ≡ self.now.owner }
     {
         self.owner
     }
 
-    /// The flags.
+    /// Returns the flags.
     pub fn flags(&self) -> Flags
         ensures { result ≡ self.now.flags }
     {
         self.flags
     }
 
-    /// The names of the object's own definitions, in order, as they are spelled.
+    /// Returns the names of the object's own definitions, in order, as spelled.
     pub fn defined(&self) -> &[MooStr]
         ensures { result.now ≡ self.now.defined }
     {
         &self.defined
     }
 
-    /// Gives the object another name.
+    /// Sets the name.
     pub fn set_name(&mut self, name: MooStr)
         ensures { self.new ≡ record self.old { name = name } }
     {
         self.name = name;
     }
 
-    /// Gives the object another owner.
+    /// Sets the owner.
     pub fn set_owner(&mut self, owner: i32)
         ensures { self.new ≡ record self.old { owner = owner } }
     {
         self.owner = owner;
     }
 
-    /// Gives the object other flags.
+    /// Sets the flags.
     pub fn set_flags(&mut self, flags: Flags)
         ensures { self.new ≡ record self.old { flags = flags } }
     {
         self.flags = flags;
     }
 
-    /// Adds a definition behind the others, and its cell before the last ones, of which there are `behind`.
+    /// Appends a definition, and inserts its cell before the last `behind` cells. Out of memory nothing changes.
     pub fn define(&mut self, name: MooStr, cell: PropCell, behind: usize) -> Result<(), AllocError>
         ensures ok { OnOk result (self.new ≡ record self.old { defined = self.old.defined ++ name ∷ []; cells = put_before behind cell self.old.cells }) }
         ensures err { OnErr result (self.new ≡ self.old) }
@@ -167,21 +167,21 @@ impl Object {
         Ok(())
     }
 
-    /// Whether the object itself defines a property of this name.
+    /// Is true if the object itself defines a property of this name, in any case.
     pub fn defines(&self, name: &[u8]) -> bool
         ensures { result ≡ list_any (λ n. same_name (folded name.now) (folded n)) self.now.defined }
     {
         defines_name(&self.defined, name)
     }
 
-    /// The place of the object's own definition of this name.
+    /// Returns the place of the object's own definition of this name, in any case.
     pub fn definition_position(&self, name: &[u8]) -> Option<usize>
         ensures { result ≡ position (λ n. same_name (folded name.now) (folded n)) self.now.defined }
     {
         position_of_name(&self.defined, name)
     }
 
-    /// Gives the definition at a place another name. The cells for it keep theirs.
+    /// Renames the definition at a place. Its cells keep their name.
     pub fn rename_definition(&mut self, index: usize, name: MooStr)
         requires { index < length self.old.defined }
         ensures { self.new ≡ record self.old { defined = slice_set self.old.defined index name } }
@@ -189,7 +189,7 @@ impl Object {
         put_name(&mut self.defined, index, name);
     }
 
-    /// Takes a name out of those that the object defines.
+    /// Removes a name from those that the object defines.
     pub fn forget(&mut self, name: &[u8])
         ensures { self.new ≡ record self.old { defined = filter (λ n. not (same_name (folded name.now) (folded n))) self.old.defined } }
     {
@@ -197,7 +197,7 @@ impl Object {
     }
 }
 
-/// The name of a new object.
+/// Returns the name of a new object.
 fn empty_name(alloc: Global) -> Result<MooStr, AllocError>
     ensures { IfOk result (λ name. name ≡ []) }
 {

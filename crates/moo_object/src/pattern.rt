@@ -1,4 +1,4 @@
-// Which names fit the names of a verb.
+// The match of a name against the names of a verb.
 ghost use Rattle.std.specs.Prelude.{◌≡◌, ◌↔◌, IsTrue, true, position, ◌&&◌};
 ghost use Rattle.std.specs.List.{list_any};
 ghost use Rattle.moo_object.specs.Patterns.{EndsInStar, is_star, least, fits, is_blank, is_word, has_word, fits_names};
@@ -7,9 +7,9 @@ const STAR: u8 = b'*';
 
 const BLANK: u8 = b' ';
 
-/// Whether a name fits a pattern, whatever the case of letters. A pattern without its stars is its base. A name fits
-/// where it is a beginning of the base that is at least as long as what stands before the first star (as the whole,
-/// where there is no star), or, where the pattern ends in a star, where it begins with the base.
+/// Is true if a name matches a pattern, in any case. The base is the pattern without its stars. A name matches if it is
+/// a prefix of the base and at least as long as the part before the first star; without a star it has to be the whole
+/// base. If the pattern ends in a star, each name that begins with the base matches too.
 pub fn fits(pattern: &[u8], name: &[u8]) -> bool
     ensures { result ≡ fits pattern.now name.now }
 {
@@ -35,7 +35,7 @@ pub(crate) fn is_star(byte: u8) -> bool
     byte == STAR
 }
 
-/// How many bytes of the base a name has at least.
+/// Returns the length of the part before the first star, or of the pattern if it has none.
 fn least_length(pattern: &[u8]) -> usize
     ensures { result ≡ least pattern.now }
 {
@@ -69,7 +69,7 @@ fn is_word(part: &[u8]) -> bool
     !part.is_empty()
 }
 
-/// Whether there is a word in the names of a verb, which have blanks between them.
+/// Is true if the names of a verb, which blanks separate, hold at least one word.
 pub fn has_word(names: &[u8]) -> bool
     ensures { result ≡ has_word names.now }
 {
@@ -78,8 +78,8 @@ pub fn has_word(names: &[u8]) -> bool
         .any(|part| is_word(part))
 }
 
-/// Whether a name fits one of the names of a verb, which are patterns with blanks between them. Mostly they are that name alone, so
-/// that is looked at first.
+/// Is true if a name matches one of the names of a verb, which are patterns with blanks between them. Most verbs have
+/// just one name and no star, so this compares the whole first.
 pub fn fits_names(names: &[u8], name: &[u8]) -> bool
     ensures { result ≡ fits_names names.now name.now }
 {
@@ -91,7 +91,7 @@ pub fn fits_names(names: &[u8], name: &[u8]) -> bool
         .any(|part| fits_part(part, name))
 }
 
-// Whether the names are this one alone, spelled so and without a star.
+// Is true if this name, with the same letter case and without a star, is the only one.
 fn are_just(names: &[u8], name: &[u8]) -> bool
     ensures { IsTrue result → fits_names names.now name.now ≡ true }
 {

@@ -34,7 +34,7 @@ impl Model for Row {
 }
 
 impl Row {
-    /// A row without cells.
+    /// Makes a row without cells.
     pub fn new(alloc: Global) -> Self
         ensures { result ≡ [] }
     {
@@ -43,21 +43,21 @@ impl Row {
         }
     }
 
-    /// The row of these cells.
+    /// Makes the row of these cells.
     pub fn from_cells(cells: Vec<PropCell>) -> Self
         ensures { result ≡ cells.items }
     {
         Row { cells }
     }
 
-    /// The cells, lent.
+    /// Returns the cells.
     pub fn as_slice(&self) -> &[PropCell]
         ensures { result.now ≡ self.now }
     {
         &self.cells
     }
 
-    /// Adds a cell before the last ones, of which there are `behind`.
+    /// Inserts a cell before the last `behind` cells. Out of memory nothing changes.
     pub fn insert(&mut self, cell: PropCell, behind: usize) -> Result<(), AllocError>
         ensures ok { OnOk result (self.new ≡ put_before behind cell self.old) }
         ensures err { OnErr result (self.new ≡ self.old) }
@@ -67,7 +67,7 @@ impl Row {
         Ok(())
     }
 
-    /// Takes the cell before the last ones away, of which there are `behind`.
+    /// Removes the cell before the last `behind` cells.
     pub fn remove(&mut self, behind: usize)
         ensures { self.new ≡ taken_before behind self.old }
     {
@@ -77,21 +77,21 @@ impl Row {
         }
     }
 
-    /// Takes the cell for a definition away.
+    /// Removes the cell of a definition.
     pub fn lose(&mut self, definer: usize, name: &[u8])
         ensures { self.new ≡ filter (λ c. not (is_key (definer, folded name.now) c)) self.old }
     {
         lose_cell(&mut self.cells, definer, name);
     }
 
-    /// Takes the cells for all definitions of an object away.
+    /// Removes the cells of all definitions of an object.
     pub fn lose_all_of(&mut self, definer: usize)
         ensures { self.new ≡ filter (λ c. not (c.definer == definer)) self.old }
     {
         lose_cells_of(&mut self.cells, definer);
     }
 
-    /// Sets the value of the cell of a name.
+    /// Sets the value of the first cell with this name.
     pub fn set_value(&mut self, name: &[u8], value: Value)
         ensures { self.new ≡ with_value (folded name.now) (tree value) self.old }
     {
@@ -107,21 +107,21 @@ impl Row {
         put_value(&mut self.cells, place, value);
     }
 
-    /// Makes the cell for a definition clear.
+    /// Makes the cell of a definition clear.
     pub fn clear(&mut self, definer: usize, name: &[u8])
         ensures { self.new ≡ map (at_key (definer, folded name.now) emptied) self.old }
     {
         clear_cell(&mut self.cells, definer, name);
     }
 
-    /// Gives the cell for a definition another owner and other permissions.
+    /// Sets the owner and the permissions of a definition's cell.
     pub fn set_info(&mut self, definer: usize, name: &[u8], owner: i32, perms: PropPerms)
         ensures { self.new ≡ map (at_key (definer, folded name.now) (with_info owner perms)) self.old }
     {
         set_cell_info(&mut self.cells, definer, name, owner, perms);
     }
 
-    /// Gives the cell for a definition another name: the first such cell, if there are more.
+    /// Renames the cell of a definition: the first one, if there are more.
     pub fn rename(&mut self, definer: usize, name: &[u8], new_name: MooStr)
         ensures { self.new ≡ with_new_name (definer, folded name.now) (folded new_name) self.old }
     {
@@ -129,15 +129,15 @@ impl Row {
     }
 }
 
-/// The cell for a definition.
+/// Returns the cell of a definition, or `None` if the row has none.
 pub fn cell_at<'a>(cells: &'a [PropCell], definer: usize, name: &[u8]) -> Option<&'a PropCell>
     ensures { option_copied result ≡ cell_at cells.now (definer, folded name.now) }
 {
     cells.iter().find(|cell| cell.is_for(definer, name))
 }
 
-/// The place of the cell for the definition that another cell is for. It is looked for at `next` first, and
-/// nowhere else where its definer is `absent`, of which there is no cell.
+/// Returns the place of the cell that has the same definition as another. Looks at `next` first. Looks nowhere else if
+/// the definer is `absent`, which has no cell in the row.
 pub(crate) fn place_for(
     cells: &[PropCell],
     other: &PropCell,
@@ -162,7 +162,7 @@ fn position_of_key(cells: &[PropCell], other: &PropCell) -> Option<usize>
     cells.iter().position(|cell| cell.has_key_of(other))
 }
 
-/// A definer of which there is no cell: that of another cell, if there is none of it, else the one that is known.
+/// Returns a definer that has no cell in the row: that of the other cell if it has none, else `absent`.
 pub(crate) fn absent_definer(
     cells: &[PropCell],
     other: &PropCell,
@@ -184,7 +184,7 @@ fn has_definer(cells: &[PropCell], definer: usize) -> bool
     cells.iter().any(|cell| cell.definer() == definer)
 }
 
-/// The cell of a name.
+/// Returns the first cell with this name, in any case.
 #[inline(always)]
 pub fn cell_named<'a>(cells: &'a [PropCell], name: &[u8]) -> Option<&'a PropCell>
     ensures { option_copied result ≡ cell_named cells.now (folded name.now) }
@@ -192,8 +192,8 @@ pub fn cell_named<'a>(cells: &'a [PropCell], name: &[u8]) -> Option<&'a PropCell
     cells.iter().find(|cell| cell.is_named(name))
 }
 
-/// A place of a cell of a name that is written out: as far from the last one as such a cell was found last, if its number tells that it
-/// is one.
+/// Returns the place of a cell with the literal's name if the literal's hint leads to it: the hint is the distance from
+/// the end of the row. Returns `None` if the numbers do not prove that the cell has the name.
 #[inline(always)]
 pub fn place_known(cells: &[PropCell], name: &Text) -> Option<usize>
     ensures { IfSome result (λ place. (place < length cells.now) × IfSome (slice_get cells.now place) (λ c. is_named (folded name.now) c ≡ true)) }
@@ -207,13 +207,13 @@ pub fn place_known(cells: &[PropCell], name: &Text) -> Option<usize>
     }
 }
 
-/// Notes how far the cell of a name that is written out stands from the last one. That is as far in all rows that have the cell from one
-/// definition.
+/// Notes in the literal the distance of its cell from the end of the row. It is the same in all rows that have the cell
+/// from one definition.
 pub fn note_place(cells: &[PropCell], name: &Text, place: usize) {
     name.note(cells.len().saturating_sub(place));
 }
 
-/// The place of the cell of a name.
+/// Returns the place of the first cell with this name, in any case.
 #[inline(always)]
 pub fn place_named(cells: &[PropCell], name: &[u8]) -> Option<usize>
     ensures { result ≡ position (is_named (folded name.now)) cells.now }
@@ -221,7 +221,7 @@ pub fn place_named(cells: &[PropCell], name: &[u8]) -> Option<usize>
     cells.iter().position(|cell| cell.is_named(name))
 }
 
-// Sets the value of the first cell that has the name.
+// Sets the value of the first cell with this name.
 fn set_named(cells: &mut Vec<PropCell>, name: &[u8], value: Value)
     ensures { cells.new.items ≡ with_value (folded name.now) (tree value) cells.old.items }
 {
@@ -291,7 +291,7 @@ fn set_info_if_for(cell: &mut PropCell, definer: usize, name: &[u8], owner: i32,
     }
 }
 
-// Gives the first cell for a definition another name.
+// Renames the first cell of a definition.
 fn rename_cell(cells: &mut Vec<PropCell>, definer: usize, name: &[u8], new_name: MooStr)
     ensures { cells.new.items ≡ with_new_name (definer, folded name.now) (folded new_name) cells.old.items }
 {

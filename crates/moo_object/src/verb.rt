@@ -8,7 +8,7 @@ use moo_grammar::Program;
 use moo_value::MooStr;
 use std::alloc::AllocError;
 
-/// What anybody may do with a verb, beside its owner and wizards, and whether its errors are raised.
+/// What others than a verb's owner and wizards may do with it, and whether its errors are raised.
 #[derive(Clone, Copy, Debug, PartialEq, Eq)]
 pub struct VerbPerms {
     pub read: bool,
@@ -20,14 +20,14 @@ pub struct VerbPerms {
 impl VerbPerms {
     ghost use Rattle.moo_object.specs.Numbers.{verb_perms_number};
 
-    /// The permissions as bits: 1 read, 2 write, 4 execute, 8 debug.
+    /// Returns the permissions as bits: 1 read, 2 write, 4 execute, 8 debug.
     pub fn number(self) -> u8
         ensures { result ≡ verb_perms_number self }
     {
         bit(self.read, 1) + bit(self.write, 2) + bit(self.execute, 4) + bit(self.debug, 8)
     }
 
-    /// The permissions that have this number, or `None` above 15.
+    /// Returns the permissions that have this number, or `None` if it is above 15.
     pub fn from_number(number: u8) -> Option<VerbPerms>
         ensures found { IfSome result (λ perms. verb_perms_number perms ≡ number) }
         ensures none { IfNone result (16 ≤ number) }
@@ -51,11 +51,11 @@ pub struct Verb {
     pub owner: i32,
     pub perms: VerbPerms,
     pub args: VerbArgs,
-    /// An empty program and none differ.
+    /// `None` is not the same as an empty program.
     pub program: Option<Program>,
 }
 
-/// For what a verb is looked up: for a call, where only verbs that can be executed count, or for anything else.
+/// The purpose of a search for a verb: a call, for which only executable verbs count, or any other.
 #[derive(Clone, Copy, Debug, PartialEq, Eq)]
 pub enum Need {
     Call,
@@ -65,7 +65,7 @@ pub enum Need {
 ghost use Rattle.moo_object.specs.Verbs.{is_needed, fits_verb, with_verb_info, with_args, with_program, changed_at};
 
 impl Verb {
-    /// Whether a name fits the verb, whatever the case of letters. For a call it has to be executable too.
+    /// Is true if a name matches the verb's names, in any case. For a call the verb also has to be executable.
     pub fn fits(&self, need: Need, name: &[u8]) -> bool
         ensures { result ≡ fits_verb need name.now self.now }
     {
@@ -81,7 +81,7 @@ impl Verb {
         }
     }
 
-    /// The same verb. Its names and its program are shared.
+    /// Returns a clone, which shares the names and the program.
     pub fn try_clone(&self) -> Result<Verb, AllocError>
         ensures { IfOk result (λ v. v ≡ self.now) }
     {

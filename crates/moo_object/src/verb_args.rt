@@ -1,7 +1,7 @@
-// For which commands a verb is.
+// The argument specifiers of a verb, which select the commands that it answers.
 ghost use Rattle.std.specs.Prelude.{◌≡◌, ◌≤◌, IfSome, IfNone, ◌≢◌, ◌<ℤ◌, negsuc, pos, ◌⊎◌};
 
-/// Which direct or indirect object a command needs for a verb.
+/// The direct or indirect object that a command needs for a verb.
 #[derive(Clone, Copy, Debug, PartialEq, Eq)]
 pub enum ObjectSpecifier {
     None,
@@ -9,7 +9,7 @@ pub enum ObjectSpecifier {
     This,
 }
 
-/// Which preposition a command needs for a verb.
+/// The preposition that a command needs for a verb.
 #[derive(Clone, Copy, Debug, PartialEq, Eq)]
 pub enum PrepositionSpecifier {
     None,
@@ -17,7 +17,7 @@ pub enum PrepositionSpecifier {
     One(Preposition),
 }
 
-/// A preposition of a command, with the words that stand for it.
+/// A preposition of a command. Each has several spellings.
 #[derive(Clone, Copy, Debug, PartialEq, Eq)]
 pub enum Preposition {
     /// with, using
@@ -52,7 +52,7 @@ pub enum Preposition {
     Off,
 }
 
-/// For which commands a verb is.
+/// The argument specifiers of a verb.
 #[derive(Clone, Copy, Debug, PartialEq, Eq)]
 pub struct VerbArgs {
     pub direct: ObjectSpecifier,
@@ -81,14 +81,14 @@ const PREPOSITIONS: [Preposition; 15] = [
 ];
 
 impl ObjectSpecifier {
-    /// The number: 0 none, 1 any, 2 this.
+    /// Returns the number: 0 none, 1 any, 2 this.
     pub fn number(self) -> u8
         ensures { result ≡ object_specifier_number self }
     {
         self as u8
     }
 
-    /// The specifier of this number, or `None` above 2.
+    /// Returns the specifier that has this number, or `None` if it is above 2.
     pub fn from_number(number: u8) -> Option<ObjectSpecifier>
         ensures found { IfSome result (λ specifier. object_specifier_number specifier ≡ number) }
         ensures none { IfNone result (3 ≤ number) }
@@ -103,14 +103,14 @@ impl ObjectSpecifier {
 }
 
 impl Preposition {
-    /// The number, from 0 to 14.
+    /// Returns the number, from 0 to 14.
     pub fn number(self) -> u8
         ensures { result ≡ preposition_number self }
     {
         self as u8
     }
 
-    /// The preposition of this number, or `None` above 14.
+    /// Returns the preposition that has this number, or `None` if it is above 14.
     pub fn from_number(number: u8) -> Option<Preposition>
         ensures found { IfSome result (λ preposition. preposition_number preposition ≡ number) }
         ensures none { IfNone result (15 ≤ number) }
@@ -120,7 +120,7 @@ impl Preposition {
 }
 
 impl PrepositionSpecifier {
-    /// The number: -2 any, -1 none, else the preposition's.
+    /// Returns the number: -2 any, -1 none, else the preposition's.
     pub fn number(self) -> i32
         ensures { result ≡ preposition_specifier_number self }
     {
@@ -131,7 +131,7 @@ impl PrepositionSpecifier {
         }
     }
 
-    /// The specifier of this number, or `None` where no specifier has it.
+    /// Returns the specifier that has this number, or `None` if it is below -2 or above 14.
     pub fn from_number(number: i32) -> Option<PrepositionSpecifier>
         ensures found { IfSome result (λ specifier. preposition_specifier_number specifier ≡ number) }
         ensures none { IfNone result ((number <ℤ negsuc 1) ⊎ (pos 14 <ℤ number)) }

@@ -1,4 +1,4 @@
-// The verbs of an object, in order, and what tells at once that a name fits none of a verb's.
+// The verbs of an object, in order, with a filter by the first letter of names.
 ghost use Rattle.std.specs.Prelude.{◌≡◌, ◌<◌, OnOk, OnErr, IfOk, [], ◌⊎◌, ◌∷◌, ◌++◌, length, position, slice_index_or};
 ghost use Rattle.std.specs.List.{list_any, remove, slice_split};
 ghost use Rattle.moo_object.specs.Patterns.{is_blank};
@@ -14,8 +14,8 @@ use moo_value::MooStr;
 use std::alloc::{AllocError, Global};
 use std::marker::Model;
 
-/// The verbs of an object, in order. A letter for each of the first ones tells with what every name begins that fits
-/// it; 0 tells nothing.
+/// The verbs of an object, in order. For each of the first ones, `letters` holds the lower-case letter with which every
+/// name begins that matches it, or 0 if there is no such letter.
 #[derive(Drop)]
 pub struct VerbList {
     verbs: Vec<Verb>,
@@ -39,7 +39,7 @@ impl Model for VerbList {
 }
 
 impl VerbList {
-    /// No verbs.
+    /// Makes a list without verbs.
     pub fn new(alloc: Global) -> Self
         ensures { result ≡ [] }
     {
@@ -49,7 +49,7 @@ impl VerbList {
         }
     }
 
-    /// These verbs.
+    /// Makes the list of these verbs.
     pub fn from_verbs(verbs: Vec<Verb>) -> Self
         ensures { result ≡ verbs.items }
     {
@@ -57,14 +57,14 @@ impl VerbList {
         VerbList { verbs, letters }
     }
 
-    /// The verbs, lent.
+    /// Returns the verbs.
     pub fn as_slice(&self) -> &[Verb]
         ensures { result.now ≡ self.now }
     {
         &self.verbs
     }
 
-    /// The place of the first verb that a name fits. For a call only verbs that can be executed count.
+    /// Returns the place of the first verb that a name matches. For a call only executable verbs count.
     pub fn position(&self, need: Need, name: &[u8]) -> Option<usize>
         ensures { result ≡ position (fits_verb need name.now) self.now }
     {
@@ -77,7 +77,7 @@ impl VerbList {
         None
     }
 
-    // What tells of the verb at a place.
+    // Returns the filter letter of the verb at a place, or 0 if there is none.
     #[inline]
     fn letter(&self, index: usize) -> u8
         ensures { (v : Verb) → v ≡ slice_index_or self.now index v → IsLetter result v.names }
@@ -88,7 +88,7 @@ impl VerbList {
         }
     }
 
-    /// Adds a verb behind the others.
+    /// Appends a verb. Out of memory nothing changes.
     pub fn push(&mut self, verb: Verb) -> Result<(), AllocError>
         ensures ok { OnOk result (self.new ≡ self.old ++ verb ∷ []) }
         ensures err { OnErr result (self.new ≡ self.old) }
@@ -103,7 +103,7 @@ impl VerbList {
         Ok(())
     }
 
-    /// Takes the verb at a place away.
+    /// Removes the verb at a place.
     pub fn remove(&mut self, index: usize)
         requires { index < length self.old }
         ensures { self.new ≡ remove self.old index }
@@ -112,7 +112,7 @@ impl VerbList {
         let _verb = self.verbs.remove(index);
     }
 
-    /// Gives the verb at a place other names, another owner and other permissions.
+    /// Sets the names, the owner and the permissions of the verb at a place.
     pub fn set_info(&mut self, index: usize, names: MooStr, owner: i32, perms: VerbPerms)
         requires { index < length self.old }
         ensures { self.new ≡ changed_at index (with_verb_info names owner perms) self.old }
@@ -122,7 +122,7 @@ impl VerbList {
         change_info(&mut self.verbs, index, names, owner, perms);
     }
 
-    /// Says for which commands the verb at a place is.
+    /// Sets the argument specifiers of the verb at a place.
     pub fn set_args(&mut self, index: usize, args: VerbArgs)
         requires { index < length self.old }
         ensures { self.new ≡ changed_at index (with_args args) self.old }
@@ -130,7 +130,7 @@ impl VerbList {
         change_args(&mut self.verbs, index, args);
     }
 
-    /// Gives the verb at a place another program, or none.
+    /// Sets the program of the verb at a place, or removes it.
     pub fn set_program(&mut self, index: usize, program: Option<Program>)
         requires { index < length self.old }
         ensures { self.new ≡ changed_at index (with_program program) self.old }
@@ -139,7 +139,7 @@ impl VerbList {
     }
 }
 
-// What tells of each verb. Where memory is short, nothing does.
+// Returns the filter letters of the verbs. Out of memory there are none.
 fn letters_of(alloc: Global, verbs: &[Verb]) -> Vec<u8>
     ensures { AreLetters result.items verbs.now }
 {
@@ -159,7 +159,7 @@ fn all_letters(alloc: Global, verbs: &[Verb]) -> Result<Vec<u8>, AllocError>
     Ok(letters)
 }
 
-// One letter more, where there is memory for it.
+// Appends a letter if there is memory for it.
 fn push_letter(letters: &mut Vec<u8>, letter: u8)
     ensures { (letters.new.items ≡ letters.old.items ++ letter ∷ []) ⊎ (letters.new.items ≡ letters.old.items) }
 {
@@ -182,7 +182,7 @@ fn set_letter(letters: &mut Vec<u8>, index: usize, letter: u8)
     }
 }
 
-// What tells of a verb with these names.
+// Returns the filter letter of a verb with these names.
 fn letter_of(names: &[u8]) -> u8
     ensures { IsLetter result names.now }
 {
@@ -210,7 +210,7 @@ fn begins_otherwise(part: &[u8], letter: u8) -> bool
     }
 }
 
-// The letter that a name begins with, folded, and 0 for no name.
+// Returns the first letter of a name in lower case, or 0 if the name is empty.
 #[inline]
 fn first_letter(name: &[u8]) -> u8
     ensures { result ≡ first_letter name.now }

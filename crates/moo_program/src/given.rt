@@ -2,8 +2,7 @@
 ghost use Rattle.std.specs.Prelude.{◌≡◌, find};
 ghost use Rattle.moo_program.specs.Given.{given_name, given_slot, given_of, is_given, likely};
 
-/// A variable that every frame has ('Naming Values Within a Verb' of the LambdaMOO
-/// Programmer's Manual).
+/// A variable that every frame has ('Naming Values Within a Verb' of the LambdaMOO Programmer's Manual).
 #[derive(Clone, Copy)]
 pub enum Given {
     Num,
@@ -27,17 +26,17 @@ pub enum Given {
 }
 
 impl Given {
-    /// How many there are.
+    /// The number of these variables.
     pub const COUNT: usize = 18;
 
-    /// Its number, from 0 on.
+    /// Returns the variable's slot, from 0 on.
     pub fn slot(self) -> usize
         ensures { result ≡ given_slot self }
     {
         self as usize
     }
 
-    /// The one of this name, in any case, or `None` where none has it.
+    /// Returns the variable that has this name, in any case, or `None` if none has it.
     pub fn from_name(name: &[u8]) -> Option<Given>
         ensures { result ≡ given_of name.now }
     {
@@ -46,14 +45,14 @@ impl Given {
         if given.is(name) { Some(given) } else { None }
     }
 
-    // Whether the name, in any case, is its own.
+    // Is true if this is the variable's name, in any case.
     fn is(self, name: &[u8]) -> bool
         ensures { result ≡ is_given name.now self }
     {
         self.name().as_bytes().eq_ignore_ascii_case(name)
     }
 
-    /// How it is spelled.
+    /// Returns the variable's spelling.
     pub fn name(self) -> &'static str
         ensures { result.now ≡ given_name self }
     {
@@ -80,7 +79,7 @@ impl Given {
     }
 }
 
-// The one whose name has this length and begins with this small letter: no two have both in common.
+// Returns the only variable whose name has this length and begins with this lower-case letter.
 fn likely(length: usize, letter: u8) -> Option<Given>
     ensures { result ≡ likely length letter }
 {

@@ -1,6 +1,6 @@
-//! How long an expression in the full listing is, counted without writing it.
+//! The length of an expression in the full listing, computed without writing it.
 //!
-//! Each function tells what is left of the room that a line has, or `None` where the text doesn't fit it.
+//! Each function returns how many bytes of the line are left after a part, or `None` if the part does not fit.
 ghost use Rattle.std.specs.Prelude.{◌≡◌, ◌+◌, ◌<◌, Bool, count_by, length};
 ghost use Rattle.std.specs.Fmt.{signed_decimal};
 ghost use Rattle.moo_program.specs.View.{tree, items_of, codes_of};
@@ -60,7 +60,7 @@ pub(crate) fn expression(value: &Expr, room: usize) -> Option<usize>
     }
 }
 
-/// Behind `.` or `:` and a name, with its parentheses.
+/// Subtracts a name after `.` or `:`, with its parentheses.
 #[cycle(length)]
 fn selector_rest(name: &Expr, room: usize) -> Option<usize>
     ensures { Leaves room (selector_length (constant_name (tree name.now)) (listed_length (tree name.now))) result }
@@ -71,7 +71,7 @@ fn selector_rest(name: &Expr, room: usize) -> Option<usize>
     }
 }
 
-/// Behind the base of this name, which is left out where `$` says it.
+/// Subtracts the base of a property or a verb, which is left out if `$` stands for it.
 #[cycle(length)]
 fn shown_base_rest(base: &Expr, name: &Expr, room: usize) -> Option<usize>
     ensures { Leaves room (shown_base_length (constant_name (tree name.now)) (is_system_object (tree base.now)) (length_in_parentheses (is_compound_base (tree base.now)) (listed_length (tree base.now)))) result }
@@ -93,7 +93,7 @@ pub(crate) fn codes_rest(codes: &Codes, room: usize) -> Option<usize>
     }
 }
 
-/// Behind an operand, with its parentheses.
+/// Subtracts an operand, with its parentheses.
 #[cycle(length)]
 fn operand_rest(value: &Expr, room: usize) -> Option<usize>
     ensures { Leaves room (length_in_parentheses (is_compound (tree value.now)) (listed_length (tree value.now))) result }
@@ -105,7 +105,7 @@ fn operand_rest(value: &Expr, room: usize) -> Option<usize>
     }
 }
 
-/// Behind what is indexed, with its parentheses.
+/// Subtracts the base of an index, a property or a verb, with its parentheses.
 #[cycle(length)]
 fn base_rest(value: &Expr, room: usize) -> Option<usize>
     ensures { Leaves room (length_in_parentheses (is_compound_base (tree value.now)) (listed_length (tree value.now))) result }
@@ -193,7 +193,7 @@ fn is_escaped(byte: u8) -> bool
     byte == b'"' || byte == b'\\'
 }
 
-/// How many bytes stand behind a backslash in a string's literal.
+/// Returns how many bytes of a string have a backslash before them in its literal.
 fn escapes(bytes: &[u8]) -> usize
     ensures { result ≡ count_by is_escaped bytes.now }
 {

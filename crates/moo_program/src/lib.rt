@@ -1,5 +1,5 @@
-//! Programs as trees.
-//! A room behind `moo_syntax`.
+//! The syntax trees of programs.
+//! An internal crate of `moo_syntax`.
 #![tactic(auto)]
 
 mod given;

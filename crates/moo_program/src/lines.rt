@@ -1,4 +1,4 @@
-//! Whether the lines of the full listing are short enough for strings.
+//! The check that the lines of the full listing fit strings.
 ghost use Rattle.std.specs.Prelude.{◌≡◌, ◌+◌, ◌↔◌, Some, None, IsTrue, length};
 ghost use Rattle.moo_program.specs.View.{tree, codes_of, statement as tree_of, block, arms_of, handlers_of};
 ghost use Rattle.moo_program.specs.Listing.{head, elseif_head, except_head, listing};
@@ -10,10 +10,10 @@ use crate::name::Name;
 use crate::tree::{Arm, Codes, Expr, Handler, Stmt};
 use moo_value::{MooStr, WEIGHT_LIMIT};
 
-/// The most bytes of a line.
+/// The greatest number of bytes of a line.
 const ROOM: usize = WEIGHT_LIMIT as usize - 1;
 
-/// Whether each line of the full listing is short enough for a string.
+/// Is true if each line of the full listing fits a string.
 pub fn fit_lines(statements: &[Stmt]) -> bool
     ensures { IsTrue result ↔ AllFit (listing (block statements.now)) }
 {
@@ -47,7 +47,7 @@ fn below_fits(statement: &Stmt) -> bool
     }
 }
 
-/// Whether the further arms of an `if` do.
+/// Is true if the lines of the further arms of an `if` fit strings.
 #[cycle(lines)]
 fn arms_fit(arms: &[Arm]) -> bool
     ensures { result ≡ arms_fit (arms_of arms.now) }
@@ -114,7 +114,7 @@ fn except_as_rest(name: &Name, codes: &Codes, room: usize) -> Option<usize>
     codes_rest(codes, room.checked_sub(10)?.checked_sub(name.len())?)
 }
 
-/// Whether the first line of the statement does.
+/// Is true if the first line of the statement fits a string.
 fn head_fits(statement: &Stmt) -> bool
     ensures { result ≡ fits (head (tree_of statement.now)) }
 {
@@ -145,7 +145,7 @@ fn head_rest(statement: &Stmt, room: usize) -> Option<usize>
     }
 }
 
-/// Behind a name, where there is one, and the blank before it.
+/// Subtracts a loop's name, if there is one, and the blank before it.
 fn label_rest(name: &Option<MooStr>, room: usize) -> Option<usize>
     ensures { Leaves room (label_length name.now) result }
 {

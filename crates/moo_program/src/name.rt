@@ -9,16 +9,17 @@ use moo_value::MooStr;
 use std::cell::Cell;
 use std::marker::Model;
 
-// How many letters have a number together, whichever they are.
+// The most letters that one number can encode, whichever they are.
 const MOST_LETTERS: usize = 7;
 
-/// The name of a variable, as it is spelled where it stands in a program, with a hint at its slot.
+/// The name of a variable, as this occurrence of it is spelled, with a hint at its slot.
 #[derive(Drop)]
 pub struct Name {
     text: MooStr,
-    /// A number that no other spelling of its first letters has, or 0 where there are too many letters, or every frame has the variable.
+    /// A number that encodes the first letters of the spelling, or 0 if there are too many letters or every frame has
+    /// the variable.
     number: u64,
-    /// The same of the letters behind these.
+    /// A number that encodes the letters after these, or 0.
     further: u64,
     given: Option<Given>,
     hint: Cell<u32>,
@@ -38,7 +39,7 @@ impl Model for Name {
 }
 
 impl Name {
-    /// The name that is spelled so. Its hint is the first slot.
+    /// Makes the name with this spelling. Its hint is the first slot.
     pub fn new(text: MooStr) -> Name
         ensures { result ≡ text }
     {
@@ -56,14 +57,14 @@ impl Name {
         }
     }
 
-    /// How it is spelled.
+    /// Returns the spelling.
     pub fn text(&self) -> &MooStr
         ensures { result.now ≡ self.now }
     {
         &self.text
     }
 
-    /// The bytes of that.
+    /// Returns the bytes of the spelling.
     pub fn as_bytes(&self) -> &[u8]
         ensures value { result.now ≡ self.now }
         ensures string { IsString self.now }
@@ -71,7 +72,7 @@ impl Name {
         self.text.as_bytes()
     }
 
-    /// The number of bytes.
+    /// Returns the number of bytes.
     pub fn len(&self) -> usize
         ensures value { result ≡ length self.now }
         ensures string { IsString self.now }
@@ -79,7 +80,7 @@ impl Name {
         self.text.len()
     }
 
-    /// Whether another is spelled as this one, each letter in the same case.
+    /// Is true if the other name has the same spelling, with each letter in the same case.
     #[inline(always)]
     pub fn is_spelled_as(&self, other: &Name) -> bool
         ensures { IsTrue result ↔ (self.now ≡ other.now) }
@@ -90,8 +91,8 @@ impl Name {
         self.has_bytes_of(other)
     }
 
-    /// Whether the numbers of the two spellings tell that they are the same, so that no byte needs to be looked at, and not every frame has
-    /// the variable.
+    /// Is true if the numbers of the two names prove that they have the same spelling, and not every frame has the
+    /// variable. This compares no bytes. If it is false, the spellings may still be the same.
     #[inline(always)]
     pub fn is_known_as(&self, other: &Name) -> bool
         ensures same { IsTrue result → (self.now ≡ other.now) }
@@ -103,8 +104,8 @@ impl Name {
         self.number == other.number && self.further == other.further
     }
 
-    /// The number of its first seven letters and that of those behind them. No other name has both. Both are 0 where the name has too many
-    /// letters (sixteen or more), or every frame has the variable.
+    /// Returns the numbers of the first seven letters and of those after them. No other name has both. Both are 0 if
+    /// the name has too many letters (sixteen or more) or every frame has the variable.
     #[inline(always)]
     pub fn numbers(&self) -> (u64, u64)
         ensures known { result.0 ≢ 0 → (given_of self.now ≡ None) × AreNumbersOf result.0 result.1 self.now }
@@ -113,7 +114,7 @@ impl Name {
         (self.number, self.further)
     }
 
-    // The same, byte by byte. Not inlined, so that what is known by the numbers pays nothing for it.
+    // Compares the spellings byte by byte. Not inlined, so that names that have numbers do not pay for it.
     #[inline(never)]
     fn has_bytes_of(&self, other: &Name) -> bool
         ensures { IsTrue result ↔ (self.now ≡ other.now) }
@@ -121,19 +122,19 @@ impl Name {
         self.text.as_bytes() == other.text.as_bytes()
     }
 
-    /// The variable that every frame has, if it names one.
+    /// Returns the variable that every frame has and that this name is, or `None` if it is none.
     pub fn given(&self) -> Option<Given>
         ensures { result ≡ given_of self.now }
     {
         self.given
     }
 
-    /// The slot that was noted last. Another name, or none, may have it.
+    /// Returns the slot that was noted last. It may be that of another name, or of none.
     pub fn hint(&self) -> usize {
         self.hint.get() as usize
     }
 
-    /// Notes the slot of the name, for the next time that it is looked for.
+    /// Notes the slot of the name, for the next search.
     pub fn note(&self, slot: usize) {
         if let Ok(slot) = u32::try_from(slot) {
             self.hint.set(slot);
@@ -141,7 +142,7 @@ impl Name {
     }
 }
 
-// The numbers of the first letters of a spelling and of those behind them, or 0 where they are too many.
+// Returns the numbers of the first letters of a spelling and of those after them, or 0 for both if there are too many.
 fn numbers_of(text: &[u8]) -> (u64, u64)
     ensures known { result.0 ≢ 0 → AreNumbersOf result.0 result.1 text.now }
     ensures unknown { result.0 ≡ 0 → result.1 ≡ 0 }
@@ -153,7 +154,8 @@ fn numbers_of(text: &[u8]) -> (u64, u64)
     }
 }
 
-// The number of a spelling, where it isn't too large: that of the bytes behind is multiplied, from the last byte on.
+// Returns the number of a spelling, or `None` if it is too large: a number in base 257, with the first byte as the
+// lowest digit.
 fn small_number_of(text: &[u8]) -> Option<u64>
     ensures { IfSome result (λ number. number ≡ spelling text.now) }
 {

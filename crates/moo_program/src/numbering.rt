@@ -1,18 +1,18 @@
-//! Numbers by which short names are known, whatever the case of their letters.
+//! Numbers that encode short names, without regard to the case of their letters.
 ghost use Rattle.std.specs.Prelude.{◌≢◌, IfSome};
 ghost use Rattle.std.specs.Char.{to_ascii_lowercase};
 ghost use Rattle.moo_value.specs.Compare.{folded};
 ghost use Rattle.moo_program.specs.NameNumber.{IsDigitOf, IsNumberOf};
 
-/// A number that no name of other letters has, or 0 where one of its bytes is no letter, no figure and no underscore, or there are too many
-/// of them (fourteen or more, and most names of thirteen).
+/// Returns a number that only names with the same letters, in any case, have. Returns 0 if a byte is no letter, digit
+/// or underscore, or if there are too many bytes (fourteen or more, and most names of thirteen).
 pub fn name_number(name: &[u8]) -> u64
     ensures { result ≢ 0 → IsNumberOf result (folded name.now) }
 {
     number_of(name).unwrap_or(0)
 }
 
-// The same, where there is one: that of the bytes behind is multiplied, from the last byte on.
+// Returns the number of a name, or `None` if it has none: a number in base 38, with the first byte as the lowest digit.
 fn number_of(name: &[u8]) -> Option<u64>
     ensures { IfSome result (λ number. IsNumberOf number (folded name.now)) }
 {
@@ -26,7 +26,7 @@ fn number_of(name: &[u8]) -> Option<u64>
     Some(number)
 }
 
-// The digit of a byte, its case folded.
+// Returns the digit of a byte in lower case, or `None` if it has none.
 fn digit_of(byte: u8) -> Option<u64>
     ensures { IfSome result (λ digit. IsDigitOf digit (to_ascii_lowercase byte)) }
 {

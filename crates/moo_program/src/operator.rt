@@ -40,7 +40,7 @@ pub enum BinaryOperator {
     In,
 }
 
-/// An operator whose second operand is evaluated only where the first doesn't decide.
+/// An operator whose second operand is evaluated only if the first does not decide.
 #[derive(Clone, Copy, Debug, PartialEq, Eq)]
 pub enum LogicOperator {
     /// `&&`

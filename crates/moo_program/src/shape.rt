@@ -1,4 +1,4 @@
-//! What an expression is to those who write it.
+//! The shapes of expressions that a listing distinguishes.
 ghost use Rattle.std.specs.Prelude.{◌≡◌, Some, None, MatchOption};
 ghost use Rattle.moo_program.specs.View.{tree};
 ghost use Rattle.moo_program.specs.Listing.{is_compound, is_compound_base, constant_name, is_system_object};
@@ -7,7 +7,8 @@ use crate::tree::{Expr, Literal};
 use moo_token::is_name;
 use moo_value::MooStr;
 
-/// Whether the expression is an operator, a conditional or an assignment, which stands in parentheses as an operand.
+/// Is true if the expression is an operator, a conditional or an assignment, which a listing puts in parentheses as an
+/// operand.
 pub fn is_compound(value: &Expr) -> bool
     ensures { result ≡ is_compound (tree value.now) }
 {
@@ -21,7 +22,8 @@ pub fn is_compound(value: &Expr) -> bool
     )
 }
 
-/// Whether the expression is one of these or an integer literal, which stands in parentheses before `.`, `:` and `[`.
+/// Is true if the expression is compound or an integer literal, which a listing puts in parentheses before `.`, `:` and
+/// `[`.
 pub fn is_compound_base(value: &Expr) -> bool
     ensures { result ≡ is_compound_base (tree value.now) }
 {
@@ -31,7 +33,7 @@ pub fn is_compound_base(value: &Expr) -> bool
     }
 }
 
-/// The name that the expression is, if it is a string that is a name and no keyword.
+/// Returns the expression's string if it is a string literal that is a name and no keyword.
 pub fn constant_name(value: &Expr) -> Option<&MooStr>
     ensures { MatchOption result (constant_name (tree value.now) ≡ None) (λ name. constant_name (tree value.now) ≡ Some name.now) }
 {
@@ -43,7 +45,7 @@ pub fn constant_name(value: &Expr) -> Option<&MooStr>
     }
 }
 
-/// Whether the expression is `#0`, written out.
+/// Is true if the expression is the literal `#0`.
 pub fn is_system_object(value: &Expr) -> bool
     ensures { result ≡ is_system_object (tree value.now) }
 {

@@ -11,10 +11,10 @@ use moo_value::MooStr;
 use std::alloc::{AllocError, Global};
 use std::collections::BTreeMap;
 
-/// For how many variables, each where it stands, there is room at first.
+/// The initial capacity, in occurrences of variables.
 const FIRST_ROOM: usize = 16;
 
-/// The names of the variables, letters folded, each once, in the order in which they stand first.
+/// Returns the names of the variables in lower case, each once, in the order of their first occurrences.
 pub fn variable_names(alloc: Global, statements: &[Stmt]) -> Result<Vec<Name>, AllocError>
     ensures { IfOk result (λ names. names.items ≡ slots (block statements.now)) }
 {
@@ -34,7 +34,7 @@ fn folded_names(alloc: Global, names: &[MooStr]) -> Result<Vec<MooStr>, AllocErr
     Ok(all)
 }
 
-// Whether the letters of a name are folded.
+// Is true if the name has no capital letters.
 fn is_folded(name: &[u8]) -> bool
     ensures { IsTrue result → folded name.now ≡ name.now }
 {
@@ -56,11 +56,11 @@ fn folded_name(alloc: Global, name: &MooStr) -> Result<MooStr, AllocError>
     for byte in name.as_bytes() {
         bytes.push(byte.to_ascii_lowercase())?;
     }
-    // A string stays one with its letters folded, so that only memory can be wanting.
+    // A string in lower case is a string too, so that only the allocation can fail.
     MooStr::try_from_vec(alloc, bytes).map_err(|_| AllocError)
 }
 
-// Those that stand nowhere before.
+// Returns the names without those that occur before.
 fn first_names(alloc: Global, names: &[MooStr]) -> Result<Vec<Name>, AllocError>
     ensures { IfOk result (λ found. found.items ≡ firsts (λ _. false) names.now) }
 {

@@ -1,12 +1,13 @@
-//! What may stand before `=`.
+//! The targets of assignments.
 ghost use Rattle.std.specs.Prelude.{◌≡◌, false};
 ghost use Rattle.moo_program.specs.View.{tree, items_of};
 ghost use Rattle.moo_program.specs.Target.{is_variable, is_place, are_names, is_scatter, is_target};
 
 use crate::tree::{Expr, Item};
 
-/// Whether the expression may stand before `=`: a variable, a property, an index of one of these or of an index, a range
-/// of any of these; or a list, not empty, of variables, names that may be left out and at most one splice, of a variable.
+/// Is true if the expression may be the target of an assignment: a variable, a property, an index of one of these or of
+/// an index, or a range of any of these; or a list, not empty, of variables, names that may be left out and at most one
+/// splice, of a variable.
 pub fn is_target(value: &Expr) -> bool
     ensures { result ≡ is_target (tree value.now) }
 {

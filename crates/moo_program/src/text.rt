@@ -1,4 +1,4 @@
-//! Strings that are written out in a program.
+//! String literals in a program.
 ghost use Rattle.std.specs.Prelude.{◌≡◌, ◌≢◌};
 ghost use Rattle.moo_value.specs.Compare.{folded};
 ghost use Rattle.moo_program.specs.NameNumber.{IsNumberOf};
@@ -8,12 +8,12 @@ use moo_value::MooStr;
 use std::cell::Cell;
 use std::marker::Model;
 
-/// A string that is written out in a program. What has it for a name is found by its number, and looked for first where the last one was
-/// found.
+/// A string literal in a program. If it is the name of a property or a verb, its number speeds up the search, and its
+/// hint is where the last search found it.
 #[derive(Drop)]
 pub struct Text {
     string: MooStr,
-    /// A number that it has as a name, and no name of other letters, or 0.
+    /// A number that encodes the string as a name, or 0 if it has none.
     number: u64,
     hint: Cell<u32>,
 }
@@ -31,7 +31,7 @@ impl Model for Text {
 }
 
 impl Text {
-    /// The string, written out. Its hint is 0.
+    /// Makes the literal of this string. Its hint is 0.
     pub fn new(string: MooStr) -> Text
         ensures { result ≡ string }
     {
@@ -43,7 +43,7 @@ impl Text {
         }
     }
 
-    /// The string.
+    /// Returns the string.
     #[inline(always)]
     pub fn string(&self) -> &MooStr
         ensures { result.now ≡ self.now }
@@ -51,7 +51,7 @@ impl Text {
         &self.string
     }
 
-    /// A number that no name of other letters has, whatever their case, or 0 where it has none.
+    /// Returns a number that only names with the same letters, in any case, have, or 0 if the string has none.
     #[inline(always)]
     pub fn number(&self) -> u64
         ensures { result ≢ 0 → IsNumberOf result (folded self.now) }
@@ -59,13 +59,13 @@ impl Text {
         self.number
     }
 
-    /// What was noted last.
+    /// Returns the hint that was noted last.
     #[inline(always)]
     pub fn hint(&self) -> usize {
         self.hint.get() as usize
     }
 
-    /// Notes where what has this name was found.
+    /// Notes where an item that has this name was found.
     pub fn note(&self, hint: usize) {
         if let Ok(hint) = u32::try_from(hint) {
             self.hint.set(hint);

@@ -1,10 +1,10 @@
-//! The tree of a program.
+//! The syntax tree of a program.
 use crate::name::Name;
 use crate::operator::{BinaryOperator, LogicOperator, UnaryOperator};
 use crate::text::Text;
 use moo_value::{ErrorCode, MooStr};
 
-/// A value that is written out in a program.
+/// A literal in a program.
 #[derive(Drop)]
 pub enum Literal {
     Integer(i32),
@@ -18,9 +18,9 @@ pub enum Literal {
 #[derive(Drop)]
 pub enum Expr {
     Literal(Literal),
-    /// A variable by its name.
+    /// A variable, by its name.
     Variable(Name),
-    /// `$`, the length of what is indexed.
+    /// `$`, the length of the value that is indexed.
     Length,
     Unary(UnaryOperator, Box<Expr>),
     Binary(BinaryOperator, Box<Expr>, Box<Expr>),
@@ -37,7 +37,7 @@ pub enum Expr {
     Property(Box<Expr>, Box<Expr>),
     /// `a:(b)(..)`; `a:n(..)` is `a:("n")(..)`.
     VerbCall(Box<Expr>, Box<Expr>, Box<Vec<Item>>),
-    /// `f(..)`, a call of a built-in function by its name, as it is spelled.
+    /// `f(..)`, a call of a built-in function, by its name as spelled.
     Call(MooStr, Vec<Item>),
     /// `a = b`
     Assign(Box<Expr>, Box<Expr>),
@@ -45,20 +45,20 @@ pub enum Expr {
     Catch(Box<Expr>, Box<Codes>, Option<Box<Expr>>),
 }
 
-/// An item of a list, of a call's arguments, of the errors that a catch names, or of the target of a scatter.
+/// An item of a list, of a call's arguments, of the errors in a catch, or of the target of a scatter.
 #[cycle(tree)]
 #[derive(Drop)]
 pub enum Item {
     Element(Box<Expr>),
     /// `@a`
     Splice(Box<Expr>),
-    /// `?a`, in the target of a scatter alone: a variable's name.
+    /// `?a`, only in the target of a scatter: a variable's name.
     Optional(Box<Name>),
-    /// `?a = b`, there too: a variable's name and its default.
+    /// `?a = b`, only in the target of a scatter: a variable's name and its default.
     Defaulted(Box<Name>, Box<Expr>),
 }
 
-/// The errors that a catch answers for.
+/// The errors that a catch handles.
 #[cycle(tree)]
 #[derive(Drop)]
 pub enum Codes {
@@ -99,7 +99,7 @@ pub enum Stmt {
 pub enum Arm {
     /// `elseif (a) ..`
     ElseIf(Box<Expr>, Vec<Stmt>),
-    /// `else ..`, the last arm: what stands behind it in a row is no part of the program.
+    /// `else ..`, the last arm: arms after it are no part of the program.
     Else(Vec<Stmt>),
 }
 
@@ -109,6 +109,6 @@ pub enum Arm {
 pub enum Handler {
     /// `except (codes) ..`
     Except(Codes, Vec<Stmt>),
-    /// `except x (codes) ..`, which sets the variable.
+    /// `except x (codes) ..`, which assigns the error to the variable.
     ExceptAs(Name, Codes, Vec<Stmt>),
 }

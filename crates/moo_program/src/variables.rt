@@ -1,4 +1,4 @@
-//! The variables of a program, where they stand.
+//! The occurrences of variables in a program.
 ghost use Rattle.std.specs.Prelude.{◌≡◌, ◌++◌, ◌∷◌, [], OnOk};
 ghost use Rattle.moo_program.specs.Tree.{verb_call, catch, catch_or};
 ghost use Rattle.moo_program.specs.View.{tree, items_of, codes_of, statement as tree_of, block, arms_of, handlers_of};
@@ -114,7 +114,7 @@ fn add_item(item: &Item, names: &mut Vec<MooStr>) -> Result<(), AllocError>
     }
 }
 
-/// Adds the variables of statements, in the order in which they stand in a text of these.
+/// Appends the occurrences of variables in the statements, in the order of the program's text.
 #[cycle(statements)]
 pub(crate) fn add_block(statements: &[Stmt], names: &mut Vec<MooStr>) -> Result<(), AllocError>
     ensures { OnOk result (names.new.items ≡ names.old.items ++ block_variables (block statements.now)) }

@@ -1,6 +1,7 @@
-//! All lists of tokens up to a length of which all but the last go on with those before them: the parser takes those that the
-//! recogniser takes, and tells each fault at the first token at which no program goes on, whatever stands behind it. Where no
-//! parenthesis and no base was read, the short listing has no parenthesis.
+//! An exhaustive comparison of the parser with a recogniser, over all token lists up to a length of which all but the
+//! last token begin some program. The parser has to accept the lists that the recogniser accepts, and to report each
+//! fault at the first token with which no program continues, whatever tokens follow. If neither a parenthesis nor a
+//! base was read, the short listing has to have no parenthesis.
 use crate::listings::push_line;
 use crate::recogniser::Recogniser;
 use crate::rules::{CALLS, COMMON, LOOSE, SCATTERS, TARGETS};
@@ -11,10 +12,10 @@ use moo_unparse::list_short;
 use std::alloc::{AllocError, Global};
 use std::slice;
 
-/// What no token is.
+/// A character that is no token.
 const BAD: u8 = 5;
 
-/// The tokens that are words, and those that have no character of their own. Any other is a sign that stands for itself.
+/// The tokens that are words, and those of more than one character. Any other character is a sign and spells itself.
 static WORDS: [(u8, &str); 22] = [
     (b'0', "7"),
     (b'1', "x"),
@@ -52,7 +53,7 @@ fn spelled(token: &u8) -> &[u8] {
     slice::from_ref(token)
 }
 
-/// What the parser has to say.
+/// The result of the parser.
 #[derive(Clone, Copy, PartialEq, Eq)]
 enum Verdict {
     Program,
@@ -64,7 +65,7 @@ enum Verdict {
     Other,
 }
 
-/// Whether the short listing of a program has a parenthesis.
+/// Is true if the short listing of a program has a parenthesis.
 fn has_parenthesis(alloc: Global, program: &Program) -> Result<bool, AllocError> {
     let Ok(lines) = list_short(alloc, program, false) else {
         return Err(AllocError);
@@ -72,7 +73,7 @@ fn has_parenthesis(alloc: Global, program: &Program) -> Result<bool, AllocError>
     Ok(lines.iter().any(|line| line.as_bytes().contains(&b'(')))
 }
 
-/// What the parser says of the tokens, each on a line.
+/// Parses the tokens, each on a line, and returns the result: `Other` if the short listing has a needless parenthesis.
 fn told(alloc: Global, tokens: &[u8], names: Names) -> Result<Verdict, AllocError> {
     let mut lines = Vec::new(alloc);
     for token in tokens {
@@ -100,7 +101,7 @@ fn told(alloc: Global, tokens: &[u8], names: Names) -> Result<Verdict, AllocErro
     }
 }
 
-/// What the recognisers say.
+/// Returns the result that the recognisers expect.
 fn expected(tokens: &[u8], strict: &Recogniser, loose: &Recogniser) -> Verdict {
     if strict.accepts() {
         return Verdict::Program;
@@ -121,7 +122,7 @@ fn expected(tokens: &[u8], strict: &Recogniser, loose: &Recogniser) -> Verdict {
     }
 }
 
-/// Whether the parser says of the tokens what is expected, also with others behind them where no program goes on.
+/// Is true if the parser's result is the expected one, and stays so with more tokens appended if no program continues.
 fn is_told(
     alloc: Global,
     tokens: &mut Vec<u8>,
@@ -132,7 +133,7 @@ fn is_told(
     if told(alloc, tokens, names)? != verdict {
         return Ok(false);
     }
-    // The rules of statements know few expressions, and none that go on with a bracket.
+    // The rules of statements have few expressions, and none that continue with a bracket.
     if goes_on || matches!(tokens.last(), Some(b'(' | b'[')) {
         return Ok(true);
     }
@@ -144,7 +145,8 @@ fn is_told(
     Ok(same)
 }
 
-/// Goes on with each token of the alphabet, up to so many more, and gives the first list on which the two differ.
+/// Appends each token of the alphabet in turn, and up to `left` more after it. Returns whether the parser and the
+/// recognisers agree on all these lists; if not, `tokens` holds the first list on which they differ.
 fn explore(
     alloc: Global,
     alphabet: &[u8],
@@ -175,7 +177,8 @@ fn explore(
     Ok(true)
 }
 
-/// The rules of statements over a few expressions, or those of expressions, in which any name may be a function's, or none.
+/// Returns a recogniser of statements over a few expressions, or of expressions in which any name may be a function's,
+/// or none.
 fn strict(alloc: Global, word: &str) -> Result<Recogniser, AllocError> {
     match word {
         "statements" => Recogniser::new(alloc, &[&EXPRESSIONS, &IN_LOOPS]),
@@ -184,7 +187,7 @@ fn strict(alloc: Global, word: &str) -> Result<Recogniser, AllocError> {
     }
 }
 
-/// The same with jumps anywhere, assignments to anything and calls of any name.
+/// Returns a recogniser with jumps anywhere, assignments to anything and calls of any name.
 fn loose(alloc: Global, word: &str) -> Result<Recogniser, AllocError> {
     match word {
         "statements" => Recogniser::new(alloc, &[&EXPRESSIONS, &ANYWHERE]),
@@ -200,7 +203,7 @@ fn names_of(word: &str) -> Names {
     }
 }
 
-/// The tokens of a row: `a` to `e` stand for 1 to 5, each other character for itself.
+/// Returns the tokens of a row: `a` to `e` are the tokens 1 to 5, and each other character is a token.
 fn tokens_of(alloc: Global, row: &str) -> Result<Vec<u8>, AllocError> {
     let mut tokens = Vec::from_slice(alloc, row.as_bytes())?;
     for token in tokens.iter_mut() {
@@ -211,8 +214,9 @@ fn tokens_of(alloc: Global, row: &str) -> Result<Vec<u8>, AllocError> {
     Ok(tokens)
 }
 
-/// The tokens on which the parser and the recognisers differ first, of all lists that begin with these and have at most so many
-/// more behind them, or none where they agree. A row is that number, the tokens that may come, and those to begin with.
+/// Compares the parser and the recognisers on all lists that begin with given tokens and have at most some number of
+/// tokens more. Returns the first list on which they differ. A row holds that number, the tokens that may follow, and
+/// those to begin with.
 pub fn difference(alloc: Global, word: &str, row: &str) -> Result<Option<Vec<u8>>, AllocError> {
     let (more, rest) = row.split_once(' ').unwrap_or((row, ""));
     let (alphabet, begin) = rest.split_once(' ').unwrap_or((rest, ""));

@@ -1,11 +1,11 @@
-//! Texts, and the listings of their programs or what is told of them.
+//! Texts, and the listings of their programs or the messages of their faults.
 use moo_grammar::Program;
 use moo_syntax::{Names, parse};
 use moo_unparse::{ListFault, list_full, list_full_indented, list_short};
 use moo_value::MooStr;
 use std::alloc::{AllocError, Global};
 
-/// Puts a line behind the others.
+/// Appends a line.
 pub fn push_line(alloc: Global, lines: &mut Vec<MooStr>, line: &[u8]) -> Result<(), AllocError> {
     let Ok(line) = MooStr::try_from_bytes(alloc, line) else {
         return Err(AllocError);
@@ -14,7 +14,7 @@ pub fn push_line(alloc: Global, lines: &mut Vec<MooStr>, line: &[u8]) -> Result<
     Ok(())
 }
 
-/// Adds a line and its end.
+/// Appends a line and a line feed.
 pub fn add_line(told: &mut Vec<u8>, line: &[u8]) -> Result<(), AllocError> {
     told.extend_from_slice(line)?;
     told.push(b'\n')?;
@@ -35,7 +35,7 @@ fn add_slots(told: &mut Vec<u8>, program: &Program) -> Result<(), AllocError> {
     Ok(())
 }
 
-/// Adds what the word asks for of the text's program, or what a player is told.
+/// Appends what the word requests of the text's program, or the message of the text's fault.
 pub fn add_told(
     alloc: Global,
     word: &str,
@@ -90,7 +90,7 @@ fn add_listing(
     }
 }
 
-// The listings: full, full with indents, short, short with indents.
+// Appends the four listings: full, full with indents, short, short with indents.
 fn add_four(alloc: Global, program: &Program, told: &mut Vec<u8>) -> Result<(), AllocError> {
     add_full(alloc, program, told)?;
     add_line(told, b"-")?;
@@ -101,7 +101,7 @@ fn add_four(alloc: Global, program: &Program, told: &mut Vec<u8>) -> Result<(), 
     add_listing(list_short(alloc, program, true), told)
 }
 
-// The length of the longest line of the full listing, and what comes of the one with indents.
+// Appends the length of the longest line of the full listing, and the listing with indents or its refusal.
 fn add_longest(alloc: Global, program: &Program, told: &mut Vec<u8>) -> Result<(), AllocError> {
     let Ok(lines) = list_full(alloc, program) else {
         return Err(AllocError);

@@ -1,4 +1,4 @@
-//! What the parser makes of texts and lists of tokens: prints each row of its input, and behind it what it comes to.
+//! Prints each row of its input, and after it the parser's answer to the row's text or token lists.
 #![tactic(auto)]
 
 mod exploring;

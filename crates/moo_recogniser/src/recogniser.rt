@@ -1,10 +1,10 @@
-//! A recogniser that follows all derivations at once: for each place of a text the rules that may stand there, how far
-//! each has come, and where it began.
+//! An Earley recogniser, which follows all derivations together: for each place of a text it holds the rules that may
+//! apply there, how much of each is read, and where it began.
 ghost use Rattle.std.specs.Prelude.{◌≡◌, ◌-◌, ◌+◌, ◌≤◌, length, IfOk, OnOk};
 
 use std::alloc::{AllocError, Global};
 
-/// A rule, how far it has come, and the place where it began.
+/// An Earley item: a rule, how much of it is read, and the place where it began.
 #[derive(Clone, Copy, PartialEq, Eq)]
 pub struct Item {
     rule: &'static str,
@@ -13,18 +13,18 @@ pub struct Item {
     start: usize,
 }
 
-/// What has been read, and what may stand behind it: the items at each place.
+/// The tokens read so far, as the sets of items at each place.
 #[derive(Drop)]
 pub struct Recogniser {
     rules: Vec<&'static str>,
     places: Vec<Vec<Item>>,
 }
 
-/// The most items that stand at a place.
+/// The greatest number of items at a place.
 const MOST_ITEMS: usize = 2000;
 
 impl Item {
-    /// What comes next in the rule.
+    /// Returns the next symbol of the rule, or `None` at the rule's end.
     fn symbol(&self) -> Option<u8> {
         let symbol = *self.rule.as_bytes().get(self.next)?;
         if self.inside {
@@ -34,7 +34,7 @@ impl Item {
         }
     }
 
-    /// What the rule is a rule of.
+    /// Returns the symbol that the rule is a rule of.
     fn name(&self) -> Option<u8> {
         let name = *self.rule.as_bytes().get(0)?;
         if self.inside {
@@ -63,7 +63,7 @@ fn add(items: &mut Vec<Item>, item: Item) -> Result<(), AllocError> {
 }
 
 impl Recogniser {
-    /// A recogniser of these rules, at the beginning of a program.
+    /// Makes a recogniser of these rules at the beginning of a program.
     pub fn new(alloc: Global, lists: &[&[&'static str]]) -> Result<Recogniser, AllocError>
         ensures { IfOk result (λ r. length r.places.items ≡ 1) }
     {
@@ -82,7 +82,7 @@ impl Recogniser {
         Ok(recogniser)
     }
 
-    /// Reads a token, behind which is a place more.
+    /// Reads a token and adds the place after it.
     pub fn read(&mut self, alloc: Global, token: u8) -> Result<(), AllocError>
         ensures { OnOk result (length self.new.places.items ≡ length self.old.places.items + 1) }
     {
@@ -99,14 +99,14 @@ impl Recogniser {
         Ok(())
     }
 
-    /// Takes the last token back, and the place behind it.
+    /// Takes back the last token and the place after it.
     pub fn back(&mut self)
         ensures { length self.new.places.items ≡ length self.old.places.items - 1 }
     {
         self.places.pop();
     }
 
-    /// With how many of the tokens a program begins.
+    /// Returns how many of the tokens begin some program.
     pub fn viable(&self) -> usize
         ensures { result ≤ length self.now.places.items - 1 }
     {
@@ -118,7 +118,7 @@ impl Recogniser {
         places.saturating_sub(1)
     }
 
-    /// Whether the tokens are a program.
+    /// Is true if the tokens are a program.
     pub fn accepts(&self) -> bool {
         match self.places.last() {
             Some(items) => items.iter().any(|item| item.symbol() == None
@@ -128,7 +128,7 @@ impl Recogniser {
         }
     }
 
-    /// Puts in what the items of the last place lead to.
+    /// Adds the items that those of the last place lead to.
     fn close(&self, items: &mut Vec<Item>) -> Result<(), AllocError> {
         for at in 0..MOST_ITEMS {
             let Some(item) = items.get(at).copied() else {
@@ -143,7 +143,7 @@ impl Recogniser {
         Ok(())
     }
 
-    /// Puts in the rules of the symbol.
+    /// Adds the rules of the symbol.
     fn predict(&self, symbol: u8, items: &mut Vec<Item>) -> Result<(), AllocError> {
         for rule in &self.rules {
             let name = *rule.as_bytes().get(0).unwrap_or(&0);
@@ -163,7 +163,7 @@ impl Recogniser {
         Ok(())
     }
 
-    /// Puts in the items that waited for what the rule is a rule of.
+    /// Adds the items that waited for the symbol of this complete rule.
     fn complete(&self, item: Item, items: &mut Vec<Item>) -> Result<(), AllocError> {
         if let Some(waiting) = self.places.get(item.start) {
             for other in waiting {

@@ -1,10 +1,11 @@
-//! The rows. A row is a word and a text, in which `~` ends a line, and between `@@` and `@@` stand a number and what stands so often. With
-//! `known` only the names of built-in functions may be called. A row without a word is a remark.
+//! The rows of the input. A row is a word and a text. In the text `~` ends a line, and a number and a piece between
+//! `@@` and `@@` repeat the piece. With `known` only the names of built-in functions may be called. A row without a
+//! word is a remark.
 use crate::exploring::difference;
 use crate::listings::{add_line, add_told};
 use std::alloc::{AllocError, Global};
 
-/// Adds the row and what it comes to.
+/// Appends the row and the answer to it.
 pub fn answer(alloc: Global, row: &str, told: &mut Vec<u8>) -> Result<(), AllocError> {
     add_line(told, row.as_bytes())?;
     let Some((word, rest)) = row.split_once(' ') else {

@@ -1,9 +1,9 @@
-//! The grammar as lists of rules. In a rule the first letter is what it is a rule of, and what stands behind the colon is
-//! its form. A letter in a form is what has rules: a small one stands inside an index. Each rule of a capital letter is one
-//! of the small letter too, with all its letters small. Any other character is a token: `0` an integer, `1` a name, `2` the
-//! keyword `any`, `3` `return`, `4` `..`, `5` `=>`, and a sign stands for itself. No token is `#`.
+//! The grammar as lists of rules. The first letter of a rule is its symbol, and its form follows the colon. A letter in
+//! a form is a symbol that has rules: a lower-case one is inside an index. Each rule of a capital letter is also one of
+//! the lower-case letter, with all its letters in lower case. Any other character is a token: `0` an integer, `1` a
+//! name, `2` the keyword `any`, `3` `return`, `4` `..`, `5` `=>`, and a sign spells itself. `#` is no token.
 
-/// Programs P, expressions E, and their levels down to what suffixes stand behind, X, and what they begin with, B.
+/// Programs P, expressions E, and their levels down to the bases of suffixes, X, and the primary expressions, B.
 pub static COMMON: [&str; 51] = [
     "P:E;",
     "P:E;P",
@@ -58,20 +58,20 @@ pub static COMMON: [&str; 51] = [
     "H:@E",
 ];
 
-/// Calls of functions by a name.
+/// Calls of functions by name.
 pub static CALLS: [&str; 2] = ["B:1()", "B:1(L)"];
 
-/// Expressions Y that end with braces with a `?` piece.
+/// Expressions Y that end in braces with a `?` piece.
 pub static SCATTERS: [&str; 19] = [
     "Y:{D}", "Y:!Y", "Y:-Y", "Y:U^Y", "Y:N*Y", "Y:M+Y", "Y:M-Y", "Y:R<Y", "Y:O&Y", "Y:O?E|Y",
     "D:S", "D:S,T", "D:H,D", "T:H", "T:S", "T:H,T", "T:S,T", "S:?1", "S:?1=E",
 ];
 
-/// Assignments to anything.
+/// Assignments to any expression.
 pub static LOOSE: [&str; 2] = ["E:C=E", "E:Y=E"];
 
-/// Assignments to targets A: without a `?` piece Q, places Z, variables J. What ends with braces with a `?` piece goes on up to
-/// where the `=` has to stand.
+/// Assignments to targets A: without a `?` piece Q, places Z, variables J. An expression that ends in braces with a `?`
+/// piece continues up to the place of the `=`.
 pub static TARGETS: [&str; 30] = [
     "E:Y#", "E:A=E", "A:Q", "A:{F}", "Q:Z", "Q:Z[e4e]", "Q:{V}", "Q:(Q)", "Z:1", "Z:$1", "Z:(Z)",
     "Z:X.1", "Z:X.(E)", "Z:Z[e]", "V:J", "V:J,V", "V:@J", "V:@J,I", "I:J", "I:J,I", "J:1", "J:(J)",

@@ -1,8 +1,8 @@
-//! The rules of statements, in the same manner, over a few expressions. Besides, `6` is `if`, `7` `elseif`, `8` `else`, `9`
-//! `endif`, `%` `in`, `~` `endfor`, `_` `while`, `/` `endwhile`, `"` `break`, `\\` `continue`, `>` `try`, and the characters 1 to
-//! 4 are `except`, `finally`, `endtry` and `for`.
+//! The rules of statements over a few expressions, in the notation of `rules`. Further tokens are `6` `if`, `7`
+//! `elseif`, `8` `else`, `9` `endif`, `%` `in`, `~` `endfor`, `_` `while`, `/` `endwhile`, `"` `break`, `\\`
+//! `continue`, `>` `try`, and the characters 1 to 4, which are `except`, `finally`, `endtry` and `for`.
 
-/// Expressions and errors to be caught, a few of them.
+/// A few expressions and errors in a catch.
 pub static EXPRESSIONS: [&str; 5] = ["E:0", "E:1", "K:2", "K:0", "K:1"];
 
 /// Statements P, with jumps anywhere and to any loop.
@@ -48,7 +48,7 @@ pub static ANYWHERE: [&str; 39] = [
     "Q:\\1;",
 ];
 
-/// Statements P outside loops, A in loops without a name, F in a loop of the name. Each jump has its loop.
+/// Statements P outside loops, A in loops without a name, F in a loop with the name. Each jump has its loop.
 pub static IN_LOOPS: [&str; 111] = [
     "P:Q",
     "P:QP",

@@ -1,4 +1,4 @@
-//! How many brackets are open at once.
+//! The limit on open brackets.
 ghost use Rattle.std.specs.Prelude.{◌≡◌, ◌<◌, ◌≤◌, ◌+◌, length, take, MatchOption};
 ghost use Rattle.moo_program.specs.Limits.{most_brackets};
 ghost use Rattle.moo_grammar.specs.Tokens.{words};
@@ -7,7 +7,7 @@ ghost use Rattle.moo_grammar.specs.Brackets.{open_behind, most_open};
 use moo_program::MOST_BRACKETS;
 use moo_token::{Sign, Spot, Token};
 
-/// How many brackets are open behind the token.
+/// Returns how many brackets are open after the token.
 fn open_behind(opened: u32, token: &Token) -> u32
     requires { opened ≤ most_brackets }
     ensures { result ≡ open_behind opened token.now }
@@ -20,7 +20,7 @@ fn open_behind(opened: u32, token: &Token) -> u32
     }
 }
 
-/// The place of the first bracket that opens where as many as may be are open.
+/// Returns the place of the first bracket that opens when the greatest number of brackets is open already.
 pub fn bracket_too_many(spots: &[Spot]) -> Option<usize>
     ensures { MatchOption result
         (most_open (words spots.now) ≤ most_brackets)

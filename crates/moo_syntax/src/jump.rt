@@ -1,4 +1,4 @@
-//! Jumps out of loops and to their next turns.
+//! The parser of `break` and `continue`.
 ghost use Rattle.std.specs.Prelude.{◌≡◌, ◌∷◌, ℕ, List, true, reverse, Some, IfOk, IfErr, MatchResult};
 ghost use Rattle.moo_token.specs.declared.token.Token.{Token};
 ghost use Rattle.moo_grammar.specs.declared.names.Names.{Names};
@@ -15,7 +15,7 @@ use moo_expression::{Cursor, Fault, below};
 use moo_token::{Keyword, Sign, Token};
 use moo_value::MooStr;
 
-/// Whether one of the loops has the name, in any case.
+/// Is true if one of the loops has the name, in any case.
 fn has_loop(loops: &[Option<MooStr>], name: &MooStr) -> bool
     ensures { result ≡ list_any (is_named name.now) loops.now }
 {
@@ -25,7 +25,7 @@ fn has_loop(loops: &[Option<MooStr>], name: &MooStr) -> bool
     })
 }
 
-/// The name that comes next, if one does, has to be that of a loop.
+/// Refuses a name that comes next with `BadLoopName` if no loop has it.
 fn expect_loop(tokens: &Cursor, loops: &[Option<MooStr>]) -> Result<(), Fault>
     ensures { MatchResult result
         (λ _. (name : List ℕ) (rest : List Token) → left tokens.now ≡ Token.Name name ∷ rest → has_loop (reverse loops.now) (Some name) ≡ true)
@@ -41,8 +41,8 @@ fn expect_loop(tokens: &Cursor, loops: &[Option<MooStr>]) -> Result<(), Fault>
     }
 }
 
-/// A `break` or a `continue`, with the name of its loop if one is named. Outside loops it is refused at the keyword, and
-/// else at a name that none of the loops has.
+/// Parses a `break` or a `continue`. Returns the name of its loop if one is given. Outside loops it is refused at the
+/// keyword; in loops, at a name that none of them has.
 pub fn jump(
     tokens: &mut Cursor,
     keyword: Keyword,
@@ -66,7 +66,7 @@ pub fn jump(
     Ok(name)
 }
 
-/// The same name, or none.
+/// Returns a clone of the name, if there is one.
 pub fn name_copy(name: &Option<MooStr>) -> Result<Option<MooStr>, Fault>
     ensures { MatchResult result (λ copy. copy ≡ name.now) (λ f. f ≡ Memory) }
 {

@@ -1,4 +1,4 @@
-//! What holds of every text and of the fault that it is told.
+//! Laws of the faults that `parse` reports.
 ghost use Rattle.std.specs.Prelude.{◌≢◌, ◌≤◌, ◌<◌, ◌⊎◌, ℕ, List, length};
 ghost use Rattle.moo_program.specs.Tree.{Block};
 ghost use Rattle.moo_program.specs.Limits.{most_nodes};
@@ -9,23 +9,23 @@ ghost use Rattle.moo_syntax.specs.declared.syntax_fault.SyntaxFaultKind.{SyntaxF
 ghost use Rattle.moo_syntax.specs.declared.syntax_fault.SyntaxFaultKind.TheVariants.{TooDeep, Memory};
 ghost use Rattle.moo_syntax.specs.Programs.{Blames, IsTooDeep, HasLongLine, text_length};
 
-/// The text of a program within the limits is told no fault but want of memory.
+/// Proves that the text of a program within the limits has no fault except out of memory.
 pub fn programs_are_not_blamed()
     ensures { (names : Names) (lines : List (List ℕ)) (n : ℕ) (k : SyntaxFaultKind) (b : Block) → Blames names lines n k → k ≢ Memory → IsParsed names lines b → ⊥ }
 {}
 
-/// A text that is told a fault, but for limits and want of memory, is no program.
+/// Proves that a text with a fault, except for limits and out of memory, is no program.
 pub fn blamed_texts_are_no_programs()
     ensures { (names : Names) (lines : List (List ℕ)) (n : ℕ) (k : SyntaxFaultKind) (b : Block) → Blames names lines n k → k ≢ TooDeep → k ≢ Memory → IsProgramOf names lines b → ⊥ }
 {}
 
-/// A fault, but for want of memory, is told on a line of the text, counted from 1.
+/// Proves that a fault, except out of memory, is on a line of the text, counted from 1.
 pub fn told_lines_are_lines()
     ensures { (names : Names) (lines : List (List ℕ)) (n : ℕ) (k : SyntaxFaultKind) → Blames names lines n k → k ≢ Memory → (1 ≤ n) × (n ≤ length lines) }
 {}
 
-/// A text that is too deep has more bytes than a path may have nodes, or it is a program with a line in its full listing that no
-/// string holds.
+/// Proves that a text that is too deep has more bytes than a path may have nodes, or is a program with a line in its
+/// full listing that no string holds.
 pub fn deep_texts_are_long()
     ensures { (names : Names) (lines : List (List ℕ)) (n : ℕ) (f : IsTooDeep names lines n) → (most_nodes < text_length lines) ⊎ HasLongLine names (words f.spots) }
 {}

@@ -1,4 +1,4 @@
-//! The program of a text.
+//! The parser: it makes a program of a text, or reports a fault.
 #![tactic(auto)]
 
 mod brackets;

@@ -1,4 +1,4 @@
-//! The program of a text, or why it is none.
+//! The parser's entry points.
 ghost use Rattle.std.specs.Prelude.{◌≡◌, ◌≤◌, ◌+◌, length, drop, ℕ, List, IfOk, IfErr, MatchOption};
 ghost use Rattle.moo_token.specs.Lexing.{IsReading};
 ghost use Rattle.moo_grammar.specs.Tokens.{words};
@@ -18,7 +18,7 @@ use moo_token::{Known, Sign, Spot, tokens_with};
 use moo_value::MooStr;
 use std::alloc::Global;
 
-/// The program of the text of these lines, or the fault that is met first.
+/// Parses the text of these lines. Returns its program, or the first fault with its line.
 pub fn parse(alloc: Global, lines: &[MooStr], names: Names) -> Result<Program, SyntaxFault>
     ensures program { IfOk result (λ p. IsParsed names lines.now p) }
     ensures fault { IfErr result (λ f. Blames names lines.now f.line f.kind) }
@@ -26,7 +26,7 @@ pub fn parse(alloc: Global, lines: &[MooStr], names: Names) -> Result<Program, S
     parse_with(alloc, &mut Known::new(alloc), lines, names)
 }
 
-/// The same, where names that are known have the strings that they had before.
+/// Parses as `parse` does, with the strings of names from a cache.
 pub fn parse_with(
     alloc: Global,
     known: &mut Known,
@@ -55,14 +55,14 @@ pub fn parse_with(
     }
 }
 
-/// Where the parser stopped, and why.
+/// The place at which the parser stopped, and its fault.
 #[derive(Drop)]
 struct Stop {
     at: usize,
     fault: Fault,
 }
 
-/// The statements of these tokens.
+/// Parses the statements of these tokens.
 fn read(alloc: Global, spots: &[Spot], names: Names) -> Result<Vec<Stmt>, Stop>
     ensures program { IfOk result (λ found. IsWhole names (words spots.now) (block found.items)) }
     ensures stopped { IfErr result (λ s. StopsBy names spots.now s.at s.fault) }
@@ -96,7 +96,7 @@ fn read(alloc: Global, spots: &[Spot], names: Names) -> Result<Vec<Stmt>, Stop>
     Ok(found)
 }
 
-/// What the place where the parser stopped says of the text.
+/// Makes the fault of the text from the place at which the parser stopped.
 fn blame(lines: &[MooStr], spots: &[Spot], stop: Stop, names: Names) -> SyntaxFault
     requires reading { IsReading lines.now spots.now }
     requires stopped { StopsBy names spots.now stop.at stop.fault }
@@ -125,7 +125,7 @@ fn blame(lines: &[MooStr], spots: &[Spot], stop: Stop, names: Names) -> SyntaxFa
     }
 }
 
-/// The fault at a place at which no program goes on.
+/// Makes the fault of a place at which no program continues.
 fn unexpected(lines: &[MooStr], spots: &[Spot], at: usize) -> SyntaxFault
     requires reading { IsReading lines.now spots.now }
     requires stuck { IsStuckAt spots.now at }
@@ -145,7 +145,7 @@ fn unexpected(lines: &[MooStr], spots: &[Spot], at: usize) -> SyntaxFault
     }
 }
 
-/// The fault at a parenthesis behind a name that may not be called.
+/// Makes the fault of a parenthesis after a name that may not be called.
 fn unknown(lines: &[MooStr], spots: &[Spot], at: usize, names: Names) -> SyntaxFault
     requires reading { IsReading lines.now spots.now }
     requires calls { CallsUnknown names spots.now at }
@@ -164,7 +164,7 @@ fn unknown(lines: &[MooStr], spots: &[Spot], at: usize, names: Names) -> SyntaxF
     }
 }
 
-/// The name that a parenthesis at this place calls.
+/// Returns the name that a parenthesis at this place calls, or `None` if it calls none.
 fn called_name(spots: &[Spot], at: usize) -> Result<Option<MooStr>, Fault>
     requires { at ≤ length spots.now }
     ensures { IfOk result (λ found. MatchOption found ((name : List ℕ) → ¬ IsCalled spots.now at name) (λ name. IsCalled spots.now at name)) }
@@ -183,7 +183,7 @@ fn called_name(spots: &[Spot], at: usize) -> Result<Option<MooStr>, Fault>
     }
 }
 
-/// The line of the token at this place, or the last line at the end of the text.
+/// Returns the line of the token at this place, or the last line of the text if no token is left.
 fn line_at(lines: &[MooStr], spots: &[Spot], at: usize) -> usize
     ensures { result ≡ line_of lines.now (drop at spots.now) }
 {

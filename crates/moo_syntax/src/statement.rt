@@ -1,5 +1,5 @@
-//! A parser of statements by recursive descent. The loops round a statement are handed down by their names, the innermost
-//! last; each function leaves them as they were.
+//! The parser of statements, by recursive descent. `loops` holds the names of the loops around a statement, the
+//! innermost last; each function leaves it unchanged.
 ghost use Rattle.std.specs.Prelude.{◌≡◌, ◌<◌, ◌+◌, ◌∷◌, true, false, reverse, IfOk, IfErr, OnOk};
 ghost use Rattle.moo_program.specs.View.{root, block, arms_of, handlers_of, statement as tree_of};
 ghost use Rattle.moo_grammar.specs.Grammar as grammar;
@@ -16,7 +16,7 @@ use moo_token::{Keyword, Sign};
 use moo_value::MooStr;
 use std::alloc::Global;
 
-/// Reads statements up to where none begins, with at most so many nodes on a path.
+/// Parses statements up to a token that begins none. A path of them has at most `room` nodes.
 #[cycle(statements)]
 pub fn statements(
     alloc: Global,
@@ -78,7 +78,7 @@ fn statement(
     performed(alloc, tokens, names, room)
 }
 
-/// An `if`, behind the keyword.
+/// Parses an `if` after its keyword.
 #[cycle(statements)]
 fn branches(
     alloc: Global,
@@ -100,7 +100,7 @@ fn branches(
     Ok(Stmt::If(condition.tree, body, further))
 }
 
-/// What stands behind the first statements of an `if`.
+/// Parses the further arms of an `if` after its first statements.
 #[cycle(statements)]
 fn arms(
     alloc: Global,
@@ -128,7 +128,7 @@ fn arms(
     Ok(found)
 }
 
-/// A `for`, behind the keyword.
+/// Parses a `for` after its keyword.
 #[cycle(statements)]
 fn for_loop(
     alloc: Global,
@@ -158,7 +158,7 @@ fn for_loop(
     Ok(Stmt::ForList(variable, list.tree, body))
 }
 
-/// A `for` over a range, behind the bracket.
+/// Parses a `for` over a range after its bracket.
 #[cycle(statements)]
 fn for_range(
     alloc: Global,
@@ -188,7 +188,7 @@ fn for_range(
     Ok(Stmt::ForRange(variable, low.tree, high.tree, body))
 }
 
-/// A `while`, behind the keyword.
+/// Parses a `while` after its keyword.
 #[cycle(statements)]
 fn while_loop(
     alloc: Global,
@@ -211,7 +211,7 @@ fn while_loop(
     Ok(Stmt::While(name, condition.tree, body))
 }
 
-/// The statements of a loop.
+/// Parses the statements of a loop.
 #[cycle(statements)]
 fn within(
     alloc: Global,
@@ -232,7 +232,7 @@ fn within(
     Ok(body)
 }
 
-/// A `try`, behind the keyword.
+/// Parses a `try` after its keyword.
 #[cycle(statements)]
 fn attempt(
     alloc: Global,
@@ -314,7 +314,7 @@ fn handler(
     }
 }
 
-/// An expression in parentheses.
+/// Parses an expression in parentheses.
 fn in_parens(alloc: Global, tokens: &mut Cursor, names: Names, room: u32) -> Result<Node, Fault>
     ensures moves { Moves tokens.old tokens.new }
     ensures read { IfOk result (λ n. IsRead names grammar.in_parens room tokens.old tokens.new (root n.tree)) }
@@ -330,7 +330,7 @@ fn in_parens(alloc: Global, tokens: &mut Cursor, names: Names, room: u32) -> Res
     Ok(inner)
 }
 
-/// A `return`, behind the keyword.
+/// Parses a `return` after its keyword.
 fn returned(alloc: Global, tokens: &mut Cursor, names: Names, room: u32) -> Result<Stmt, Fault>
     ensures moves { Moves tokens.old tokens.new }
     ensures read { IfOk result (λ s. IsReadBy names stmt (λ g. choices.behind_return) room 1 tokens.old tokens.new (tree_of s)) }
@@ -349,8 +349,7 @@ fn returned(alloc: Global, tokens: &mut Cursor, names: Names, room: u32) -> Resu
     Ok(Stmt::Return(Some(value.tree)))
 }
 
-/// An expression as a statement. Its own node is counted once the semicolon is there, so that more tokens are read than
-/// there is room.
+/// Parses an expression as a statement. The limit counts the statement's own node only after the semicolon is read.
 fn performed(alloc: Global, tokens: &mut Cursor, names: Names, room: u32) -> Result<Stmt, Fault>
     ensures moves { Moves tokens.old tokens.new }
     ensures read { IfOk result (λ s. IsReadBy names stmt (λ g. performing) room 0 tokens.old tokens.new (tree_of s)) }

@@ -1,4 +1,4 @@
-//! Why a text is no program.
+//! The faults of texts that are no programs.
 ghost use Rattle.std.specs.Prelude.{◌≡◌, ◌++◌, codes, IfOk, OnOk};
 ghost use Rattle.moo_syntax.specs.FaultText.{kind_text, fault_text};
 
@@ -6,26 +6,26 @@ use itoa::Buffer;
 use moo_value::MooStr;
 use std::alloc::{AllocError, Global};
 
-/// What is wrong with a text.
+/// The kinds of faults.
 #[derive(Drop)]
 pub enum SyntaxFaultKind {
-    /// No token stands there, or a comment begins there that is never closed.
+    /// No token begins here, or a comment begins here that is never closed.
     BadToken,
-    /// No program goes on so.
+    /// No program continues with this token.
     Unexpected,
-    /// What stands before the `=` can't be assigned to.
+    /// The expression before the `=` can't be assigned to.
     BadTarget,
-    /// A `break` or a `continue` has no loop round it, or none of the name.
+    /// A `break` or a `continue` is in no loop, or in none that has its name.
     BadLoopName,
     /// No built-in function has this name.
     UnknownFunction(MooStr),
-    /// More nodes on a path, more open brackets or a longer line in the full listing than a program may have.
+    /// A path has too many nodes, too many brackets are open, or a line of the full listing is too long.
     TooDeep,
-    /// There was no memory for the program.
+    /// Out of memory.
     Memory,
 }
 
-/// Why a text is no program, and on which of its lines, counted from 1. The end of the text is on its last line.
+/// The fault of a text, and its line, counted from 1. A fault at the end of the text is on its last line.
 #[derive(Drop)]
 pub struct SyntaxFault {
     pub line: usize,
@@ -33,7 +33,7 @@ pub struct SyntaxFault {
 }
 
 impl SyntaxFault {
-    /// The line that a player is told.
+    /// Returns the message that a player sees.
     pub fn text(&self, alloc: Global) -> Result<Vec<u8>, AllocError>
         ensures { IfOk result (λ text. text.items ≡ fault_text self.now) }
     {

@@ -43,7 +43,7 @@ pub enum Sign {
 impl Sign {
     ghost use Rattle.moo_token.specs.Spelling.{sign_text};
 
-    /// How the sign is written.
+    /// Returns the sign's spelling.
     pub fn text(self) -> &'static str
         ensures { result.now ≡ sign_text self }
     {
@@ -136,7 +136,7 @@ fn sign_of_one(a: u8) -> Option<Sign>
     }
 }
 
-/// The longest sign at the front, and its length.
+/// Returns the longest sign that the bytes begin with, and its length, or `None` if they begin with no sign.
 #[tactic(auto, unfolding(crate::specs::Signs::sign_at))]
 pub fn sign_at(bytes: &[u8]) -> Option<(Sign, usize)>
     ensures is { result ≡ sign_at bytes.now }

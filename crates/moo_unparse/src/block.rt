@@ -12,7 +12,7 @@ use moo_program::{Arm, Handler, Stmt};
 use moo_token::Keyword;
 use std::alloc::{AllocError, Global};
 
-// What stands before lines within a statement that has this margin.
+// Returns the margin of the lines within a statement that has this margin.
 fn deeper(alloc: Global, form: Form, margin: &Line) -> Result<Line, AllocError>
     ensures { IfOk result (λ line. line ≡ deeper form margin.now) }
 {
@@ -23,7 +23,7 @@ fn deeper(alloc: Global, form: Form, margin: &Line) -> Result<Line, AllocError>
     Ok(line)
 }
 
-/// The lines of statements, each behind the margin.
+/// Writes the lines of statements, each after the margin.
 #[cycle(lines)]
 pub(crate) fn write_block(
     alloc: Global,
@@ -78,7 +78,7 @@ fn write_below(
     }
 }
 
-// Statements within another, with two more blanks before their lines where the form indents.
+// Writes statements within another, with two more blanks before their lines if the form indents.
 #[cycle(lines)]
 fn write_within(
     alloc: Global,
@@ -93,7 +93,7 @@ fn write_within(
     write_block(alloc, form, &deeper, statements, lines)
 }
 
-// Statements, and behind them the line of a keyword.
+// Writes statements, and after them the line of a keyword.
 #[cycle(lines)]
 fn write_body(
     alloc: Global,

@@ -1,4 +1,4 @@
-//! Expressions.
+//! The text of expressions.
 ghost use Rattle.std.specs.Prelude.{◌≡◌, ◌++◌, codes, OnOk};
 ghost use Rattle.moo_token.specs.Spelling.{sign_text};
 ghost use Rattle.moo_program.specs.Tree.{binary, logic, conditional, index, range, list, verb_call, call, assign, catch, catch_or};
@@ -76,7 +76,7 @@ pub(crate) fn write_expression(
     }
 }
 
-// An expression, in parentheses or bare.
+// Writes an expression, in parentheses if they are needed.
 #[cycle(listing)]
 fn write_in_parentheses(
     parentheses: Parentheses,
@@ -207,7 +207,7 @@ fn write_list(parentheses: Parentheses, items: &[Item], line: &mut Line) -> Resu
     line.sign(Sign::RightBrace)
 }
 
-// A property or a verb of the base, behind this sign.
+// Writes a property or a verb of the base, after this sign.
 #[cycle(listing)]
 fn write_selected(
     parentheses: Parentheses,
@@ -321,7 +321,7 @@ fn write_catch_or(
     line.sign(Sign::Quote)
 }
 
-// A catch up to the errors that it names.
+// Writes a catch up to the errors that it names.
 #[cycle(listing)]
 fn write_caught(
     parentheses: Parentheses,

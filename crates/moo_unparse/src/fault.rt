@@ -1,10 +1,10 @@
-//! Why a listing is refused.
+//! The errors of listings.
 ghost use Rattle.std.specs.Prelude.{◌≡◌};
 
 use std::alloc::AllocError;
 use thiserror::Error;
 
-/// There was no memory for the answer.
+/// Out of memory.
 #[derive(Debug, Drop, Error)]
 #[error("out of memory")]
 pub struct Memory;
@@ -21,7 +21,7 @@ pub enum ListFault {
     /// A line is too long for a string.
     #[error("line too long")]
     TooHeavy,
-    /// There was no memory for the answer.
+    /// Out of memory.
     #[error("out of memory")]
     Memory,
 }

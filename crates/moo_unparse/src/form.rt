@@ -7,24 +7,24 @@ use moo_program::Expr;
 use moo_program::operator::BinaryOperator;
 use moo_program::shape::is_compound;
 
-/// Which operands stand in parentheses.
+/// Which operands are put in parentheses.
 #[derive(Clone, Copy)]
 pub(crate) enum Parentheses {
-    /// Every operator, conditional and assignment.
+    /// Each operator, conditional and assignment.
     All,
-    /// Those that the grammar doesn't have bare at their place.
+    /// Those that the grammar requires.
     Needed,
 }
 
-/// How a program is listed.
+/// The form of a listing.
 #[derive(Clone, Copy)]
 pub(crate) struct Form {
     pub(crate) parentheses: Parentheses,
-    /// Whether two blanks stand before a line for each statement round it.
+    /// Whether a line is indented by two blanks for each statement around it.
     pub(crate) indent: bool,
 }
 
-/// The parts of the grammar of expressions, the loosest first.
+/// The precedence levels of expressions, the loosest first.
 #[derive(Clone, Copy)]
 pub(crate) enum Part {
     Assignment,
@@ -41,12 +41,12 @@ pub(crate) enum Part {
     Power,
     /// `!` and `-` before an operand
     Sign,
-    /// What is no operator, conditional or assignment.
+    /// Neither an operator, a conditional nor an assignment.
     Plain,
 }
 
 impl Part {
-    /// How tightly it binds.
+    /// Returns how tightly the part binds.
     fn rank(self) -> u8
         ensures { result ≡ rank self }
     {
@@ -63,7 +63,7 @@ impl Part {
         }
     }
 
-    /// The loosest part that stands bare to the left of an operator of this part.
+    /// Returns the loosest part that needs no parentheses to the left of an operator of this part.
     pub(crate) fn left(self) -> Part
         ensures { result ≡ left_of self }
     {
@@ -73,7 +73,7 @@ impl Part {
         }
     }
 
-    /// The same to the right.
+    /// Returns the loosest part that needs no parentheses to the right of an operator of this part.
     pub(crate) fn right(self) -> Part
         ensures { result ≡ right_of self }
     {
@@ -120,7 +120,7 @@ fn part_of(value: &Expr) -> Part
 }
 
 impl Parentheses {
-    /// Whether the operand needs parentheses where parts from this one on stand bare.
+    /// Is true if the operand is put in parentheses at a place where `least` is the loosest part without them.
     pub(crate) fn needs(self, least: Part, operand: &Expr) -> bool
         ensures { result ≡ needs self least (tree operand.now) }
     {

@@ -13,7 +13,7 @@ use moo_token::{Keyword, Sign};
 use moo_value::MooStr;
 use std::alloc::{AllocError, Global};
 
-/// The line of a keyword by itself.
+/// Returns the line of a keyword alone.
 pub(crate) fn keyword_line(
     alloc: Global,
     margin: &Line,
@@ -116,7 +116,7 @@ fn write_label(label: &Option<MooStr>, line: &mut Line) -> Result<(), AllocError
     line.text(name.as_bytes())
 }
 
-// `for x in`
+// Writes `for x in`.
 fn write_for(name: &Name, line: &mut Line) -> Result<(), AllocError>
     ensures { OnOk result (line.new ≡ line.old ++ codes "for " ++ name.now ++ codes " in") }
 {
@@ -152,7 +152,7 @@ fn write_return(parentheses: Parentheses, value: &Expr, line: &mut Line) -> Resu
     line.sign(Sign::Semicolon)
 }
 
-// A keyword with a label and a semicolon.
+// Writes a keyword with a label and a semicolon.
 fn write_jump(keyword: Keyword, label: &Option<MooStr>, line: &mut Line) -> Result<(), AllocError>
     ensures { OnOk result (line.new ≡ line.old ++ keyword_text keyword ++ labelled label.now ++ codes ";") }
 {

@@ -1,4 +1,4 @@
-//! Listings of programs.
+//! The listings of programs.
 #![tactic(auto)]
 
 mod block;

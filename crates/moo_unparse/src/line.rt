@@ -1,4 +1,4 @@
-//! A line that is being written.
+//! A line of a listing while it is written.
 ghost use Rattle.std.specs.Prelude.{◌≡◌, ◌<◌, ◌∷◌, ◌++◌, [], codes, IfOk, IfErr, OnOk};
 ghost use Rattle.std.specs.Fmt.{signed_decimal};
 ghost use Rattle.moo_value.specs.Tree.{IsTextByte, IsText};
@@ -15,10 +15,10 @@ use moo_value::{MooStr, ValueFault, write_quoted};
 use std::alloc::{AllocError, Global};
 use std::marker::Model;
 
-/// For how many bytes a line has room at first.
+/// The initial capacity of a line after its margin, in bytes.
 const ROOM: usize = 120;
 
-/// The bytes of a line so far, all of which may stand in a string.
+/// The bytes of a line so far, all of which a string may hold.
 #[derive(Drop)]
 pub(crate) struct Line {
     bytes: Vec<u8>,
@@ -51,7 +51,7 @@ impl Line {
         Ok(Line { bytes })
     }
 
-    /// A line that begins as this one, with room for as much as most lines have.
+    /// Returns a line that begins with the bytes of this one, with capacity for most lines.
     pub(crate) fn begin(&self, alloc: Global) -> Result<Line, AllocError>
         ensures { IfOk result (λ line. line ≡ self.now) }
     {
@@ -79,7 +79,7 @@ impl Line {
         self.text(keyword.text().as_bytes())
     }
 
-    /// `ANY`, which stands for every error.
+    /// Writes `ANY`, which catches every error.
     pub(crate) fn any(&mut self) -> Result<(), AllocError>
         ensures { OnOk result (self.new ≡ self.old ++ codes "ANY") }
     {
@@ -92,7 +92,7 @@ impl Line {
         self.byte(b' ')
     }
 
-    /// A sign with a blank on each side.
+    /// Writes a sign with a blank on each side.
     pub(crate) fn spaced_sign(&mut self, sign: Sign) -> Result<(), AllocError>
         ensures { OnOk result (self.new ≡ self.old ++ codes " " ++ sign_text sign ++ codes " ") }
     {
@@ -108,7 +108,7 @@ impl Line {
         self.text(buffer.format(number).as_bytes())
     }
 
-    /// An object's number behind `#`.
+    /// Writes `#` and an object's number.
     pub(crate) fn object(&mut self, number: i32) -> Result<(), AllocError>
         ensures { OnOk result (self.new ≡ self.old ++ codes "#" ++ signed_decimal number) }
     {
@@ -116,7 +116,7 @@ impl Line {
         self.number(number)
     }
 
-    /// A string between double quotes, with a backslash before each double quote and backslash in it.
+    /// Writes a string between double quotes, with a backslash before each double quote and backslash in it.
     pub(crate) fn quoted(&mut self, string: &[u8]) -> Result<(), AllocError>
         requires { IsText string.now }
         ensures { OnOk result (self.new ≡ self.old ++ quoted string.now) }
@@ -132,7 +132,7 @@ impl Line {
         Ok(())
     }
 
-    /// Appends the line and its end.
+    /// Appends the line and a line feed to `out`.
     pub(crate) fn put(&self, out: &mut Vec<u8>) -> Result<(), AllocError>
         ensures text { IsText self.now }
         ensures line { OnOk result (out.new.items ≡ out.old.items ++ (self.now ++ 10 ∷ [])) }
@@ -142,7 +142,7 @@ impl Line {
         Ok(())
     }
 
-    /// The line as a string, if it is short enough for one.
+    /// Returns the line as a string. Refuses a line that is too long for one with `TooHeavy`.
     pub(crate) fn into_string(self, alloc: Global) -> Result<MooStr, ListFault>
         ensures ok { IfOk result (λ s. s ≡ self) }
         ensures short { OnOk result (FitsLine self) }

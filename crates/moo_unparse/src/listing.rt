@@ -1,4 +1,4 @@
-//! Programs.
+//! The listings of programs.
 ghost use Rattle.std.specs.Prelude.{◌≡◌, ◌++◌, ◌∷◌, [], IfOk, IfErr, OnOk};
 ghost use Rattle.std.specs.List.{All, flat_map};
 ghost use Rattle.moo_value.specs.Size.{IsString};
@@ -17,8 +17,8 @@ use moo_program::Stmt;
 use moo_value::MooStr;
 use std::alloc::{AllocError, Global};
 
-/// The full listing of a program: its lines, with each operand that is an operator or a conditional in
-/// parentheses. Without memory it is refused, and for no other reason.
+/// Returns the full listing of a program: its lines, with each operand that is an operator or a conditional in
+/// parentheses. It fails only out of memory.
 pub fn list_full(alloc: Global, program: &Program) -> Result<Vec<MooStr>, Memory>
     ensures { IfOk result (λ lines. lines.items ≡ listing program.now) }
 {
@@ -33,7 +33,7 @@ pub fn list_full(alloc: Global, program: &Program) -> Result<Vec<MooStr>, Memory
     }
 }
 
-/// Appends the full listing of a program, each line with its end.
+/// Appends the full listing of a program, each line with a line feed.
 pub fn write_full(alloc: Global, program: &Program, out: &mut Vec<u8>) -> Result<(), AllocError>
     ensures lines { OnOk result (out.new.items ≡ out.old.items ++ flat_map (λ line. line ++ 10 ∷ []) (listing program.now)) }
     // Each of the lines is a string.
@@ -57,8 +57,8 @@ fn put_lines(lines: &[Line], out: &mut Vec<u8>) -> Result<(), AllocError>
     Ok(())
 }
 
-/// The full listing of a program with two blanks before a line for each statement round it. It is refused where a line is
-/// too long for a string, and without memory.
+/// Returns the full listing of a program, indented by two blanks for each statement around a line. Refuses a line that
+/// is too long for a string with `TooHeavy`.
 pub fn list_full_indented(alloc: Global, program: &Program) -> Result<Vec<MooStr>, ListFault>
     ensures ok { IfOk result (λ lines. lines.items ≡ indented_listing program.now) }
     ensures refused { IfErr result (λ fault. IsRefusedListing fault (indented_listing program.now)) }
@@ -70,8 +70,8 @@ pub fn list_full_indented(alloc: Global, program: &Program) -> Result<Vec<MooStr
     list_in(alloc, form, program.statements())
 }
 
-/// The short listing of a program, with the parentheses alone that the grammar needs, and with those blanks or without
-/// them. It is refused where a line is too long for a string, and without memory.
+/// Returns the short listing of a program, with only the parentheses that the grammar requires, and indented if
+/// `indent` is true. Refuses a line that is too long for a string with `TooHeavy`.
 pub fn list_short(alloc: Global, program: &Program, indent: bool) -> Result<Vec<MooStr>, ListFault>
     ensures ok { IfOk result (λ lines. lines.items ≡ short_listing indent program.now) }
     ensures refused { IfErr result (λ fault. IsRefusedListing fault (short_listing indent program.now)) }

@@ -1,4 +1,4 @@
-//! Literals.
+//! The text of literals.
 ghost use Rattle.std.specs.Prelude.{◌≡◌, ◌++◌, OnOk};
 ghost use Rattle.moo_value.specs.Text.{literal as text_of};
 ghost use Rattle.moo_program.specs.Tree.{literal_value};

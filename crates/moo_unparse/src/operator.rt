@@ -1,4 +1,4 @@
-//! Operators.
+//! The text of operators.
 ghost use Rattle.std.specs.Prelude.{◌≡◌, ◌++◌, OnOk};
 ghost use Rattle.moo_token.specs.Spelling.{sign_text};
 ghost use Rattle.moo_program.specs.Listing.{unary_sign, binary_sign, logic_sign};

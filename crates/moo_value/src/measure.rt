@@ -15,7 +15,7 @@ pub(crate) struct Measure {
     pub(crate) depth: u32,
 }
 
-// `None` where the list of these values is too heavy or too deep.
+// Measures the list of these values. Returns `None` if it is too heavy or too deep.
 pub(crate) fn measured(elements: &[Value]) -> Option<Measure>
     ensures some { IfSome result (λ m. IsMeasuredList m.weight m.depth (trees elements.now)) }
     ensures none { IfNone result (¬ IsWithinLimits (list_of (trees elements.now))) }
@@ -34,7 +34,7 @@ pub(crate) fn measured(elements: &[Value]) -> Option<Measure>
     Some(Measure { weight, depth })
 }
 
-// How deep the list of these values is.
+// Returns the depth of the list of these values.
 pub(crate) fn list_depth(elements: &[Value]) -> u32
     ensures depth { result ≡ list_depth (trees elements.now) }
     ensures limit { result ≤ 1 + depth_limit }
@@ -46,7 +46,7 @@ pub(crate) fn list_depth(elements: &[Value]) -> u32
     depth
 }
 
-// `None` where the list of these values in a row is too heavy. It is never too deep.
+// Measures the list of these values in a row. Returns `None` if it is too heavy; it is never too deep.
 pub(crate) fn measured_in_a_row(
     front: &[Value],
     middle: &[Value],
@@ -68,7 +68,7 @@ pub(crate) fn measured_in_a_row(
     Some(Measure { weight, depth })
 }
 
-// What the list of these values weighs.
+// Returns the weight of the list of these values.
 fn list_weight(elements: &[Value]) -> u32
     requires { IsStored (list_of (trees elements.now)) }
     ensures weight { result ≡ list_weight (trees elements.now) }

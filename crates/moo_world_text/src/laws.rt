@@ -1,22 +1,22 @@
-//! What is written is read back.
+//! Laws: the texts of permissions and specifiers parse back to them.
 ghost use Rattle.moo_world_text.specs.Laws.{PropPermsAreReadBack, VerbPermsAreReadBack, ObjectSpecifiersAreReadBack, PrepositionSpecifiersAreReadBack};
 
-/// The letters of a property's permissions give these permissions.
+/// Proves that the letters of a property's permissions parse back to these permissions.
 pub fn prop_perms_are_read_back()
     ensures { PropPermsAreReadBack }
 {}
 
-/// The letters of a verb's permissions give these permissions.
+/// Proves that the letters of a verb's permissions parse back to these permissions.
 pub fn verb_perms_are_read_back()
     ensures { VerbPermsAreReadBack }
 {}
 
-/// The text of an object's specifier names it.
+/// Proves that the text of an object specifier parses back to it.
 pub fn object_specifiers_are_read_back()
     ensures { ObjectSpecifiersAreReadBack }
 {}
 
-/// The text of a preposition's specifier names it.
+/// Proves that the text of a preposition specifier parses back to it.
 pub fn preposition_specifiers_are_read_back()
     ensures { PrepositionSpecifiersAreReadBack }
 {}

@@ -1,5 +1,5 @@
-//! How the permissions of properties and verbs, and the specifiers of verbs, are written and read.
-//! A room behind `moo_builtin`.
+//! The texts of permissions of properties and verbs, and of the argument specifiers of verbs.
+//! An internal crate of `moo_builtin`.
 #![tactic(auto)]
 
 pub mod laws;

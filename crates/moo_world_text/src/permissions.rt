@@ -1,4 +1,4 @@
-//! Permissions as letters: those that are given, in one order.
+//! Permissions as letters: one for each that is granted, in a fixed order.
 ghost use Rattle.std.specs.Prelude.{◌≡◌, IfOk};
 ghost use Rattle.std.specs.List.{list_any};
 ghost use Rattle.std.specs.Char.{to_ascii_lowercase};
@@ -8,7 +8,7 @@ use moo_object::{PropPerms, VerbPerms};
 use moo_value::MooStr;
 use std::alloc::{AllocError, Global};
 
-/// The letters of a property's permissions, of `rwc`.
+/// Returns the letters of a property's permissions, out of `rwc`.
 pub fn prop_perms_text(alloc: Global, perms: PropPerms) -> Result<MooStr, AllocError>
     ensures { IfOk result (λ s. s ≡ prop_perms_text perms) }
 {
@@ -21,7 +21,7 @@ pub fn prop_perms_text(alloc: Global, perms: PropPerms) -> Result<MooStr, AllocE
     MooStr::try_from_vec(alloc, letters).map_err(|_| AllocError)
 }
 
-/// The letters of a verb's permissions, of `rwxd`.
+/// Returns the letters of a verb's permissions, out of `rwxd`.
 pub fn verb_perms_text(alloc: Global, perms: VerbPerms) -> Result<MooStr, AllocError>
     ensures { IfOk result (λ s. s ≡ verb_perms_text perms) }
 {
@@ -45,8 +45,8 @@ fn marked(alloc: Global, marks: &[(bool, u8)]) -> Result<Vec<u8>, AllocError>
         .collect(alloc)
 }
 
-/// The permissions of a property that a text gives by letters of `rwc`, in any case and order, or `None` where it has
-/// another byte.
+/// Parses the permissions of a property: letters out of `rwc`, in any case and order. Returns `None` if the text has
+/// any other byte.
 pub fn prop_perms_from_text(text: &[u8]) -> Option<PropPerms>
     ensures { result ≡ prop_perms_of text.now }
 {
@@ -60,8 +60,8 @@ pub fn prop_perms_from_text(text: &[u8]) -> Option<PropPerms>
     })
 }
 
-/// The permissions of a verb that a text gives by letters of `rwxd`, in any case and order, or `None` where it has
-/// another byte.
+/// Parses the permissions of a verb: letters out of `rwxd`, in any case and order. Returns `None` if the text has any
+/// other byte.
 pub fn verb_perms_from_text(text: &[u8]) -> Option<VerbPerms>
     ensures { result ≡ verb_perms_of text.now }
 {

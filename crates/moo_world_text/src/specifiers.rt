@@ -1,4 +1,4 @@
-//! Specifiers of objects and of prepositions.
+//! The texts of object and preposition specifiers.
 ghost use Rattle.std.specs.Prelude.{◌≡◌, ◌||◌};
 ghost use Rattle.std.specs.List.{list_any, find, slice_split};
 ghost use Rattle.moo_world_text.specs.Specifiers.{same_text, object_specifier_text, object_specifier_of, is_slash, preposition_text, has_form, is_text_of, preposition_of, preposition_specifier_text, preposition_specifier_of};
@@ -29,7 +29,7 @@ const PREPOSITIONS: [Preposition; 15] = [
     Preposition::Off,
 ];
 
-/// `none`, `any` or `this`.
+/// Returns `none`, `any` or `this`.
 pub fn object_specifier_text(specifier: ObjectSpecifier) -> &'static [u8]
     ensures { result.now ≡ object_specifier_text specifier }
 {
@@ -40,7 +40,7 @@ pub fn object_specifier_text(specifier: ObjectSpecifier) -> &'static [u8]
     }
 }
 
-/// The specifier of an object that a text names, whatever the case of its letters.
+/// Parses an object specifier, in any case. Returns `None` if the text is none of them.
 pub fn object_specifier_from_text(text: &[u8]) -> Option<ObjectSpecifier>
     ensures { result ≡ object_specifier_of text.now }
 {
@@ -62,7 +62,7 @@ fn is_text_of_specifier(text: &[u8], specifier: ObjectSpecifier) -> bool
     same_name(text, object_specifier_text(specifier))
 }
 
-/// The forms of a preposition, with a slash between two.
+/// Returns the forms of a preposition, with slashes between them.
 pub fn preposition_text(preposition: Preposition) -> &'static [u8]
     ensures { result.now ≡ preposition_text preposition }
 {
@@ -85,8 +85,8 @@ pub fn preposition_text(preposition: Preposition) -> &'static [u8]
     }
 }
 
-/// The preposition that a text names by one of its forms, or by all of them with slashes between, whatever the case of
-/// letters.
+/// Parses a preposition: one of its forms, or all of them with slashes between, in any case. Returns `None` if the text
+/// is none of these.
 pub fn preposition_from_text(text: &[u8]) -> Option<Preposition>
     ensures { result ≡ preposition_of text.now }
 {
@@ -129,7 +129,7 @@ fn is_slash(byte: u8) -> bool
     byte == b'/'
 }
 
-/// `none`, `any`, or the forms of the preposition.
+/// Returns `none`, `any`, or the forms of the preposition.
 pub fn preposition_specifier_text(specifier: PrepositionSpecifier) -> &'static [u8]
     ensures { result.now ≡ preposition_specifier_text specifier }
 {
@@ -140,7 +140,8 @@ pub fn preposition_specifier_text(specifier: PrepositionSpecifier) -> &'static [
     }
 }
 
-/// The specifier of a preposition that a text names: `none`, `any`, one form or all of them.
+/// Parses a preposition specifier: `none`, `any`, or a preposition in one form or all of them. Returns `None` if the
+/// text is none of these.
 pub fn preposition_specifier_from_text(text: &[u8]) -> Option<PrepositionSpecifier>
     ensures { result ≡ preposition_specifier_of text.now }
 {

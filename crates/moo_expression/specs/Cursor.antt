@@ -1,4 +1,4 @@
--- What a cursor has still to read, and what a step of it does.
+-- The tokens that a cursor has still to read, and the effects of its steps.
 use Rattle.std.specs.Prelude.{ℕ, List, ◌∷◌, ◌≡◌, ◌+◌, Bool, true, false, drop, Some}
 use Rattle.moo_token.specs.declared.sign.Sign.TheVariants.{Minus}
 use Rattle.moo_token.specs.declared.token.Token.{Token}
@@ -25,7 +25,7 @@ pub record Stays (f : Token → Bool) (old new : Cursor) : Type 0 where
   pub at : new.at ≡ old.at
   pub spots : new.spots.now ≡ old.spots.now
 
--- the same, where such a token may stand; where none may, nothing was taken
+-- if such a token is allowed, none that passes the test came next; and nothing was taken
 pub record StaysUnless (may_stand : Bool) (f : Token → Bool) (old new : Cursor) : Type 0 where
   pub other : may_stand ≡ true → next_passes f (left old) ≡ false
   pub rest : left new ≡ left old

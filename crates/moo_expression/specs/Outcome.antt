@@ -1,4 +1,4 @@
--- What a function of the parser says of its outcome.
+-- The outcomes of the parser's functions.
 use Rattle.std.specs.Prelude.{ℕ, List, ◌≡◌, ◌≤◌, ◌<◌, ◌+◌, Bool, true, false, max}
 use Rattle.moo_token.specs.declared.token.Token.{Token}
 use Rattle.moo_token.specs.declared.sign.Sign.TheVariants.{Assign, LeftParen, RightParen}
@@ -28,12 +28,12 @@ pub record Moves (old new : Cursor) : Type 0 where
   pub at : old.at ≤ new.at
   pub spots : new.spots.now ≡ old.spots.now
 
--- the grammars by which the reading came to its end with this tree: all that admit what is strictly a program
+-- the reading gave this tree under each grammar that admits all programs of the strict one
 abbrev pub ReadsBy : Names → (s : Sort) → (Rules → Reading s) → List Token → Of s → List Token → Type 0
 ReadsBy names s p ts e r = (g : Rules) → Admits g (strict names) → Reads (grammar g) s (p g) ts e r
 
--- The reading came to its end with this tree, which fits the room. It has no more nodes on a path than tokens were read,
--- and those that stood before them.
+-- The reading gave this tree, which fits the room. A path of it has at most as many nodes as tokens were read, and the
+-- tokens before them.
 pub record IsReadBy (names : Names) (s : Sort) (p : Rules → Reading s) (room before : ℕ) (old new : Cursor) (e : Of s) : Type 0 where
   pub reads : ReadsBy names s p (left old) e (left new)
   pub fits : size s e ≤ room
@@ -43,7 +43,7 @@ pub record IsReadBy (names : Names) (s : Sort) (p : Rules → Reading s) (room b
 abbrev pub IsRead : Names → (k : Kind) → ℕ → Cursor → Cursor → Of (sort k) → Type 0
 IsRead names k room old new e = IsReadBy names (sort k) (λ g. grammar g k) room 0 old new e
 
--- the rules that the fault is told by: no tokens that begin so are a program by them
+-- the rules under which the fault is reported: no tokens that begin with these are a program under them
 abbrev pub ToldBy : Fault → Names → Rules → Type 0
 ToldBy Unexpected names g = Admits g (strict names)
 ToldBy BadTarget names g = Admits g (strict names) × (g.targets ≡ true)
@@ -52,7 +52,7 @@ ToldBy BadLoopName names g = Admits g (strict names) × (g.loops ≡ true)
 ToldBy TooDeep names g = ⊥
 ToldBy Memory names g = ⊥
 
--- why a reading gives up that is told by the fault
+-- why a reading stops that reports the fault
 abbrev pub why : Fault → Why
 why Unexpected = by_form
 why BadTarget = by_rule
@@ -61,7 +61,7 @@ why BadLoopName = by_rule
 why TooDeep = by_form
 why Memory = by_form
 
--- what stands where the fault is told
+-- the token at which the fault is reported
 abbrev pub Stands : Fault → Names → Cursor → Type 0
 Stands Unexpected names c = Unit {0}
 Stands BadTarget names c = next_passes (is_sign Assign) (left c) ≡ true
@@ -70,8 +70,8 @@ Stands BadLoopName names c = IsJump c.spots.now c.at
 Stands TooDeep names c = Unit {0}
 Stands Memory names c = Unit {0}
 
--- The reading gives up where the cursor is left, and then does so on all tokens that agree with these up to there; or the tokens that were
--- taken make it certain that the tree is too high. The flag says whether one was taken then.
+-- The reading stops at the cursor, and does so on all tokens that agree with these up to there; or the tokens that were
+-- taken make it certain that the tree is too high. The flag is true if one was taken in that case.
 pub record HasFailedBy (names : Names) (taken : Bool) (s : Sort) (p : Rules → Reading s) (room before : ℕ) (old new : Cursor) (f : Fault) : Type 0 where
   pub fails : (g : Rules) → ToldBy f names g → Fails (grammar g) (why f) s (p g) (left old) (left new)
   pub stands : Stands f names new
@@ -86,7 +86,7 @@ HasFailed names k room old new f = HasFailedBy names true (sort k) (λ g. gramma
 abbrev pub IsBehind : Token → Cursor → Type 0
 IsBehind x new = (old : Cursor) × Takes x old new
 
--- a phrase of kind k at ts is one of kind j at us, with f made of its tree
+-- if a phrase of kind j begins at us, one of kind k begins at ts, with f applied to its tree
 pub record GoesOn (names : Names) (k j : Kind) (f : Of (sort j) → Of (sort k)) (ts us : List Token) : Type 0 where
   pub reads : (g : Rules) → Admits g (strict names) → (e : Of (sort j)) (r : List Token) → Reads (grammar g) (sort j) (grammar g j) us e r → Reads (grammar g) (sort k) (grammar g k) ts (f e) r
   pub fails : (g : Rules) → Admits g (strict names) → (r : List Token) {w : Why} → Fails (grammar g) w (sort j) (grammar g j) us r → Fails (grammar g) w (sort k) (grammar g k) ts r
@@ -98,21 +98,21 @@ pub record LeadsTo (names : Names) (s : Sort) (p q : Rules → Reading s) (ts us
   pub fails : (g : Rules) → Admits g (strict names) → (r : List Token) {w : Why} → Fails (grammar g) w s (q g) us r → Fails (grammar g) w s (p g) ts r
   pub deep : (g : Rules) → Admits g (strict names) → (n : ℕ) (r : List Token) → Deepens g true s n (q g) us r → Deepens g true s n (p g) ts r
 
--- the name of a property or a verb, and what goes on behind it
+-- the name of a property or a verb, and the reading after it
 abbrev pub member_name : Bool → (Expr → Reading Sort.expr) → Reading Sort.expr
 member_name i k = if_name (λ s. k (text s)) (expect LeftParen (phrase (expression i) λ b. expect RightParen (k b)))
 
--- for private clauses: what goes on behind the sign of a power
+-- for private clauses: the reading after the sign of a power
 abbrev pub raising : Bool → Expr → Reading Sort.expr
 raising i a = phrase (power i) λ b. give (binary Power a b)
 
--- such a name was read
+-- the name of a property or a verb was read
 pub record IsNamed (names : Names) (i : Bool) (room : ℕ) (old new : Cursor) (b : Expr) : Type 0 where
   pub leads : (k : Expr → Reading Sort.expr) → LeadsTo names Sort.expr (λ g. member_name i k) (λ g. k b) (left old) (left new)
   pub fits : height b ≤ max room 1
   pub tokens : old.at + height b ≤ new.at
 
--- such a name was not read, whatever goes on behind it
+-- the name of a property or a verb was not read, whatever reading follows it
 pub record IsUnnamed (names : Names) (i : Bool) (room : ℕ) (old new : Cursor) (f : Fault) : Type 0 where
   pub fails : (k : Expr → Reading Sort.expr) (g : Rules) → ToldBy f names g → Fails (grammar g) (why f) Sort.expr (member_name i k) (left old) (left new)
   pub stands : Stands f names new
@@ -125,7 +125,7 @@ pub record IsMember (names : Names) (i o : Bool) (room : ℕ) (old new : Cursor)
   pub fits : item_height item ≤ room
   pub tokens : old.at + item_height item ≤ new.at
 
--- the same of a piece behind its `?`
+-- a piece was read after its `?`, of which the comma or the end is still to come
 pub record IsPiece (names : Names) (i : Bool) (room : ℕ) (old new : Cursor) (item : Item) : Type 0 where
   pub leads : LeadsTo names Sort.items (λ g. behind_question i) (λ g. after_member i true (with_item item)) (left old) (left new)
   pub fits : item_height item ≤ room

@@ -12,17 +12,17 @@ pub record IsLeastUnlisted (nodes : List Links) (x : ℕ) : Type 0 where
   pub wrong : ¬ (IsListed nodes x)
   pub below : (y : ℕ) → y < x → IsListed nodes y
 
--- what the lists hold, once those before k are read and so much of that of k
+-- the contents of the lists, after those before k are read and this part of that of k
 abbrev pub held : List Links → ℕ → List ℕ → ℕ → List ℕ
 held nodes k ys x = if nat_lt x k then below_of nodes x else if x == k then ys else []
 
--- these lists hold nodes of their own, each once, and just what they hold has a mark
+-- these lists hold only children of their nodes, each once, and exactly these have a mark
 pub record AreMarked (nodes : List Links) (listed : List Bool) (lists : ℕ → List ℕ) : Type 0 where
   pub right : (x y : ℕ) → count_by (nat_eq y) (lists x) ≤ times_below (above_of nodes y) x
   pub found : (y : ℕ) → slice_index_or listed y false ≡ true → (x : ℕ) × (0 < count_by (nat_eq y) (lists x))
   pub marks : (x y : ℕ) → 0 < count_by (nat_eq y) (lists x) → slice_index_or listed y false ≡ true
 
--- the lists before that of k are read, and that of k is wrong, if there is one
+-- the lists before that of k are read, and that of k is wrong, if k is a node
 pub record AreRead (nodes : List Links) (listed : List Bool) (k : ℕ) : Type 0 where
   pub len : length listed ≡ length nodes
   pub most : k ≤ length nodes

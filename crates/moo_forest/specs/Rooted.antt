@@ -1,12 +1,12 @@
--- Nodes whose way up ends.
+-- Nodes from which the path up ends.
 use Rattle.std.specs.Prelude.{ℕ, ◌<◌, ◌≤◌, ◌≢◌, List, length, slice_index}
 use Rattle.moo_forest.specs.Forest.{Links, IsWayUp}
 
--- going up from x ends: it comes to a node that has none above it, or to a number that is no node's
+-- the path up from x ends, at a node that has none above it or at a number that is no node's
 abbrev pub IsRooted : List Links → ℕ → Type 0
 IsRooted nodes x = (ys : List ℕ) × IsWayUp nodes x ys
 
--- the least node from which going up doesn't end
+-- the least node from which the path up does not end
 pub record IsLeastEndless (nodes : List Links) (x : ℕ) : Type 0 where
   pub node : x < length nodes
   pub endless : ¬ (IsRooted nodes x)

@@ -2,7 +2,7 @@
 use Rattle.std.specs.Prelude.{ℕ, List, [], ◌∷◌, ◌++◌, Option, Some, None, slice_set}
 use Rattle.moo_forest.specs.Forest.{Links, above_of, below_of, without}
 
--- x stands last in the list of its new place
+-- x is last in the list of its new place
 abbrev pub with_newest : List Links → ℕ → Option ℕ → List Links
 with_newest nodes x None = nodes
 with_newest nodes x (Some up) = slice_set nodes up (record { above = above_of nodes up; below = below_of nodes up ++ x ∷ [] })
@@ -12,7 +12,7 @@ abbrev pub with_taken_out : List Links → ℕ → Option ℕ → List Links
 with_taken_out nodes x None = nodes
 with_taken_out nodes x (Some up) = slice_set nodes up (record { above = above_of nodes up; below = without x (below_of nodes up) })
 
--- these stand last in the list of their new place, in their order
+-- these are last in the list of their new place, in their order
 abbrev pub with_all_newest : List Links → List ℕ → Option ℕ → List Links
 with_all_newest nodes ys None = nodes
 with_all_newest nodes ys (Some up) = slice_set nodes up (record { above = above_of nodes up; below = below_of nodes up ++ ys })

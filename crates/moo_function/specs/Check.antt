@@ -1,4 +1,4 @@
--- What is checked before a function looks at its arguments.
+-- The checks before a function reads its arguments.
 use Rattle.std.specs.Prelude.{ℕ, ◌+◌, ℤ, Bool, true, false, not, ◌&&◌, ◌||◌, nat_le, List, [], ◌∷◌, ◌++◌, length, Option, None, Some, is_some, unwrap_or, slice_get, if◌then◌else◌}
 use Rattle.moo_value.specs.declared.error_code.ErrorCode.{ErrorCode}
 use Rattle.moo_value.specs.declared.error_code.ErrorCode.TheVariants.{Arguments, TypeMismatch, InvalidArgument}
@@ -12,11 +12,11 @@ use Rattle.moo_function.specs.Table.{Row}
 abbrev pub seen : RowGiven → Row
 seen r = record { name = r.name.now; needed = r.needed.now; optional = r.optional.now; more = r.more }
 
--- so many arguments may be given
+-- the number of arguments is allowed
 abbrev pub is_count : Row → ℕ → Bool
 is_count row n = nat_le (length row.needed) n && (is_some row.more || nat_le n (length row.needed + length row.optional))
 
--- what the argument at a place must be
+-- the kind of the argument at a place
 abbrev pub kind_at : Row → ℕ → Kind
 kind_at row place = unwrap_or (slice_get (row.needed ++ row.optional) place) (unwrap_or row.more Any)
 
@@ -41,7 +41,7 @@ are_lines [] = true
 are_lines (string line ∷ ts) = are_lines ts
 are_lines _ = false
 
--- a value may stand for an argument of this kind
+-- the value has this kind
 abbrev pub fits : Kind → Tree → Bool
 fits Any t = true
 fits Integer (integer i) = true
@@ -61,7 +61,7 @@ fits VerbArguments (list es) = is_verb_arguments (trees_of es)
 fits Lines (list es) = are_lines (trees_of es)
 fits _ _ = false
 
--- an object that has to be valid is
+-- an object that has to be valid is valid
 abbrev pub names_valid : (ℤ → Bool) → Kind → Tree → Bool
 names_valid valid ValidObject (object o) = valid o
 names_valid valid _ _ = true
@@ -77,14 +77,14 @@ all_fit row args = holds_from (λ place t. fits (kind_at row place) t) 0 args
 abbrev pub all_valid : (ℤ → Bool) → Row → List Tree → Bool
 all_valid valid row args = holds_from (λ place t. names_valid valid (kind_at row place) t) 0 args
 
--- the error for the count and the types, in this order
+-- the error for the number of arguments or their types, in this order
 abbrev pub mismatch : Row → List Tree → Option ErrorCode
 mismatch row args =
     if not (is_count row (length args)) then Some Arguments
     else if not (all_fit row args) then Some TypeMismatch
     else None
 
--- then that for an object that is not valid
+-- `mismatch`, or else the error for an object that is not valid
 abbrev pub refusal : (ℤ → Bool) → Row → List Tree → Option ErrorCode
 refusal valid row args =
     if is_some (mismatch row args) then mismatch row args

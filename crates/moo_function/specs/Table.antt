@@ -1,26 +1,26 @@
--- The table of the built-in functions: what each is called, and which arguments it takes.
+-- The table of the built-in functions: their names and their arguments.
 use Rattle.std.specs.Prelude.{ℕ, List, [], ◌∷◌, Option, None, Some, codes}
 use Rattle.moo_function.specs.declared.function.Function.{Function}
 use Rattle.moo_function.specs.declared.function.Function.TheVariants as function
 use Rattle.moo_function.specs.declared.table.Kind.{Kind}
 use Rattle.moo_function.specs.declared.table.Kind.TheVariants.{Any, Integer, Error, Text, List as ListOf, TextOrList, ValidObject, AnyObject, Verb, PropertyInfo, PropertyChange, VerbInfo, VerbArguments, Lines}
 
--- the name, the arguments that are needed, those that may be left out, and what any number more may be
+-- the name, the kinds of the arguments that are needed, of those that may be left out, and of any number more
 pub record Row : Type 0 where
   pub name : List ℕ
   pub needed : List Kind
   pub optional : List Kind
   pub more : Option Kind
 
--- these arguments, and perhaps others
+-- these arguments, and optional ones
 abbrev pub takes_perhaps : List ℕ → List Kind → List Kind → Row
 takes_perhaps name needed optional = record { name = name; needed = needed; optional = optional; more = None }
 
--- just these
+-- just these arguments
 abbrev pub takes : List ℕ → List Kind → Row
 takes name needed = takes_perhaps name needed []
 
--- these, and any number more
+-- these arguments, and any number more
 abbrev pub takes_more : List ℕ → List Kind → Kind → Row
 takes_more name needed kind = record { name = name; needed = needed; optional = []; more = Some kind }
 

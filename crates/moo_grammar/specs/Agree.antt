@@ -2,7 +2,8 @@
 use Rattle.std.specs.Prelude.{List, [], ◌∷◌}
 use Rattle.moo_token.specs.declared.token.Token.{Token}
 
--- The lists agree up to and with the first token of at, which is an end of the first. The end of a text counts as a token.
+-- The lists agree up to and including the first token of `at`, which is an end of the first list. The end of a text
+-- counts as a token.
 pub data Agree : List Token → List Token → List Token → Type 0 where
   at_end : Agree [] [] []
   here : {x : Token} {ts us : List Token} → Agree (x ∷ ts) (x ∷ ts) (x ∷ us)

@@ -7,7 +7,7 @@ use Rattle.moo_grammar.specs.Machine.{Reading, Reads}
 use Rattle.moo_grammar.specs.Predictive.{grammar}
 use Rattle.moo_grammar.specs.Size.{size}
 
--- whatever the reading gives here is higher than the room
+-- every tree that the reading gives here is higher than `room`
 pub record Deep (g : Rules) (s : Sort) (room : ℕ) (p : Reading s) (ts : List Token) : Type 0 where
   pub too_high : (e : Of s) (r : List Token) → Reads (grammar g) s p ts e r → room < size s e
 

@@ -1,4 +1,5 @@
--- The grammar. Derives g k ts t r: by the rules g the tokens ts begin with a phrase of kind k, whose tree is t, and r is what comes behind it.
+-- The grammar. Derives g k ts t r: under the rules g the tokens ts begin with a phrase of kind k, whose tree is t; r
+-- are the tokens after it.
 use Rattle.std.specs.Prelude.{ℕ, List, [], ◌∷◌, ◌≡◌, Bool, true, false, Option, Some, None, pos}
 use Rattle.std.specs.Int.{int_wrapping_neg, w32}
 use Rattle.moo_token.specs.declared.sign.Sign.TheVariants.{LeftParen, RightParen, LeftBrace, RightBrace, LeftBracket, RightBracket, Comma, Dot, DotDot, Colon, Semicolon, Question, Pipe, Assign, Arrow, Backquote, Quote, Bang, Dollar, At, Minus, Caret}
@@ -41,28 +42,28 @@ Of arm_list = Arms
 Of handler_list = Handlers
 Of label_name = Option (List ℕ)
 
--- The levels of the grammar. The flag says whether the phrase stands inside an index, where `$` may stand.
+-- The levels of the grammar. The flag is true for a phrase inside an index, where `$` is allowed.
 pub data Kind : Type 0 where
   expression : Bool → Kind
   conditional : Bool → Kind
   chain : Bool → Level → Kind
-  -- what is left of a chain behind its front
+  -- the rest of a chain after its first operands
   more : Bool → Level → Expr → Kind
   operand : Bool → Level → Kind
   power : Bool → Kind
   unary : Bool → Kind
   postfix : Bool → Kind
-  -- what stands behind a base
+  -- the suffixes of a base
   suffixes : Bool → Expr → Kind
   primary : Bool → Kind
-  -- the second flag of these says whether `?` pieces may stand among them
+  -- the second flag of these is true if `?` pieces are allowed among them
   arguments : Bool → Bool → Kind
   members : Bool → Bool → Kind
   codes : Bool → Kind
-  -- The loops round a statement, the innermost first, by their names.
+  -- The names of the loops around a statement, the innermost first.
   statement : List (Option (List ℕ)) → Kind
   statements : List (Option (List ℕ)) → Kind
-  -- what stands behind the first statements of an `if`
+  -- the further arms of an `if`
   arms : List (Option (List ℕ)) → Kind
   handlers : List (Option (List ℕ)) → Kind
   label : Kind
@@ -99,11 +100,11 @@ abbrev pub joined : Operator → Expr → Expr → Expr
 joined (operator.Binary o) a b = binary o a b
 joined (operator.Logic o) a b = logic o a b
 
--- a name that stands for a constant string
+-- the string literal of a name
 abbrev pub text : List ℕ → Expr
 text s = literal (Str s)
 
--- what `$` stands for before a name
+-- the object that `$` before a name is
 abbrev pub system_object : Expr
 system_object = literal (Object (pos 0))
 
@@ -147,7 +148,7 @@ pub data Derives (g : Rules) : (k : Kind) → List Token → Of (sort k) → Lis
   indexed : {i : Bool} {ts m r : List Token} {a b e : Expr} → Derives g (expression true) ts b (Sign RightBracket ∷ m) → Derives g (suffixes i (index a b)) m e r → Derives g (suffixes i a) (Sign LeftBracket ∷ ts) e r
   ranged : {i : Bool} {ts m n r : List Token} {a b c e : Expr} → Derives g (expression true) ts b (Sign DotDot ∷ m) → Derives g (expression true) m c (Sign RightBracket ∷ n) → Derives g (suffixes i (range a b c)) n e r → Derives g (suffixes i a) (Sign LeftBracket ∷ ts) e r
   -- primary: LITERAL | NAME | NAME(arguments) | $NAME | $NAME(arguments) | $ | (expression) | {arguments} | `expression ! codes [=> expression]'
-  -- In braces, `?` pieces may stand where `=` follows, and nowhere else. Inside an index, `$` may stand alone.
+  -- In braces, `?` pieces are allowed only if `=` follows. Inside an index, `$` is allowed alone.
   constant : {i : Bool} {x : Token} {l : Literal} {r : List Token} → literal_at x ≡ Some l → Derives g (primary i) (x ∷ r) (literal l) r
   name : {i : Bool} {s : List ℕ} {r : List Token} → Derives g (primary i) (Name s ∷ r) (variable s) r
   called : {i : Bool} {s : List ℕ} {ts r : List Token} {xs : Items} → g.functions s ≡ true → Derives g (arguments i false) ts xs (Sign RightParen ∷ r) → Derives g (primary i) (Name s ∷ Sign LeftParen ∷ ts) (call s xs) r

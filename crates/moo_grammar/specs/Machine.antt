@@ -1,4 +1,4 @@
--- How a predictive parser reads: at each place it takes a token that passes a test, or reads a phrase, or gives up.
+-- How a predictive parser reads: at each place it takes a token that passes a test, or reads a phrase, or stops.
 use Rattle.std.specs.Prelude.{List, ◌∷◌, ◌≡◌, Bool, true, false}
 use Rattle.moo_token.specs.declared.token.Token.{Token}
 use Rattle.moo_grammar.specs.Grammar.{Sort, Of, Kind, sort}
@@ -7,17 +7,17 @@ use Rattle.moo_grammar.specs.Tokens.{next_passes}
 pub data Reading : Sort → Type 0 where
   -- the tree is complete
   give : {s : Sort} → Of s → Reading s
-  -- no token can stand here
+  -- no token is possible here
   refuse : {s : Sort} → Reading s
-  -- the token that comes next could stand here, but for a rule
+  -- the next token is possible here, but breaks a rule
   forbid : {s : Sort} → Reading s
   -- takes the next token
   take : {s : Sort} → (Token → Reading s) → Reading s
-  -- goes on by whether the next token passes the test
+  -- continues with the first reading if the next token passes the test, else with the second
   peek : {s : Sort} → (Token → Bool) → Reading s → Reading s → Reading s
   phrase : {s : Sort} → (k : Kind) → (Of (sort k) → Reading s) → Reading s
 
--- why a reading gives up: no token can stand there, or a rule is not kept
+-- why a reading stops: no token is possible there, or a rule is broken
 pub data Why : Type 0 where
   by_form : Why
   by_rule : Why
@@ -31,7 +31,7 @@ module _ (grammar : (k : Kind) → Reading (sort k)) where
     misses : {s : Sort} {f : Token → Bool} {p q : Reading s} {ts r : List Token} {e : Of s} → next_passes f ts ≡ false → Reads s q ts e r → Reads s (peek f p q) ts e r
     reads : {s : Sort} {k : Kind} {p : Of (sort k) → Reading s} {ts m r : List Token} {a : Of (sort k)} {e : Of s} → Reads (sort k) (grammar k) ts a m → Reads s (p a) m e r → Reads s (phrase k p) ts e r
 
-  -- the reading gives up where r is left
+  -- the reading stops when r is left
   pub data Fails : Why → (s : Sort) → Reading s → List Token → List Token → Type 0 where
     refuses : {s : Sort} {r : List Token} → Fails by_form s (refuse {s = s}) r r
     forbids : {s : Sort} {r : List Token} → Fails by_rule s (forbid {s = s}) r r

@@ -11,7 +11,7 @@ abbrev pub minuses : ℕ → List Token → List Token
 minuses zero ts = ts
 minuses (suc n) ts = Sign Minus ∷ minuses n ts
 
--- so many minuses before an expression
+-- n minuses before an expression
 abbrev pub negations : ℕ → Expr → Expr
 negations zero e = e
 negations (suc n) e = negated (negations n e)

@@ -52,11 +52,11 @@ begins_statement (token.Keyword Return) = true
 begins_statement (token.Keyword Try) = true
 begins_statement x = begins_expression x
 
--- takes the next token where it passes the test
+-- takes the next token if it passes the test
 abbrev pub test : {s : Sort} → (Token → Bool) → (Token → Reading s) → Reading s → Reading s
 test f p q = peek f (take p) q
 
--- takes the sign, where it comes next
+-- takes the sign if it comes next
 abbrev pub if_sign : {s : Sort} → Sign → Reading s → Reading s → Reading s
 if_sign m p q = test (is_sign m) (λ _. p) q
 
@@ -64,7 +64,7 @@ if_sign m p q = test (is_sign m) (λ _. p) q
 abbrev pub expect : {s : Sort} → Sign → Reading s → Reading s
 expect m p = if_sign m p refuse
 
--- takes the keyword, where it comes next
+-- takes the keyword if it comes next
 abbrev pub if_keyword : {s : Sort} → Keyword → Reading s → Reading s → Reading s
 if_keyword k p q = test (is_keyword k) (λ _. p) q
 
@@ -81,20 +81,20 @@ if_literal p q = test (λ x. is_some (literal_at x)) (λ x. p (unwrap_or (litera
 abbrev pub if_operator : {s : Sort} → Level → (Operator → Reading s) → Reading s → Reading s
 if_operator l p q = test (λ x. is_some (operator_at l x)) (λ x. p (unwrap_or (operator_at l x) (operator.Binary Power))) q
 
--- goes on where a rule is kept
+-- continues if a rule is obeyed
 abbrev pub allowed : {s : Sort} → Bool → Reading s → Reading s
 allowed true p = p
 allowed false p = forbid
 
--- behind the comma of a member, or at the end of the members
+-- after a member: a comma and further members, or the end of the members
 abbrev pub after_member : Bool → Bool → (Items → Items) → Reading Sort.items
 after_member i o f = if_sign Comma (phrase (members i o) λ xs. give (f xs)) (give (f no_items))
 
--- behind the `?` of a member
+-- after the `?` of a member
 abbrev pub behind_question : Bool → Reading Sort.items
 behind_question i = if_name (λ s. if_sign Assign (phrase (expression i) λ a. after_member i true (defaulted s a)) (after_member i true (optional s))) refuse
 
--- a member with `?`, where one may stand
+-- a member with `?`, if it is allowed
 abbrev pub if_optional : Bool → Reading Sort.items → Reading Sort.items → Reading Sort.items
 if_optional true p q = if_sign Question p q
 if_optional false p q = q
@@ -118,7 +118,7 @@ behind_dollar i = if_name (λ s. if_sign LeftParen
 abbrev pub dollar : Bool → Reading Sort.expr
 dollar i = if_sign Dollar (behind_dollar i) (guarded i)
 
--- behind the items of braces: `=`, where a `?` piece stands among them
+-- after the items of braces: `=`, if a `?` piece is among them
 abbrev pub behind_brace : Bool → Expr → Reading Sort.expr
 behind_brace false e = give e
 behind_brace true e = peek (is_sign Assign) (give e) refuse
@@ -151,7 +151,7 @@ abbrev pub loop_at : Rules → List (Option (List ℕ)) → Token → Option (Li
 loop_at g ls (token.Name x) = if may_jump g ls (Some x) then Some x else None
 loop_at g ls _ = None
 
--- the end of a jump, perhaps with a name before it: no other than that of a loop
+-- the end of a jump, with an optional name before it, which is that of a loop
 abbrev pub behind_jump : Rules → List (Option (List ℕ)) → (Option (List ℕ) → Stmt) → Reading Sort.stmt
 behind_jump g ls f = test (λ x. is_some (loop_at g ls x)) (λ x. expect Semicolon (give (f (Some (unwrap_or (loop_at g ls x) []))))) (peek (λ x. is_some (name_at x)) forbid (expect Semicolon (give (f None))))
 

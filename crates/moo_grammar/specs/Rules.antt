@@ -1,4 +1,4 @@
--- What a grammar asks for beside its forms.
+-- The rules of a grammar besides its forms.
 use Rattle.std.specs.Prelude.{ℕ, List, [], ◌∷◌, ◌≡◌, Bool, true, false, not, ◌||◌, Option, Some, None, is_some}
 use Rattle.std.specs.List.{list_any}
 use Rattle.std.specs.Str.{str_eq_ignore_ascii_case}
@@ -9,14 +9,14 @@ use Rattle.moo_grammar.specs.declared.names.Names.{Names}
 use Rattle.moo_grammar.specs.declared.names.Names.TheVariants.{Any, Known}
 
 pub record Rules : Type 0 where
-  -- whether targets alone may stand before `=`
+  -- whether only targets are allowed before `=`
   pub targets : Bool
   -- the names that may be called
   pub functions : List ℕ → Bool
-  -- whether a jump must have its loop round it
+  -- whether a jump must be in its loop
   pub loops : Bool
 
--- the forms alone
+-- no rules besides the forms
 abbrev pub loose : Rules
 loose = record { targets = false; functions = λ _. true; loops = false }
 
@@ -25,7 +25,7 @@ abbrev pub may_call : Names → List ℕ → Bool
 may_call Any name = true
 may_call Known name = is_some (function_of name)
 
--- whether the expression may stand before `=`
+-- whether the expression is allowed before `=`
 abbrev pub may_assign : Rules → Expr → Bool
 may_assign g a = not g.targets || is_target a
 
@@ -34,21 +34,21 @@ abbrev pub is_named : List ℕ → Option (List ℕ) → Bool
 is_named name None = false
 is_named name (Some other) = str_eq_ignore_ascii_case name other
 
--- whether a loop stands among them, or one of the name
+-- whether there is a loop among them, or one with the name
 abbrev pub has_loop : List (Option (List ℕ)) → Option (List ℕ) → Bool
 has_loop [] None = false
 has_loop (loop ∷ loops) None = true
 has_loop loops (Some name) = list_any (is_named name) loops
 
--- whether a jump may stand within the loops
+-- whether a jump is allowed within the loops
 abbrev pub may_jump : Rules → List (Option (List ℕ)) → Option (List ℕ) → Bool
 may_jump g loops name = not g.loops || has_loop loops name
 
--- all that is asked of a program
+-- all rules of a program
 abbrev pub strict : Names → Rules
 strict names = record { targets = true; functions = may_call names; loops = true }
 
--- g asks for nothing that h doesn't ask for
+-- g requires nothing that h does not require
 pub record Admits (g h : Rules) : Type 0 where
   pub targets : g.targets ≡ true → h.targets ≡ true
   pub functions : (name : List ℕ) → h.functions name ≡ true → g.functions name ≡ true

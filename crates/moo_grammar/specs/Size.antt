@@ -1,4 +1,4 @@
--- How high the tree of a phrase is.
+-- The height of the tree of a phrase.
 use Rattle.std.specs.Prelude.{ℕ}
 use Rattle.moo_program.specs.Limits.{height, items_height, codes_height, statement_height, block_height, arms_height, handlers_height}
 use Rattle.moo_grammar.specs.Grammar.{Sort, expr, items, errors, stmt, block, arm_list, handler_list, label_name, Of}

@@ -17,7 +17,7 @@ pub record IsProgramOf (names : Names) (lines : List (List ℕ)) (b : Block) : T
   pub tokens : IsTokens lines spots
   pub program : IsProgram names (words spots) b
 
--- some text is the program, whatever it calls
+-- some text is the program, whichever functions it calls
 pub record HasText (b : Block) : Type 0 where
   pub lines : List (List ℕ)
   pub program : IsProgramOf Any lines b

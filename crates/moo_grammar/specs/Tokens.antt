@@ -1,4 +1,4 @@
--- What a token is in the grammar.
+-- The meaning of a token in the grammar.
 use Rattle.std.specs.Prelude.{ℕ, List, [], ◌∷◌, Bool, true, false, Option, Some, None, map}
 use denote.Enum.Bare.{sameb}
 use Rattle.moo_token.specs.contracts.sign.Sign as sign
@@ -46,7 +46,7 @@ abbrev pub name_at : Token → Option (List ℕ)
 name_at (token.Name s) = Some s
 name_at _ = None
 
--- the operator that a sign is in a chain of this level
+-- the operator that a sign is at this level
 abbrev pub sign_operator : Level → Sign → Option Operator
 sign_operator Logic AndAnd = Some (operator.Logic logic.And)
 sign_operator Logic OrOr = Some (operator.Logic logic.Or)
@@ -63,13 +63,13 @@ sign_operator Product Slash = Some (operator.Binary binary.Divide)
 sign_operator Product Percent = Some (operator.Binary binary.Remainder)
 sign_operator _ _ = None
 
--- the operator that a token is in a chain of this level
+-- the operator that a token is at this level
 abbrev pub operator_at : Level → Token → Option Operator
 operator_at l (token.Sign s) = sign_operator l s
 operator_at Relation (token.Keyword In) = Some (operator.Binary binary.In)
 operator_at _ _ = None
 
--- whether no token stands there
+-- whether the token is `Bad`
 abbrev pub is_bad : Token → Bool
 is_bad token.Bad = true
 is_bad _ = false

@@ -21,6 +21,6 @@ all_built_in =
     property.Name ∷ property.Owner ∷ property.Location ∷ property.Contents ∷ property.Programmer ∷ property.Wizard ∷ property.Read
     ∷ property.Write ∷ property.Fertile ∷ []
 
--- the built-in property of a name whose letters are folded
+-- the built-in property of a name in lower case
 abbrev pub built_in_of : List ℕ → Option BuiltInProperty
 built_in_of name = find (λ property. same_name name (built_in_name property)) all_built_in

@@ -5,7 +5,7 @@ use Rattle.moo_value.specs.Tree.{Tree}
 use Rattle.moo_object.specs.declared.cell.PropPerms.{PropPerms}
 use Rattle.moo_object.specs.Names.{same_name}
 
--- the cell that an object has for the definition of a name, letters folded, on a definer: clear, where its value is None
+-- an object's cell of a definition: its definer and its name in lower case; the cell is clear if its value is None
 pub record Cell : Type 0 where
   pub definer : ℕ
   pub name : List ℕ
@@ -13,7 +13,7 @@ pub record Cell : Type 0 where
   pub perms : PropPerms
   pub value : Option Tree
 
--- a definition: the object that it is on, and its name with the letters folded
+-- a definition: its object, and its name in lower case
 abbrev pub Key : Type 0
 Key = ℕ × List ℕ
 
@@ -26,15 +26,15 @@ is_key k c = (c.definer == k.0) && same_name c.name k.1
 abbrev pub is_named : List ℕ → Cell → Bool
 is_named name c = same_name c.name name
 
--- the cell for a definition
+-- the cell of a definition
 abbrev pub cell_at : List Cell → Key → Option Cell
 cell_at cells k = find (is_key k) cells
 
--- no two cells are for the same definition: each is the one that is found for its own
+-- no two cells have the same definition: a search for a cell's definition finds that cell
 abbrev pub AreDistinct : List Cell → Type 0
 AreDistinct cells = All (λ c. cell_at cells (key_of c) ≡ Some c) cells
 
--- the cell of a name
+-- the first cell with a name
 abbrev pub cell_named : List Cell → List ℕ → Option Cell
 cell_named cells name = find (is_named name) cells
 
@@ -75,6 +75,6 @@ with_info owner perms c = record { definer = c.definer; name = c.name; owner = o
 abbrev pub renamed : List ℕ → Cell → Cell
 renamed name c = record { definer = c.definer; name = name; owner = c.owner; perms = c.perms; value = c.value }
 
--- the cell for a definition changed by f, and every other cell as it is
+-- applies f to the cell of a definition, and leaves any other cell unchanged
 abbrev pub at_key : Key → (Cell → Cell) → Cell → Cell
 at_key k f c = if is_key k c then f c else c

@@ -2,7 +2,7 @@
 use Rattle.std.specs.Prelude.{ℕ, ◌+◌, Bool, false, if◌then◌else◌}
 use Rattle.moo_object.specs.declared.flags.Flags.{Flags}
 
--- what a bit adds to a number: its weight, where it is set
+-- the weight of a bit if it is set, else 0
 abbrev pub bit : Bool → ℕ → ℕ
 bit b weight = if b then weight else 0
 

@@ -1,4 +1,4 @@
--- Which names fit the names of a verb.
+-- The match of a name against the names of a verb.
 use Rattle.std.specs.Prelude.{◌≡◌, ◌≤◌, ◌⊎◌, ℕ, Bool, ◌==◌, ◌&&◌, ◌||◌, not, nat_eq, nat_le, List, [], ◌++◌, ◌∷◌, length, filter}
 use Rattle.std.specs.List.{position_or_len, starts_with, ends_with, slice_split, list_any}
 use Rattle.moo_value.specs.Compare.{folded}
@@ -10,22 +10,22 @@ is_star b = b == 42
 abbrev pub base : List ℕ → List ℕ
 base pattern = filter (λ b. not (is_star b)) pattern
 
--- the length before the first star, else the whole
+-- the length of the part before the first star, or of the whole if there is none
 abbrev pub least : List ℕ → ℕ
 least pattern = position_or_len is_star pattern
 
--- whether `front` is a beginning of `whole`, letters folded
+-- whether `front` is a prefix of `whole`, without regard to case
 abbrev pub begins : List ℕ → List ℕ → Bool
 begins front whole = starts_with nat_eq (folded whole) (folded front)
 
 abbrev pub ends_in_star : List ℕ → Bool
 ends_in_star pattern = ends_with nat_eq pattern (42 ∷ [])
 
--- a beginning of the base that is long enough, or, where the pattern ends in a star, what begins with the base
+-- a prefix of the base that is long enough, or, if the pattern ends in a star, a name that begins with the base
 abbrev pub fits : List ℕ → List ℕ → Bool
 fits pattern name = (begins name (base pattern) && nat_le (least pattern) (length name)) || (ends_in_star pattern && begins (base pattern) name)
 
--- the same rule as a relation: `front` is a beginning of `whole` where something follows it
+-- the rule of patterns as relations: `front` is a prefix of `whole`
 abbrev pub Begins : List ℕ → List ℕ → Type 0
 Begins front whole = (behind : List ℕ) × (folded whole ≡ folded front ++ behind)
 
@@ -48,6 +48,6 @@ words names = filter is_word (slice_split is_blank names)
 abbrev pub has_word : List ℕ → Bool
 has_word names = list_any is_word (slice_split is_blank names)
 
--- whether one of the words is a pattern that the name fits
+-- whether the name matches one of the words
 abbrev pub fits_names : List ℕ → List ℕ → Bool
 fits_names names name = list_any (λ pattern. fits pattern name) (words names)

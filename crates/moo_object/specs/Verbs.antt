@@ -1,4 +1,4 @@
--- The verbs of an object: what changes them, and which names fit them.
+-- The verbs of an object: their changes, and the names that match them.
 use Rattle.std.specs.Prelude.{ℕ, zero, suc, ℤ, List, [], ◌∷◌, Option, Bool, true, ◌&&◌}
 use Rattle.moo_program.specs.Tree.{Block}
 use Rattle.moo_object.specs.declared.verb.Verb.{Verb}
@@ -8,12 +8,12 @@ use Rattle.moo_object.specs.declared.verb.Need.{Need}
 use Rattle.moo_object.specs.declared.verb.Need.TheVariants as need
 use Rattle.moo_object.specs.Patterns.{fits_names}
 
--- whether a verb is of the kind that is needed: for a call only what can be executed
+-- whether a verb counts for a need: for a call only if it is executable
 abbrev pub is_needed : Need → Verb → Bool
 is_needed need.Call v = v.perms.execute
 is_needed need.Any v = true
 
--- whether a name fits a verb of the kind that is needed
+-- whether a name matches a verb that counts for a need
 abbrev pub fits_verb : Need → List ℕ → Verb → Bool
 fits_verb n name v = is_needed n v && fits_names v.names name
 

@@ -9,7 +9,7 @@ use Rattle.moo_program.specs.declared.tree.Literal.{Literal}
 use Rattle.moo_program.specs.Tree
 use Rattle.moo_program.specs.Tree.{Expr, Items, Codes, Stmt, Arms, Handlers, Block}
 
--- what stands at a node of the tree
+-- the mark of a node of the tree
 pub data Mark : Type 0 where
   literal : Literal → Mark
   variable : List ℕ → Mark
@@ -53,7 +53,7 @@ pub data Mark : Type 0 where
   no_statement : Mark
   then : Mark
 
--- what a beginning of the marks stands for
+-- the part of a program that a beginning of the marks is
 pub data Part : Type 0 where
   expr : Expr → Part
   items : Items → Part

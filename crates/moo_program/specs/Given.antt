@@ -34,7 +34,7 @@ all_given =
 unfoldable pub given_names : List (List ℕ)
 given_names = map given_name all_given
 
--- where it stands among all
+-- its place among all of them
 abbrev pub given_slot : Given → ℕ
 given_slot given.Num = 0
 given_slot given.Int = 1
@@ -55,14 +55,14 @@ given_slot given.Prepstr = 15
 given_slot given.Iobjstr = 16
 given_slot given.Args = 17
 
--- the name, in any case, is its own
+-- the name, in any case, is the variable's
 abbrev pub is_given : List ℕ → Given → Bool
 is_given name g = bytes_eq (folded (given_name g)) (folded name)
 
--- the one that a name, in any case, is the name of
+-- the variable that has this name, in any case
 abbrev pub given_of : List ℕ → Option Given
 given_of name = find (is_given name) all_given
 
--- for private clauses: the one whose name is so long and begins with this small letter
+-- for private clauses: the variable whose name has this length and begins with this lower-case letter
 abbrev pub likely : ℕ → ℕ → Option Given
 likely count letter = find (λ g. (length (given_name g) == count) && (get_or (folded (given_name g)) 0 0 == letter)) all_given

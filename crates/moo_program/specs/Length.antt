@@ -1,4 +1,4 @@
--- How long the full listing is, counted without writing it.
+-- The length of the full listing, computed without writing it.
 use Rattle.std.specs.Prelude.{ℕ, ◌+◌, ◌<◌, ◌≡◌, ◌==◌, ◌||◌, List, length, count_by, nat_lt, ◌&&◌, Bool, true, false, Option, Some, None, MatchOption}
 use Rattle.std.specs.Fmt.{signed_decimal}
 use Rattle.moo_value.specs.Errors.{error_name}
@@ -11,7 +11,7 @@ use Rattle.moo_program.specs.declared.tree.Handler.{Handler, Except', ExceptAs'}
 use Rattle.moo_program.specs.View.{tree, codes_of, statements}
 use Rattle.moo_program.specs.Listing.{binary_sign, is_compound, is_compound_base, constant_name, is_system_object, head, elseif_head, except_head}
 
--- with two parentheses, or bare
+-- the length with two parentheses, or without
 abbrev pub length_in_parentheses : Bool → ℕ → ℕ
 length_in_parentheses true n = n + 2
 length_in_parentheses false n = n
@@ -24,18 +24,18 @@ further_length (splice a xs) n = 2 + n
 further_length (optional s xs) n = 2 + n
 further_length (defaulted s a xs) n = 2 + n
 
--- a sign of one byte, and behind it a name, or an expression in parentheses
+-- a sign of one byte, and after it a name, or an expression in parentheses
 abbrev pub selector_length : Option (List ℕ) → ℕ → ℕ
 selector_length (Some s) name = 1 + length s
 selector_length None name = 3 + name
 
--- the base of a name, which is left out where `$` says it
+-- the base of a property or a verb, which is left out if `$` stands for it
 abbrev pub shown_base_length : Option (List ℕ) → Bool → ℕ → ℕ
 shown_base_length (Some s) true base = 0
 shown_base_length (Some s) false base = base
 shown_base_length None system base = base
 
--- a byte that stands behind a backslash in a literal
+-- a byte that has a backslash before it in a literal
 abbrev pub is_escaped : ℕ → Bool
 is_escaped b = b == 34 || b == 92
 
@@ -81,11 +81,11 @@ item_length (Splice' p e) = 1 + listed_length (tree e)
 item_length (Optional s) = 1 + length s.value
 item_length (Defaulted' s p e) = 4 + length s.value + listed_length (tree e)
 
--- an item that stands behind a comma and a blank
+-- an item after a comma and a blank
 abbrev pub further_item_length : Item → ℕ
 further_item_length x = 2 + item_length x
 
--- a blank and a name, where there is one
+-- a blank and a name, if there is one
 abbrev pub label_length : Option (List ℕ) → ℕ
 label_length None = 0
 label_length (Some s) = 1 + length s
@@ -104,7 +104,7 @@ head_length (continues n) = 9 + label_length n
 head_length (try_except b h) = 3
 head_length (try_finally b c) = 3
 
--- what n bytes leave of a room, if they fit it
+-- what n bytes leave of the bytes of a line, if they fit it
 abbrev pub Leaves : ℕ → ℕ → Option ℕ → Type 0
 Leaves room n result = MatchOption result (room < n) (λ rest. rest + n ≡ room)
 
@@ -113,12 +113,12 @@ abbrev pub fits : List ℕ → Bool
 fits line = nat_lt (length line) weight_limit
 
 abbrev mutual
-  -- whether each line of the statements is
+  -- whether each line of the statements is short enough for a string
   pub block_fits : Block → Bool
   block_fits no_statement = true
   block_fits (then s ss) = (fits (head s) && below_fits s) && block_fits ss
 
-  -- the lines of a statement behind the first
+  -- whether the lines of a statement after the first are
   pub below_fits : Stmt → Bool
   below_fits (branches a b c) = block_fits b && arms_fit c
   below_fits (for_list s a b) = block_fits b

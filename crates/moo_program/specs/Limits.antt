@@ -24,7 +24,8 @@ abbrev mutual
   height (catch a c) = 1 + max (height a) (codes_height c)
   height (catch_or a c b) = 1 + max (height a) (max (codes_height c) (height b))
 
-  -- the greatest height of an item; a name in the target of a scatter is a leaf, and a default stands where its name does
+  -- the greatest height of an item; a name in the target of a scatter is a leaf, and a default is on the level of its
+  -- name
   pub items_height : Items → ℕ
   items_height no_items = 0
   items_height (element a xs) = max (height a) (items_height xs)
@@ -32,7 +33,7 @@ abbrev mutual
   items_height (optional s xs) = max 1 (items_height xs)
   items_height (defaulted s a xs) = max (height a) (items_height xs)
 
-  -- the same of the errors of a catch; `ANY` is no node
+  -- the greatest height of the errors of a catch; `ANY` is no node
   pub codes_height : Codes → ℕ
   codes_height any_error = 0
   codes_height (listed_errors xs) = items_height xs
@@ -52,13 +53,13 @@ abbrev mutual
   statement_height (try_except b h) = 1 + max (block_height b) (handlers_height h)
   statement_height (try_finally b c) = 1 + max (block_height b) (block_height c)
 
-  -- the greatest height of what stands in the arms
+  -- the greatest height in the arms
   pub arms_height : Arms → ℕ
   arms_height no_else = 0
   arms_height (otherwise b) = block_height b
   arms_height (elseif a b c) = max (height a) (max (block_height b) (arms_height c))
 
-  -- the greatest height of what stands in the handlers
+  -- the greatest height in the handlers
   pub handlers_height : Handlers → ℕ
   handlers_height no_handler = 0
   handlers_height (handler n c b h) = max (codes_height c) (max (block_height b) (handlers_height h))

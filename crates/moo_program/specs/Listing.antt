@@ -34,7 +34,7 @@ abbrev pub logic_sign : LogicOperator → List ℕ
 logic_sign And = codes "&&"
 logic_sign Or = codes "||"
 
--- an operator, a conditional or an assignment: it stands in parentheses as an operand
+-- an operator, a conditional or an assignment, which is in parentheses as an operand
 abbrev pub is_compound : Expr → Bool
 is_compound (unary o a) = true
 is_compound (binary o a b) = true
@@ -43,12 +43,12 @@ is_compound (conditional a b c) = true
 is_compound (assign a b) = true
 is_compound _ = false
 
--- an integer literal stands in parentheses too, before `.`, `:` and `[`
+-- a compound expression or an integer literal, which is in parentheses before `.`, `:` and `[`
 abbrev pub is_compound_base : Expr → Bool
 is_compound_base (literal (Integer n)) = true
 is_compound_base e = is_compound e
 
--- a text in parentheses, or bare
+-- a text in parentheses, or without
 abbrev pub in_parentheses : Bool → List ℕ → List ℕ
 in_parentheses true text = codes "(" ++ text ++ codes ")"
 in_parentheses false text = text
@@ -57,7 +57,7 @@ abbrev pub some_if : Bool → List ℕ → Option (List ℕ)
 some_if true s = Some s
 some_if false s = None
 
--- the name that the expression is: a string that is a name and no keyword
+-- the name that the expression is: a string literal that is a name and no keyword
 abbrev pub constant_name : Expr → Option (List ℕ)
 constant_name (literal (Str s)) = some_if (is_name s) s
 constant_name e = None
@@ -67,14 +67,14 @@ abbrev pub is_system_object : Expr → Bool
 is_system_object (literal (Object (pos zero))) = true
 is_system_object e = false
 
--- A property or a verb of a base, by its name: behind the sign the name or an expression in parentheses, and `$` and the
--- name for one of `#0`.
+-- A property or a verb of a base: after the sign its name, or an expression in parentheses; `$` and the name for one of
+-- `#0`.
 abbrev pub selected : (sign : List ℕ) → Option (List ℕ) → Bool → (base name : List ℕ) → List ℕ
 selected sign (Some s) true base name = codes "$" ++ s
 selected sign (Some s) false base name = base ++ sign ++ s
 selected sign None system base name = base ++ sign ++ codes "(" ++ name ++ codes ")"
 
--- what stands behind an item: a comma, a blank and the items that follow, if any do
+-- the text after an item: a comma, a blank and the items that follow, if any do
 abbrev pub further : Items → List ℕ → List ℕ
 further no_items text = text
 further (element a xs) text = codes ", " ++ text
@@ -112,7 +112,7 @@ abbrev mutual
   listed_codes any_error = codes "ANY"
   listed_codes (listed_errors xs) = listed_items xs
 
--- a blank and a name, where there is one
+-- a blank and a name, if there is one
 abbrev pub labelled : Option (List ℕ) → List ℕ
 labelled None = []
 labelled (Some s) = codes " " ++ s
@@ -138,7 +138,7 @@ abbrev pub except_head : Option (List ℕ) → Codes → List ℕ
 except_head n c = codes "except" ++ labelled n ++ codes " (" ++ listed_codes c ++ codes ")"
 
 abbrev mutual
-  -- the lines of a statement behind the first
+  -- the lines of a statement after the first
   pub below : Stmt → List (List ℕ)
   below (branches a b c) = listing b ++ listed_arms c
   below (for_list s a b) = listing b ++ codes "endfor" ∷ []
@@ -148,13 +148,13 @@ abbrev mutual
   below (try_finally b c) = listing b ++ codes "finally" ∷ listing c ++ codes "endtry" ∷ []
   below s = []
 
-  -- what stands behind the first statements of an `if`
+  -- the lines after the first statements of an `if`
   pub listed_arms : Arms → List (List ℕ)
   listed_arms no_else = codes "endif" ∷ []
   listed_arms (otherwise b) = codes "else" ∷ listing b ++ codes "endif" ∷ []
   listed_arms (elseif a b c) = elseif_head a ∷ listing b ++ listed_arms c
 
-  -- what stands behind the statements of a `try`
+  -- the lines after the statements of a `try`
   pub listed_handlers : Handlers → List (List ℕ)
   listed_handlers no_handler = codes "endtry" ∷ []
   listed_handlers (handler n c b h) = except_head n c ∷ listing b ++ listed_handlers h

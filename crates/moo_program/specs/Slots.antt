@@ -7,7 +7,7 @@ use Rattle.moo_program.specs.declared.tree.Handler.{Handler, Except', ExceptAs'}
 use Rattle.moo_program.specs.Tree.{Expr, literal, variable, length_mark, unary, binary, logic, conditional, index, range, list, property, verb_call, call, assign, catch, catch_or, Items, no_items, element, splice, optional, defaulted, Codes, any_error, listed_errors, Stmt, return_nothing, returns, performs, branches, for_list, for_range, while_loop, breaks, continues, try_except, try_finally, Arms, no_else, otherwise, elseif, Handlers, no_handler, handler, Block, no_statement, then}
 use Rattle.moo_program.specs.View.{tree, codes_of, statements}
 
--- the variables of an expression by their names as they are spelled, in the order in which they stand in a text of it
+-- the occurrences of variables in an expression, as spelled, in the order of its text
 abbrev mutual
   pub variables : Expr → List (List ℕ)
   variables (literal l) = []
@@ -43,7 +43,7 @@ abbrev pub set_variable : Option (List ℕ) → List (List ℕ)
 set_variable None = []
 set_variable (Some s) = s ∷ []
 
--- the same of statements; the name of a `while`, of a `break` or a `continue` is no variable
+-- the occurrences of variables in statements; the name of a `while`, of a `break` or a `continue` is no variable
 abbrev mutual
   pub statement_variables : Stmt → List (List ℕ)
   statement_variables return_nothing = []
@@ -71,16 +71,16 @@ abbrev mutual
   block_variables no_statement = []
   block_variables (then s ss) = statement_variables s ++ block_variables ss
 
--- those that have not been seen, each where it stands first
+-- the first occurrences of names that have not been seen
 abbrev pub firsts : (seen : List ℕ → Bool) → List (List ℕ) → List (List ℕ)
 firsts seen [] = []
 firsts seen (x ∷ xs) = cond (seen x) (firsts seen xs) (x ∷ firsts (λ y. bytes_eq x y || seen y) xs)
 
--- the variables' names, letters folded, each once, in the order in which they stand first
+-- the names of the variables in lower case, each once, in the order of their first occurrences
 abbrev pub slots : Block → List (List ℕ)
 slots b = firsts (λ _. false) (map folded (block_variables b))
 
--- the variables of an item, and those of a handler, by themselves
+-- the variables of one item, and those of one handler
 abbrev pub item_variables : Item → List (List ℕ)
 item_variables (Element' p e) = variables (tree e)
 item_variables (Splice' p e) = variables (tree e)

@@ -1,7 +1,7 @@
--- A number for each spelling, so that two of them can be compared at once.
+-- Numbers that encode spellings, so that two spellings are compared in one step.
 use Rattle.std.specs.Prelude.{◌≡◌, ℕ, ◌+◌, ◌*◌, List, [], ◌∷◌, ◌++◌}
 
--- its bytes are the digits of the number to the base of 257, the first byte the lowest, each from 1 to 256
+-- a number in base 257 whose digits are the bytes, the first byte the lowest, each from 1 to 256
 abbrev pub spelling : List ℕ → ℕ
 spelling [] = 0
 spelling (byte ∷ rest) = 1 + byte + 257 * spelling rest

@@ -1,4 +1,4 @@
--- What may stand before `=`.
+-- The targets of assignments.
 use Rattle.std.specs.Prelude.{Bool, true, false, ◌&&◌}
 use Rattle.moo_program.specs.Tree.{Expr, variable, property, index, range, list, Items, no_items, element, splice, optional, defaulted}
 
@@ -13,7 +13,7 @@ is_place (property a b) = true
 is_place (index a b) = is_place a
 is_place e = false
 
--- variables, names that may be left out, and one splice of a variable at the most, or none
+-- variables, names that may be left out, and at most one splice of a variable, or none if there was one before
 abbrev pub are_names : (spliced : Bool) → Items → Bool
 are_names spliced no_items = true
 are_names spliced (element a xs) = is_variable a && are_names spliced xs
@@ -22,7 +22,7 @@ are_names true (splice a xs) = false
 are_names spliced (optional s xs) = are_names spliced xs
 are_names spliced (defaulted s a xs) = are_names spliced xs
 
--- the same, not empty
+-- the names of a scatter, which are not empty
 abbrev pub is_scatter : Items → Bool
 is_scatter no_items = false
 is_scatter xs = are_names false xs

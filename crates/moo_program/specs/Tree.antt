@@ -1,4 +1,4 @@
--- Programs as trees, without where their parts lie in memory.
+-- Programs as trees, without regard to how the program stores them.
 use Rattle.std.specs.Prelude.{ℕ, List, Option}
 use Rattle.moo_value.specs.Tree
 use Rattle.moo_program.specs.declared.operator.UnaryOperator.{UnaryOperator}
@@ -60,7 +60,7 @@ mutual
     returns : Expr → Stmt
     -- a;
     performs : Expr → Stmt
-    -- the first condition, its statements, and what stands behind them
+    -- the first condition, its statements, and the further arms
     branches : Expr → Block → Arms → Stmt
     -- for x in (a)
     for_list : List ℕ → Expr → Block → Stmt
@@ -72,7 +72,7 @@ mutual
     try_except : Block → Handlers → Stmt
     try_finally : Block → Block → Stmt
 
-  -- what stands behind the first statements of an `if`
+  -- the further arms of an `if`
   pub data Arms : Type 0 where
     no_else : Arms
     otherwise : Block → Arms

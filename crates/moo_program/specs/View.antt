@@ -1,4 +1,4 @@
--- The trees that the program's types stand for.
+-- The trees of the program's types.
 use Rattle.std.specs.Prelude.{Box, List, [], ◌∷◌, Some, None}
 use Rattle.std.specs.Global.{Global}
 use Rattle.moo_program.specs.Tree
@@ -43,7 +43,7 @@ abbrev mutual
   with_item (Optional s) xs = Tree.optional s.value xs
   with_item (Defaulted' s p e) xs = Tree.defaulted s.value (tree e) xs
 
--- the items, in front of others
+-- the items before others
 abbrev pub in_front : List Item → Items → Items
 in_front [] xs = xs
 in_front (x ∷ front) xs = with_item x (in_front front xs)
@@ -76,7 +76,7 @@ abbrev mutual
   arms_row end_of-Arm = Tree.no_else
   arms_row (more_of-Arm a arms) = with_arm a (arms_row arms)
 
-  -- what stands behind `else` is no part of the program
+  -- arms after `else` are no part of the program
   pub with_arm : Arm → Tree.Arms → Tree.Arms
   with_arm (ElseIf' e shape ss) arms = Tree.elseif (root e) (statements ss) arms
   with_arm (Else' shape ss) arms = Tree.otherwise (statements ss)

@@ -1,4 +1,4 @@
--- How a fault is told to a player.
+-- The message of a fault that a player sees.
 use Rattle.std.specs.Prelude.{ℕ, List, ◌++◌, codes}
 use Rattle.std.specs.Fmt.{decimal}
 use Rattle.moo_syntax.specs.declared.syntax_fault.SyntaxFault.{SyntaxFault}

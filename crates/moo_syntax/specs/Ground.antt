@@ -1,4 +1,4 @@
--- What the tokens before a place say of it.
+-- What the tokens before a place determine.
 use Rattle.std.specs.Prelude.{ℕ, List, [], ◌∷◌, Option, Some, None, take}
 use Rattle.moo_token.specs.declared.sign.Sign.TheVariants.{Dot, Colon, Dollar}
 use Rattle.moo_token.specs.declared.keyword.Keyword.TheVariants.{For, EndFor, While, EndWhile, Except}
@@ -7,7 +7,7 @@ use Rattle.moo_token.specs.declared.token.Token.TheVariants.{Name, Keyword, Sign
 use Rattle.moo_token.specs.declared.token.Spot.{Spot}
 use Rattle.moo_grammar.specs.Tokens.{words}
 
--- what a name that comes next is the name of
+-- the kind of a name that comes next
 pub data Naming : Type 0 where
   -- a variable or a function: an expression may begin
   of_value : Naming
@@ -17,10 +17,10 @@ pub data Naming : Type 0 where
 
 pub record Ground : Type 0 where
   pub naming : Naming
-  -- the loops round it by their names, the innermost first
+  -- the names of the loops around it, the innermost first
   pub loops : List (Option (List ℕ))
 
--- where the tokens begin
+-- at the first token
 abbrev pub outside : Ground
 outside = record { naming = of_value; loops = [] }
 
@@ -33,12 +33,12 @@ naming_behind (Keyword For) = of_loop
 naming_behind (Keyword While) = of_loop
 naming_behind _ = of_value
 
--- the loops but for the innermost
+-- the loops without the innermost
 abbrev pub outer : List (Option (List ℕ)) → List (Option (List ℕ))
 outer [] = []
 outer (l ∷ ls) = ls
 
--- the loops behind a name
+-- the loops after a name
 abbrev pub named_loops : Naming → List ℕ → List (Option (List ℕ)) → List (Option (List ℕ))
 named_loops of_loop x ls = Some x ∷ outer ls
 named_loops of_value x ls = ls
@@ -52,11 +52,11 @@ loops_behind g (Keyword EndFor) = outer g.loops
 loops_behind g (Keyword EndWhile) = outer g.loops
 loops_behind g _ = g.loops
 
--- what one comes to from the ground over the tokens
+-- the ground after the tokens, from the ground before them
 abbrev pub ground_behind : Ground → List Token → Ground
 ground_behind g [] = g
 ground_behind g (x ∷ ts) = ground_behind (record { naming = naming_behind x; loops = loops_behind g x }) ts
 
--- what the tokens before the place say of it
+-- the ground at the place, from the tokens before it
 abbrev pub ground_at : List Spot → ℕ → Ground
 ground_at spots n = ground_behind outside (take n (words spots))

@@ -1,4 +1,4 @@
--- What a fault says of the text.
+-- The meaning of a fault for the text.
 use Rattle.std.specs.Prelude.{ℕ, suc, List, [], ◌∷◌, ◌++◌, ◌≡◌, ◌≤◌, ◌<◌, ◌+◌, Bool, true, false, Some, None, length, take, drop}
 use Rattle.std.specs.List.{sum_by}
 use Rattle.moo_token.specs.declared.sign.Sign.TheVariants.{Assign}
@@ -21,15 +21,15 @@ use Rattle.moo_syntax.specs.declared.syntax_fault.SyntaxFaultKind.{SyntaxFaultKi
 use Rattle.moo_syntax.specs.declared.syntax_fault.SyntaxFaultKind.TheVariants.{BadToken, Unexpected, BadTarget, UnknownFunction, BadLoopName, TooDeep, Memory}
 use Rattle.moo_syntax.specs.Ground.{of_value, ground_at}
 
--- The lists begin alike, up to and with the token at n. The end of a list counts as a token.
+-- The lists agree up to and including the token at n. The end of a list counts as a token.
 abbrev pub SameUpTo : ℕ → List Token → List Token → Type 0
 SameUpTo n ts us = take (suc n) us ≡ take (suc n) ts
 
--- no tokens that begin as these do, up to and with the one at n, are a program by the rules
+-- no tokens that agree with these up to and including the one at n are a program under the rules
 abbrev pub NoProgram : Rules → List Token → ℕ → Type 0
 NoProgram g ts n = (n ≤ length ts) × ((us : List Token) (b : Block) → SameUpTo n ts us → IsProgramBy g us b → ⊥)
 
--- some tokens that begin as these do, up to and with the one at n, are a program by the rules
+-- some tokens that agree with these up to and including the one at n are a program under the rules
 pub record BeginsProgram (g : Rules) (ts : List Token) (n : ℕ) : Type 0 where
   pub tokens : List Token
   pub tree : Block
@@ -40,26 +40,26 @@ pub record BeginsProgram (g : Rules) (ts : List Token) (n : ℕ) : Type 0 where
 abbrev pub SameBefore : ℕ → List Token → List Token → Type 0
 SameBefore n ts us = take n us ≡ take n ts
 
--- each program by the rules that begins with the first n of these tokens has more nodes on a path than may be
+-- each program under the rules that begins with the first n of these tokens has too many nodes on a path
 abbrev pub EachIsTooHigh : Rules → List Token → ℕ → Type 0
 EachIsTooHigh g ts n = (us : List Token) (b : Block) → SameBefore n ts us → IsProgramBy g us b → most_nodes < block_height b
 
--- some program by the rules begins with the first n of these tokens
+-- some program under the rules begins with the first n of these tokens
 pub record BeginsSome (g : Rules) (ts : List Token) (n : ℕ) : Type 0 where
   pub tokens : List Token
   pub tree : Block
   pub same : SameBefore n ts tokens
   pub program : IsProgramBy g tokens tree
 
--- what asks for targets before `=`, and for nothing else
+-- the rule that only targets are allowed before `=`, and no other
 abbrev pub with_targets : Rules
 with_targets = record { targets = true; functions = λ _. true; loops = false }
 
--- what asks for names that may be called, and for nothing else
+-- the rule that only some names may be called, and no other
 abbrev pub with_functions : Names → Rules
 with_functions names = record { targets = false; functions = may_call names; loops = false }
 
--- what asks for loops round jumps, and for nothing else
+-- the rule that jumps are in loops, and no other
 abbrev pub with_loops : Rules
 with_loops = record { targets = false; functions = λ _. true; loops = true }
 
@@ -79,8 +79,8 @@ abbrev pub AreSound : List Token → Type 0
 AreSound [] = Unit {0}
 AreSound (x ∷ ts) = (is_bad x ≡ false) × AreSound ts
 
--- No program begins with the tokens of the text up to one on line n, whatever it assigns to, calls and jumps out of. They are
--- all sound.
+-- No program begins with the tokens of the text up to one on line n, whatever it assigns to, calls and jumps out of.
+-- None of the tokens is bad.
 pub record IsUnexpected (lines : List (List ℕ)) (n : ℕ) : Type 0 where
   pub spots : List Spot
   pub reading : IsReading lines spots
@@ -89,7 +89,7 @@ pub record IsUnexpected (lines : List (List ℕ)) (n : ℕ) : Type 0 where
   pub none : NoProgram loose (words spots) at
   pub sound : AreSound (take (suc at) (words spots))
 
--- an expression begins before the place, and ends at an `=` that stands there, and it is no target
+-- an expression begins before the place and ends at an `=` there, and it is no target
 pub record AssignsNoTarget (spots : List Spot) (at : ℕ) : Type 0 where
   pub before : ℕ
   pub free : (ground_at spots before).naming ≡ of_value
@@ -99,8 +99,8 @@ pub record AssignsNoTarget (spots : List Spot) (at : ℕ) : Type 0 where
   pub assigns : next_passes (is_sign Assign) (words (drop at spots)) ≡ true
   pub no_target : is_target value ≡ false
 
--- An `=` stands on line n, behind an expression that is no target. No program of which targets alone are asked begins with the
--- tokens up to it, but one of which nothing is asked does.
+-- An `=` is on line n, after an expression that is no target. No program under the rule of targets begins with the
+-- tokens up to it, but one under no rule does.
 pub record IsBadTarget (lines : List (List ℕ)) (n : ℕ) : Type 0 where
   pub spots : List Spot
   pub reading : IsReading lines spots
@@ -123,13 +123,14 @@ pub record IsUnknownFunction (names : Names) (lines : List (List ℕ)) (n : ℕ)
   pub none : NoProgram (with_functions names) (words spots) at
   pub begins : BeginsProgram loose (words spots) at
 
--- a `break` or a `continue` outside all loops stands at the place, or behind one the name of none of the loops round it
+-- a `break` or a `continue` outside all loops is at the place, or the name after one, which none of the loops around it
+-- has
 pub data IsBadJump (spots : List Spot) : ℕ → Type 0 where
   outside_loops : {at : ℕ} → next_passes is_jump (words (drop at spots)) ≡ true → has_loop (ground_at spots at).loops None ≡ false → IsBadJump spots at
   of_no_loop : (before : ℕ) {x : Token} {name : List ℕ} {rest : List Token} → is_jump x ≡ true → words (drop before spots) ≡ x ∷ Name name ∷ rest → has_loop (ground_at spots (before + 1)).loops (Some name) ≡ false → IsBadJump spots (before + 1)
 
--- Such a jump, or its name, stands on line n. No program of which loops round its jumps alone are asked begins with the tokens up to it,
--- but one of which nothing is asked does.
+-- Such a jump, or its name, is on line n. No program under the rule of loops begins with the tokens up to it, but one
+-- under no rule does.
 pub record IsBadLoopName (lines : List (List ℕ)) (n : ℕ) : Type 0 where
   pub spots : List Spot
   pub reading : IsReading lines spots
@@ -149,12 +150,12 @@ pub record HasLongLine (names : Names) (ts : List Token) : Type 0 where
   pub program : IsProgram names ts tree
   pub long : ¬ AllFit (listing tree)
 
--- what is past a limit at the place
+-- the limit that is exceeded at the place
 pub data Exceeds (names : Names) (spots : List Spot) (at : ℕ) : Type 0 where
-  -- the first bracket stands there that opens where as many as may be are open
+  -- the first bracket there that opens when the greatest number of brackets is open already
   by_bracket : most_open (words (take at spots)) ≤ most_brackets → most_brackets < most_open (words (take (at + 1) spots)) → Exceeds names spots at
-  -- More tokens stand before it than a path may have nodes. Some program of which nothing is asked begins with them, and each
-  -- that does has more nodes on a path than may be.
+  -- More tokens are before it than a path may have nodes. Some program under no rule begins with them, and each that
+  -- does has too many nodes on a path.
   by_nodes : most_nodes < at → EachIsTooHigh loose (words spots) at → BeginsSome loose (words spots) at → Exceeds names spots at
   -- the text ends there, and its program has a line in its full listing that no string holds
   by_line : at ≡ length spots → HasLongLine names (words spots) → Exceeds names spots at
@@ -169,7 +170,7 @@ pub record IsTooDeep (names : Names) (lines : List (List ℕ)) (n : ℕ) : Type 
   pub outside : IsOutside names (words spots)
   pub exceeds : Exceeds names spots at
 
--- what a fault of this kind on line n says of the text
+-- the meaning of a fault of this kind on line n
 abbrev pub Blames : Names → List (List ℕ) → ℕ → SyntaxFaultKind → Type 0
 Blames names lines n BadToken = IsBadToken lines n
 Blames names lines n Unexpected = IsUnexpected lines n

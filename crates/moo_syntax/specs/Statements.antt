@@ -1,4 +1,4 @@
--- What the parser of statements says of its outcome.
+-- The outcomes of the parser of statements.
 use Rattle.std.specs.Prelude.{ℕ, List, [], ◌∷◌, ◌≡◌, ◌≤◌, ◌<◌, ◌+◌, true, false, Option, Some}
 use Rattle.moo_token.specs.declared.token.Token.{Token}
 use Rattle.moo_token.specs.declared.token.Token.TheVariants.{Name}
@@ -40,7 +40,7 @@ abbrev pub handlers_before : List Handler → Handlers → Handlers
 handlers_before [] hs = hs
 handlers_before (h ∷ front) hs = with_handler h (handlers_before front hs)
 
--- what stands behind the bracket of a `for`
+-- the reading after the bracket of a `for`
 abbrev pub behind_range : List (Option (List ℕ)) → List ℕ → Reading Sort.stmt
 behind_range ls x = phrase (expression false) λ a. expect DotDot (phrase (expression false) λ b. expect RightBracket (phrase (statements (Some x ∷ ls)) λ c. expect_keyword EndFor (give (for_range x a b c))))
 
@@ -48,7 +48,7 @@ behind_range ls x = phrase (expression false) λ a. expect DotDot (phrase (expre
 abbrev pub performing : Reading Sort.stmt
 performing = phrase (expression false) λ a. expect Semicolon (give (performs a))
 
--- what stands behind a handler
+-- the reading after a handler
 abbrev pub after_handler : List (Option (List ℕ)) → (Handlers → Handlers) → Reading Sort.handler_list
 after_handler ls f = peek (is_keyword Except) (phrase (handlers ls) λ h. give (f h)) (give (f no_handler))
 
@@ -58,7 +58,7 @@ pub record IsHandler (names : Names) (ls : List (Option (List ℕ))) (room : ℕ
   pub fits : handlers_height (with_handler h no_handler) ≤ room
   pub tokens : old.at + handlers_height (with_handler h no_handler) ≤ new.at
 
--- a name comes first that none of the loops has
+-- the first token is a name that none of the loops has
 pub record IsStranger (ls : List (Option (List ℕ))) (ts : List Token) : Type 0 where
   pub name : List ℕ
   pub rest : List Token
@@ -71,7 +71,7 @@ pub record Jumps (names : Names) (k : Keyword) (ls : List (Option (List ℕ))) (
   pub fits : 1 ≤ room
   pub tokens : old.at + 1 ≤ new.at
 
--- such a jump was not read
+-- a jump with this keyword was not read
 pub record HasNotJumped (names : Names) (k : Keyword) (ls : List (Option (List ℕ))) (room : ℕ) (old new : Cursor) (f : Fault) : Type 0 where
   pub fails : (h : Option (List ℕ) → Tree.Stmt) (q : Reading Sort.stmt) (g : Rules) → ToldBy f names g → Fails (grammar g) (why f) Sort.stmt (jump g ls k h q) (left old) (left new)
   pub stands : Stands f names new

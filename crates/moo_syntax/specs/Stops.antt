@@ -1,4 +1,4 @@
--- What the parser knows of the tokens where it stops.
+-- What the parser knows of the tokens when it stops.
 use Rattle.std.specs.Prelude.{ℕ, List, ◌∷◌, ◌≡◌, ◌≤◌, false, drop, length}
 use Rattle.moo_token.specs.declared.token.Token.{Token}
 use Rattle.moo_token.specs.declared.token.Spot.{Spot}
@@ -20,17 +20,17 @@ pub record ExceedLimits (names : Names) (spots : List Spot) (at : ℕ) : Type 0 
   pub outside : IsOutside names (words spots)
   pub exceeds : Exceeds names spots at
 
--- from the tokens to their rest, over sound ones
+-- from the tokens to their rest, past none that is bad
 pub data Passes : List Token → List Token → Type 0 where
   none : {r : List Token} → Passes r r
   one : {x : Token} {ts r : List Token} → is_bad x ≡ false → Passes ts r → Passes (x ∷ ts) r
 
--- no program goes on at the place, and no bad token stands before it
+-- no program continues at the place, and no bad token is before it
 pub record IsStuckAt (spots : List Spot) (at : ℕ) : Type 0 where
   pub none : NoProgram loose (words spots) at
   pub passes : Passes (words spots) (words (drop at spots))
 
--- no target stands before the `=` at the place
+-- the expression before the `=` at the place is no target
 pub record HasBadTarget (spots : List Spot) (at : ℕ) : Type 0 where
   pub assigned : AssignsNoTarget spots at
   pub none : NoProgram with_targets (words spots) at
@@ -45,7 +45,7 @@ pub record CallsUnknown (names : Names) (spots : List Spot) (at : ℕ) : Type 0 
   pub none : NoProgram (with_functions names) (words spots) at
   pub begins : BeginsProgram loose (words spots) at
 
--- the jump at the place, or the name there, has no loop round it
+-- the jump at the place, or the name there, is in no loop of its own
 pub record HasBadJump (spots : List Spot) (at : ℕ) : Type 0 where
   pub jumps : IsBadJump spots at
   pub none : NoProgram with_loops (words spots) at

@@ -1,4 +1,4 @@
--- What the reader of tokens knows on its way: words of private clauses alone.
+-- The state of the lexer within a text, for private clauses only.
 use Rattle.std.specs.Prelude.{ℕ, List, [], ◌++◌, Option, Some, None}
 use Rattle.moo_token.specs.declared.token.Spot.{Spot}
 use Rattle.moo_token.specs.Lexing.{Ending, Place, outside, commented, Lexes, IsReading}
@@ -16,6 +16,6 @@ pub record GoesOn (lines : List (List ℕ)) (p : Place) (n : ℕ) (bs : List ℕ
 pub record Passes (n : ℕ) (p : Place) (bs : List ℕ) (found : List Spot) (q : Place) (cs : List ℕ) (more : List Spot) : Type 0 where
   pub passes : (lines : List (List ℕ)) (below : List (List ℕ)) → GoesOn lines p n bs below found → GoesOn lines q n cs below more
 
--- in every text that comes to this place of line n, these are all that a reader finds
+-- in every text that comes to this place of line n, these are all spots of the text
 pub record Stops (n : ℕ) (p : Place) (bs : List ℕ) (found : List Spot) (spots : List Spot) : Type 0 where
   pub stops : (lines : List (List ℕ)) (below : List (List ℕ)) → GoesOn lines p n bs below found → IsReading lines spots

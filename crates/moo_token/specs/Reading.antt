@@ -1,4 +1,4 @@
--- What the spots of a text look like.
+-- Properties of the spots of a text.
 use Rattle.std.specs.Prelude.{ℕ, List, [], ◌∷◌, ◌++◌, ◌≡◌, ◌≢◌, ◌≤◌, All, length}
 use Rattle.moo_token.specs.declared.token.Token.TheVariants.{Bad}
 use Rattle.moo_token.specs.declared.token.Spot.{Spot}
@@ -7,7 +7,7 @@ use Rattle.moo_token.specs.declared.token.Spot.{Spot}
 abbrev pub IsSound : Spot → Type 0
 IsSound s = s.token ≢ Bad
 
--- tokens, and `Bad` behind them
+-- tokens, and `Bad` after them
 pub record EndsInBad (spots : List Spot) : Type 0 where
   pub before : List Spot
   pub line : ℕ

@@ -1,4 +1,4 @@
--- How each token is written, and what may not stand right behind it.
+-- The spelling of each token, and the bytes that may not follow it directly.
 use Rattle.std.specs.Prelude.{ℕ, pos, ◌≤ℤ◌, FitsSigned, List, [], ◌∷◌, ◌++◌, ◌≡◌, Bool, true, false, nat_eq, ◌&&◌, ◌||◌, is_none, codes}
 use Rattle.std.specs.List.{list_all}
 use Rattle.std.specs.Int.{w32}
@@ -69,8 +69,8 @@ sign_text Slash = codes "/"
 sign_text Percent = codes "%"
 sign_text Caret = codes "^"
 
--- how a token is written: an integer in decimal, an object's number behind `#`, an error by its name, a string between
--- double quotes with a backslash before each double quote and backslash in it, a name as it is
+-- the spelling of a token: an integer in decimal, an object's number after `#`, an error by its name, a string between
+-- double quotes with a backslash before each double quote and backslash in it, a name unchanged
 abbrev pub spell : Token → List ℕ
 spell (token.Integer i) = signed_decimal i
 spell (token.Object o) = codes "#" ++ signed_decimal o
@@ -81,7 +81,7 @@ spell (token.Keyword k) = spelled_keyword k
 spell (token.Sign s) = sign_text s
 spell token.Bad = []
 
--- what can be written as one token: no negative integer (its minus is a token of its own), and no name that is no name
+-- the tokens that have a spelling: no negative integer (its minus is a separate token), and no invalid name
 abbrev pub HasSpelling : Token → Type 0
 HasSpelling (token.Integer i) = (pos 0 ≤ℤ i) × FitsSigned w32 i
 HasSpelling (token.Object o) = FitsSigned w32 o
@@ -92,12 +92,12 @@ HasSpelling (token.Keyword k) = Unit {0}
 HasSpelling (token.Sign s) = Unit {0}
 HasSpelling token.Bad = ⊥
 
--- the first of these bytes is such a one
+-- the first of these bytes passes the test
 abbrev pub begins_with : (ℕ → Bool) → List ℕ → Bool
 begins_with p [] = false
 begins_with p (b ∷ bs) = p b
 
--- a byte that makes a longer sign of a sign, or with `/` the beginning of a comment
+-- a byte that extends the sign to a longer sign, or `/` to the beginning of a comment
 abbrev pub joins_sign : Sign → ℕ → Bool
 joins_sign Dot b = nat_eq b 46
 joins_sign Pipe b = nat_eq b 124
@@ -108,9 +108,9 @@ joins_sign Greater b = nat_eq b 61
 joins_sign Slash b = nat_eq b 42
 joins_sign s b = false
 
--- These bytes may not stand right behind the token: behind a word what goes on with a word, behind a number a digit,
--- behind an integer also `e`, `E` and a dot that is not of `..`, behind a sign what makes another sign of it, and `*`
--- behind `/`. Behind a string anything may stand.
+-- These bytes may not directly follow the token. After a word: a byte that continues a word. After a number: a digit.
+-- After an integer also: `e`, `E` and a dot that is not part of `..`. After a sign: a byte that extends it, and `*`
+-- after `/`. After a string any byte may follow.
 abbrev pub joins : Token → List ℕ → Bool
 joins (token.Integer i) rest = begins_with is_digit rest || begins_fraction rest
 joins (token.Object o) rest = begins_with is_digit rest

@@ -35,11 +35,11 @@ word bytes = named bytes (keyword_of bytes) (error_named bytes)
 abbrev pub number : List ℕ → ℕ
 number digits = fold (λ n d. n * 10 + (d - 48)) 0 digits
 
--- the same modulo 2^32, with a sign
+-- the number modulo 2^32 as a signed number
 abbrev pub wrapped : List ℕ → ℤ
 wrapped digits = cast_signed w32 (number digits % 2 ^ 32)
 
--- what may not stand behind an integer: an exponent, or a dot that is not of `..`
+-- what may not follow an integer: an exponent, or a dot that is not part of `..`
 unfoldable pub begins_fraction : List ℕ → Bool
 begins_fraction [] = false
 begins_fraction (a ∷ []) = nat_eq a 69 || nat_eq a 101 || nat_eq a 46
@@ -55,13 +55,13 @@ integer_at bs =
 unfoldable pub number_at : List ℕ → Option (ℤ × ℕ)
 number_at bs = if nat_eq (prefix_len is_digit bs) 0 then None else Some (wrapped (take (prefix_len is_digit bs) bs), prefix_len is_digit bs)
 
--- what stands behind `#`: perhaps `-`, and a number
+-- the object number after `#`: an optional `-`, and a number
 unfoldable pub object_at : List ℕ → Option (ℤ × ℕ)
 object_at [] = None
 object_at (b ∷ bs) = if nat_eq b 45 then option_map (λ o. (int_wrapping_neg w32 o.0, 1 + o.1)) (number_at bs) else number_at (b ∷ bs)
 
--- What stands behind a string's opening quote: the string, and the number of bytes up to and with its closing quote.
--- `taken` says that a backslash stands before these bytes.
+-- The rest of a string after its opening quote: the string, and the number of bytes up to and including its closing
+-- quote. `taken` means that a backslash precedes these bytes.
 unfoldable pub unquoted : (taken : Bool) → List ℕ → Option (List ℕ × ℕ)
 unquoted taken [] = None
 unquoted true (b ∷ bs) = option_map (λ s. (b ∷ s.0, 1 + s.1)) (unquoted false bs)
@@ -70,7 +70,7 @@ unquoted false (b ∷ bs) =
     else if nat_eq b 92 then option_map (λ s. (s.0, 1 + s.1)) (unquoted true bs)
     else option_map (λ s. (b ∷ s.0, 1 + s.1)) (unquoted false bs)
 
--- the token that the bytes begin with, the longest that there is, and its length
+-- the longest token that the bytes begin with, and its length
 unfoldable pub token_at : List ℕ → Option (Token × ℕ)
 token_at [] = None
 token_at (b ∷ bs) =

@@ -37,10 +37,10 @@ is_spelled word k = str_eq_ignore_ascii_case (keyword_text k) word
 unfoldable pub keyword_of : List ℕ → Option Keyword
 keyword_of word = find (is_spelled word) all_keywords
 
--- for private clauses: the first letter of a word, as a small one
+-- for private clauses: the first letter of a word in lower case
 abbrev pub first_letter : List ℕ → ℕ
 first_letter word = get_or (folded word) 0 0
 
--- for private clauses: the keywords of so many letters that begin with this small one
+-- for private clauses: the keywords of this length that begin with this lower-case letter
 abbrev pub likely : ℕ → ℕ → List Keyword
 likely count letter = filter (λ k. (length (keyword_text k) == count) && (get_or (keyword_text k) 0 0 == letter)) all_keywords

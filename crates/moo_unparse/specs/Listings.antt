@@ -1,4 +1,4 @@
--- The listings of a program: with all parentheses or with those that are needed, and with blanks before the lines or without.
+-- The listings of a program: with all parentheses or those that are needed, and with or without indents.
 use Rattle.std.specs.Prelude.{ℕ, List, [], ◌∷◌, ◌++◌, Bool, true, false, Option, codes}
 use Rattle.moo_value.specs.Text.{literal as text_of}
 use Rattle.moo_program.specs.Tree.{Expr, literal, variable, length_mark, unary, binary, logic, conditional, index, range, list, property, verb_call, call, assign, catch, catch_or, Items, no_items, element, splice, optional, defaulted, Codes, any_error, listed_errors, Stmt, return_nothing, returns, performs, branches, for_list, for_range, while_loop, breaks, continues, try_except, try_finally, Arms, no_else, otherwise, elseif, Handlers, no_handler, handler, Block, no_statement, then, literal_value}
@@ -9,7 +9,7 @@ use Rattle.moo_unparse.specs.declared.form.Form.{Form}
 use Rattle.moo_unparse.specs.declared.form.Part.TheVariants.{Assignment, Conditional, Logic, Sign}
 use Rattle.moo_unparse.specs.Parts.{operator_part, left_of, right_of, needs}
 
--- expressions, by which parentheses stand round operands
+-- the text of expressions; the parameter selects the operands that are in parentheses
 abbrev mutual
   pub listed : Parentheses → Expr → List ℕ
   listed p (literal l) = text_of (literal_value l)
@@ -60,7 +60,7 @@ elseif_head p a = codes "elseif (" ++ listed p a ++ codes ")"
 abbrev pub except_head : Parentheses → Option (List ℕ) → Codes → List ℕ
 except_head p n c = codes "except" ++ labelled n ++ codes " (" ++ listed_codes p c ++ codes ")"
 
--- what stands before the lines within a statement, behind what stands before its own
+-- the addition to the margin for the lines within a statement
 abbrev pub step : Bool → List ℕ
 step true = codes "  "
 step false = []
@@ -70,7 +70,7 @@ deeper f margin = margin ++ step f.indent
 
 -- the lines of statements, with the margin before them
 abbrev mutual
-  -- behind the first line
+  -- the lines after the first
   pub below : Form → (margin : List ℕ) → Stmt → List (List ℕ)
   below f m (branches a b c) = lines f (deeper f m) b ++ arm_lines f m c
   below f m (for_list s a b) = lines f (deeper f m) b ++ (m ++ codes "endfor") ∷ []
@@ -80,13 +80,13 @@ abbrev mutual
   below f m (try_finally b c) = lines f (deeper f m) b ++ (m ++ codes "finally") ∷ lines f (deeper f m) c ++ (m ++ codes "endtry") ∷ []
   below f m s = []
 
-  -- what stands behind the first statements of an `if`
+  -- the lines after the first statements of an `if`
   pub arm_lines : Form → (margin : List ℕ) → Arms → List (List ℕ)
   arm_lines f m no_else = (m ++ codes "endif") ∷ []
   arm_lines f m (otherwise b) = (m ++ codes "else") ∷ lines f (deeper f m) b ++ (m ++ codes "endif") ∷ []
   arm_lines f m (elseif a b c) = (m ++ elseif_head f.parentheses a) ∷ lines f (deeper f m) b ++ arm_lines f m c
 
-  -- what stands behind the statements of a `try`
+  -- the lines after the statements of a `try`
   pub handlers_lines : Form → (margin : List ℕ) → Handlers → List (List ℕ)
   handlers_lines f m no_handler = (m ++ codes "endtry") ∷ []
   handlers_lines f m (handler n c b h) = (m ++ except_head f.parentheses n c) ∷ lines f (deeper f m) b ++ handlers_lines f m h
@@ -99,10 +99,10 @@ abbrev mutual
 abbrev pub listing_in : Form → Block → List (List ℕ)
 listing_in f b = lines f [] b
 
--- all parentheses, and two blanks before a line for each statement round it
+-- all parentheses, and an indent of two blanks for each statement around a line
 abbrev pub indented_listing : Block → List (List ℕ)
 indented_listing b = listing_in (record { parentheses = All; indent = true }) b
 
--- the parentheses that are needed, and the blanks or none
+-- the parentheses that are needed, with or without indents
 abbrev pub short_listing : (indent : Bool) → Block → List (List ℕ)
 short_listing indent b = listing_in (record { parentheses = Needed; indent = indent }) b

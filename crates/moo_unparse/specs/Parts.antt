@@ -1,4 +1,4 @@
--- Which operands stand in parentheses.
+-- The operands that are in parentheses.
 use Rattle.std.specs.Prelude.{ℕ, Bool, nat_lt}
 use Rattle.moo_program.specs.declared.operator.BinaryOperator.{BinaryOperator}
 use Rattle.moo_program.specs.declared.operator.BinaryOperator.TheVariants as operator
@@ -30,7 +30,7 @@ operator_part operator.Remainder = Product
 operator_part operator.Power = Power
 operator_part _ = Relation
 
--- the part of the grammar that an expression is when it stands bare
+-- the part of the grammar that an expression without parentheses is
 abbrev pub part_of : Expr → Part
 part_of (assign a b) = Assignment
 part_of (conditional a b c) = Conditional
@@ -39,12 +39,13 @@ part_of (binary o a b) = operator_part o
 part_of (unary o a) = Sign
 part_of e = Plain
 
--- The loosest part that stands bare to the left of an operator: chains group from the left, and `^` has a sign's operand.
+-- The loosest part without parentheses to the left of an operator: chains group from the left, and `^` has a sign's
+-- operand.
 abbrev pub left_of : Part → Part
 left_of Power = Sign
 left_of p = p
 
--- the same to the right: the next part, and a power to the right of `^`
+-- the loosest part without parentheses to the right of an operator: the next part, and a power to the right of `^`
 abbrev pub right_of : Part → Part
 right_of Logic = Relation
 right_of Relation = Sum
@@ -52,7 +53,7 @@ right_of Sum = Product
 right_of Product = Power
 right_of p = p
 
--- whether an operand stands in parentheses at a place where parts from the least on may stand bare
+-- whether an operand is in parentheses at a place where `least` is the loosest part without them
 abbrev pub needs : Parentheses → (least : Part) → Expr → Bool
 needs All least e = is_compound e
 needs Needed least e = nat_lt (rank (part_of e)) (rank least)

@@ -1,4 +1,4 @@
--- What `==` of the language takes as equal.
+-- The equality of `==` of the language.
 use Rattle.std.specs.Prelude.{ℕ, ◌≡◌, ◌≤◌, ◌+◌, ◌⊎◌, ℤ, List, [], ◌∷◌}
 use Rattle.moo_value.specs.declared.error_code.ErrorCode.{ErrorCode}
 use Rattle.moo_value.specs.Tree.{Tree, Elements, integer, object, error, string, list, no_elements, element}
@@ -9,7 +9,7 @@ pub record IsCapitalOf (capital small : ℕ) : Type 0 where
   pub most : capital ≤ 90
   pub small_is : small ≡ capital + 32
 
--- the same byte, but for the case of a letter
+-- the bytes are equal except for the case of a letter
 abbrev pub IsAlike : ℕ → ℕ → Type 0
 IsAlike b c = (b ≡ c) ⊎ (IsCapitalOf b c ⊎ IsCapitalOf c b)
 
@@ -19,7 +19,7 @@ pub data AreAlike : List ℕ → List ℕ → Type 0 where
   one_more : {b c : ℕ} {s t : List ℕ} → IsAlike b c → AreAlike s t → AreAlike (b ∷ s) (c ∷ t)
 
 mutual
-  -- the same number, object or error; strings that are alike; or lists of as many elements, each equal
+  -- equal numbers, objects or errors; strings that are alike; or lists of the same length whose elements are equal
   pub data IsEqual : Tree → Tree → Type 0 where
     integers : {i : ℤ} → IsEqual (integer i) (integer i)
     objects : {o : ℤ} → IsEqual (object o) (object o)

@@ -1,4 +1,4 @@
--- Words that private clauses alone cite. The meaning of values stands without them.
+-- Definitions that only private clauses cite. The meaning of values does not depend on them.
 use Rattle.std.specs.Prelude.{◌≡◌, ℕ, List}
 use Rattle.moo_value.specs.declared.compare.Letters.{Letters}
 use Rattle.moo_value.specs.declared.compare.Letters.TheVariants as letters
@@ -15,7 +15,7 @@ abbrev pub text_as_compared : Letters → List ℕ → List ℕ
 text_as_compared letters.Exact s = s
 text_as_compared letters.Folded s = folded s
 
--- what a list keeps beside its elements: its weight, its depth, and that it is a value within the limits
+-- the further fields of a list with these elements: its weight and its depth; and that it is a value within the limits
 pub record IsMeasuredList (weight depth : ℕ) (ts : List Tree) : Type 0 where
   pub weight_is : weight ≡ list_weight ts
   pub depth_is : depth ≡ list_depth ts

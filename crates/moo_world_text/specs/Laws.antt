@@ -1,4 +1,4 @@
--- What is written is read back.
+-- The texts of permissions and specifiers parse back to them.
 use Rattle.std.specs.Prelude.{◌≡◌, Some}
 use Rattle.moo_object.specs.declared.cell.PropPerms.{PropPerms}
 use Rattle.moo_object.specs.declared.verb.VerbPerms.{VerbPerms}

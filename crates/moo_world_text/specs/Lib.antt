@@ -1,4 +1,4 @@
--- How permissions and specifiers are written and read.
+-- The texts of permissions and specifiers.
 pub mod Permissions
 pub mod Specifiers
 pub mod Laws

@@ -5,15 +5,15 @@ use Rattle.std.specs.Char.{to_ascii_lowercase}
 use Rattle.moo_object.specs.declared.cell.PropPerms.{PropPerms}
 use Rattle.moo_object.specs.declared.verb.VerbPerms.{VerbPerms}
 
--- the letters that are marked, in their order
+-- the marked letters, in their order
 abbrev pub marked : List (Bool × ℕ) → List ℕ
 marked marks = map (λ mark. mark.1) (filter (λ mark. mark.0) marks)
 
--- the letters r, w and c of what is allowed
+-- the letters r, w and c of the permissions that are granted
 abbrev pub prop_perms_text : PropPerms → List ℕ
 prop_perms_text p = marked ((p.read, 114) ∷ (p.write, 119) ∷ (p.change_owner, 99) ∷ [])
 
--- the letters r, w, x and d
+-- the letters r, w, x and d of the permissions that are granted
 abbrev pub verb_perms_text : VerbPerms → List ℕ
 verb_perms_text p = marked ((p.read, 114) ∷ (p.write, 119) ∷ (p.execute, 120) ∷ (p.debug, 100) ∷ [])
 
@@ -27,11 +27,11 @@ has_letter letter text = list_any (is_letter letter) text
 abbrev pub is_one_of : List ℕ → ℕ → Bool
 is_one_of letters byte = list_any (λ letter. is_letter letter byte) letters
 
--- no byte stands in the text but these letters
+-- the text has no other bytes than these letters
 abbrev pub has_only : List ℕ → List ℕ → Bool
 has_only letters text = list_all (is_one_of letters) text
 
--- the permissions that a text gives, by these letters in any case and order, any of them repeated or left out
+-- the permissions of a text of these letters in any case and order, each possibly repeated or left out
 abbrev pub prop_perms_of : List ℕ → Option PropPerms
 prop_perms_of text =
     if has_only (codes "rwc") text then

@@ -1,4 +1,4 @@
--- Specifiers as texts.
+-- The texts of specifiers.
 use Rattle.std.specs.Prelude.{ℕ, List, [], ◌∷◌, Bool, ◌==◌, ◌||◌, Option, Some, codes, if◌then◌else◌}
 use Rattle.std.specs.Option.{option_map}
 use Rattle.std.specs.List.{list_any, find, slice_split}
@@ -11,7 +11,7 @@ use Rattle.moo_object.specs.declared.verb_args.PrepositionSpecifier.TheVariants 
 use Rattle.moo_object.specs.declared.verb_args.Preposition.{Preposition}
 use Rattle.moo_object.specs.declared.verb_args.Preposition.TheVariants.{With, At, InFrontOf, Inside, OnTopOf, OutOf, Over, Through, Under, Behind, Beside, About, Being, Like, Off}
 
--- the same text, whatever the case of letters
+-- the texts are the same, without regard to case
 abbrev pub same_text : List ℕ → List ℕ → Bool
 same_text one other = same_name (folded one) (folded other)
 
@@ -26,7 +26,7 @@ all_object_specifiers = specifier.None ∷ specifier.Any ∷ specifier.This ∷ 
 abbrev pub object_specifier_of : List ℕ → Option ObjectSpecifier
 object_specifier_of text = find (λ s. same_text text (object_specifier_text s)) all_object_specifiers
 
--- the forms of a preposition, with a slash between two
+-- the forms of a preposition, with slashes between them
 abbrev pub preposition_text : Preposition → List ℕ
 preposition_text With = codes "with/using"
 preposition_text At = codes "at/to"

@@ -15,24 +15,23 @@ use moo_value::{MooStr, Value};
 use std::alloc::{AllocError, Global};
 
 impl Object {
-    /// The cells, in the order of definitions.
+    /// Returns the cells, in the order of definitions.
     pub fn cells(&self) -> &[PropCell]
         ensures { result.now ≡ self.now.cells }
     {
         self.cells.as_slice()
     }
 
-    /// Gives the object other cells.
+    /// Replaces the object's cells.
     pub fn set_cells(&mut self, cells: Row)
         ensures { self.new ≡ record self.old { cells = cells } }
     {
         self.cells = cells;
     }
 
-    /// The cells under a parent with these cells, for the object of this number: those of its own
-    /// definitions, and for each of its parent's the one that there is, or a clear one. What stays in
-    /// order is found where it is looked for first, and a definer that is new above is looked for
-    /// once.
+    /// Returns the cells that the object with this number has under a parent with these cells: those of its own
+    /// definitions, and for each of the parent's cells the object's own or a clear one. Cells that keep their order are
+    /// found at the first place searched, and a new definer above is searched for once.
     pub fn fitted_row(
         &self,
         alloc: Global,
@@ -48,7 +47,7 @@ impl Object {
         Ok(Row::from_cells(row))
     }
 
-    // The cells of the object's own definitions, for the object of this number, in a row with room for so many.
+    // Returns the cells of the object's own definitions, if `number` is its number, in a row of capacity `room`.
     fn own_cells(
         &self,
         alloc: Global,
@@ -66,7 +65,7 @@ impl Object {
         Ok(row)
     }
 
-    // Adds a cell for each of the parent's cells.
+    // Appends a cell for each of the parent's cells.
     fn push_fitted(&self, row: &mut Vec<PropCell>, above: &[PropCell]) -> Result<(), AllocError>
         requires { AreDistinct self.now.cells }
         ensures { OnOk result (row.new.items ≡ row.old.items ++ map (fitted_cell self.now) above.now) }
@@ -85,8 +84,7 @@ impl Object {
         Ok(())
     }
 
-    // The cell for what a definition's cell on the parent is for: the one there is, at this place, or a
-    // clear one.
+    // Returns the cell that has the same definition as a parent's cell: the object's own at this place, or a clear one.
     fn fitted_cell(&self, above: &PropCell, place: Option<usize>) -> Result<PropCell, AllocError>
         requires within { ForSome place (λ i. i < length self.now.cells) }
         requires found { option_and_then (slice_get self.now.cells) place ≡ cell_at self.now.cells (key_of above.now) }
@@ -98,7 +96,7 @@ impl Object {
         }
     }
 
-    /// Sets the value of the cell of a name.
+    /// Sets the value of the first cell with this name.
     pub fn set_value(&mut self, name: &[u8], value: Value)
         ensures { self.new ≡ record self.old { cells = with_value (folded name.now) (tree value) self.old.cells } }
     {
@@ -114,21 +112,22 @@ impl Object {
         self.cells.set_at(place, value);
     }
 
-    /// Makes the cell for a definition clear.
+    /// Makes the cell of a definition clear.
     pub fn clear_value(&mut self, definer: usize, name: &[u8])
         ensures { self.new ≡ record self.old { cells = map (at_key (definer, folded name.now) emptied) self.old.cells } }
     {
         self.cells.clear(definer, name);
     }
 
-    /// Gives the cell for a definition another owner and other permissions.
+    /// Sets the owner and the permissions of a definition's cell.
     pub fn set_cell_info(&mut self, definer: usize, name: &[u8], owner: i32, perms: PropPerms)
         ensures { self.new ≡ record self.old { cells = map (at_key (definer, folded name.now) (with_info owner perms)) self.old.cells } }
     {
         self.cells.set_info(definer, name, owner, perms);
     }
 
-    /// Adds a clear cell for what another cell is for, before the last ones, of which there are `behind`.
+    /// Inserts a clear cell with the definition of another cell before the last `behind` cells. Out of memory nothing
+    /// changes.
     pub fn add_clear(&mut self, other: &PropCell, behind: usize) -> Result<(), AllocError>
         ensures ok { OnOk result (self.new ≡ record self.old { cells = put_before behind (cleared self.old.owner other.now) self.old.cells }) }
         ensures err { OnErr result (self.new ≡ self.old) }
@@ -137,28 +136,28 @@ impl Object {
         self.cells.insert(cell, behind)
     }
 
-    /// Takes the cell before the last ones away, of which there are `behind`.
+    /// Removes the cell before the last `behind` cells.
     pub fn remove_cell(&mut self, behind: usize)
         ensures { self.new ≡ record self.old { cells = taken_before behind self.old.cells } }
     {
         self.cells.remove(behind);
     }
 
-    /// Gives the cell for a definition another name: the first such cell, if there are more.
+    /// Renames the cell of a definition: the first one, if there are more.
     pub fn rename_cell(&mut self, definer: usize, name: &[u8], new_name: MooStr)
         ensures { self.new ≡ record self.old { cells = with_new_name (definer, folded name.now) (folded new_name) self.old.cells } }
     {
         self.cells.rename(definer, name, new_name);
     }
 
-    /// Takes the object's cell for a definition away.
+    /// Removes the object's cell of a definition.
     pub fn lose(&mut self, definer: usize, name: &[u8])
         ensures { self.new ≡ record self.old { cells = filter (λ c. not (is_key (definer, folded name.now) c)) self.old.cells } }
     {
         self.cells.lose(definer, name);
     }
 
-    /// Takes the object's cells for all definitions of an object away.
+    /// Removes the object's cells of all definitions of an object.
     pub fn lose_all_of(&mut self, definer: usize)
         ensures { self.new ≡ record self.old { cells = filter (λ c. not (c.definer == definer)) self.old.cells } }
     {

@@ -12,28 +12,28 @@ use moo_value::MooStr;
 use std::alloc::AllocError;
 
 impl Object {
-    /// The verbs, in order.
+    /// Returns the verbs, in order.
     pub fn verbs(&self) -> &[Verb]
         ensures { result.now ≡ self.now.verbs }
     {
         self.verbs.as_slice()
     }
 
-    /// The verb at a place, which counts from 0.
+    /// Returns the verb at a place, counted from 0, or `None` if there is none.
     pub fn verb(&self, index: usize) -> Option<&Verb>
         ensures { option_copied result ≡ slice_get self.now.verbs index }
     {
         self.verbs.as_slice().get(index)
     }
 
-    /// The place of the first verb that a name fits. For a call only verbs that can be executed count.
+    /// Returns the place of the first verb that a name matches. For a call only executable verbs count.
     pub fn verb_position(&self, need: Need, name: &[u8]) -> Option<usize>
         ensures { result ≡ position (fits_verb need name.now) self.now.verbs }
     {
         self.verbs.position(need, name)
     }
 
-    /// Adds a verb behind the others.
+    /// Appends a verb. Out of memory nothing changes.
     pub fn add_verb(&mut self, verb: Verb) -> Result<(), AllocError>
         ensures ok { OnOk result (self.new ≡ record self.old { verbs = self.old.verbs ++ verb ∷ [] }) }
         ensures err { OnErr result (self.new ≡ self.old) }
@@ -41,7 +41,7 @@ impl Object {
         self.verbs.push(verb)
     }
 
-    /// Takes the verb at a place away.
+    /// Removes the verb at a place.
     pub fn delete_verb(&mut self, index: usize)
         requires { index < length self.old.verbs }
         ensures { self.new ≡ record self.old { verbs = remove self.old.verbs index } }
@@ -49,7 +49,7 @@ impl Object {
         self.verbs.remove(index);
     }
 
-    /// Gives the verb at a place other names, another owner and other permissions.
+    /// Sets the names, the owner and the permissions of the verb at a place.
     pub fn set_verb_info(&mut self, index: usize, names: MooStr, owner: i32, perms: VerbPerms)
         requires { index < length self.old.verbs }
         ensures { self.new ≡ record self.old { verbs = changed_at index (with_verb_info names owner perms) self.old.verbs } }
@@ -57,7 +57,7 @@ impl Object {
         self.verbs.set_info(index, names, owner, perms);
     }
 
-    /// Says for which commands the verb at a place is.
+    /// Sets the argument specifiers of the verb at a place.
     pub fn set_verb_args(&mut self, index: usize, args: VerbArgs)
         requires { index < length self.old.verbs }
         ensures { self.new ≡ record self.old { verbs = changed_at index (with_args args) self.old.verbs } }
@@ -65,7 +65,7 @@ impl Object {
         self.verbs.set_args(index, args);
     }
 
-    /// Gives the verb at a place another program, or none.
+    /// Sets the program of the verb at a place, or removes it.
     pub fn set_program(&mut self, index: usize, program: Option<Program>)
         requires { index < length self.old.verbs }
         ensures { self.new ≡ record self.old { verbs = changed_at index (with_program program) self.old.verbs } }

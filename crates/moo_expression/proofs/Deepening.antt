@@ -1,4 +1,4 @@
--- What each call of the parser adds to a reading that is certain to outgrow its room.
+-- The steps that the parser's calls add to a reading that is certain to outgrow its room.
 use Rattle.std.proofs.Common.{ℕ, ◌<◌, List, ◌∷◌, ◌≡◌, sym, subst, Bool, true, false, Option, Some}
 use Rattle.moo_token.specs.declared.token.Token.{Token}
 use Rattle.moo_grammar.specs.Tokens.{next_passes}
@@ -27,7 +27,7 @@ certain_more w (part c all) = part c (λ a h ts e r d. w e (all a h ts e r d))
 certain_more w (behind d c) = behind d (certain_more w c)
 
 module _ {g : Rules} {s : Sort} {n : ℕ} where
-  -- the same of a function that may stop before it takes a token
+  -- the tree is certain to be too high, for a function that may stop before it takes a token
   pub at_any : {b : Bool} {p : Reading s} {ts r : List Token} → Deepens g true s n p ts r → Deepens g b s n p ts r
   at_any (later z c) = later z c
 

@@ -1,4 +1,4 @@
--- What is certain by the tokens that were taken holds of whatever else comes behind them.
+-- A fact that is certain by the tokens that were taken holds for whatever tokens follow them.
 use Rattle.std.proofs.Common.{ℕ, ◌<◌, List, ◌∷◌, ◌≡◌, refl, sym, subst, Bool, true, nat_lt, arith}
 use Rattle.moo_token.specs.declared.token.Token.{Token}
 use Rattle.moo_grammar.specs.Rules.{Rules}

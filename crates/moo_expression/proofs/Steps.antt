@@ -1,4 +1,4 @@
--- What each call of the parser adds to a reading.
+-- The steps that the parser's calls add to a reading.
 use Rattle.std.proofs.Common.{ℕ, zero, suc, ◌+◌, ◌≤◌, ◌<◌, List, [], ◌∷◌, ◌++◌, ◌≡◌, refl, sym, ◌∙◌, ap, subst, Bool, true, false, Option, Some, None, Result, Ok, Err, MatchOption, MatchResult, IfOk, IfErr, ⊎_elim, ◌⊎◌, arith}
 use Rattle.moo_token.specs.declared.sign.Sign.TheVariants.{Comma, LeftParen, Question, Assign}
 use Rattle.moo_token.specs.declared.token.Token.{Token}

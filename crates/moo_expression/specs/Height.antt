@@ -1,4 +1,4 @@
--- What the parser knows of the height of trees.
+-- The parser's knowledge of the height of trees.
 use Rattle.std.specs.Prelude.{ℕ, ◌≤◌, ◌<◌, ◌≡◌, ◌⊎◌, Result, MatchResult}
 use Rattle.moo_program.specs.Tree.{Expr}
 use Rattle.moo_program.specs.Limits.{height}

@@ -1,4 +1,4 @@
--- What a dissolution leaves.
+-- The nodes after a dissolution.
 use Rattle.std.proofs.Common.{◌≡◌, ◌≢◌, ℕ, ◌<◌, ◌≤◌, List, [], ◌∷◌, ◌++◌, Option, Some, None, true, false, cond, not, eqb, refl, sym, ◌∙◌, ap, ⊎_elim, arith, length, get_or, set, subst}
 use Rattle.std.specs.List.{count_by, list_any, All}
 use Rattle.std.specs.Option.{option_eq}

@@ -1,4 +1,4 @@
--- What stands in slots.
+-- The contents of slots.
 use Rattle.std.proofs.Common.{◌≡◌, ℕ, zero, suc, ◌+◌, ◌<◌, ◌≤◌, List, [], ◌∷◌, ◌++◌, Option, Some, None, true, false, cond, eqb, refl, sym, ◌∙◌, ap, ⊎_elim, arith, length, get_or, set, map, take}
 use Rattle.std.specs.Prelude.{filter, MatchOption}
 use Rattle.std.specs.List.{count_by}

@@ -35,7 +35,7 @@ count_itself y ys =
 count_one : (y z : ℕ) → y ≢ z → count_by (eqb y) (z ∷ []) ≡ 0
 count_one y z ne = let off = ne_eqb y z ne in rw off refl
 
--- the same lists
+-- equal lists have equal marks
 pub marked_along : (nodes : List Links) (listed : List Bool) (old new : ℕ → List ℕ) → ((x : ℕ) → old x ≡ new x) → AreMarked nodes listed old → AreMarked nodes listed new
 marked_along nodes listed old new same m = record {
   right = λ x y. subst (λ l. count_by (eqb y) l ≤ times_below (above_of nodes y) x) (same x) (m.right x y);

@@ -1,4 +1,4 @@
--- What a move leaves.
+-- The nodes after a move.
 use Rattle.std.proofs.Common.{◌≡◌, ◌≢◌, ℕ, ◌<◌, ◌≤◌, List, [], ◌∷◌, ◌++◌, Option, Some, None, true, false, cond, eqb, refl, sym, ◌∙◌, ap, subst, ⊎_elim, arith, length, get_or, set, map}
 use Rattle.std.specs.List.{count_by, list_any, range_with_len}
 use Rattle.std.specs.Option.{option_eq}
@@ -250,7 +250,7 @@ moved_by_steps nodes x to exact node place from out is ne last up down =
     (λ e. rw e (below_steps nodes x to from k exact place out is ne))
     (cases_Bool (eqb k x))))
 
--- the same, of what each step of the code was told
+-- the nodes after a move, from what the contract of each step of the code says
 pub moved_in_steps : (nodes put taken : List Links) (x : ℕ) (to from : Option ℕ) (read last : Links) → IsExact nodes → x < length nodes → IsPlace nodes to →
     from ≡ above_of nodes x → option_eq eqb from to ≡ false → put ≡ with_newest nodes x to → taken ≡ with_taken_out put x from →
     read ≡ get_or taken x read → last ≡ record { above = to; below = read.below } → set taken x last ≡ relinked nodes x to

@@ -1,4 +1,4 @@
--- What stricter rules derive, looser ones derive too.
+-- Looser rules derive all that stricter ones derive.
 use Rattle.std.proofs.Common.{ℕ, List, ◌≡◌, refl, Bool, true, false, not, ◌||◌, Option, Some, None}
 use Rattle.moo_token.specs.declared.token.Token.{Token}
 use Rattle.moo_program.specs.Tree.{Expr, Block}

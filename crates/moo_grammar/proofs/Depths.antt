@@ -1,4 +1,4 @@
--- What each call of the parser adds to a reading whose every tree is too high.
+-- The steps that the parser's calls add to a reading whose every tree is too high.
 use Rattle.std.proofs.Common.{ℕ, zero, suc, ◌≤◌, ◌<◌, List, [], ◌∷◌, ◌≡◌, refl, sym, subst, Bool, true, false, None, unwrap_or, arith}
 use Rattle.moo_token.specs.declared.token.Token.{Token}
 use Rattle.moo_program.specs.Limits.{height}

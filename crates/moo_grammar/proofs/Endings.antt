@@ -13,8 +13,8 @@ use Rattle.moo_grammar.specs.Machine.{Reading, give, refuse, forbid, take, peek,
 use Rattle.moo_grammar.specs.Predictive.{allowed, if_sign, expect, if_keyword, expect_keyword, if_name}
 use Rattle.moo_grammar.proofs.Leads.{Fact, sign_is, keyword_is}
 
--- What comes behind a phrase of the kind, before any rest. An `=` stands behind what may stand before one, since braces may
--- have `?` pieces there alone.
+-- Tokens that may follow a phrase of the kind, before any rest. An `=` follows a phrase that may be before one, since
+-- only there braces may have `?` pieces.
 abbrev pub behind : Kind → List Token → List Token
 behind (expression i) r = r
 behind (conditional i) r = token.Sign sign.Assign ∷ r
@@ -42,7 +42,7 @@ pub record Ending (s : Sort) (close : List Token → List Token) (Q : Fact s) : 
   pub given : Of s
   pub holds : (r : List Token) → Q (tokens r) given (close r)
 
--- the same behind a phrase
+-- an ending of the reading after a phrase
 pub record Tail (s : Sort) (k : Kind) (a : Of (sort k)) (close : List Token → List Token) (Q : Fact s) : Type 0 where
   pub rest : List Token → List Token
   pub given : Of s

@@ -1,4 +1,4 @@
--- What a reading leads to: a fact of each list of tokens that it reads, what it gives, and what it leaves.
+-- The facts that a reading leads to: of each list of tokens that it reads, its result, and the tokens that it leaves.
 use Rattle.std.proofs.Common.{ℕ, List, [], ◌∷◌, ◌≡◌, refl, sym, subst, Bool, true, false, Option, Some, None, is_some, unwrap_or}
 use denote.Enum.Bare.{same_true}
 use Rattle.moo_token.specs.contracts.sign.Sign as sign_type

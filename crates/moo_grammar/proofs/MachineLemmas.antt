@@ -1,4 +1,5 @@
--- What holds of every predictive reading: it has one outcome, which rests only on the tokens up to the one where it ends.
+-- Properties of every predictive reading: it has one outcome, which depends only on the tokens up to the one where it
+-- ends.
 use Rattle.std.proofs.Common.{◌≤◌, List, [], ◌∷◌, ◌≡◌, refl, sym, ◌∙◌, subst, Bool, length, arith}
 use Rattle.moo_token.specs.declared.token.Token.{Token}
 use Rattle.moo_grammar.specs.Grammar.{Sort, Of, Kind, sort}
@@ -63,7 +64,7 @@ module _ (grammar : (k : Kind) → Reading (sort k)) where
       let t = reads_once b y in
       reads_once c (subst (λ v. Reads grammar s (p a) v g u) (sym t.1) (subst (λ v. Reads grammar s (p v) n g u) (sym t.0) z))
 
-  -- the same tree on any tokens that agree up to the one behind the phrase
+  -- a reading gives its tree on any tokens that agree up to the one after the phrase
   pub reads_again : {s : Sort} {p : Reading s} {at ts us r : List Token} {e : Of s} → Reads grammar s p ts e r → IsEnd at r → Agree at ts us → (u : List Token) × Reads grammar s p us e u × Agree at r u
   reads_again gives n a = (_, gives, a)
   reads_again (takes d) n (next a) = let t = reads_again d n a in (t.0, takes t.1, t.2)
@@ -91,7 +92,7 @@ module _ (grammar : (k : Kind) → Reading (sort k)) where
       let o = reads_once t.1 y in
       fails_again c t.2 (subst (λ v. Reads grammar s (p x) v e r) (sym o.1) (subst (λ v. Reads grammar s (p v) n e r) (sym o.0) z))
 
-  -- the same tree before any rest that agrees with the one that was left
+  -- a reading gives its tree before any rest that agrees with the one that was left
   pub reads_before : {s : Sort} {p : Reading s} {at ts r u : List Token} {e : Of s} → Reads grammar s p ts e r → Agree at r u → (us : List Token) × Reads grammar s p us e u × Agree at ts us
   reads_before gives a = (_, gives, a)
   reads_before (takes {x = x} d) a = let t = reads_before d a in (x ∷ t.0, takes t.1, next t.2)

@@ -1,4 +1,4 @@
--- What a search by the order of names finds.
+-- The result of a search by the order of names.
 use Rattle.std.proofs.Common.{◌≡◌, ℕ, zero, suc, ◌+◌, ◌<◌, Bool, true, false, nat_lt, List, [], ◌∷◌, Some, None, Err, Ordering, Less, Equal, Greater, Contains, All, length, get_or, position, ◌⊎◌, inl, inr, ⊎_elim, refl, sym, ap, subst, ◌∙◌, arith}
 use Rattle.std.specs.List.{IsDistinct, HoldsAt}
 use Rattle.std.specs.List.Sorted.{IsBinarySearchResult, IsPartitionPoint}

@@ -1,4 +1,4 @@
--- What the numbers of names tell.
+-- The consequences of the numbers of names.
 use Rattle.std.proofs.Common.{◌≡◌, ◌≢◌, ℕ, List, true, sym, ◌∙◌}
 use Rattle.moo_program.specs.NameNumber.{IsNumberOf}
 use Rattle.moo_program.proofs.Numbered.{same_number, nameless}

@@ -15,8 +15,8 @@ use moo_value::{MooStr, Value};
 use std::alloc::{AllocError, Global};
 use std::marker::Model;
 
-/// What others than a property's owner and wizards may do with it: read it, write it, and own the cells of new
-/// descendants.
+/// The permissions of a property for others than its owner and wizards: to read it, to write it, and to own the cells
+/// of new descendants.
 #[derive(Clone, Copy, Debug, PartialEq, Eq)]
 pub struct PropPerms {
     pub read: bool,
@@ -207,7 +207,7 @@ impl PropCell {
         self.owner
     }
 
-    /// Returns what others than the owner and wizards may do.
+    /// Returns the permissions for others than the owner and wizards.
     pub fn perms(&self) -> PropPerms
         ensures { result ≡ self.now.perms }
     {

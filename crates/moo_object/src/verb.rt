@@ -8,7 +8,7 @@ use moo_grammar::Program;
 use moo_value::MooStr;
 use std::alloc::AllocError;
 
-/// What others than a verb's owner and wizards may do with it, and whether its errors are raised.
+/// The permissions of a verb for others than its owner and wizards, and whether its errors are raised.
 #[derive(Clone, Copy, Debug, PartialEq, Eq)]
 pub struct VerbPerms {
     pub read: bool,

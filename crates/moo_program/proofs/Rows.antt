@@ -1,4 +1,4 @@
--- What is in a `Vec` behind a variant of the tree.
+-- The contents of a `Vec` in a variant of the tree.
 use Rattle.std.proofs.Common.{◌≡◌, refl, ap, ◌∙◌, Vec, Global}
 use Rattle.moo_program.specs.declared.tree.Expr.{Row_of-Item, end_of-Item, more_of-Item, items-the_row-Item, items_hidden-the_row-Item-0}
 use Rattle.moo_program.specs.declared.tree.Codes.TheBlock.{hidden-the_row-Item-0}

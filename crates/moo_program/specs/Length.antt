@@ -29,7 +29,7 @@ abbrev pub selector_length : Option (List ℕ) → ℕ → ℕ
 selector_length (Some s) name = 1 + length s
 selector_length None name = 3 + name
 
--- the base of a property or a verb, which is left out if `$` stands for it
+-- the base of a property or a verb, which is left out if the listing has `$` in its place
 abbrev pub shown_base_length : Option (List ℕ) → Bool → ℕ → ℕ
 shown_base_length (Some s) true base = 0
 shown_base_length (Some s) false base = base

@@ -71,7 +71,7 @@ fn selector_rest(name: &Expr, room: usize) -> Option<usize>
     }
 }
 
-/// Subtracts the base of a property or a verb, which is left out if `$` stands for it.
+/// Subtracts the base of a property or a verb, which is left out if the listing has `$` in its place.
 #[cycle(length)]
 fn shown_base_rest(base: &Expr, name: &Expr, room: usize) -> Option<usize>
     ensures { Leaves room (shown_base_length (constant_name (tree name.now)) (is_system_object (tree base.now)) (length_in_parentheses (is_compound_base (tree base.now)) (listed_length (tree base.now)))) result }

@@ -1,4 +1,5 @@
--- What the tokens before a place say of programs, where the reading of statements stopped for want of room.
+-- The consequences of the tokens before a place for programs, if the reading of statements stopped because it was too
+-- deep.
 use Rattle.std.proofs.Common.{ℕ, zero, suc, ◌+◌, ◌≤◌, List, [], ◌∷◌, ◌≡◌, refl, sym, ap, subst, true, length, take, drop, length-drop, arith}
 use Rattle.moo_token.specs.declared.token.Token.{Token}
 use Rattle.moo_program.specs.Limits.{most_nodes}

@@ -49,7 +49,7 @@ closed g s close Q (can_miss {f = f} {x = x} h c) m n =
     let t = closed g s close (λ ts e r. next_passes f ts ≡ false → Q ts e r) c m.1 (λ ts e r d i. n ts e r (misses i d)) in
     record { tokens = t.tokens; given = t.given; first = t.first; holds = λ r. t.holds r (first_passes f x false (t.tokens r) h (t.first r)) }
 
--- the same, of tokens that agree with these up to a place
+-- an ending of the reading on tokens that agree with these up to a place
 record Continued (s : Sort) (close : List Token → List Token) (Q : Fact s) (at ts : List Token) : Type 0 where
   tokens : List Token → List Token
   given : Of s

@@ -1,4 +1,4 @@
--- What a reading of statements needs of labels, and of the loops round a jump.
+-- The conditions of a reading of statements on labels, and on the loops around a jump.
 use Rattle.std.proofs.Common.{ℕ, ◌≤◌, List, [], ◌∷◌, ◌≡◌, refl, ap, sym, ◌∙◌, subst, Bool, true, false, not, ◌||◌, Option, Some, None, is_some, reverse, length, MatchOption, arith}
 use Rattle.std.proofs.lemmas.List.{length-reverse}
 use Rattle.moo_token.specs.declared.keyword.Keyword.{Keyword}

@@ -1,4 +1,4 @@
--- What a rule that stops the reading of a text says of the place.
+-- The consequences for a place of the rule that stops the reading of a text there.
 use Rattle.std.proofs.Common.{ℕ, ◌+◌, ◌≤◌, List, [], ◌∷◌, ◌≡◌, sym, ◌∙◌, ap, subst, true, false, Some, None, length, take, drop, arith, length-drop}
 use Rattle.std.proofs.Math.Seq.{take-append_seam, drop-append_seam}
 use Rattle.std.proofs.lemmas.List.{length-append}

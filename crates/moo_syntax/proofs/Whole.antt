@@ -1,4 +1,4 @@
--- What the outcome of the parser says of whole texts.
+-- The consequences of the parser's outcome for whole texts.
 use Rattle.std.proofs.Common.{ℕ, zero, suc, ◌≤◌, ◌<◌, ap, Bool, true, List, [], ◌∷◌, ◌++◌, ◌≡◌, refl, sym, subst, length, take, drop, arith, ◌+◌, ◌-◌, ◌∙◌, length-drop}
 use Rattle.std.proofs.lemmas.List.{take-append-drop, drop_all}
 use Rattle.moo_token.specs.declared.token.Token.{Token}
@@ -41,7 +41,7 @@ no_program {g} f a d = fails_again (grammar g) f a (complete d refl)
 no_end : {x : Token} {at ts : List Token} → Agree at (x ∷ ts) [] → ⊥
 no_end a = elim a [ ]
 
--- the same where the program ends, and tokens are left
+-- if the program ends and tokens are left, no tokens that agree with these are a program
 no_program_before : {g : Rules} {x : Token} {ts r us : List Token} {b c : Block} → Reads (grammar g) block (grammar g (statements [])) ts b (x ∷ r) → Agree (x ∷ r) ts us → IsProgramBy g us c → ⊥
 no_program_before {g} {x} {r = r} d a c =
     let t = reads_again (grammar g) d whole a in

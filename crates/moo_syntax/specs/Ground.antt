@@ -1,4 +1,4 @@
--- What the tokens before a place determine.
+-- The ground of a place: the loops around it and the kind of its next name, from the tokens before it.
 use Rattle.std.specs.Prelude.{ℕ, List, [], ◌∷◌, Option, Some, None, take}
 use Rattle.moo_token.specs.declared.sign.Sign.TheVariants.{Dot, Colon, Dollar}
 use Rattle.moo_token.specs.declared.keyword.Keyword.TheVariants.{For, EndFor, While, EndWhile, Except}

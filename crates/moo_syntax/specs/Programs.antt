@@ -110,8 +110,8 @@ pub record IsBadTarget (lines : List (List ℕ)) (n : ℕ) : Type 0 where
   pub none : NoProgram with_targets (words spots) at
   pub begins : BeginsProgram loose (words spots) at
 
--- The name stands on line n where an expression begins, with a parenthesis behind it, and may not be called. No program of which such names alone are asked
--- begins with the tokens up to the parenthesis, but one of which nothing is asked does.
+-- On line n an expression begins with the name and a parenthesis after it, and the name may not be called. No program
+-- under the rule of functions begins with the tokens up to the parenthesis, but one under no rule does.
 pub record IsUnknownFunction (names : Names) (lines : List (List ℕ)) (n : ℕ) (name : List ℕ) : Type 0 where
   pub spots : List Spot
   pub reading : IsReading lines spots

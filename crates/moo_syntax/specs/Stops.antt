@@ -1,4 +1,4 @@
--- What the parser knows of the tokens when it stops.
+-- The parser's knowledge of the tokens when it stops.
 use Rattle.std.specs.Prelude.{ℕ, List, ◌∷◌, ◌≡◌, ◌≤◌, false, drop, length}
 use Rattle.moo_token.specs.declared.token.Token.{Token}
 use Rattle.moo_token.specs.declared.token.Spot.{Spot}

@@ -1,4 +1,4 @@
--- What stands at the front of a line's rest decides how it is read.
+-- The bytes at the front of a line's rest decide how it is read.
 use Rattle.std.proofs.Common.{ℕ, suc, List, [], ◌∷◌, ◌≡◌, refl, sym, ap, subst, Bool, true, false, drop, Some, None, nat_eq, ◌||◌, ◌⊎◌, inl, inr, arith}
 use Rattle.moo_token.specs.declared.token.Token.{Token}
 use Rattle.moo_token.specs.declared.token.Token.TheVariants.{Bad}

@@ -1,4 +1,4 @@
--- What a reader of a text finds: all of it, and what it says of texts that begin with the same lines.
+-- The spots of a text: all of it is read, and texts that begin with the same lines have the same spots for these.
 use Rattle.std.proofs.Common.{ℕ, suc, List, [], ◌∷◌, ◌++◌, ◌≡◌, ◌+◌, ◌-◌, ◌≤◌, ◌⊎◌, inl, inr, refl, sym, ◌∙◌, ap, subst, take, length, arith}
 use Rattle.std.specs.Prelude.{All}
 use Rattle.std.proofs.lemmas.List.Elements.{All-nil, All-cons, All-head, All-tail, All-weaker}

@@ -46,7 +46,7 @@ abbrev pub IsScatter : Parentheses → Rules → Bool → Expr → Type 0
 IsScatter p g i (Tree.list xs) = (r : List Token) → Derives g (Grammar.primary i) (spell p (Tree.list xs) (token.Sign sign.Assign ∷ r)) (Tree.list xs) (token.Sign sign.Assign ∷ r)
 IsScatter p g i e = Unit {0}
 
--- the same where it doesn't end in a scatter
+-- the listing of an expression is good if the expression does not end in a scatter
 pub record Whole (p : Parentheses) (g : Rules) (i : Bool) (e : Expr) : Type 0 where
   pub sound : IsSound e
   pub good : ends_in_scatter e ≡ false → Good p g i e

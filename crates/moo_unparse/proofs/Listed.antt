@@ -173,7 +173,7 @@ abbrev mutual
   AreSoundCodes any_error = Unit {0}
   AreSoundCodes (listed_errors xs) = AreSound xs
 
--- the same of a token
+-- a token within the ranges of values and names
 abbrev pub IsSoundToken : Token → Type 0
 IsSoundToken (token.Integer n) = FitsSigned w32 n
 IsSoundToken (token.Object n) = FitsSigned w32 n

@@ -334,7 +334,7 @@ module _ {n : ℕ} {below : List (List ℕ)} where
   group true i text f k rest ts e r = bracketed i text f k rest ts r
   group false i text f k rest ts e r = k rest ts (loosely i rest e) r
 
-  -- the same of a base, behind which a dot may stand
+  -- the text of a base that is read, in parentheses or without, before a possible dot
   base : (i : Bool) (text : List ℕ) (f : List Token → List Token) → ((rest : List ℕ) (ts : List Token) → Ends i rest → Reads n below rest ts → Reads n below (text ++ rest) (f ts)) → (rest : List ℕ) (ts : List Token) → Ends false rest → Reads n below rest ts → Reads n below (in_parentheses i text ++ rest) (parens i f ts)
   base true text f k rest ts e r = bracketed true text f k rest ts r
   base false text f k rest ts e r = k rest ts e r

@@ -4,12 +4,12 @@ use Rattle.moo_program.specs.Limits.{FitsLine, AllFit}
 use Rattle.moo_unparse.specs.declared.fault.ListFault.{ListFault}
 use Rattle.moo_unparse.specs.declared.fault.ListFault.TheVariants.{TooHeavy, Memory}
 
--- as too heavy only where the line is too long for a string
+-- as too heavy only if the line is too long for a string
 abbrev pub IsRefusedLine : ListFault → List ℕ → Type 0
 IsRefusedLine TooHeavy line = FitsLine line → ⊥
 IsRefusedLine Memory line = Unit {0}
 
--- as too heavy only where one of the lines is
+-- as too heavy only if one of the lines is
 abbrev pub IsRefusedListing : ListFault → List (List ℕ) → Type 0
 IsRefusedListing TooHeavy lines = AllFit lines → ⊥
 IsRefusedListing Memory lines = Unit {0}

@@ -1,4 +1,4 @@
--- What is written is read back, by cases.
+-- The texts of permissions and specifiers parse back to them, by cases.
 use Rattle.std.proofs.Common.{◌≡◌, Bool, true, false, refl}
 use Rattle.std.specs.Prelude.{Some}
 use Rattle.moo_object.specs.declared.cell.PropPerms.{PropPerms}

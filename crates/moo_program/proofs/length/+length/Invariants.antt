@@ -1,4 +1,4 @@
--- What the items behind the first so far, and those that are left, take of the room.
+-- The bytes that the further items so far have taken, and those that are left.
 use Rattle.std.proofs.Common.{◌≡◌, ◌+◌, sum_by, take}
 use Rattle.moo_program.specs.Length.{further_item_length}
 use Rattle.moo_program.proofs.length.+length.Given as goal

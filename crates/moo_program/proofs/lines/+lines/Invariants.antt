@@ -1,4 +1,4 @@
--- What is left to be looked at decides.
+-- The statements, arms or handlers that are left decide the result.
 use Rattle.std.proofs.Common.{◌≡◌, drop}
 use Rattle.moo_program.specs.View.{block, arms_of, handlers_of}
 use Rattle.moo_program.specs.Length.{block_fits, arms_fit, handlers_fit}

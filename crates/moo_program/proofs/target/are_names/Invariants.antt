@@ -1,4 +1,4 @@
--- What is left to be looked at decides.
+-- The items that are left decide the result.
 use Rattle.std.proofs.Common.{◌≡◌, false, drop}
 use Rattle.moo_program.specs.View.{items_of}
 use Rattle.moo_program.specs.Target.{are_names}

@@ -1,4 +1,4 @@
--- The steps that the parser's calls add to a reading that is certain to outgrow its room.
+-- The steps that the parser's calls add to a reading that is certain to exceed its limit.
 use Rattle.std.proofs.Common.{ℕ, ◌<◌, List, ◌∷◌, ◌≡◌, sym, subst, Bool, true, false, Option, Some}
 use Rattle.moo_token.specs.declared.token.Token.{Token}
 use Rattle.moo_grammar.specs.Tokens.{next_passes}
@@ -47,7 +47,7 @@ module _ {g : Rules} {s : Sort} {n : ℕ} where
   all_deep : {p : Reading s} → ((us : List Token) → Deep g s n p us) → AllPass g s (over n s) p
   all_deep w = λ ts e r d. is_higher n (size s e) ((w ts).too_high e r d)
 
-  -- behind a token, what is certain at once is certain by it
+  -- after a token, a fact that was certain before it is certain by it
   pub takes_deepens : {b : Bool} {f : Token → Bool} {p : Token → Reading s} {q : Reading s} {x : Token} {ts r : List Token} → f x ≡ true → Deepens g b s n (p x) ts r → Deepens g true s n (peek f (take p) q) (x ∷ ts) r
   takes_deepens {x = x} h (at_once c w) = later x (ends h c (all_deep w))
   takes_deepens h (later z c) = later z (takes h c)

@@ -1,4 +1,4 @@
--- Runs of minuses before an operand that leave no room for any but an integer literal.
+-- Runs of minuses before an operand that only an integer literal fits.
 use Rattle.std.proofs.Common.{ℕ, zero, suc, ◌+◌, ◌-◌, ◌≤◌, ◌<◌, max, min, List, [], ◌∷◌, ◌≡◌, ◌⊎◌, inl, inr, ⊎_elim, refl, sym, subst, Bool, true, false, is_some, unwrap_or, arith}
 use Rattle.moo_token.specs.declared.sign.Sign.TheVariants.{LeftParen, RightParen, RightBrace}
 use Rattle.moo_token.specs.declared.token.Token.{Token}
@@ -60,7 +60,7 @@ integer_height : (e : Expr) → no_integer e ≡ false → height e ≡ 1
 integer_height (literal l) h = refl
 integer_height _ h = absurd cc
 
--- the room behind minuses: one node where they leave none
+-- the limit after minuses: one node if they leave none
 abbrev room_behind : ℕ → ℕ → ℕ
 room_behind m room = max (room - m) (min room 1)
 
@@ -70,7 +70,7 @@ too_tall m room e h = ⊎_elim (λ is. omega (arith, h, (negations_none m e is).
 given_passes : (g : Rules) (s : Sort) (test : Of s → Bool) (e : Of s) → test e ≡ true → AllPass g s test (give e)
 given_passes g s test e h ts f r gives = h
 
--- a reading behind minuses
+-- a reading after minuses
 certain_behind : (g : Rules) (i : Bool) (m : ℕ) (test : Expr → Bool) {ts at : List Token} → Certain g Sort.expr (λ e. test (negations m e)) (grammar g (unary i)) ts at → Certain g Sort.expr test (grammar g (unary i)) (minuses m ts) at
 unfolding grammar
 certain_behind g i zero test c = c
@@ -80,7 +80,7 @@ certain_behind g i (suc m) test c = misses refl (takes refl (part (certain_behin
 pub minuses_deepens : {g : Rules} (i : Bool) (m room : ℕ) {ts r : List Token} → Deepens g true Sort.expr (room_behind m room) (grammar g (unary i)) ts r → Deepens g true Sort.expr room (grammar g (unary i)) (minuses m ts) r
 minuses_deepens {g} i m room (later z c) = later z (certain_behind g i m (over room Sort.expr) (certain_more (λ e h. is_higher room (height (negations m e)) (too_tall m room e (higher (room_behind m room) (height e) h))) c))
 
--- what stands behind a base keeps it, or has it below a node
+-- the suffixes of a base keep it, or have it below a node
 suffix_kept : (g : Rules) (i : Bool) (a : Expr) {ts r : List Token} {e : Expr} → Reads (grammar g) Sort.expr (grammar g (suffixes i a)) ts e r → ((e ≡ a) × (ts ≡ r)) ⊎ (1 < height e)
 unfolding grammar
 suffix_kept g i a {r = r} {e = e} (sees_reads h (takes_reads d)) = inr ((meets_deep {g = g} {s = Sort.expr} {n = 1} {p = behind_dot i a} ((λ y e h. omega (arith, h, height_positive a)), ((λ y b _. ((λ z e h. omega (arith, h, height_positive a)), tt)), tt))).too_high e r d)
@@ -132,7 +132,7 @@ lone_mark : (g : Rules) (i : Bool) {ts r : List Token} {e : Expr} → Reads (gra
 lone_mark g true gives = refl
 lone_mark g false d = elim d [ ]
 
--- behind `$` and a name
+-- after `$` and a name
 abbrev pub system_part : Bool → List ℕ → Reading Sort.expr
 system_part i s = if_sign LeftParen (phrase (arguments i false) λ xs. expect RightParen (give (tree.verb_call system_object (text s) xs))) (give (property system_object (text s)))
 
@@ -195,7 +195,7 @@ lone_unary g i n l (misses_reads h (sees_reads k (takes_reads (reads {a = a} d g
     (integer_or_not a)
 lone_unary g i n l (misses_reads h (misses_reads k (reads d gives))) = let t = lone_postfix g i n l d in (t.0, misses h (misses k (part t.1 (λ b m. given_passes g Sort.expr no_integer b m))))
 
--- the operand fits the room, and the minuses before it do not
+-- the operand is within the limit, and the minuses before it are not
 late_is_none : (m room : ℕ) (e : Expr) → height e ≤ room_behind m room → room < height (negations m e) → (no_integer e ≡ true) × (height e ≤ 1) × (room ≤ m)
 late_is_none m room e l h =
     ⊎_elim

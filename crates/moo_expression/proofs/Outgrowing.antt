@@ -48,6 +48,6 @@ higher n m h = grind arith
 pub is_higher : (n m : ℕ) → n < m → nat_lt n m ≡ true
 is_higher n m h = grind arith
 
--- whatever comes behind the tokens that were taken, the tree is higher than n
+-- whatever follows the tokens that were taken, the tree is higher than n
 pub each_is_higher : {g : Rules} {s : Sort} {n : ℕ} {p : Reading s} {ts at us r : List Token} {e : Of s} → Outgrows g s n p ts at → Agree at ts us → Reads (grammar g) s p us e r → n < size s e
 each_is_higher {s = s} {n = n} {e = e} c a d = higher n (size s e) (grows c a d)

@@ -64,7 +64,7 @@ module _ {g : Rules} {s : Sort} {n : ℕ} {old new : Cursor} where
 pub admits_itself : (names : Names) → Admits (strict names) (strict names)
 admits_itself names = record { targets = λ e. e; functions = λ s e. e; loops = λ e. e }
 
--- the grammars by which a fault is told admit what is a program
+-- the grammars under which a fault is reported admit all programs
 pub told_admits : (f : Fault) (names : Names) (g : Rules) → ToldBy f names g → Admits g (strict names)
 told_admits Unexpected names g b = b
 told_admits BadTarget names g b = b.0
@@ -73,7 +73,7 @@ told_admits BadLoopName names g b = b.0
 told_admits TooDeep names g b = absurd b
 told_admits Memory names g b = absurd b
 
--- what holds of the fault that `?` passed on
+-- a fact of the fault that `?` passed on
 pub passed : {A : Type 0} (P : Fault → Type 0) {result : Result A Fault} {f y : Fault} → result ≡ Err y → y ≡ f → P f → IfErr result P
 passed P is same h = subst (λ v. IfErr v P) (sym is) (subst P (sym same) h)
 
@@ -107,7 +107,7 @@ module _ {names : Names} {taken : Bool} {s : Sort} {p : Rules → Reading s} {ro
     long = λ h. l;
   })
 
--- what a last call read, seen as what its caller read
+-- the result of a last call, as a result of its caller
 pub if_ok : {A : Type 0} (P Q : A → Type 0) (result : Result A Fault) → IfOk result P → ((a : A) → P a → Q a) → IfOk result Q
 if_ok P Q (Ok a) o f = f a o
 if_ok P Q (Err e) o f = tt
@@ -147,7 +147,7 @@ paren_next [] h = absurd cc
 paren_next (Sign LeftParen ∷ r) h = (r, refl)
 paren_next (_ ∷ r) h = absurd cc
 
--- a name with a parenthesis behind it
+-- a name with a parenthesis after it
 pub called : {name : List ℕ} {old new : Cursor} → Takes (Name name) old new → next_passes (is_sign LeftParen) (left new) ≡ true → IsCalled new.spots.now new.at name
 called {name} {old} {new} t h =
     let next = paren_next (left new) h in
@@ -178,7 +178,7 @@ module _ (names : Names) (i o : Bool) {room : ℕ} (front : List Item) (ts : Lis
   pub ended : (x : Item) → IsMember names i o room us old x → Stays (is_sign Comma) old new → ReadsBy names Sort.items (λ g. grammar g (members i o)) ts (in_front front (with_item x tree.no_items)) (left new)
   ended x m st = λ g a. w.reads g a _ _ (m.leads.reads g a _ _ (stayed st gives))
 
-  -- a member, and a comma behind it
+  -- a member, and a comma after it
   pub goes_on_member : (x : Item) → IsMember names i o room us old x → Takes (Sign Comma) old new → GoesOn names (members i o) (members i o) (in_front (front ++ x ∷ [])) ts (left new)
   goes_on_member x m tk = record {
     reads = λ g a xs r d. rw in_front_push (w.reads g a _ _ (m.leads.reads g a _ _ (took tk refl (reads d gives))));
@@ -187,7 +187,7 @@ module _ (names : Names) (i o : Bool) {room : ℕ} (front : List Item) (ts : Lis
   }
 
 module _ {y : (k : Kind) → Reading (sort k)} {old new : Cursor} where
-  -- a `?` that may stand there
+  -- a `?` that is allowed there
   pub asked : (o : Bool) (p q : Reading Sort.items) {e : Items} {r : List Token} → (o ≡ true) × Takes (Sign Question) old new → Reads y Sort.items p (left new) e r → Reads y Sort.items (if_optional o p q) (left old) e r
   asked true p q t d = took t.1 refl d
   asked false p q t d = let e = t.0 in absurd cc
@@ -196,7 +196,7 @@ module _ {y : (k : Kind) → Reading (sort k)} {old new : Cursor} where
   asked_fails true p q t d = took_fails t.1 refl d
   asked_fails false p q t d = let e = t.0 in absurd cc
 
-  -- no `?` that may stand there
+  -- no `?` that is allowed there
   pub unasked : (o : Bool) (p q : Reading Sort.items) {e : Items} {r : List Token} → StaysUnless o (is_sign Question) old new → Reads y Sort.items q (left new) e r → Reads y Sort.items (if_optional o p q) (left old) e r
   unasked true p q {e} {r} t d = misses (t.other refl) (subst (λ v. Reads y Sort.items q v e r) t.rest d)
   unasked false p q {e} {r} t d = subst (λ v. Reads y Sort.items q v e r) t.rest d
@@ -214,7 +214,7 @@ module _ {g : Rules} {n : ℕ} {old new : Cursor} {r : List Token} where
   unasked_deepens true p q t d = misses_deepens (t.other refl) (subst (λ v. Deepens g true Sort.items n q v r) t.rest d)
   unasked_deepens false p q t d = subst (λ v. Deepens g true Sort.items n q v r) t.rest d
 
--- a token that was seen, and that may stand there
+-- a token that was seen, and that is allowed there
 module _ {y : (k : Kind) → Reading (sort k)} {s : Sort} {old new : Cursor} where
   pub admitted : (p : Token → Reading s) {x : Token} {f : Token → Bool} {b : Bool} {q : Reading s} {e : Of s} {r : List Token} → Takes x old new → f x ≡ true → b ≡ true → Reads y s (p x) (left new) e r → Reads y s (peek f (allowed b (take p)) q) (left old) e r
   admitted p {f} {b} {q} {e} {r} t h i d = subst (λ v. Reads y s (peek f (allowed b (take p)) q) v e r) (sym t.token) (sees h (allowed_reads i (takes d)))
@@ -232,7 +232,7 @@ expected : {g : Rules} {s : Sort} {n : ℕ} {f : Token → Bool} {p : Reading s}
 expected {r = r} {e = e} keeps (sees h (takes {ts = us} d)) = (keeps us).too_high e r d
 expected keeps (misses h d) = elim d [ ]
 
--- what stands behind the items of braces
+-- the token after the items of braces
 pub brace_ends : {y : (k : Kind) → Reading (sort k)} (b : Bool) {e : Expr} {ts : List Token} → (b ≡ true → next_passes (is_sign Assign) ts ≡ true) → Reads y Sort.expr (behind_brace b e) ts e ts
 brace_ends true h = sees (h refl) gives
 brace_ends false h = gives
@@ -248,7 +248,7 @@ brace_keeps false e Q m = m
 pub expect_deep : {g : Rules} {s : Sort} {n : ℕ} {f : Token → Bool} {p : Reading s} → ((us : List Token) → Deep g s n p us) → (ts : List Token) → Deep g s n (peek f (take (λ _. p)) refuse) ts
 expect_deep keeps ts = record { too_high = λ e r d. expected keeps d }
 
--- where pieces with `?` may stand, a member before them is one of those that may
+-- if pieces with `?` are allowed, a member before them is one of those that are allowed
 pub piece_reads : {y : (k : Kind) → Reading (sort k)} {i o : Bool} {f : Items → Items} {ts r : List Token} {e : Items} → o ≡ true → Reads y Sort.items (after_member i o f) ts e r → Reads y Sort.items (after_member i true f) ts e r
 piece_reads {y} {i} {f = f} {ts} {r} {e} is d = subst (λ v. Reads y Sort.items (after_member i v f) ts e r) is d
 

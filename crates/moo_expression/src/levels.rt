@@ -23,6 +23,7 @@ use moo_program::operator::{BinaryOperator, UnaryOperator};
 use moo_token::Sign;
 use std::alloc::Global;
 
+/// Parses an expression. A path of it has at most `room` nodes.
 #[cycle(parser)]
 pub fn expression(
     alloc: Global,

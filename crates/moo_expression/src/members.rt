@@ -16,6 +16,7 @@ use moo_program::{Item, Name};
 use moo_token::Sign;
 use std::alloc::Global;
 
+/// Parses the items of a call or of braces, which may be none. `?` pieces are allowed if `optional` is true.
 #[cycle(parser)]
 pub fn arguments(
     alloc: Global,
@@ -34,6 +35,7 @@ pub fn arguments(
     members(alloc, tokens, place, optional, room)
 }
 
+/// Parses one item or more, with commas between them. `?` pieces are allowed if `optional` is true.
 #[cycle(parser)]
 pub fn members(
     alloc: Global,

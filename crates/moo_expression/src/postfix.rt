@@ -18,6 +18,7 @@ use moo_program::Expr;
 use moo_token::Sign;
 use std::alloc::Global;
 
+/// Parses a primary expression with its suffixes. A path of it has at most `room` nodes.
 #[cycle(parser)]
 pub fn postfix(alloc: Global, tokens: &mut Cursor, place: Place, room: u32) -> Result<Node, Fault>
     ensures moves { Moves tokens.old tokens.new }

@@ -20,6 +20,7 @@ use moo_token::{Keyword, Sign};
 use moo_value::MooStr;
 use std::alloc::Global;
 
+/// Parses a primary expression. A path of it has at most `room` nodes.
 #[cycle(parser)]
 pub fn primary(alloc: Global, tokens: &mut Cursor, place: Place, room: u32) -> Result<Node, Fault>
     ensures moves { Moves tokens.old tokens.new }
@@ -148,6 +149,7 @@ fn guarded(alloc: Global, tokens: &mut Cursor, place: Place, room: u32) -> Resul
     )
 }
 
+/// Parses the errors of a catch: `ANY`, or items.
 #[cycle(parser)]
 pub fn codes(alloc: Global, tokens: &mut Cursor, place: Place, room: u32) -> Result<Caught, Fault>
     ensures moves { Moves tokens.old tokens.new }

@@ -55,7 +55,7 @@ unfolding IsDistinct
 way_up_distinct nodes x [] way = tt
 way_up_distinct nodes x (y ∷ ys) way = (none_equal y ys (not_met nodes y ys way.1), way_up_distinct nodes y ys way.1)
 
--- what stands right above a node is a node
+-- the number right above a node is a node
 pub above_within : (nodes : List Links) → IsExact nodes → (x y : ℕ) → above_of nodes x ≡ Some y → y < length nodes
 above_within nodes exact x y up =
     ⊎_elim (λ h. h)
@@ -148,7 +148,7 @@ forest_removed nodes last f =
         (cases_eq x (length ns - 1)))
         (cases_lt x (length ns - 1))
 
--- a new node stands above none of the others
+-- a new node is above none of the others
 pub new_is_apart : (nodes : List Links) → IsForest nodes → (up : ℕ) → up < length nodes → is_within (nodes ++ alone ∷ []) up (length nodes) ≡ false
 new_is_apart nodes f up h =
     let all = nodes ++ alone ∷ [] in

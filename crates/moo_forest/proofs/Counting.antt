@@ -1,11 +1,11 @@
--- How often a number stands in a list.
+-- How often a number occurs in a list.
 use Rattle.std.proofs.Common.{◌≡◌, ℕ, ◌+◌, ◌<◌, List, [], ◌∷◌, Bool, true, false, cond, eqb, refl, sym, ◌∙◌, ap, ⊎_elim, arith}
 use Rattle.std.specs.List.{count_by, list_any}
 use Rattle.std.proofs.lemmas.List.Sums.{sum_by-cons}
 use Rattle.std.proofs.lemmas.Bool.{cases_Bool, eqb-true, eqb-false, ne_eqb, or_left, or_right}
 use Rattle.moo_forest.specs.Forest.{without}
 
--- how often x stands in a list with y at its head
+-- how often x occurs in a list with y at its head
 pub count-cons : (x y : ℕ) (ys : List ℕ) → count_by (eqb x) (y ∷ ys) ≡ cond (eqb x y) 1 0 + count_by (eqb x) ys
 count-cons x y ys = sum_by-cons (λ z. cond (eqb x z) 1 0) y ys
 
@@ -35,7 +35,7 @@ count_without_other x z (y ∷ ys) ne =
     (λ e. rw e (there ∙ (ap (λ n. cond (eqb z y) 1 0 + n) rest ∙ sym whole)))
     (cases_Bool (eqb x y))
 
--- what stands in a list is there at least once
+-- an element of a list occurs at least once
 pub counted_if_any : (x : ℕ) (ys : List ℕ) → 0 < count_by (eqb x) ys → list_any (eqb x) ys ≡ true
 counted_if_any x [] h = absurd (omega arith)
 counted_if_any x (y ∷ ys) h =

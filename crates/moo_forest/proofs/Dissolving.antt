@@ -14,7 +14,7 @@ use Rattle.moo_forest.proofs.Climbing.{IsExact, above_within, not_met, way_up_is
 use Rattle.moo_forest.proofs.Moving.{IsPlace, links_same, above_with, below_with, above_set, above_taken_out, length_taken_out, absent_elsewhere, once_at_most}
 use Rattle.moo_forest.proofs.Walking.{any_counted, none_counted, counts_at}
 
--- no node stands right above itself
+-- no node is right above itself
 pub not_own : (nodes : List Links) → IsForest nodes → (x : ℕ) → above_of nodes x ≡ Some x → ⊥
 not_own nodes f x own = over (ancestors nodes x) (f.rooted x)
   where
@@ -25,7 +25,7 @@ not_own nodes f x own = over (ancestors nodes x) (f.rooted x)
         let same : x ≡ z = cc in
         both_ways (list_any (eqb x) (z ∷ zs)) (not_met nodes x (z ∷ zs) way) (or_left (eqb x z) (list_any (eqb x) zs) (eq-eqb x z same))
 
--- what stands right above a node is not within it
+-- the node right above a node is not within it
 pub above_apart : (nodes : List Links) → IsForest nodes → (x up : ℕ) → above_of nodes x ≡ Some up → is_within nodes up x ≡ false
 above_apart nodes f x up is =
     let whole = way_up_is_ancestors nodes f.exact x (up ∷ ancestors nodes up) (is, f.rooted up) in
@@ -268,7 +268,7 @@ below_all_newest nodes x (Some up) z place =
     (λ e. rw e (sym (append-nil (below_of nodes z))))
     (cases_Bool (eqb z up))
 
--- what stands in the list of a node is a node
+-- a number in the list of a node is a node
 pub listed_within : (nodes : List Links) → IsExact nodes → (x : ℕ) → All (λ y. y < length nodes) (below_of nodes x)
 listed_within nodes exact x k d h = ⊎_elim (λ low. low)
     (λ past. absurd (let top : above_of nodes (get_or (below_of nodes x) k d) ≡ None = ap (λ (n : Links). n.above) (get_or_past nodes (get_or (below_of nodes x) k d) alone past) in
@@ -342,7 +342,7 @@ dissolved_so nodes x heir from ys zs put joined out last f node place is ys_are 
     ap (λ os. set os x last) out_so ∙ ap (λ l. set (with_taken_out (with_all_joined (with_all_newest nodes (below_of nodes x) heir) (below_of nodes x) heir) x from) x l) last_is ∙
     dissolved_by_steps nodes x heir from f node place is
 
--- then a node stands in the list of the one above it once at most
+-- then a node is in the list of the one above it at most once
 pub once_so : (nodes : List Links) (x : ℕ) (heir : Option ℕ) (ys zs : List ℕ) (put joined : List Links) → IsForest nodes → IsPlace nodes heir →
     ys ≡ below_of nodes x → zs ≡ below_of nodes x → put ≡ with_all_newest nodes ys heir → joined ≡ with_all_joined put zs heir → (up : ℕ) → count_by (eqb x) (below_of joined up) ≤ 1
 once_so nodes x heir ys zs put joined f place ys_are zs_are put_is joined_is up =

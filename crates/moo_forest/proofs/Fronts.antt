@@ -4,7 +4,7 @@ use Rattle.std.proofs.lemmas.List.{take_more, take_all, length-drop, take-append
 use Rattle.moo_forest.specs.Gapped.{present, BeginsEmpty}
 use Rattle.moo_forest.proofs.Gaps.{present-append}
 
--- behind them stands all that there is
+-- all other elements follow them
 behind : (n : ℕ) (slots : List (Option ℕ)) → present (take n slots) ≡ [] → present (drop n slots) ≡ present slots
 behind n slots none = sym (ap present (sym (take-append-drop n slots)) ∙ present-append (take n slots) (drop n slots) ∙ ap (λ ys. ys ++ present (drop n slots)) none)
 

@@ -19,13 +19,13 @@ pub present_all : (xs : List ℕ) → present (map (λ x. Some x) xs) ≡ xs
 present_all [] = refl
 present_all (x ∷ xs) = ap (λ ys. x ∷ ys) (present_all xs)
 
--- without the empty slots the same stands there
+-- without the empty slots the contents are the same
 pub present_filled : (slots : List (Option ℕ)) → present (filter (λ s. is_some s) slots) ≡ present slots
 present_filled [] = refl
 present_filled (None ∷ slots) = present_filled slots
 present_filled (Some x ∷ slots) = ap (λ ys. x ∷ ys) (present_filled slots)
 
--- what stands in a slot is there
+-- the contents of a slot are in the list
 counted_at : (slots : List (Option ℕ)) (i x : ℕ) → get_or slots i None ≡ Some x → 0 < count_by (eqb x) (present slots)
 counted_at [] i x is = absurd cc
 counted_at (None ∷ slots) zero x is = absurd cc
@@ -37,7 +37,7 @@ counted_at (Some y ∷ slots) zero x is =
 counted_at (Some y ∷ slots) (suc i) x is =
     omega (arith, count-cons x y (present slots), counted_at slots i x is)
 
--- once its slot is empty, what stood there once is gone
+-- after its slot is emptied, a node that occurred once is gone
 pub cleared : (slots : List (Option ℕ)) (i x : ℕ) → get_or slots i None ≡ Some x → count_by (eqb x) (present slots) ≤ 1 → present (set slots i None) ≡ without x (present slots)
 cleared [] i x is once = absurd cc
 cleared (None ∷ slots) zero x is once = absurd cc
@@ -55,7 +55,7 @@ cleared (Some y ∷ slots) (suc i) x is once =
     (λ e. let none = zero_if (eqb x y) e in rw e (ap (λ ys. y ∷ ys) (cleared slots i x is (omega (arith, all, none, once)))))
     (cases_Bool (eqb x y))
 
--- one slot more is looked at, in which x doesn't stand
+-- one more slot is looked at, which does not hold x
 pub absent_more : (slots : List (Option ℕ)) (i x : ℕ) → i < length slots → (get_or slots i None ≡ Some x → ⊥) → count_by (eqb x) (present (take i slots)) ≡ 0 → count_by (eqb x) (present (take (i + 1) slots)) ≡ 0
 absent_more slots i x low other none =
     let step = ap present (take_more slots i None low) ∙ present-append (take i slots) (get_or slots i None ∷ []) in

@@ -93,7 +93,7 @@ way_up_apart nodes x to y (z ∷ zs) node apart way =
     let other = ne_eqb y x (λ e. eqb-false x y parts.0 (sym e)) in
     (above_moved nodes x to y node ∙ (rw other way.0), way_up_apart nodes x to z zs node parts.1 way.1)
 
--- the new place does not stand below x
+-- the new place is not below x
 abbrev pub IsApart : List Links → ℕ → Option ℕ → Type 0
 IsApart nodes x to = (up : ℕ) → to ≡ Some up → is_within nodes up x ≡ false
 
@@ -173,7 +173,7 @@ below_newest nodes x (Some up) y place =
     (λ e. rw e (sym (append-nil (below_of nodes y))))
     (cases_Bool (eqb y up))
 
--- x stands in no list but that of the node above it
+-- x is in no list but that of the node above it
 pub absent_elsewhere : (nodes : List Links) (x y : ℕ) → IsExact nodes → times_below (above_of nodes x) y ≡ 0 → without x (below_of nodes y) ≡ below_of nodes y
 absent_elsewhere nodes x y exact none = without_absent x (below_of nodes y) (exact y x ∙ none)
 
@@ -181,11 +181,11 @@ times_at_most : (above : Option ℕ) (x : ℕ) → times_below above x ≤ 1
 times_at_most None x = omega arith
 times_at_most (Some up) x = ⊎_elim (λ e. rw e (omega arith)) (λ e. rw e (omega arith)) (cases_Bool (eqb x up))
 
--- a node stands in a list once at most
+-- a node is in a list at most once
 pub once_at_most : (nodes : List Links) → IsExact nodes → (x y : ℕ) → count_by (eqb y) (below_of nodes x) ≤ 1
 once_at_most nodes exact x y = let most = times_at_most (above_of nodes y) x in omega (arith, exact x y, most)
 
--- also in that of its old place, once it stands in that of the new one
+-- also in that of its old place, after it is added to that of the new one
 pub once_moved : (nodes put : List Links) (x : ℕ) (to from : Option ℕ) → IsExact nodes → IsPlace nodes to → option_eq eqb from to ≡ false → put ≡ with_newest nodes x to →
     (up : ℕ) → from ≡ Some up → count_by (eqb x) (below_of put up) ≤ 1
 once_moved nodes put x to from exact place ne put_is up is =
@@ -301,7 +301,7 @@ forest_moved nodes x to f node place apart =
     ⊎_elim (λ e. rw e f) (λ e. rw e (forest_relinked nodes x to f node place apart))
     (cases_Bool (option_eq eqb (above_of nodes x) to))
 
--- what does not stand within the moved node keeps its ancestors
+-- a node that is not within the moved one keeps its ancestors
 pub ancestors_elsewhere : (nodes : List Links) (x : ℕ) (to : Option ℕ) (y : ℕ) → IsForest nodes → x < length nodes → IsPlace nodes to → is_within nodes y x ≡ false → ancestors (moved nodes x to) y ≡ ancestors nodes y
 ancestors_elsewhere nodes x to y f node place apart =
     ⊎_elim (λ e. rw e refl)

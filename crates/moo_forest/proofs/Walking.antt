@@ -11,7 +11,7 @@ use Rattle.moo_forest.specs.declared.walk.Step.{Step}
 use Rattle.moo_forest.proofs.Counting.{count-cons, counted_if_any}
 use Rattle.moo_forest.proofs.Climbing.{not_met}
 
--- the steps to nodes that stand right below the one at a place of the walk
+-- the steps to nodes right below the one at a place of the walk
 abbrev pub steps_to : ℕ → List ℕ → List Step
 steps_to from ns = map (λ (node : ℕ). let s : Step = record { node = node; from = from } in s) ns
 
@@ -64,7 +64,7 @@ walk_begun nodes x first is = record {
 pub node_met : (walk : List Step) (k : ℕ) → k < length walk → get_or (met walk) k 0 ≡ (step_at walk k).node
 node_met walk k h = get_or-map (λ (s : Step). s.node) walk k (record { node = 0; from = 0 }) 0 h
 
--- what stands in a list is counted
+-- an element of a list is counted
 pub counts_at : (ys : List ℕ) (k : ℕ) → k < length ys → 0 < count_by (eqb (get_or ys k 0)) ys
 counts_at [] k h = absurd (omega arith)
 counts_at (y ∷ ys) zero h = let c = count-cons y y ys in let one : ◌≡◌ {A = ℕ} (cond (eqb y y) 1 0) 1 = (let same = eq-eqb y y refl in rw same refl) in omega (arith, c, one)
@@ -86,7 +86,7 @@ times_le None i ns = omega arith
 times_le (Some up) i ns = sum_by-take-le (λ k. cond (eqb up k) 1 0) ns i
 
 module _ (nodes : List Links) (f : IsForest nodes) (x i : ℕ) (walk : List Step) (w : IsWalking nodes x i walk) where
-  -- no node is met more often than x stands on its way up
+  -- no node occurs more often than x does on its path up
   seldom : (y : ℕ) (ys : List ℕ) → IsWayUp nodes y ys → count_by (eqb y) (met walk) ≤ count_by (eqb x) (y ∷ ys)
   seldom y [] way =
       let c = w.counts y in
@@ -122,7 +122,7 @@ once_more nodes x y ys way rest =
     rw same (omega (arith, more, nothing, rest)))
     (cases_Bool (eqb x y))
 
--- on a way up x stands once or not at all
+-- on a path up x occurs once or not at all
 pub once_on_way : (nodes : List Links) (x y : ℕ) (ys : List ℕ) → IsWayUp nodes y ys → count_by (eqb x) (y ∷ ys) ≡ cond (list_any (eqb x) (y ∷ ys)) 1 0
 once_on_way nodes x y [] way = once_more nodes x y [] way refl
 once_on_way nodes x y (z ∷ zs) way = once_more nodes x y (z ∷ zs) way (once_on_way nodes x z zs way.1)
@@ -140,7 +140,7 @@ absent x (y ∷ ys) none =
     (λ e. (e, absent x ys (omega (arith, more))))
     (cases_Bool (eqb x y))
 
--- a list in which no number stands twice
+-- a list in which no number occurs twice
 seldom_distinct : (ys : List ℕ) → ((y : ℕ) → count_by (eqb y) ys ≤ 1) → IsDistinct eqb ys
 unfolding IsDistinct
 seldom_distinct [] few = tt
@@ -171,7 +171,7 @@ module _ (nodes : List Links) (f : IsForest nodes) (x i : ℕ) (walk : List Step
       let on = once_on_way nodes x y (ancestors nodes y) (f.rooted y) in
       omega (arith, h, on)
 
-  -- what is met stands within x, and is a node
+  -- each node of the walk is within x, and is a node
   met_within : (y : ℕ) → 0 < count_by (eqb y) (met walk) → y < length nodes
   met_within y h = ⊎_elim
       (λ e. ⊎_elim

@@ -30,6 +30,7 @@ impl Model for Gapped {
 }
 
 impl Gapped {
+    /// Makes an empty list.
     pub fn new(alloc: Global) -> Self
         ensures { result ≡ [] }
     {

@@ -1,3 +1,4 @@
+//! The nodes of a forest.
 ghost use Rattle.std.specs.Prelude.{◌≡◌, ◌∷◌, ◌++◌, ◌≤◌, [], IfOk, OnOk, OnErr, count_by, nat_eq};
 ghost use Rattle.moo_forest.specs.Forest.{Links, alone, without};
 

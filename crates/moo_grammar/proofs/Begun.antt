@@ -25,7 +25,7 @@ use Rattle.moo_grammar.proofs.Derived.{derived}
 use Rattle.moo_grammar.proofs.Admitted.{admitted, loose_admits}
 use Rattle.moo_grammar.proofs.Endings.{behind, Ends, End, ending, tail, gives_end, refuses_end, phrase_end, last_end, peek_end, taken_end, sign_end, expect_end, keyword_taken_end, keyword_end, needed_end, ruled_end, ruled_keyword_end, forbidden_name_end, name_end, option_end}
 
--- an operand that stands everywhere
+-- an operand that is allowed everywhere
 abbrev zero_token : Token
 zero_token = token.Integer (pos 0)
 

@@ -1,4 +1,4 @@
--- Which token can stand behind a phrase, and which can begin one.
+-- The tokens that can follow a phrase, and those that can begin one.
 use Rattle.std.proofs.Common.{ℕ, ◌+◌, ◌<◌, ◌≤◌, List, [], ◌∷◌, ◌≡◌, refl, ap, Bool, true, false, not, ◌||◌, Option, Some, None, is_some, arith}
 use denote.Enum.Bare.{sameb, same_true}
 use Rattle.moo_token.specs.contracts.sign.Sign.{the_type}
@@ -18,7 +18,7 @@ use Rattle.moo_grammar.specs.Grammar
 use Rattle.moo_grammar.specs.Grammar.{Sort, Of, Kind, Derives, sort}
 use Rattle.moo_program.specs.Tree.{Expr, Arms}
 
--- How loose a phrase is that the token can continue, where it stands behind it.
+-- How loose a phrase is that the token can continue if it follows.
 abbrev pub looseness : Sign → ℕ
 looseness sign.LeftParen = 0
 looseness sign.Dot = 1
@@ -59,7 +59,7 @@ operand_limit Relation = 5
 operand_limit Sum = 4
 operand_limit Product = 3
 
--- the least looseness of what may stand behind a phrase
+-- the least looseness of a token that may follow a phrase
 abbrev pub limit : Kind → ℕ
 limit (Grammar.expression i) = 9
 limit (Grammar.conditional i) = 8

@@ -1,4 +1,4 @@
--- Each phrase of the grammar is read as it stands, where no token behind it continues it.
+-- Each phrase of the grammar is read as it is, if no token after it continues it.
 use Rattle.std.proofs.Common.{List, ◌≡◌, Bool, true, false, refl, ap, is_some, arith}
 use Rattle.moo_token.specs.declared.sign.Sign.TheVariants.{LeftParen, LeftBracket, Comma, Dot, Colon, Assign, Question, Caret}
 use Rattle.moo_token.specs.declared.keyword.Keyword.TheVariants.{If, For, While, Break, Continue, Return, Try}

@@ -17,7 +17,7 @@ use Rattle.moo_grammar.specs.Depth.{Deep}
 use Rattle.moo_grammar.proofs.MachineLemmas.{reads_once}
 use Rattle.moo_grammar.proofs.Heights.{height_positive, negated_height, joined_height}
 
--- what is known of the trees of a kind: they contain what stands before the phrase
+-- the trees of a kind contain the tree before the phrase
 abbrev pub Post : (k : Kind) → Of (sort k) → Type 0
 Post (suffixes i a) e = height a ≤ height e
 Post (more i l a) e = height a ≤ height e
@@ -187,7 +187,7 @@ phrase_deep w keeps = record { too_high = λ e r d. contains w keeps d }
 pub read_deep : {g : Rules} {s : Sort} {n : ℕ} {p : Reading s} {ts : List Token} (e : Of s) (r : List Token) → Reads (grammar g) s p ts e r → n < size s e → Deep g s n p ts
 read_deep {g} {s} {n} e r c h = record { too_high = λ f u d. subst (λ v. n < size s v) (reads_once (grammar g) c d).0 h }
 
--- where no node has room
+-- if no node fits
 pub no_room : {g : Rules} {n : ℕ} {p : Reading Sort.expr} {ts : List Token} → n ≡ 0 → Deep g Sort.expr n p ts
 no_room z = record { too_high = λ e r d. omega (arith, z, height_positive e) }
 

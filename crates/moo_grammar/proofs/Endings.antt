@@ -1,4 +1,4 @@
--- Where a rule alone stops a reading, tokens behind the one that comes next bring it to an end by the loose grammar.
+-- If only a rule stops a reading, tokens after the next one bring it to an end in the loose grammar.
 use Rattle.std.proofs.Common.{ℕ, List, [], ◌∷◌, ◌≡◌, refl, sym, subst, Bool, true, false, Option, Some, None, is_some, unwrap_or}
 use Rattle.moo_token.specs.declared.sign.Sign.{Sign}
 use Rattle.moo_token.specs.declared.sign.Sign.TheVariants as sign
@@ -109,7 +109,7 @@ module _ {s : Sort} {close : List Token → List Token} where
   pub phrase_end : {k : Kind} {p : Of (sort k) → Reading s} {Q : Fact s} → ((a : Of (sort k)) → Tail s k a close Q) → ((a : Of (sort k)) → End s close (p a) (λ m e r. (ts : List Token) → Derives loose k ts a m → Q ts e r)) → End s close (phrase k p) Q
   phrase_end m n = record { ends = (m, λ a. (n a).ends) }
 
-  -- a phrase that stands last
+  -- a phrase at the end
   pub last_end : {k : Kind} {Q : Fact s} (f : Of (sort k) → Of s) → ((a : Of (sort k)) (r ts : List Token) → Derives loose k ts a (behind k r) → Q ts (f a) (close r)) → End s close (phrase k (λ a. give (f a))) Q
   last_end f m = phrase_end (λ a. tail (λ r. r) (f a) (m a)) (λ a. gives_end)
 

@@ -119,7 +119,7 @@ name_differs pattern name i matched m h plain room differs fitting =
       | inr long ↦ differs (ap to_ascii_lowercase (sym at) ∙ same_at (base pattern) name matched long.1 within)
     ]
 
--- the whole base stands at the front of the name
+-- the whole base is a prefix of the name
 pub base_ends : (pattern name : List ℕ) (i matched : ℕ) → IsMatched pattern name i matched → length pattern ≤ i
     → ((matched ≡ length name) ⊎ EndsInStar pattern → Fits pattern name) × (Fits pattern name → matched ≢ length name → EndsInStar pattern)
 base_ends pattern name i matched m h =

@@ -1,4 +1,4 @@
--- Letters tell of the verbs of an object which names don't fit them.
+-- Filter letters exclude names that do not match the verbs of an object.
 use Rattle.std.proofs.Common.{◌≡◌, ◌⊎◌, ℕ, zero, suc, ◌<◌, ◌+◌, not, subst, List, [], ◌∷◌, ◌++◌, Bool, true, false, ◌||◌, eqb, refl, sym, ◌∙◌, ap, ⊎_elim, inl, inr, arith, length, get_or, filter, set, ltb, ◌≤◌, Some, None}
 use Rattle.std.specs.List.{list_any, remove, slice_split, position, position_or_len}
 use Rattle.std.specs.Char.{to_ascii_lowercase}

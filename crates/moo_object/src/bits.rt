@@ -1,4 +1,4 @@
-// Truth values as bits of a number.
+//! Truth values as bits of a number.
 ghost use Rattle.std.specs.Prelude.{◌≡◌, ◌≤◌, ◌+◌, ◌*◌};
 ghost use Rattle.moo_object.specs.Flags.{bit};
 

@@ -1,4 +1,4 @@
-// The properties that every object has.
+//! The properties that every object has.
 ghost use Rattle.std.specs.Prelude.{◌≡◌, IfSome, IfNone, ◌≢◌};
 ghost use Rattle.std.specs.List.{find};
 ghost use Rattle.moo_value.specs.Compare.{folded};

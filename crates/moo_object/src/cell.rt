@@ -1,4 +1,4 @@
-// The cells of properties.
+//! The cells of properties.
 ghost use Rattle.std.specs.Prelude.{◌≡◌, ◌≢◌, ◌≤◌, IfOk, IfSome, IfNone, IsTrue, None, Some, is_some, true};
 ghost use Rattle.std.specs.Option.{option_copied, option_map};
 ghost use Rattle.moo_value.specs.Compare.{folded};

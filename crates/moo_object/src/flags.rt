@@ -1,4 +1,4 @@
-// The flags of an object.
+//! The flags of an object.
 ghost use Rattle.std.specs.Prelude.{◌≡◌};
 ghost use Rattle.moo_object.specs.Flags.{flags_number, no_flags};
 

@@ -1,4 +1,4 @@
-// Names, which are compared without regard to case.
+//! Names, which are compared without regard to case.
 ghost use Rattle.std.specs.Prelude.{◌≡◌, ◌↔◌, ◌<◌, IfOk, IsTrue, filter, length, not, position, slice_set};
 ghost use Rattle.std.specs.Char.{to_ascii_lowercase};
 ghost use Rattle.std.specs.List.{list_any};
@@ -35,7 +35,7 @@ fn begin_alike(one: &[u8], other: &[u8]) -> bool
     true
 }
 
-// Most names are spelled the same, so this compares the bytes first.
+// Compares two letters without regard to case. Most are the same, so it compares the bytes first.
 #[inline]
 fn is_same_letter(one: u8, other: u8) -> bool
     ensures { IsTrue result ↔ (to_ascii_lowercase one ≡ to_ascii_lowercase other) }

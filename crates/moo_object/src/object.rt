@@ -1,4 +1,4 @@
-// An object without its relations to others.
+//! An object without its relations to others.
 ghost use Rattle.std.specs.Prelude.{◌≡◌, ◌<◌, IfOk, OnOk, OnErr, [], ◌∷◌, ◌++◌, length, filter, map, not, position, slice_set};
 ghost use Rattle.std.specs.List.{list_any};
 ghost use Rattle.moo_value.specs.Compare.{folded};

@@ -1,4 +1,4 @@
-// The match of a name against the names of a verb.
+//! The match of a name against the names of a verb.
 ghost use Rattle.std.specs.Prelude.{◌≡◌, ◌↔◌, IsTrue, true, position, ◌&&◌};
 ghost use Rattle.std.specs.List.{list_any};
 ghost use Rattle.moo_object.specs.Patterns.{EndsInStar, is_star, least, fits, is_blank, is_word, has_word, fits_names};

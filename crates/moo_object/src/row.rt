@@ -1,4 +1,4 @@
-// The cells of an object.
+//! The cells of an object.
 ghost use Rattle.std.specs.Prelude.{◌≡◌, ◌<◌, [], ◌==◌, OnOk, OnErr, IfSome, length, filter, map, not, true, false, position, slice_get};
 ghost use Rattle.std.specs.Option.{ForSome, option_copied, option_and_then};
 ghost use Rattle.std.specs.List.{list_any};

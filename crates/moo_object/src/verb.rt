@@ -1,4 +1,4 @@
-// The verbs of an object.
+//! The verbs of an object.
 ghost use Rattle.std.specs.Prelude.{◌≡◌, ◌<◌, ◌&&◌, ◌≤◌, IfOk, IfSome, IfNone, length};
 
 use crate::bits::{bit, take_bit};

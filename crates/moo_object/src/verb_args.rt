@@ -1,4 +1,4 @@
-// The argument specifiers of a verb, which select the commands that it answers.
+//! The argument specifiers of a verb, which select the commands that it answers.
 ghost use Rattle.std.specs.Prelude.{◌≡◌, ◌≤◌, IfSome, IfNone, ◌≢◌, ◌<ℤ◌, negsuc, pos, ◌⊎◌};
 
 /// The direct or indirect object that a command needs for a verb.

@@ -1,4 +1,4 @@
-// The verbs of an object, in order, with a filter by the first letter of names.
+//! The verbs of an object, in order, with a filter by the first letter of names.
 ghost use Rattle.std.specs.Prelude.{◌≡◌, ◌<◌, OnOk, OnErr, IfOk, [], ◌⊎◌, ◌∷◌, ◌++◌, length, position, slice_index_or};
 ghost use Rattle.std.specs.List.{list_any, remove, slice_split};
 ghost use Rattle.moo_object.specs.Patterns.{is_blank};

@@ -1,4 +1,4 @@
--- The names that stand first are the names, each once.
+-- The first occurrences are all names, each once.
 use Rattle.std.proofs.Common.{ℕ, List, [], ◌∷◌, ◌++◌, ◌≡◌, ◌⊎◌, inl, inr, ◌||◌, ◌&&◌, ◌∙◌, not, refl, ap, sym, subst, Bool, true, false, map, ⊎_elim}
 use Rattle.std.specs.List.{IsDistinct, AllByRecursion, list_any}
 use Rattle.std.specs.Str.{bytes_eq}

@@ -1,4 +1,4 @@
--- Names that stand first, one after another.
+-- First occurrences of names, one after another.
 use Rattle.std.proofs.Common.{ℕ, List, [], ◌∷◌, ◌≡◌, ◌||◌, ◌∙◌, refl, ap, sym, Bool, true, false, cond, Option, Some, is_some}
 use Rattle.std.specs.BTreeMap as tree
 use Rattle.std.specs.BTreeMap.{BTreeMap}
@@ -22,12 +22,12 @@ module _ {X : Type 0} where
   some_or true v o = refl
   some_or false v o = refl
 
-  -- a name that stands first
+  -- the first occurrence of a name
   pub first_of : (m n : BTreeMap (Bor (List ℕ)) X) (v : X) (x : List ℕ) (xs : List (List ℕ)) → has m x ≡ false → tree.UpdatesBy (λ x y. slice_cmp nat_cmp x.now y.now) (λ k. slice_cmp nat_cmp x k.now) m n (Some v) → firsts (has m) (x ∷ xs) ≡ x ∷ firsts (has n) xs
   first_of m n v x xs h u =
       let after : (y : List ℕ) → has n y ≡ (bytes_eq x y || has m y) = λ y. ap is_some (btree_map_updates_str x m n (Some v) u y) ∙ some_or (bytes_eq x y) v (tree.get_by (λ k. slice_cmp nat_cmp y k.now) m) in
       rw h (ap (λ r. x ∷ r) (sym (firsts_same (has n) (λ y. bytes_eq x y || has m y) after xs)))
 
-  -- one that stood before
+  -- a name that occurred before
   pub not_first : (m : BTreeMap (Bor (List ℕ)) X) (x : List ℕ) (xs : List (List ℕ)) → has m x ≡ true → firsts (has m) (x ∷ xs) ≡ firsts (has m) xs
   not_first m x xs h = rw h refl

@@ -114,7 +114,7 @@ items_length_sum x [] = omega (arith, item_in_front x no_items)
 items_length_sum x (y ∷ ys) =
     omega (arith, sum_by-cons further_item_length y ys, item_in_front x (items_of (y ∷ ys)), further_items y (items_of ys) (items_length (items_of (y ∷ ys))), items_length_sum y ys)
 
--- what a text at the end takes of a room
+-- the bytes of a line that a text at its end takes
 pub leaves_behind : (room middle n total : ℕ) (result : Option ℕ) → room + n ≡ middle + total → Leaves middle n result → Leaves room total result
 leaves_behind room middle n total None e l = omega (arith, e, l)
 leaves_behind room middle n total (Some rest) e l = omega (arith, e, l)

@@ -39,7 +39,7 @@ length_elseif a = omega (arith, three (codes "elseif (") (listed a) (codes ")"),
 pub length_except : (n : Option (List ℕ)) (c : Codes) → length (except_head n c) ≡ 9 + label_length n + codes_length c
 length_except n c = omega (arith, five (codes "except") (labelled n) (codes " (") (listed_codes c) (codes ")"), label n, length_listed_codes c)
 
--- a text fits where there is as much room
+-- a text fits if as many bytes are left
 pub fits_where_left : (n : ℕ) (result : Option ℕ) → Leaves 999999 n result → is_some result ≡ nat_lt n 1000000
 fits_where_left n None l = grind (arith, nat_tests, l)
 fits_where_left n (Some rest) l = grind (arith, nat_tests, l)
@@ -63,7 +63,7 @@ joined false b g h = absurd cc
 short : (n : ℕ) → n < 1000 → n < 1000000
 short n h = omega (arith, h)
 
--- lines one behind another
+-- lines one after another
 abbrev Fit : Bool → List (List ℕ) → Type 0
 Fit a ls = IsTrue a ↔ AllFit ls
 
@@ -78,7 +78,7 @@ line_fits n = (λ h. grind (arith, nat_tests), λ h. grind (arith, nat_tests))
 line : (l : List ℕ) → Fit (fits l) (l ∷ [])
 line l = let f = line_fits (length l) in (λ h. (f.0 h, tt), λ h. f.1 h.0)
 
--- lines with a short one behind them
+-- lines and a short one after them
 ended : (a : Bool) (ls : List (List ℕ)) (l : List ℕ) → length l < 1000 → Fit a ls → Fit a (ls ++ l ∷ [])
 ended a ls l n f =
     let s = AllFit-append ls (l ∷ []) in

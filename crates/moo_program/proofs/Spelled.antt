@@ -47,7 +47,7 @@ same_numbers a b e f p q x y =
     ∙ ap (λ back. y.0 ++ back) (same_spelling x.1 y.1 (back_text x.0 x.1 t) (back_text y.0 y.1 u) (sym x.4 ∙ f ∙ y.4))
     ∙ sym y.2
 
--- the number of bytes, where those behind them have a number already
+-- the number of bytes, if those after them have a number already
 abbrev pub spelling_before : ℕ → List ℕ → ℕ
 spelling_before number [] = number
 spelling_before number (byte ∷ rest) = 1 + byte + 257 * spelling_before number rest

@@ -11,12 +11,12 @@ use Rattle.moo_program.specs.View.{root, block, arms_of, with_arm, handlers_of, 
 use Rattle.moo_program.specs.Slots.{variables, block_variables, arms_variables, handlers_variables, handler_variables}
 use Rattle.moo_program.proofs.Rows.{row_block}
 
--- names and others behind these
+-- names and others after these
 pub added : (names a b rest first all : List (List ℕ)) → first ≡ names ++ a → all ≡ first ++ b → all ++ rest ≡ names ++ ((a ++ b) ++ rest)
 added names a b rest first all p q =
     ap (λ v. v ++ rest) (q ∙ ap (λ v. v ++ b) p ∙ append_assoc names a b) ∙ append_assoc names (a ++ b) rest
 
--- a name and others behind it
+-- a name and others after it
 pub named : (names : List (List ℕ)) (s : List ℕ) (a b : List (List ℕ)) → ((names ++ s ∷ []) ++ a) ++ b ≡ names ++ (s ∷ (a ++ b))
 named names s a b = append_assoc (names ++ s ∷ []) a b ∙ append_assoc names (s ∷ []) (a ++ b)
 

@@ -1,5 +1,5 @@
 //! An exhaustive comparison of the parser with a recogniser, over all token lists up to a length of which all but the
-//! last token begin some program. The parser has to accept the lists that the recogniser accepts, and to report each
+//! last token begin some program. The parser has to accept the lists that the recogniser accepts. It has to report each
 //! fault at the first token with which no program continues, whatever tokens follow. If neither a parenthesis nor a
 //! base was read, the short listing has to have no parenthesis.
 use crate::listings::push_line;

@@ -1,6 +1,6 @@
 //! The rules of statements over a few expressions, in the notation of `rules`. Further tokens are `6` `if`, `7`
-//! `elseif`, `8` `else`, `9` `endif`, `%` `in`, `~` `endfor`, `_` `while`, `/` `endwhile`, `"` `break`, `\\`
-//! `continue`, `>` `try`, and the characters 1 to 4, which are `except`, `finally`, `endtry` and `for`.
+//! `elseif`, `8` `else`, `9` `endif`, `%` `in`, `~` `endfor`, `_` `while`, `/` `endwhile`, `"` `break`, `\\` `continue`
+//! and `>` `try`. The characters 1 to 4 are `except`, `finally`, `endtry` and `for`.
 
 /// A few expressions and errors in a catch.
 pub static EXPRESSIONS: [&str; 5] = ["E:0", "E:1", "K:2", "K:0", "K:1"];

@@ -88,7 +88,7 @@ brace_walk : {g : Rules} {all : List Token} (b : Bool) (e : Expr) {q : Expr → 
 brace_walk true e m = peek_walk (λ h. gives_walk m) (λ h. refuses_walk)
 brace_walk false e m = gives_walk m
 
--- behind a member
+-- after a member
 member_walk : {g : Rules} {all : List Token} (i o : Bool) (f : Items → Items) {ls : List (Option (List ℕ))} {p : Place all} → (ground p).loops ≡ ls → Walk g all Sort.items (after_member i o f) (λ e n. (ground n).loops ≡ ls) p
 member_walk i o f l = sign_walk sign.Comma (λ a m n. phrase_walk m (λ xs b d k. gives_walk (k ∙ n ∙ l))) (gives_walk l)
 

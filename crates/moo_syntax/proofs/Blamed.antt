@@ -1,4 +1,4 @@
--- A text that is told a fault is no program.
+-- A text with a fault is no program.
 use Rattle.std.proofs.Common.{ℕ, List, ◌≡◌, ◌≢◌, refl, subst}
 use Rattle.moo_token.specs.declared.token.Token.{Token}
 use Rattle.moo_token.specs.declared.token.Spot.{Spot}

@@ -1,4 +1,5 @@
--- How each reading of the grammar can be brought to an end by the loose grammar: where a rule stops it, and behind a phrase.
+-- How each reading of the grammar can be brought to an end in the loose grammar: if a rule stops it, and after a
+-- phrase.
 use Rattle.std.proofs.Common.{ℕ, List, [], ◌∷◌, refl, Bool, true, false, Option, Some, None, pos}
 use Rattle.moo_token.specs.declared.sign.Sign.TheVariants as sign
 use Rattle.moo_token.specs.declared.keyword.Keyword.TheVariants as keyword

@@ -14,7 +14,7 @@ use Rattle.moo_grammar.specs.Grammar
 use Rattle.moo_grammar.specs.Grammar.{Of, Kind, Derives, sort}
 use Rattle.moo_grammar.proofs.Endings.{behind}
 
--- an operand that stands everywhere
+-- an operand that is allowed everywhere
 abbrev pub zero_token : Token
 zero_token = token.Integer (pos 0)
 

@@ -35,7 +35,7 @@ pub label_at : (old new : Cursor) (found : Option (List ℕ)) → MatchOption fo
 label_at old new None t = omega (arith, t.at)
 label_at old new (Some s) t = omega (arith, t.at)
 
--- where no statement has room
+-- if no statement fits
 pub no_statement_room : {g : Rules} {n : ℕ} {p : Reading Sort.stmt} {ts : List Token} → n ≡ 0 → Deep g Sort.stmt n p ts
 no_statement_room z = record { too_high = λ e r d. omega (arith, z, statement_height_positive e) }
 
@@ -47,7 +47,7 @@ or_false : (b t : Bool) → b ≡ true → t ≡ false → (not b || t) ≡ fals
 or_false true t h e = e
 or_false false t h e = absurd cc
 
--- a jump that may stand there by all rules
+-- a jump that all rules allow there
 pub loop_jumps : (g : Rules) (ls : List (Option (List ℕ))) (n : Option (List ℕ)) → has_loop ls n ≡ true → may_jump g ls n ≡ true
 loop_jumps g ls n h = or_true (not g.loops) (has_loop ls n) h
 
@@ -86,7 +86,7 @@ pub continue_jumps : (ts : List Token) → next_passes (is_keyword Continue) ts 
 continue_jumps [] h = absurd cc
 continue_jumps (x ∷ ts) h = or_true (is_keyword Break x) (is_keyword Continue x) h
 
--- a name behind a jump
+-- a name after a jump
 pub jump_name : {k : Keyword} {old new : Cursor} {name : List ℕ} {rest : List Token} → Takes (token.Keyword k) old new → next_passes is_jump (left old) ≡ true → left new ≡ Name name ∷ rest → IsJump new.spots.now new.at
 jump_name {k} {old} {new} t j n = subst (λ v. IsJump v new.at) (sym t.spots) (subst (λ v. IsJump old.spots.now v) (sym t.at) (at_name old.at (subst (λ v. next_passes is_jump v ≡ true) t.token j) (t.token ∙ ap (λ ts. token.Keyword k ∷ ts) n)))
 
@@ -98,7 +98,7 @@ jump_memory {names} {k} {ls} {room} {old} {new} is = subst (λ v. HasNotJumped n
   long = λ h. absurd cc;
 })
 
--- a jump that has no room
+-- a jump that does not fit
 pub jump_too_deep : {names : Names} {k : Keyword} {ls : List (Option (List ℕ))} {room : ℕ} {old new : Cursor} {f : Fault} → f ≡ TooDeep → room ≡ 0 → Takes (token.Keyword k) old new → is_keyword k (token.Keyword k) ≡ true → has_loop ls None ≡ true → HasNotJumped names k ls room old new f
 jump_too_deep {names} {k} {ls} {room} {old} {new} is z t same l = subst (λ v. HasNotJumped names k ls room old new v) (sym is) (record {
   fails = λ h q g b. absurd b;
@@ -108,7 +108,7 @@ jump_too_deep {names} {k} {ls} {room} {old} {new} is z t same l = subst (λ v. H
 })
 
 module _ (g : Rules) (ls : List (Option (List ℕ))) (h : Option (List ℕ) → Stmt) (old mid new : Cursor) where
-  -- the name behind a jump, or none, and its end
+  -- the name after a jump, or none, and its end
   pub jump_ends : (found : Option (List ℕ)) → MatchOption found (Stays (λ x. is_some (name_at x)) old mid) (λ s. Takes (Name s) old mid) → ((x : List ℕ) (r : List Token) → left old ≡ Name x ∷ r → has_loop ls (Some x) ≡ true) → Takes (token.Sign Semicolon) mid new → Reads (grammar g) Sort.stmt (behind_jump g ls h) (left old) (h found) (left new)
   jump_ends None t k s = misses (no_loop_named g ls (left old) t.other) (misses t.other (subst (λ v. Reads (grammar g) Sort.stmt (expect Semicolon (give (h None))) v (h None) (left new)) t.rest (took s refl gives)))
   jump_ends (Some x) t k s =

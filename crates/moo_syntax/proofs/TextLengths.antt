@@ -9,7 +9,7 @@ use Rattle.moo_token.specs.Lexing.{Ending, Place, outside, commented, Lexes, IsR
 use Rattle.moo_token.proofs.TokenLengths.{token_length}
 use Rattle.moo_syntax.specs.Programs.{text_length}
 
--- a comment that is never closed is told by a token of its own
+-- a comment that is never closed has a token of its own
 abbrev slack : Place → ℕ
 slack outside = 0
 slack (commented n) = 1

@@ -1,4 +1,4 @@
--- A fault is told on a line of the text.
+-- A fault is reported on a line of the text.
 use Rattle.std.proofs.Common.{ℕ, List, [], ◌∷◌, ◌++◌, ◌≡◌, ◌≢◌, ◌≤◌, refl, sym, subst, length, drop, arith}
 use Rattle.std.specs.Prelude.{All}
 use Rattle.std.proofs.lemmas.List.Elements.{All-head, All-drop, All-tail}
@@ -28,7 +28,7 @@ no_lines names = record {
   limits = record { brackets = omega arith; program = record { nodes = omega arith; lines = tt } };
 }
 
--- a text that is told a fault has a line
+-- a text with a fault has a line
 has_line : (names : Names) (lines : List (List ℕ)) (n : ℕ) (k : SyntaxFaultKind) → Blames names lines n k → k ≢ Memory → 1 ≤ length lines
 has_line names [] n k f m = absurd (parsed_is_not_blamed names [] n k no_statement f m (no_lines names))
 has_line names (line ∷ lines) n k f m = omega arith

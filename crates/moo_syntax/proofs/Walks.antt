@@ -28,7 +28,7 @@ ground p = ground_behind outside p.front
 abbrev pub IsFree : Ground → Type 0
 IsFree g = g.naming ≡ of_value
 
--- the place behind the next token
+-- the place after the next token
 abbrev pub behind : {all : List Token} (p : Place all) (x : Token) (r : List Token) → p.rest ≡ x ∷ r → Place all
 behind p x r e = record { front = p.front ++ x ∷ []; rest = r; whole = append_assoc p.front (x ∷ []) r ∙ ap (λ v. p.front ++ v) (sym e) ∙ p.whole }
 
@@ -74,7 +74,7 @@ abbrev pub labelled : Ground → Option (List ℕ) → Ground
 labelled g None = g
 labelled g (Some x) = stepped g (token.Name x)
 
--- what is known behind a phrase
+-- the ground after a phrase
 abbrev pub Leaves : (k : Kind) → Ground → Of (sort k) → Ground → Type 0
 Leaves (expression i) h e j = j.loops ≡ h.loops
 Leaves (conditional i) h e j = j.loops ≡ h.loops

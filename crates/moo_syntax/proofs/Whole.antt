@@ -102,7 +102,7 @@ taken_alike (here {ts = ts}) (suc n) e = absurd (omega (arith, ap length e, leng
 taken_alike (next a) zero e = refl
 taken_alike (next {x = x} a) (suc n) e = ap (λ v. x ∷ v) (taken_alike a n e)
 
--- a token stands next
+-- a token comes next
 abbrev HasNext : List Token → Type 0
 HasNext ts = (x : Token) × (r : List Token) × (ts ≡ x ∷ r)
 
@@ -122,7 +122,7 @@ drop_next zero (y ∷ ts) e = cc
 drop_next (suc n) [] e = absurd cc
 drop_next (suc n) (y ∷ ts) e = drop_next n ts e
 
--- what stands behind the first of two tokens
+-- the token after the first of two tokens
 next_behind : (n : ℕ) (ss : List Spot) {x y : Token} {r : List Token} → words (drop n ss) ≡ x ∷ y ∷ r → HasNext (words (drop (n + 1) ss))
 next_behind n ss {y = y} {r = r} e =
     let one : n + 1 ≡ suc n = omega arith in

@@ -22,7 +22,7 @@ words_append (x ∷ ss) ts = ap (λ v. x.token ∷ v) (words_append ss ts)
 pub words_parts : (n : ℕ) (ss : List Spot) → words (take n ss) ++ words (drop n ss) ≡ words ss
 words_parts n ss = sym (words_append (take n ss) (drop n ss)) ∙ ap words (take-append-drop n ss)
 
--- the tokens up to behind the next one, before others
+-- the tokens up to and including the next one, before others
 pub words_front : (ss : List Spot) (i : ℕ) (x : Spot) → i < length ss → x ≡ get_or ss i x → (ts : List Token) → words (take (i + 1) ss) ++ ts ≡ words (take i ss) ++ x.token ∷ ts
 words_front ss i x h e ts =
     let one : take (i + 1) ss ≡ take i ss ++ x ∷ [] = take_more ss i x h ∙ ap (λ v. take i ss ++ v ∷ []) (sym e) in

@@ -24,8 +24,8 @@ pub fn told_lines_are_lines()
     ensures { (names : Names) (lines : List (List ℕ)) (n : ℕ) (k : SyntaxFaultKind) → Blames names lines n k → k ≢ Memory → (1 ≤ n) × (n ≤ length lines) }
 {}
 
-/// Proves that a text that is too deep has more bytes than a path may have nodes, or is a program with a line in its
-/// full listing that no string holds.
+/// Proves that a text that is too deep has more bytes than a path may have nodes, or is a program with an overlong
+/// line. A line is overlong if the full listing has it and no string holds it.
 pub fn deep_texts_are_long()
     ensures { (names : Names) (lines : List (List ℕ)) (n : ℕ) (f : IsTooDeep names lines n) → (most_nodes < text_length lines) ⊎ HasLongLine names (words f.spots) }
 {}

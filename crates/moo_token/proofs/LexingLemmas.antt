@@ -88,7 +88,7 @@ after_comment h (token c t d) = cc
 after_comment h (comment c d) = d
 after_comment h (no_token f c t) = cc
 
--- the tokens begin with x, and the others follow behind it
+-- the tokens begin with x, and the others follow it
 pub record GoesOnWith (e : Ending) (n : ℕ) (x : Token) (rest : List ℕ) (below : List (List ℕ)) (ts : List Spot) : Type 0 where
   pub others : List Spot
   pub is : ts ≡ record { token = x; line = n } ∷ others

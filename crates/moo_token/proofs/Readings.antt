@@ -60,7 +60,7 @@ one_or_other unclosed lines spots d = let h : complete ≡ unclosed → ⊥ = λ
 pub tokens_or_bad : (lines : List (List ℕ)) (spots : List Spot) → IsReading lines spots → (IsTokens lines spots × All IsSound spots) ⊎ (HasNoTokens lines × EndsInBad spots)
 tokens_or_bad lines spots r = one_or_other r.ending lines spots r.lexes
 
--- a list that is also a front, a spot and a rest: the spot is its first, or stands further on
+-- a list that is also a front, a spot and a rest: the spot is its first, or comes later
 data Split (y : Spot) (ts before : List Spot) (s : Spot) (after : List Spot) : Type 0 where
   here : before ≡ [] → y ≡ s → ts ≡ after → Split y ts before s after
   later : (front : List Spot) → before ≡ y ∷ front → ts ≡ front ++ s ∷ after → Split y ts before s after
@@ -99,7 +99,7 @@ bad_last lines before after s h (inr a) = (nothing_behind a.1.before before s _ 
 pub bad_is_last : (lines : List (List ℕ)) (before after : List Spot) (s : Spot) → IsReading lines (before ++ s ∷ after) → s.token ≡ Bad → (after ≡ []) × HasNoTokens lines
 bad_is_last lines before after s r h = bad_last lines before after s h (tokens_or_bad lines (before ++ s ∷ after) r)
 
--- a spot of what follows stands on this line or below it, the `Bad` of an open comment apart
+-- a spot of the rest is on this line or below it, except the `Bad` of an open comment
 StandsFrom : Ending → ℕ → Spot → Type 0
 StandsFrom e n s = (s.token ≡ Bad → e ≡ unclosed → ⊥) → n ≤ s.line
 
@@ -200,7 +200,7 @@ same_lines_same_fault lines others before n c a =
     let k : n - 0 ≡ n = omega arith in
     same_fault refl c before (record { token = Bad; line = n }) refl refl (rw k a)
 
--- the lines of the spots that follow a place of line n, where an open comment stands no further on
+-- the lines of the spots that follow a place of line n, if an open comment begins no later
 OpensBy : ℕ → Place → Type 0
 OpensBy n outside = Unit {0}
 OpensBy n (commented k) = (1 ≤ k) × (k ≤ n)

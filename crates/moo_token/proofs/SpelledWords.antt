@@ -18,7 +18,7 @@ pub both : (a b : Bool) → (a && b) ≡ true → (a ≡ true) × (b ≡ true)
 both true b h = (refl, h)
 both false b h = cc
 
--- the front of bytes that pass a test, where the byte behind does not
+-- the front of bytes that pass a test, if the byte after them does not
 pub front_length : (p : ℕ → Bool) (xs rest : List ℕ) → list_all p xs ≡ true → begins_with p rest ≡ false → prefix_len p (xs ++ rest) ≡ length xs
 front_length p [] [] h e = refl
 front_length p [] (b ∷ bs) h e = rw e refl

@@ -1,4 +1,4 @@
--- Each token that can be written as one is read back, where nothing behind it joins it.
+-- Each token that has a spelling is read back, if no byte after it joins it.
 use Rattle.std.proofs.Common.{ℕ, pos, negsuc, List, ◌∷◌, ◌++◌, ◌≡◌, refl, ap, ◌∙◌, sym, subst, true, false, Some, length, drop, arith}
 use Rattle.std.proofs.lemmas.List.{drop_at}
 use Rattle.moo_value.specs.Errors.{error_name}

@@ -88,7 +88,7 @@ at_line_end {cs = cs} e a = rw (empty cs e) at a
 pub goes_rest : {n : ℕ} {p q r : Place} {bs : List ℕ} (cs : List ℕ) (k : ℕ) {ts us vs : List Spot} → Passes n p bs ts q cs us → Passes n q cs us r (drop k cs) vs → Passes n p bs ts r (take (length cs - k) (drop k cs)) vs
 goes_rest cs k a b = rw (take_rest cs k) (goes a b)
 
--- a reader of a text's lines, behind the first i of them
+-- the lexer after the first i lines of a text
 pub record IsAt (lines : List (List ℕ)) (i n : ℕ) (o : Option ℕ) (found : List Spot) : Type 0 where
   pub at : n ≡ i
   pub goes_on : GoesOn lines (place o) n [] (drop i lines) found

@@ -2,6 +2,7 @@
 ghost use Rattle.std.specs.Prelude.{◌≡◌, find};
 ghost use Rattle.moo_token.specs.Words.{keyword_text, keyword_of, is_spelled, first_letter, likely};
 
+/// A keyword of the language.
 #[derive(Clone, Copy, PartialEq, Eq, Debug)]
 pub enum Keyword {
     If,

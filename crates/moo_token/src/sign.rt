@@ -2,6 +2,7 @@
 ghost use Rattle.std.specs.Prelude.{◌≡◌, ◌<◌, ◌≤◌, length, IfSome};
 ghost use Rattle.moo_token.specs.Signs.{sign_of_two, sign_of_one, sign_at};
 
+/// An operator or a punctuation mark.
 #[derive(Clone, Copy, PartialEq, Eq, Debug)]
 pub enum Sign {
     LeftParen,

@@ -1,4 +1,4 @@
--- The listing of each form of the grammar has that form, whichever parentheses stand beside those that are needed.
+-- The listing of each form of the grammar has that form, whichever parentheses it has besides those that are needed.
 use Rattle.std.proofs.Common.{ℕ, suc, ℤ, pos, negsuc, List, ◌∷◌, ◌≡◌, ◌^◌, ◌<◌, ◌≤◌, refl, ap, ◌∙◌, sym, subst, Bool, true, false, Option, Some, None, ◌⊎◌, inl, inr, arith}
 use Rattle.std.specs.Prelude.{FitsSigned}
 use Rattle.std.specs.Int.{int_wrapping_neg, w32}
@@ -110,7 +110,7 @@ GoodOf p g Grammar.label ts l = GoodLabel p g l
 GoodOf p g Grammar.in_parens ts e = GoodParens p g e
 
 module _ (p : Parentheses) {g : Rules} {i : Bool} {e : Expr} where
-  -- an expression that stands bare is one of each looser part
+  -- an expression without parentheses is one of each looser part
   pub whole_by : ((r : List Token) → IsPart g i (rank (part_of e)) (spell p e r) e r) → (r : List Token) → Derives g (Grammar.expression i) (spell p e r) e r
   whole_by w r = looser g i (spell p e r) e r 0 (rank (part_of e)) (omega arith) (w r)
 
@@ -171,7 +171,7 @@ operator_again level.Sum _ o e = absurd cc
 operator_again level.Product _ o e = absurd cc
 
 module _ {p : Parentheses} {g : Rules} {i : Bool} {e : Expr} where
-  -- an expression that stands in parentheses as a base
+  -- an expression in parentheses as a base
   pub compound : is_compound_base e ≡ true → IsScatter p g i e → IsSound e → (ends_in_scatter e ≡ false → (r : List Token) → IsPart g i (rank (part_of e)) (spell p e r) e r) → Whole p g i e
   compound b c s w = record {
     sound = s;
@@ -182,7 +182,7 @@ module _ {p : Parentheses} {g : Rules} {i : Bool} {e : Expr} where
     scatter = c;
   }
 
-  -- what stands bare as an operand and as a base
+  -- an expression without parentheses as an operand and as a base
   pub atom : part_of e ≡ part.Plain → is_compound_base e ≡ false → IsScatter p g i e → IsSound e → (ends_in_scatter e ≡ false → (f : Expr) (us r : List Token) → Derives g (Grammar.suffixes i e) us f r → Derives g (Grammar.postfix i) (spell p e us) f r) → Whole p g i e
   atom h b c s q = record {
     sound = s;
@@ -253,7 +253,7 @@ good_joined l x (operator.Logic o) is a m b = let again = operator_again l x (op
 pub assigned : (g : Rules) (a : Expr) → g.targets ≡ true → may_assign g a ≡ true → is_target a ≡ true
 assigned g a t is = rw t at is
 
--- what stands before `=`
+-- the expression before `=`
 pub good_target : {p : Parentheses} {g : Rules} {i : Bool} (a : Expr) → is_target a ≡ true → Whole p g i a → (r : List Token) → Derives g (Grammar.conditional i) (parens (is_compound a) (spell p a) (token.Sign sign.Assign ∷ r)) a (token.Sign sign.Assign ∷ r)
 good_target {p} {g} {i} (Tree.list xs) is w r = looser g i (spell p (Tree.list xs) (token.Sign sign.Assign ∷ r)) (Tree.list xs) (token.Sign sign.Assign ∷ r) 1 8 (omega arith) (Grammar.unsigned (Grammar.based (w.scatter r) Grammar.no_suffix))
 good_target {p} {g} {i} (Tree.variable s) is w r = looser g i (spell p (Tree.variable s) (token.Sign sign.Assign ∷ r)) (Tree.variable s) (token.Sign sign.Assign ∷ r) 1 8 (omega arith) ((w.good refl).bare _)

@@ -1,4 +1,4 @@
--- The texts of items, one behind another.
+-- The texts of items, one after another.
 use Rattle.std.proofs.Common.{ℕ, List, ◌∷◌, ◌++◌, ◌≡◌, refl, codes}
 use Rattle.moo_program.specs.declared.tree.Item.{Item, Element', Splice', Optional, Defaulted'}
 use Rattle.moo_program.specs.View.{items_of}

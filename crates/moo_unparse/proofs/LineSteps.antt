@@ -13,7 +13,7 @@ use Rattle.moo_unparse.specs.declared.form.Form.{Form}
 use Rattle.moo_unparse.specs.Listings.{elseif_head, deeper, lines, arm_lines, handlers_lines}
 use Rattle.moo_unparse.specs.Lines.{handler_lines}
 
--- a line and others behind these
+-- a line and others after these
 pub written : (lines : List (List ℕ)) (h : List ℕ) (body rest pushed all : List (List ℕ)) → pushed ≡ lines ++ h ∷ [] → all ≡ pushed ++ body → all ++ rest ≡ lines ++ (h ∷ (body ++ rest))
 written lines h body rest pushed all p q =
     ap (λ v. v ++ rest) (q ∙ ap (λ v. v ++ body) p) ∙ append_assoc (lines ++ h ∷ []) body rest ∙ append_assoc lines (h ∷ []) (body ++ rest)

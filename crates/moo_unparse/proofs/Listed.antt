@@ -66,7 +66,7 @@ selected m (Some s) true f g r = token.Sign sign.Dollar ∷ token.Name s ∷ r
 selected m (Some s) false f g r = f (token.Sign m ∷ token.Name s ∷ r)
 selected m None system f g r = f (token.Sign m ∷ token.Sign sign.LeftParen ∷ g (token.Sign sign.RightParen ∷ r))
 
--- a comma and the items behind it, if any follow
+-- a comma and the items after it, if any follow
 abbrev pub further : Items → List Token → List Token
 further no_items ts = ts
 further (element a xs) ts = token.Sign sign.Comma ∷ ts

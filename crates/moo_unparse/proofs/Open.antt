@@ -1,4 +1,4 @@
--- How many brackets are open in a listing: no more than nodes stand on a path.
+-- How many brackets are open in a listing: no more than there are nodes on a path.
 use Rattle.std.proofs.Common.{ℕ, ◌+◌, ◌≤◌, List, [], ◌∷◌, ◌≡◌, refl, Bool, true, false, Option, Some, None, pos, negsuc, arith}
 use Rattle.moo_token.specs.declared.sign.Sign.{Sign}
 use Rattle.moo_token.specs.declared.sign.Sign.TheVariants as sign

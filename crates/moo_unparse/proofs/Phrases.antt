@@ -47,7 +47,7 @@ module _ (g : Rules) (i : Bool) (ts : List Token) (e : Expr) (r : List Token) wh
   pub looser : (n m : ℕ) → n ≤ m → IsPart g i m ts e r → IsPart g i n ts e r
   looser n m h d = looser_by (m - n) n m (omega (arith, h)) d
 
--- operators behind a chain go on with it
+-- operators after a chain continue it
 more_then : {g : Rules} {i : Bool} {l : Level} {a b e : Expr} {ts m r : List Token} → Derives g (Grammar.more i l a) ts b m → Derives g (Grammar.more i l b) m e r → Derives g (Grammar.more i l a) ts e r
 more_then Grammar.no_more d = d
 more_then (Grammar.one_more is b c) d = Grammar.one_more is b (more_then c d)
@@ -62,7 +62,7 @@ level_part level.Sum = part.Sum
 level_part level.Product = part.Product
 
 module _ {g : Rules} {i : Bool} {ts r : List Token} {e : Expr} where
-  -- a chain stands to the left of an operator of its level, and the next part to the right
+  -- a chain is to the left of an operator of its level, and the next part to the right
   pub left_chain : (l : Level) → IsPart g i (rank (left_of (level_part l))) ts e r → Derives g (Grammar.chain i l) ts e r
   left_chain level.Logic d = d
   left_chain level.Relation d = d
@@ -106,7 +106,7 @@ plain_rank least (Tree.catch a c) h = rank_most least
 plain_rank least (Tree.catch_or a c b) h = rank_most least
 plain_rank least _ h = absurd cc
 
--- what stands bare at a place is of the least part there, or of a tighter one
+-- an expression without parentheses at a place is of the least part there, or of a tighter one
 pub bare_rank : (p : Parentheses) (least : Part) (e : Expr) → needs p least e ≡ false → rank least ≤ rank (part_of e)
 bare_rank All least e h = plain_rank least e h
 bare_rank Needed least e h = grind (arith, nat_tests)

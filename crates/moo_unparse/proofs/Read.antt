@@ -49,7 +49,7 @@ pub record Reads (n : ℕ) (below : List (List ℕ)) (bs : List ℕ) (ts : List 
   pub lexes : Lexes complete outside n bs below spots
   pub same : words spots ≡ ts
 
--- no token that is written goes on with these bytes; where it is known to be no integer, a dot may stand there
+-- no token that is written continues with these bytes; if it is no integer, they may begin with a dot
 pub record Ends (integer : Bool) (rest : List ℕ) : Type 0 where
   pub name : begins_with continues_name rest ≡ false
   pub digit : begins_with is_digit rest ≡ false
@@ -86,7 +86,7 @@ never : (s : Sign) → ((b : ℕ) → joins_sign s b ≡ false) → (rest : List
 never s h [] = refl
 never s h (b ∷ bs) = h b
 
--- what may stand behind `!`
+-- the bytes that may follow `!`
 NoEqual : List ℕ → Type 0
 NoEqual bs = begins_with (joins_sign sign.Bang) bs ≡ false
 
@@ -103,7 +103,7 @@ word_no_dot : (w rest : List ℕ) → is_word w ≡ true → begins_with (joins_
 word_no_dot [] rest h = absurd cc
 word_no_dot (b ∷ bs) rest h = letter_no_dot b (both (begins_name b) (list_all continues_name bs) h).0
 
--- behind `.` or `:` stands a name or a parenthesis
+-- a name or a parenthesis follows `.` or `:`
 name_apart : (m : Sign) → IsSelector m → (s rest : List ℕ) → is_name s ≡ true → begins_with (joins_sign m) (s ++ rest) ≡ false
 name_apart sign.Dot h s rest is = word_no_dot s rest (name_is_word s is)
 name_apart sign.Colon h s rest is = never sign.Colon (λ b. refl) (s ++ rest)
@@ -152,7 +152,7 @@ base_no_equal p (Tree.assign a b) s rest = refl
 base_no_equal p (Tree.catch a c) s rest = refl
 base_no_equal p (Tree.catch_or a c b) s rest = refl
 
--- an operator between two operands stands in parentheses behind a sign
+-- an operator between two operands is in parentheses after a sign
 binary_no_equal : (o : BinaryOperator) (text rest : List ℕ) → NoEqual (in_parentheses (nat_lt (rank (operator_part o)) 7) text ++ rest)
 unfolding NoEqual
 binary_no_equal binary.Add text rest = refl
@@ -270,7 +270,7 @@ ends_further p (Tree.optional s xs) rest e = ends_at true 44 _ refl refl refl re
 ends_further p (Tree.defaulted s a xs) rest e = ends_at true 44 _ refl refl refl refl refl
 
 module _ {n : ℕ} {below : List (List ℕ)} where
-  -- one token, which nothing behind it joins
+  -- one token, which no byte after it joins
   pub step : (x : Token) (rest : List ℕ) (ts : List Token) → HasSpelling x → joins x rest ≡ false → Reads n below rest ts → Reads n below (spelling x ++ rest) (x ∷ ts)
   step x rest ts h j r = record {
     spots = record { token = x; line = n } ∷ r.spots;

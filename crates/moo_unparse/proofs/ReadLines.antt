@@ -17,7 +17,7 @@ use Rattle.moo_unparse.specs.Listings.{listed, head, elseif_head, except_head, s
 use Rattle.moo_unparse.proofs.Read.{Reads, ends_at, ends_dots, step, blank, plain, read, read_codes, read_label}
 use Rattle.moo_unparse.proofs.Listed.{spell, spell_codes, spell_label, spell_statement, spell_arms, spell_handlers, spell_block, IsSound, AreSoundCodes, IsSoundLabel, IsSoundStatement, AreSoundArms, AreSoundHandlers, IsSoundBlock}
 
--- behind the end of any line, these lines have these tokens
+-- after the end of any line, these lines have these tokens
 abbrev Goes : List (List ℕ) → List Token → Type 0
 Goes lines ts = (n : ℕ) → Reads n lines [] ts
 
@@ -87,7 +87,7 @@ behind : {n : ℕ} {lines : List (List ℕ)} (m text : List ℕ) (ts : List Toke
 behind [] text ts h r = r
 behind {n} {lines} (b ∷ m) text ts h r = subst (λ v. Reads n lines (v ∷ (m ++ text)) ts) (sym h.0) (blank _ _ (behind m text ts h.1 r))
 
--- a line behind its margin
+-- a line after its margin
 at : (m : List ℕ) → AreBlanks m → (text : List ℕ) (lines : List (List ℕ)) (ts us : List Token) → ((n : ℕ) → Reads n lines [] us → Reads n lines text ts) → Goes lines us → Goes ((m ++ text) ∷ lines) ts
 at m h text lines ts us k g = line (m ++ text) lines ts us (λ n r. behind m text ts h (k n r)) g
 

@@ -1,4 +1,4 @@
--- Where names that may be left out stand: in braces that `=` follows.
+-- The places of names that may be left out: in braces that `=` follows.
 use Rattle.std.proofs.Common.{List, [], ◌∷◌, ◌≡◌, refl, sym, ◌∙◌, Bool, true, false, Some, ◌||◌}
 use Rattle.moo_token.specs.declared.sign.Sign.{Sign}
 use Rattle.moo_token.specs.declared.sign.Sign.TheVariants as sign

@@ -1,4 +1,4 @@
--- Lists one behind the other: their weight, their depth and their elements.
+-- Concatenated lists: their weight, their depth and their elements.
 use Rattle.std.proofs.Common.{◌≡◌, ℕ, zero, suc, ◌+◌, ◌-◌, ◌≤◌, ◌<◌, max, List, [], ◌∷◌, ◌++◌, take, drop, length, arith, refl, ap, sym, ◌∙◌}
 use Rattle.std.proofs.lemmas.List.{take-map, drop-map, take_rest}
 use Rattle.moo_value.specs.declared.value.Value.{Value}

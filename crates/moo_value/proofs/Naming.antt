@@ -1,4 +1,4 @@
--- The names of errors: each has `_` behind its first letter.
+-- The names of errors: each has `_` after its first letter.
 use Rattle.std.proofs.Common.{arith, ◌≡◌, ◌≢◌, ◌<◌, ℕ, length, Bool, true, false, List, [], ◌∷◌, None, get_or, refl, sym, ap, ◌∙◌}
 use Rattle.std.specs.List.{find}
 use Rattle.std.specs.Char.{to_ascii_lowercase}

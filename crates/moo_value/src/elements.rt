@@ -1,4 +1,4 @@
-// The elements of lists, which are copied only if another list shares them.
+//! The elements of lists, which are copied only if another list shares them.
 ghost use Rattle.std.specs.Prelude.{◌≡◌, ◌<◌, ◌++◌, ◌∷◌, [], length, vec_len, slice_set, ℕ, IsTrue, IsFalse, IfOk, OnOk};
 ghost use Rattle.moo_value.specs.Inner.{IsMeasuredList};
 ghost use Rattle.moo_value.specs.Held.{IsAlike};

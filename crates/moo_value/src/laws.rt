@@ -1,4 +1,4 @@
-// Laws of the comparisons and texts of values.
+//! Laws of the comparisons and texts of values.
 ghost use Rattle.std.specs.Prelude.{◌≡◌, ◌≤◌, ◌<◌, ◌+◌, ◌⊎◌, ◌↔◌, ℕ, ℤ, List, Some, map, option_map};
 ghost use Rattle.std.specs.Char.{to_ascii_lowercase};
 ghost use Rattle.std.specs.Ordering.{ordering_reverse};

@@ -1,4 +1,4 @@
-// The weight and the depth of the list of some values.
+//! The weight and the depth of the list of some values.
 ghost use Rattle.std.specs.Prelude.{◌≡◌, ◌≤◌, ◌+◌, ◌++◌, IfSome, IfNone};
 ghost use Rattle.moo_value.specs.Tree.{list_of};
 ghost use Rattle.moo_value.specs.Size.{list_weight, list_depth, IsWithinLimits, IsStored, weight_limit, depth_limit};

@@ -1,4 +1,4 @@
-// The cells of an object.
+//! The cells of an object.
 ghost use Rattle.std.specs.Prelude.{◌≡◌, ◌<◌, ◌==◌, IfOk, OnOk, OnErr, ◌++◌, length, filter, map, not, slice_get};
 ghost use Rattle.std.specs.Option.{ForSome, option_and_then};
 ghost use Rattle.moo_value.specs.Compare.{folded};

@@ -1,4 +1,4 @@
-// The verbs of an object.
+//! The verbs of an object.
 ghost use Rattle.std.specs.Prelude.{◌≡◌, ◌<◌, OnOk, OnErr, [], ◌∷◌, ◌++◌, length, position, slice_get};
 ghost use Rattle.std.specs.Option.{option_copied};
 ghost use Rattle.std.specs.List.{remove};

@@ -1,4 +1,4 @@
--- The number is that of the bytes behind what is left.
+-- The number is that of the bytes after those that are left.
 use Rattle.std.proofs.Common.{◌≡◌, ℕ, List, ◌++◌, length}
 use Rattle.moo_value.specs.Compare.{folded}
 use Rattle.moo_program.specs.NameNumber.{IsNumberOf}

@@ -206,7 +206,7 @@ module _ (nodes : List Links) (x : ℕ) (heir : Option ℕ) (f : IsForest nodes)
   not_heir None y other = refl
   not_heir (Some up) y other = let e = ne_eqb y up (other up refl) in rw e refl
 
-  -- what was joined to nothing is so still, but for the heir
+  -- a node without neighbours stays so, unless it is the heir
   pub still_alone : (y : ℕ) → ((up : ℕ) → heir ≡ Some up → y ≢ up) → get_or nodes y alone ≡ alone → get_or (dissolved nodes x heir) y alone ≡ alone
   still_alone y other free = ⊎_elim
       (λ e. rw e alone_dissolved)

@@ -44,7 +44,7 @@ pub passes_more : (n : ℕ) (ns : List Links) (u v : Option ℕ) (y : ℕ) → P
 passes_more zero ns u v y s e = (y, s ∙ e, refl)
 passes_more (suc n) ns u v y s e = (s.0, s.1, passes_more n ns (above_of ns s.0) v y s.2 e)
 
--- what leads to an end ends
+-- a way that leads to an end ends
 ends_from : (n : ℕ) (ns : List Links) (u v : Option ℕ) → Passes n ns u v → Ends ns v → Ends ns u
 ends_from zero ns u v s h = subst (Ends ns) (sym s) h
 ends_from (suc n) ns u v s h = let rest = ends_from n ns (above_of ns s.0) v s.2 h in (suc rest.0, (s.0, s.1, rest.1))
@@ -72,7 +72,7 @@ endless n ns u s h = endless_after h.0 h.0 n ns u (omega arith) s h.1
 endless_from : (n : ℕ) (ns : List Links) (u v : Option ℕ) → Passes n ns u v → (Ends ns v → ⊥) → Ends ns u → ⊥
 endless_from n ns u v s refuted h = let r = ends_on n h.0 ns u v s h.1 in refuted (r.0, r.2)
 
--- what a mark says while the way up from a node is followed
+-- the meaning of a mark while the path up from a node is followed
 abbrev pub IsMarked : List Links → ℕ → Option ℕ → ℕ → ℕ → Type 0
 IsMarked ns from at i mark = ((mark ≤ from) × IsRooted ns i) ⊎ ((mark ≡ from + 1) × ((n : ℕ) × Passes (suc n) ns (Some i) at))
 

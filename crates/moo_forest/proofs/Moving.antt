@@ -263,7 +263,7 @@ moved_in_steps nodes put taken x to from read last exact node place is ne put_is
     ap (λ ns. set ns x last) taken_so ∙
     moved_by_steps nodes x to exact node place from out is ne last (ap (λ n. n.above) last_is) (ap (λ n. n.below) last_is ∙ ap (λ n. n.below) read_so)
 
--- what the code read of the old place
+-- the code's reading of the old place
 pub above_read : (nodes : List Links) (x : ℕ) (read : Links) (from : Option ℕ) → x < length nodes → read ≡ get_or nodes x read → from ≡ read.above → from ≡ above_of nodes x
 above_read nodes x read from h read_is from_is = from_is ∙ ap (λ n. n.above) (get_or_read nodes x read h read_is alone)
 
@@ -279,7 +279,7 @@ same_option None (Some y) h = absurd (false≢true h)
 same_option (Some x) None h = absurd (false≢true h)
 same_option (Some x) (Some y) h = ap (λ z. Some z) (eqb-true x y h)
 
--- what is above each node after a move
+-- the node above each node after a move
 pub above_of_moved : (nodes : List Links) (x : ℕ) (to : Option ℕ) (y : ℕ) → x < length nodes → above_of (moved nodes x to) y ≡ cond (eqb y x) to (above_of nodes y)
 above_of_moved nodes x to y node =
     ⊎_elim

@@ -12,6 +12,6 @@ pub record IsLeastEndless (nodes : List Links) (x : ℕ) : Type 0 where
   pub endless : ¬ (IsRooted nodes x)
   pub below : (y : ℕ) → y < x → IsRooted nodes y
 
--- what has a mark is rooted, and no mark is past the limit
+-- each marked node is rooted, and no mark is past the limit
 abbrev pub MarksEnd : List Links → List ℕ → ℕ → Type 0
 MarksEnd nodes marks limit = (i : ℕ) → i < length marks → slice_index marks i ≢ 0 → (slice_index marks i ≤ limit) × IsRooted nodes i

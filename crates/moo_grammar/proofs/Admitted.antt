@@ -15,7 +15,7 @@ by_rule false c t k e = refl
 by_rule true true t k e = e
 by_rule true false t k e = absurd (let f = k refl in cc)
 
--- what may be assigned to where more is asked
+-- the targets of stricter rules are targets of looser ones
 may_assign_still : {g h : Rules} → Admits g h → (a : Expr) → may_assign h a ≡ true → may_assign g a ≡ true
 may_assign_still {g} {h} k a e = by_rule g.targets h.targets (is_target a) k.targets e
 

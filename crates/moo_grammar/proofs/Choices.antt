@@ -150,7 +150,7 @@ no_name [] h = refl
 no_name (token.Name s ∷ r) h = absurd (omega arith)
 no_name (_ ∷ r) h = refl
 
--- what can begin an expression that has no sign before it
+-- the tokens that can begin an expression without a sign before it
 abbrev pub begins_primary : Token → Bool
 begins_primary (token.Sign sign.Dollar) = true
 begins_primary (token.Sign sign.LeftParen) = true
@@ -322,7 +322,7 @@ at_paren [] h = absurd cc
 at_paren (token.Sign sign.LeftParen ∷ r) h = (refl, refl)
 at_paren (_ ∷ r) h = absurd cc
 
--- what the end of a block is not
+-- a token that ends a block is none that continues it
 pub end_if : (ts : List Token) → next_passes (is_keyword keyword.EndIf) ts ≡ true → (next_passes begins_statement ts ≡ false) × (next_passes (is_keyword keyword.ElseIf) ts ≡ false) × (next_passes (is_keyword keyword.Else) ts ≡ false)
 end_if [] h = absurd cc
 end_if (token.Keyword keyword.EndIf ∷ r) h = (refl, refl, refl)

@@ -34,6 +34,6 @@ folded_alike : (name : List ℕ) (names : List (List ℕ)) → AreFolded names �
 folded_alike name [] f = tt
 folded_alike name (x ∷ xs) f = (rw f.0 refl, folded_alike name xs f.1)
 
--- a name is among them if it is among them in lower case
+-- folding the letters of the slots does not change the place of a name
 pub slot_folded : (b : Block) (name : List ℕ) → position (λ own. bytes_eq own name) (slots b) ≡ position (λ own. bytes_eq (folded own) name) (slots b)
 slot_folded b name = rw (same_place _ _ (slots b) (folded_alike name (slots b) (first_names (λ _. false) _ (folded_names (block_variables b))))) refl

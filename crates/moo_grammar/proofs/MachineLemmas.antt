@@ -20,7 +20,7 @@ pub end_length : {a b : List Token} → IsEnd a b → length a ≤ length b
 end_length whole = omega arith
 end_length (behind q) = omega (arith, end_length q)
 
--- behind the token that they share, both lists agree up to a place that lies behind it
+-- after the token that they share, both lists agree up to a place after it
 pub agree_tail : {x y : Token} {at ts us : List Token} → IsEnd at ts → Agree at (x ∷ ts) (y ∷ us) → (x ≡ y) × Agree at ts us
 agree_tail s here = absurd (omega (arith, end_length s))
 agree_tail s (next a) = (refl, a)

@@ -59,7 +59,7 @@ module _ (names : List (List ℕ)) (slots : List Slot) (name : List ℕ) (o : Ar
   abbrev at : Slot → Ordering
   at s = slice_cmp nat_cmp s.name name
 
-  -- what the search finds is the slot of the name, for no other slot is of that name
+  -- the search finds the slot of the name, since no other slot has that name
   pub found : (i : ℕ) (d : Slot) → i < length slots → IsDistinct bytes_eq names → HoldsAt (λ s. at s ≡ Equal) slots i → position is_named names ≡ Some (get_or slots i d).slot
   found i d h u e =
       let s = get_or slots i d in

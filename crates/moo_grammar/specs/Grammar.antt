@@ -20,7 +20,7 @@ use Rattle.moo_grammar.specs.declared.names.Names.{Names}
 use Rattle.moo_grammar.specs.Rules.{Rules, strict, may_assign, may_jump}
 use Rattle.moo_grammar.specs.Tokens.{operator_at, literal_at}
 
--- what kind of tree a phrase has
+-- the kinds of trees that phrases have
 pub data Sort : Type 0 where
   expr : Sort
   items : Sort

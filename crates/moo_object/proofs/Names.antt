@@ -22,7 +22,7 @@ ne-same_name a b differ = elim (cases_Bool (same_name a b)) [
   | inr other ↦ other
 ]
 
--- what decides the same is the same
+-- a test that decides whether two names are equal in lower case is `same_name`
 pub tested : (a b : List ℕ) (r : Bool) → (IsTrue r → folded a ≡ folded b) × (folded a ≡ folded b → IsTrue r) → r ≡ same_name (folded a) (folded b)
 tested a b r h = search (rules, bytes_eq-Decides)
 

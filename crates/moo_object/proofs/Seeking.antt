@@ -11,7 +11,7 @@ use Rattle.moo_object.specs.Cells.{Cell, Key, is_key, key_of, cell_at, cleared, 
 use Rattle.moo_object.specs.Objects.{Object, fitted_cell}
 use Rattle.moo_object.proofs.Names.{same_name-true}
 
--- what a search from the front gives
+-- the result of a search from the front
 pub place_found : {X : Type 0} (t : X → Bool) (xs : List X) (r : Option ℕ) → r ≡ position t xs → option_and_then (slice_get xs) r ≡ find t xs
 place_found t xs r is = ⊎_elim
     (λ e.

@@ -58,7 +58,7 @@ likely_own given.Prepstr = refl
 likely_own given.Iobjstr = refl
 likely_own given.Args = refl
 
--- what is found passes the test
+-- a variable that is found passes the test
 step : {A : Type 0} (test : A → Bool) (f g : A) (rest : Option A) → (rest ≡ Some f → test f ≡ true) → (b : Bool) → b ≡ test g → cond b (Some g) rest ≡ Some f → test f ≡ true
 step test f g rest later true b is = let same : g ≡ f = cc in ap test (sym same) ∙ sym b
 step test f g rest later false b is = later is

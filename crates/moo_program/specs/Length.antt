@@ -104,7 +104,7 @@ head_length (continues n) = 9 + label_length n
 head_length (try_except b h) = 3
 head_length (try_finally b c) = 3
 
--- what n bytes leave of the bytes of a line, if they fit it
+-- the bytes of a line that are left after n bytes, if they fit
 abbrev pub Leaves : ℕ → ℕ → Option ℕ → Type 0
 Leaves room n result = MatchOption result (room < n) (λ rest. rest + n ≡ room)
 

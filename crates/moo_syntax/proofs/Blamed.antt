@@ -16,11 +16,11 @@ use Rattle.moo_syntax.specs.declared.syntax_fault.SyntaxFaultKind.TheVariants.{B
 use Rattle.moo_syntax.specs.Programs.{NoProgram, Blames, with_targets, with_functions, with_loops}
 use Rattle.moo_syntax.proofs.Whole.{targets_admit, functions_admit, loops_admit}
 
--- what was read of the text of a program are its tokens
+-- the tokens that were read are those of the program
 same_spots : (lines : List (List ℕ)) (read spots : List Spot) → IsReading lines read → IsTokens lines spots → spots ≡ read
 same_spots lines read spots r t = one_reading lines spots read (record { ending = complete; lexes = t }) r
 
--- what was read of the text is its program for all that ask for no more
+-- the program that was read is the program under all rules that require no more
 program_of_read : (g : Rules) (names : Names) (lines : List (List ℕ)) (read : List Spot) (b : Block) → Admits g (strict names) → IsReading lines read → IsProgramOf names lines b → IsProgramBy g (words read) b
 program_of_read g names lines read b a r p = admitted a (subst (λ v. IsProgram names (words v) b) (same_spots lines read p.spots r p.tokens) p.program)
 

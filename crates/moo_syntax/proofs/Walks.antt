@@ -32,7 +32,7 @@ IsFree g = g.naming ≡ of_value
 abbrev pub behind : {all : List Token} (p : Place all) (x : Token) (r : List Token) → p.rest ≡ x ∷ r → Place all
 behind p x r e = record { front = p.front ++ x ∷ []; rest = r; whole = append_assoc p.front (x ∷ []) r ∙ ap (λ v. p.front ++ v) (sym e) ∙ p.whole }
 
--- what a token makes of the ground
+-- the ground after a token
 abbrev pub stepped : Ground → Token → Ground
 stepped g x = record { naming = naming_behind x; loops = loops_behind g x }
 
@@ -47,7 +47,7 @@ pub data Wrong (g : Rules) (all : List Token) (p : Place all) : Type 0 where
   at_jump : next_passes is_jump p.rest ≡ true → may_jump g (ground p).loops None ≡ false → Wrong g all p
   at_label : (b : Place all) (x : Token) (s : List ℕ) (r : List Token) → is_jump x ≡ true → b.rest ≡ x ∷ p.rest → p.rest ≡ token.Name s ∷ r → may_jump g (ground p).loops (Some s) ≡ false → Wrong g all p
 
--- what is known of the ground where a phrase begins
+-- the ground at the beginning of a phrase
 abbrev pub Enters : Kind → Ground → Type 0
 Enters (expression i) h = IsFree h
 Enters (conditional i) h = IsFree h
@@ -69,7 +69,7 @@ Enters (handlers ls) h = IsFree h × (h.loops ≡ ls)
 Enters label h = Unit {0}
 Enters in_parens h = Unit {0}
 
--- what a label makes of the ground
+-- the ground after a label
 abbrev pub labelled : Ground → Option (List ℕ) → Ground
 labelled g None = g
 labelled g (Some x) = stepped g (token.Name x)

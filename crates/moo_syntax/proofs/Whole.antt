@@ -164,7 +164,7 @@ module _ (names : Names) (spots : List Spot) (old new : Cursor) (from : left old
       let p = grammar loose (statements []) in
       subst (λ v. Deepens loose true block most_nodes p (words spots) v) to (subst (λ v. Deepens loose true block most_nodes p v (left new)) from (w.deep refl loose (loose_admits (strict names))))
 
-  -- what the place where the statements' reading stopped says
+  -- the meaning of the place at which the reading of statements stopped
   pub stop_of : (f : Fault) → old.at ≡ 0 → HasFailed names (statements []) most_nodes old new f → StopsBy names spots new.at f
   stop_of Unexpected z w = record {
     none = told_at Unexpected loose w (loose_admits (strict names));

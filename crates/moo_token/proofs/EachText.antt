@@ -7,7 +7,7 @@ use Rattle.moo_token.specs.Tokens.{token_at}
 use Rattle.moo_token.specs.Lexing.{begins_blank, begins_comment, ends_comment, Ending, complete, broken, unclosed, Place, outside, commented, Lexes, text_end, line_end, blank, token, comment, comment_goes_on, comment_end, no_token, never_closed, IsReading}
 use Rattle.moo_token.proofs.TokenLengths.{token_length}
 
--- what follows a place is read in some way
+-- the text after a place is read in some way
 record Goes (p : Place) (n : ℕ) (bs : List ℕ) (below : List (List ℕ)) : Type 0 where
   pub ending : Ending
   pub spots : List Spot

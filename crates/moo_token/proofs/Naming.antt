@@ -18,7 +18,7 @@ one_kept : {A : Type 0} (test : A → Bool) (x : A) (kept rest : List A) (b : Bo
 one_kept test x kept rest true h same = ap (cond (test x) (Some x)) same
 one_kept test x kept rest false h same = skipped x (test x) (find test kept) (find test rest) h same
 
--- what passes a test is found among those that pass one that it needs
+-- an element that passes a test is found among those that pass a weaker test
 find-filter : {A : Type 0} (test needed : A → Bool) → ((x : A) → test x ≡ true → needed x ≡ true) → (xs : List A) → find test (filter needed xs) ≡ find test xs
 find-filter test needed h [] = refl
 find-filter test needed h (x ∷ xs) = one_kept test x (filter needed xs) xs (needed x) (h x) (find-filter test needed h xs)

@@ -15,7 +15,7 @@ use Rattle.moo_token.specs.Tokens.{begins_name, continues_name, named, word, int
 use Rattle.moo_token.specs.Spelling.{is_word, is_name, HoldsName}
 use Rattle.moo_token.proofs.SpelledWords.{begins_continues}
 
--- what each token that is read is like
+-- a property of each token that is read
 IsRead : Token → Type 0
 IsRead x = (x ≡ Bad → ⊥) × HoldsName x
 

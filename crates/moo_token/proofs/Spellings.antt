@@ -13,7 +13,7 @@ use Rattle.moo_token.proofs.SpelledSigns.{sign_read, sign_no_comment}
 use Rattle.moo_token.proofs.SpelledStrings.{string_read, string_no_comment}
 use Rattle.moo_token.proofs.SpelledNumbers.{integer_read, integer_no_comment, object_read, hash_no_comment}
 
--- what is read of a word, where it is this token
+-- a word is read as its token
 word_is : (x : Token) (w rest : List ℕ) → is_word w ≡ true → begins_with continues_name rest ≡ false → word w ≡ x → token_at (w ++ rest) ≡ Some (x, length w)
 word_is x w rest h j e = word_read w rest h j ∙ ap (λ (y : Token). Some (y, length w)) e
 

@@ -74,7 +74,7 @@ stops_outside n (b ∷ bs) found spots i f g h m = rw m (record {
 pub stops_at : (n : ℕ) (o : Option ℕ) (bs : List ℕ) (found spots : List Spot) → false ≡ is_some o → 0 < length bs → false ≡ begins_blank bs → false ≡ begins_comment bs → None ≡ token_at bs → spots ≡ found ++ record { token = Bad; line = n } ∷ [] → Stops n (place o) bs found spots
 stops_at n o bs found spots s i f g h m = rw (place_none o s) (stops_outside n bs found spots i (sym f) (sym g) (sym h) m)
 
--- what is found further on in a line is found from its start
+-- spots that are found from a later place of a line are found from its start
 pub stops_later : {n : ℕ} {p q : Place} {bs cs : List ℕ} {ts us spots : List Spot} → Passes n p bs ts q cs us → Stops n q cs us spots → Stops n p bs ts spots
 stops_later a f = record { stops = λ lines below g. f.stops lines below (a.passes lines below g) }
 

@@ -39,7 +39,7 @@ number digits = fold (λ n d. n * 10 + (d - 48)) 0 digits
 abbrev pub wrapped : List ℕ → ℤ
 wrapped digits = cast_signed w32 (number digits % 2 ^ 32)
 
--- what may not follow an integer: an exponent, or a dot that is not part of `..`
+-- an exponent, or a dot that is not part of `..`: these may not follow an integer
 unfoldable pub begins_fraction : List ℕ → Bool
 begins_fraction [] = false
 begins_fraction (a ∷ []) = nat_eq a 69 || nat_eq a 101 || nat_eq a 46

@@ -36,7 +36,7 @@ use Rattle.moo_unparse.proofs.Phrases.{IsPart, chain_then, looser, bare_rank, ra
 use Rattle.moo_unparse.proofs.Scatters.{ends_in_scatter, some_scatter, scatter_in_codes, If}
 use Rattle.moo_unparse.proofs.Listed.{binary_token, logic_mark, parens, further, spell, spell_items, spell_codes, spell_statement, spell_block, selected, IsSound, AreSound, AreSoundCodes, IsSoundStatement, IsSoundBlock, IsSoundToken, spell_label, spell_arms, spell_handlers, IsSoundLabel, AreSoundArms, AreSoundHandlers}
 
--- what is shown of a tree: its listing is a phrase of its part, and in parentheses or bare a base
+-- the facts that are shown of a tree: its listing is a phrase of its part, and a base, in parentheses if it needs them
 pub record Good (p : Parentheses) (g : Rules) (i : Bool) (e : Expr) : Type 0 where
   pub bare : (r : List Token) → IsPart g i (rank (part_of e)) (spell p e r) e r
   pub base : {f : Expr} {us r : List Token} → Derives g (Grammar.suffixes i e) us f r → Derives g (Grammar.postfix i) (parens (is_compound_base e) (spell p e) us) f r

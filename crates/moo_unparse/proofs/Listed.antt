@@ -55,7 +55,7 @@ literal_tokens (Object n) r = token.Object n ∷ r
 literal_tokens (Error e) r = token.Error e ∷ r
 literal_tokens (Str s) r = token.Str s ∷ r
 
--- what f writes, in parentheses or bare, in front of r
+-- the text of f, in parentheses or without, before r
 abbrev pub parens : Bool → (List Token → List Token) → List Token → List Token
 parens true f r = token.Sign sign.LeftParen ∷ f (token.Sign sign.RightParen ∷ r)
 parens false f r = f r
@@ -135,7 +135,7 @@ abbrev mutual
   spell_block p no_statement r = r
   spell_block p (then s ss) r = spell_statement p s (spell_block p ss r)
 
--- what a literal may be: an integer of 32 bits
+-- a literal in range: an integer has 32 bits
 abbrev pub IsSoundLiteral : Literal → Type 0
 IsSoundLiteral (Integer n) = FitsSigned w32 n
 IsSoundLiteral (Object n) = FitsSigned w32 n

@@ -26,7 +26,7 @@ use Rattle.moo_unparse.proofs.Listed.{unary_mark, binary_token, logic_mark, lite
 pub record Within (m n : ℕ) (ts : List Token) : Type 0 where
   pub most : most_open_behind n ts ≤ m
 
--- what f writes closes what it opens, and opens few enough, where n are open before it
+-- the text of f closes the brackets that it opens, and opens few enough, if n are open before it
 abbrev Closed : ℕ → ℕ → (List Token → List Token) → Type 0
 Closed m n f = (r : List Token) → Within m n r → Within m n (f r)
 

@@ -78,7 +78,7 @@ ends_selector sign.Dot h x = record { name = refl; digit = refl; fraction = λ h
 ends_selector sign.Colon h x = record { name = refl; digit = refl; fraction = λ h. absurd cc }
 ends_selector _ h x = absurd h
 
--- what ends an integer ends all
+-- bytes that may follow an integer may follow any token
 loosely : (i : Bool) (x : List ℕ) → Ends true x → Ends i x
 loosely i x e = record { name = e.name; digit = e.digit; fraction = λ h. e.fraction refl }
 

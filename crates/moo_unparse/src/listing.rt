@@ -17,8 +17,8 @@ use moo_program::Stmt;
 use moo_value::MooStr;
 use std::alloc::{AllocError, Global};
 
-/// Returns the full listing of a program: its lines, with each operand that is an operator or a conditional in
-/// parentheses. It fails only out of memory.
+/// Returns the full listing of a program: its lines, with each operand that is an operator, a conditional or an
+/// assignment in parentheses. It fails only out of memory.
 pub fn list_full(alloc: Global, program: &Program) -> Result<Vec<MooStr>, Memory>
     ensures { IfOk result (λ lines. lines.items ≡ listing program.now) }
 {

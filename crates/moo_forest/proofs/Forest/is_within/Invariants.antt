@@ -3,7 +3,7 @@ use Rattle.std.specs.List.{list_any}
 use Rattle.moo_forest.specs.Forest.{above_of, climb, ancestors}
 use Rattle.moo_forest.proofs.Forest.is_within.Given as goal
 
--- what is still to be met decides
+-- the nodes still to be passed decide the result
 abbrev pub invariant-loop : goal.invariant-loop
 invariant-loop l = record {
   within : l.at < length l.self;

@@ -2,7 +2,7 @@ use Rattle.std.proofs.Common.{◌≡◌, drop, vec_len}
 use Rattle.moo_forest.specs.Steps.{with_all_joined}
 use Rattle.moo_forest.proofs.dissolve.join_all.Given as goal
 
--- what is left to join makes the whole
+-- joining the nodes that are left completes the result
 abbrev pub invariant-loop-x : goal.invariant-loop-x
 invariant-loop-x l = record {
   rest : with_all_joined l.nodes.items (drop l.x-index l.xs) l.to ≡ with_all_joined l.initial.nodes.items l.xs l.to;

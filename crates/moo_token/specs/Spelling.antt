@@ -69,8 +69,8 @@ sign_text Slash = codes "/"
 sign_text Percent = codes "%"
 sign_text Caret = codes "^"
 
--- the spelling of a token: an integer in decimal, an object's number after `#`, an error by its name, a string between
--- double quotes with a backslash before each double quote and backslash in it, a name unchanged
+-- The spelling of a token: an integer in decimal, an object's number after `#`, an error by its name, a name unchanged,
+-- and a string between double quotes. In a string each double quote and backslash has a backslash before it.
 abbrev pub spell : Token → List ℕ
 spell (token.Integer i) = signed_decimal i
 spell (token.Object o) = codes "#" ++ signed_decimal o

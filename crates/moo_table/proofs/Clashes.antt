@@ -32,7 +32,7 @@ any_alike s t same (x ∷ xs) = ap (λ b. b || list_any s xs) (same x) ∙ ap (�
 abbrev names : List Key → List (List ℕ)
 names ks = map (λ (k : Key). k.1) ks
 
--- of two lists without a name twice, one behind the other
+-- of two lists without a name twice, one after the other
 twice_across : (ns ms : List (List ℕ)) → has_twice ns ≡ false → has_twice ms ≡ false → has_twice (ns ++ ms) ≡ list_any (λ a. list_any (same_name a) ms) ns
 twice_across [] ms one two = two
 twice_across (a ∷ ns) ms one two =

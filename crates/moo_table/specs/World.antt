@@ -74,7 +74,7 @@ is_crowded objects tree x = nat_lt most (length (definitions objects tree x))
 abbrev pub crowds : List (Option Object) → List Links → Bool
 crowds objects tree = list_any (is_crowded objects tree) (range_with_len 0 (length objects))
 
--- the same of what stands at a number: nothing more where it is not valid
+-- the same of the object at a number: nothing more where it is not valid
 abbrev pub fitted_over : ℕ → Option Object → List Cell → List Cell
 fitted_over x None above = above
 fitted_over x (Some o) above = fitted_row x o above

@@ -32,7 +32,7 @@ TakesNoMemory (Ok v) = ⊤
 TakesNoMemory (Err (Raise e)) = ⊤
 TakesNoMemory (Err Memory) = ⊥
 
--- a call that looks at these raises before it takes memory: where memory is short, none of them was due
+-- a call that looks at these raises before it takes memory: if memory runs out, none of them was due
 abbrev pub RaisesFirst : {T : Type 0} → Result T WorldFault → Option ErrorCode → Type 0
 RaisesFirst (Ok v) raises = ⊤
 RaisesFirst (Err (Raise e)) raises = ⊤

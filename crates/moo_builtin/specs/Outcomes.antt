@@ -12,7 +12,7 @@ use Rattle.moo_table.specs.World.{World}
 abbrev pub Replies : Type 1
 Replies = Result Tree Raised → World → Type 0
 
--- the outcome and the world after it are such; a raise and want of memory leave the world as it was
+-- the outcome and the world after it are such; a raise and lack of memory leave the world as it was
 abbrev pub IsReply : Outcome → World → World → Replies → Type 0
 IsReply (outcome.Value v) old new Such = Such (Ok (tree v)) new
 IsReply (outcome.Raise e message v) old new Such = Such (Err (record { code = e; message = message; value = tree v })) new × (new ≡ old)

@@ -12,7 +12,7 @@ use Rattle.moo_table.specs.World.{World}
 abbrev pub Outcomes : Type 1
 Outcomes = Result Tree ErrorCode → World → Type 0
 
--- the answer and the world after it are such; a raise and want of memory leave the world as it was
+-- the answer and the world after it are such; a raise and lack of memory leave the world as it was
 abbrev pub Comes : Result Value OperationFault → World → World → Outcomes → Type 0
 Comes (Ok v) old new Such = Such (Ok (tree v)) new
 Comes (Err (Raise e)) old new Such = Such (Err e) new × (new ≡ old)

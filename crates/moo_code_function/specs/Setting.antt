@@ -56,7 +56,7 @@ given_lines _ = Err TypeMismatch
 abbrev pub with_code : World → ℤ → ℕ → Block → World
 with_code w o i b = world_with_object w (number_of w.objects o) (with_changed_verb i (with_program (Some b)))
 
--- the fault is one of the text, and no want of memory
+-- the fault is one of the text, and no lack of memory
 abbrev pub is_of_text : SyntaxFaultKind → Bool
 is_of_text Memory = false
 is_of_text _ = true

@@ -11,7 +11,7 @@ use Rattle.moo_syntax.specs.Programs.{Blames}
 abbrev pub Telling : Type 1
 Telling = List (List ℕ) → SyntaxFault → Type 0
 
--- The program tells any fault that the text has. Want of memory is none.
+-- The program tells any fault that the text has. Lack of memory is none.
 abbrev pub Faults : Telling
 Faults lines f = Blames Known lines f.line f.kind × (f.kind ≢ Memory)
 

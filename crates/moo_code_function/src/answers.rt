@@ -1,4 +1,4 @@
-//! Errors of these functions, and the lists of strings that they answer.
+//! Results of functions on code: their errors, and lists of strings.
 ghost use Rattle.std.specs.Prelude.{◌≡◌, IfOk, map};
 ghost use Rattle.moo_value.specs.Tree.{string, list_of};
 ghost use Rattle.moo_value.specs.View.{trees};
@@ -17,7 +17,7 @@ pub const VERB_NOT_FOUND: OperationFault = OperationFault::Raise(ErrorCode::Verb
 
 pub const QUOTA: OperationFault = OperationFault::Raise(ErrorCode::Quota);
 
-/// The list of these lines, or E_QUOTA past its limits.
+/// Returns the list of these lines, or E_QUOTA past its limits.
 #[tactic(auto, using(moo_text_function::proofs::Making::limited_made))]
 pub fn listed(alloc: Global, lines: Vec<MooStr>) -> Result<Value, OperationFault>
     ensures { Gives result (limited (list_of (map (λ line. string line) lines.items))) }

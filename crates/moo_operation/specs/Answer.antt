@@ -10,11 +10,11 @@ use Rattle.moo_value.specs.Faults.{TakesMemory}
 use Rattle.moo_operation.specs.declared.fault.OperationFault.{OperationFault}
 use Rattle.moo_operation.specs.declared.fault.OperationFault.TheVariants.{Raise, Memory}
 
--- the value, or E_QUOTA where it is too heavy or too deep
+-- the value, or E_QUOTA if it is too heavy or too deep
 abbrev pub limited : Tree → Result Tree ErrorCode
 limited t = if nat_le (weight t) weight_limit && nat_le (depth t) depth_limit then Ok t else Err Quota
 
--- the operation gives this error, or a value for which memory was wanting
+-- the operation gives this error, or a value for which memory ran out
 abbrev pub IsRefused : OperationFault → Result Tree ErrorCode → Type 0
 IsRefused (Raise e) r = r ≡ Err e
 IsRefused Memory r = IsOkAnd r TakesMemory

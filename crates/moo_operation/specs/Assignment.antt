@@ -22,7 +22,7 @@ with_index_of (string s) (integer i) (string t) = or_range (before_place i (leng
 with_index_of (list es) (integer i) v = or_range (before_place i (length (trees_of es))) (λ k. limited (list_of (slice_set (trees_of es) k v)))
 with_index_of _ _ _ = Err TypeMismatch
 
--- an integer, or 0 where it is below
+-- an integer, or 0 if it is below
 abbrev pub at_least_zero : ℤ → ℕ
 at_least_zero (pos n) = n
 at_least_zero (negsuc n) = 0

@@ -5,7 +5,7 @@ use Rattle.moo_value.specs.declared.error_code.ErrorCode.TheVariants.{TypeMismat
 use Rattle.moo_value.specs.Tree.{Tree, integer, string, list, list_of, trees_of}
 use Rattle.moo_operation.specs.Answer.{limited}
 
--- what is made of what was found, or E_RANGE where nothing was
+-- what is made of what was found, or E_RANGE if nothing was
 abbrev pub or_range : {A : Type 0} → Option A → (A → Result Tree ErrorCode) → Result Tree ErrorCode
 or_range None f = Err Range
 or_range (Some x) f = f x

@@ -1,4 +1,4 @@
--- Texts one behind the other are no shorter than the first of them.
+-- Texts one after the other are no shorter than the first of them.
 use Rattle.std.proofs.Common.{ℕ, zero, suc, ◌≤◌, ◌≡◌, List, [], ◌∷◌, length, length-append, take, ap, arith}
 use Rattle.std.specs.List.{flat_map}
 use Rattle.moo_value.specs.declared.value.Value.{Value}

@@ -20,7 +20,7 @@ abbrev pub IsMade : Result Tree ErrorCode → Type 0
 IsMade (Ok t) = TakesMemory t
 IsMade (Err e) = e ≡ Quota
 
--- memory is wanting only for a string or a list
+-- memory is needed only for a string or a list
 abbrev pub Gives : Result Value OperationFault → Result Tree ErrorCode → Type 0
 Gives answer r = GivesUnless (IsMade r) answer r
 

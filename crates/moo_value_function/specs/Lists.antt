@@ -21,7 +21,7 @@ put_in ts k t = limited (list_of (insert ts k t))
 abbrev pub taken_out : List Tree → ℕ → Result Tree ErrorCode
 taken_out ts k = limited (list_of (remove ts k))
 
--- behind the last element, or behind a place
+-- after the last element, or behind a place
 abbrev pub list_append : List Tree → Result Tree ErrorCode
 list_append (list es ∷ t ∷ []) = put_in (trees_of es) (length (trees_of es)) t
 list_append (list es ∷ t ∷ integer i ∷ []) = put_in (trees_of es) (brought_to i (length (trees_of es))) t

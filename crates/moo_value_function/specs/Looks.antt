@@ -23,7 +23,7 @@ abbrev pub length_of : List Tree → Result Tree ErrorCode
 length_of (t ∷ []) = places.length_of t
 length_of _ = Err TypeMismatch
 
--- 1 where the two are one value, letters not folded, else 0
+-- 1 if the two are one value, letters not folded, else 0
 abbrev pub equal : List Tree → Result Tree ErrorCode
 equal (a ∷ b ∷ []) = Ok (truth_value (same_tree a b))
 equal _ = Err TypeMismatch

@@ -1,4 +1,4 @@
-//! Answers of functions.
+//! Results of functions that make lists.
 ghost use Rattle.moo_value_function.specs.Answers.{Follows};
 
 use moo_operation::OperationFault;
@@ -8,7 +8,7 @@ pub const TYPE_MISMATCH: OperationFault = OperationFault::Raise(ErrorCode::TypeM
 
 pub const RANGE: OperationFault = OperationFault::Raise(ErrorCode::Range);
 
-/// What comes of making a list.
+/// Returns the list that was made, or the error of a fault in making it.
 pub fn list_answer(made: Result<MooList, ListFault>) -> Result<Value, OperationFault>
     ensures { Follows made result }
 {

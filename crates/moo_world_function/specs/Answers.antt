@@ -13,7 +13,7 @@ use Rattle.moo_table.specs.World.{World}
 use Rattle.moo_world.specs.declared.fault.WorldFault.{WorldFault}
 use Rattle.moo_world.specs.declared.fault.WorldFault.TheVariants as world
 
--- the answer and the world after it are what the function gives; a raise and want of memory leave the world as it was
+-- the answer and the world after it are what the function gives; a raise and lack of memory leave the world as it was
 abbrev pub Does : Result Value OperationFault → World → World → Result (Tree × World) ErrorCode → Type 0
 Does (Ok v) old new r = r ≡ Ok (tree v, new)
 Does (Err (Raise e)) old new r = (r ≡ Err e) × (new ≡ old)

@@ -10,7 +10,7 @@ abbrev pub asked : {X : Type 0} → Option ErrorCode → Bool → Result X Error
 asked (Some e) allowed r = Err e
 asked None allowed r = if allowed then r else Err Permission
 
--- a function that changes the world comes to this one, and answers 0
+-- a function that changes the world comes to this one, and returns 0
 abbrev pub changes : Option ErrorCode → Bool → World → Result (Tree × World) ErrorCode
 changes raises allowed after = asked raises allowed (Ok (integer (pos 0), after))
 

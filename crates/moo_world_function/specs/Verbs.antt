@@ -39,7 +39,7 @@ verb_place vs _ = None
 abbrev pub chosen : World → ℤ → Tree → Option ℕ
 chosen w o t = option_and_then (λ thing. verb_place thing.verbs t) (object_numbered w o)
 
--- what is told of a verb, E_VERBNF where there is none
+-- what is told of a verb, E_VERBNF if there is none
 abbrev pub on_verb : {X : Type 0} → Option ℕ → (ℕ → Result X ErrorCode) → Result X ErrorCode
 on_verb None f = Err VerbNotFound
 on_verb (Some i) f = f i

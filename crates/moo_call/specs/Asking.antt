@@ -13,7 +13,7 @@ use Rattle.moo_outcome.specs.Outcome.{fails}
 use Rattle.moo_access.specs.State.{State}
 use Rattle.moo_call.specs.Tasks.{Reply}
 
--- with one notice more, behind the others
+-- with one notice more, after the others
 abbrev pub noticed : Notice → State → State
 noticed n s = record s { notices = s.notices ++ n ∷ [] }
 

@@ -70,7 +70,7 @@ caller c s = record { programmer = s.programmer; moment = c.surroundings.moment 
 abbrev pub ComesTo : Replies → Context → State → Result Tree Failure → State → Type 0
 ComesTo Such c s r s' = (reply : Result Tree Raised) × (w : World) × Such reply w × (r ≡ replied c.frame.d (trace c s) reply) × (s' ≡ record s { world = w })
 
--- the function, where it is one of the task
+-- the function, if it is one of the task
 abbrev pub task_function : Option Function → Option Function
 task_function None = None
 task_function (Some f) = if is_of_task f then Some f else None

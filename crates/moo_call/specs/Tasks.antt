@@ -17,7 +17,7 @@ Reply = Result Tree Failure × State
 abbrev pub most_ticks : ℕ
 most_ticks = 100000
 
--- the programmer of the nearest frame of a verb, #-1 where there is none
+-- the programmer of the nearest frame of a verb, #-1 if there is none
 abbrev pub nearest_programmer : List TraceEntry → ℤ
 nearest_programmer [] = negsuc 0
 nearest_programmer (Verb f ∷ callers) = f.programmer

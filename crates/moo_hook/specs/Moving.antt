@@ -20,7 +20,7 @@ move_calls k w o name what stage = (hook k w (codes "move") o name (object what 
 abbrev pub is_to_move : World → ℤ → ℤ → Bool
 is_to_move w what to = is_valid w what && is_place w to && not (int_eq (location w what) to)
 
--- The move itself, where there is one to make; then the place that it leaves is told.
+-- The move itself, if there is one to make; then the place that it leaves is told.
 unfoldable pub moved : Calling → World → ℤ → ℤ → Progress × World
 moved k w what to =
     let x = number_of w.objects what in

@@ -54,7 +54,7 @@ pub data Goes (T : Telling) (c : Context) (what to : ℤ) : State → Result Tre
       CallsVerb T c (codes "move") (location s.world what) (codes "exitfunc") (object what ∷ []) (with_move s what to) (Err failure) s' →
       Goes T c what to s (Err failure) s'
 
--- the place is asked, and answers
+-- the place is asked, and returns
 abbrev pub CallsAccept : Telling → Context → ℤ → ℤ → State → Tree → State → Type 0
 CallsAccept T c what to s v s' = CallsVerb T c (codes "move") to (codes "accept") (object what ∷ []) s (Ok v) s'
 

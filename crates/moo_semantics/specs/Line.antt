@@ -32,7 +32,7 @@ pub record RunsTo (T : Telling) (text : List ℕ) (end : End) : Type 0 where
   pub parsed : IsParsed Known (text ∷ []) program
   pub ends : TaskEnds T nowhere (typed_frame program (negsuc 0) (negsuc 0) (negsuc 0)) no_world end after notices
 
--- the text has this fault, which is not want of memory
+-- the text has this fault, which is not lack of memory
 pub record HasFault (text : List ℕ) (fault : SyntaxFault) : Type 0 where
   pub blames : Blames Known (text ∷ []) fault.line fault.kind
   pub told : fault.kind ≢ Memory

@@ -82,7 +82,7 @@ trace_of stack active = entries stack.running active.programmer stack.callers
 abbrev pub raise_of : code_raise.Raise → Raise
 raise_of raise = let account = raise.account.value in record { code = raise.code; message = account.message; value = tree account.value; trace = account.trace.items }
 
--- Want of memory has no meaning: `IsKnown` is false of it, so what stands here for it is never read.
+-- Lack of memory has no meaning: `IsKnown` is false of it, so what stands here for it is never read.
 abbrev pub stop_of : code_stop.Stop → Stop
 stop_of (stop_case.Raised raise) = raised (raise_of raise)
 stop_of (stop_case.OutOfTicks trace) = out_of_ticks trace.items
@@ -144,7 +144,7 @@ HadMemory (stop_case.Raised raise) = Unit {0}
 HadMemory (stop_case.OutOfTicks trace) = Unit {0}
 HadMemory stop_case.Memory = ⊥
 
--- an outcome that the meaning speaks of: want of memory may come anywhere, and nothing is said of it
+-- an outcome that the meaning speaks of: lack of memory may come anywhere, and nothing is said of it
 abbrev pub IsKnown : {A : Type 0} → Result A code_stop.Stop → Type 0
 IsKnown (Ok v) = Unit {0}
 IsKnown (Err stop) = HadMemory stop

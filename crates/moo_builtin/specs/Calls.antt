@@ -16,7 +16,7 @@ use Rattle.moo_code_function.specs.Answers.{Outcomes}
 use Rattle.moo_code_function.specs.Calls.{is_of_code, Answers}
 use Rattle.moo_builtin.specs.declared.call.Caller.{Caller}
 
--- what a function looks at beside its arguments: nothing, the objects of the world, or the code of a verb
+-- what a function looks at besides its arguments: nothing, the objects of the world, or the code of a verb
 pub data Field : Type 0 where
   values : Field
   objects : Field

@@ -1,4 +1,4 @@
--- How an outcome of the program stands to what a call comes to.
+-- How an outcome of the program relates to what a call comes to.
 use Rattle.std.specs.Prelude.{◌≡◌, Option, None, Some, Result, Ok, Err}
 use Rattle.moo_value.specs.declared.error_code.ErrorCode.{ErrorCode}
 use Rattle.moo_value.specs.Tree.{Tree}

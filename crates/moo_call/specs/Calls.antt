@@ -75,12 +75,12 @@ abbrev pub task_function : Option Function → Option Function
 task_function None = None
 task_function (Some f) = if is_of_task f then Some f else None
 
--- a function of the task, or where there is none of that name a plain call
+-- a function of the task, or if there is none of that name a plain call
 abbrev pub CallsAs : Telling → Option Function → Context → List ℕ → List Tree → State → Result Tree Failure → State → Type 0
 CallsAs T (Some f) c name args s r s' = unless_refused s (refusal (is_valid s.world) (row f) args) (task_reply f c args s) ≡ (r, s')
 CallsAs T None c name args s r s' = ComesTo (CallsPlain T name args s.world (caller c s)) c s r s'
 
--- A call of a built-in function by its name, in any case: its answer and the state after it. Where it reads a text that is no program,
--- it tells a fault that T lets it tell.
+-- A call of a built-in function by its name, in any case: its result and the state after it. If it reads a text that
+-- is no program, it reports a fault that T allows.
 abbrev pub CallsFunction : Telling → Context → List ℕ → List Tree → State → Result Tree Failure → State → Type 0
 CallsFunction T c name args s r s' = CallsAs T (task_function (function_of name)) c name args s r s'

@@ -1,4 +1,4 @@
--- How an answer of the program stands to what a call comes to.
+-- How a result of the program relates to what a call comes to.
 use Rattle.std.specs.Prelude.{◌≡◌, Bool, true, false, Option, None, Some, Result, Ok, Err}
 use Rattle.moo_value.specs.declared.error_code.ErrorCode.{ErrorCode}
 use Rattle.moo_value.specs.declared.value.Value.{Value}
@@ -18,7 +18,7 @@ Comes (Ok v) old new Such = Such (Ok (tree v)) new
 Comes (Err (Raise e)) old new Such = Such (Err e) new × (new ≡ old)
 Comes (Err Memory) old new Such = new ≡ old
 
--- the same of a function that may be another crate's: it leaves the world as it was
+-- the result of a function that may be another crate's: that one leaves the world as it was
 abbrev pub ComesSome : Option (Result Value OperationFault) → World → World → Bool → Outcomes → Type 0
 ComesSome None old new is Such = (is ≡ false) × (new ≡ old)
 ComesSome (Some a) old new is Such = (is ≡ true) × Comes a old new Such

@@ -27,7 +27,7 @@ abbrev pub SetMayLack : World → ℤ → List Tree → Type 0
 SetMayLack w p (object o ∷ t ∷ text ∷ []) = IsOk (verb_to_set w p o t)
 SetMayLack w p _ = ⊥
 
--- where memory may be wanting: for a listing that is made, and for a text that is read
+-- where memory may run out: for a listing that is made, and for a text that is read
 abbrev pub MayLack : Function → World → ℤ → List Tree → Type 0
 MayLack VerbCode w p args = IsMade (verb_code w p args)
 MayLack SetVerbCode w p args = SetMayLack w p args

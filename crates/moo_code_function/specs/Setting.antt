@@ -61,12 +61,12 @@ abbrev pub is_of_text : SyntaxFaultKind → Bool
 is_of_text Memory = false
 is_of_text _ = true
 
--- what a player is told of a fault
+-- the value that describes a fault to a player
 abbrev pub told_fault : SyntaxFault → Result Tree ErrorCode
 told_fault f = limited (list_of (string (fault_text f) ∷ []))
 
--- Lines for a verb: a program of known functions becomes the verb's program, and the answer is {}. Any other text changes nothing,
--- and a fault that may be told of it is told.
+-- Sets the lines of a verb. A program of known functions becomes the verb's program, and the result is {}. Any other
+-- text changes nothing, and the result describes one of its faults that may be reported.
 pub data IsSet (T : Telling) (w : World) (o : ℤ) (i : ℕ) (lines : List (List ℕ)) : Result Tree ErrorCode → World → Type 0 where
   set : {b : Block} → IsParsed Known lines b → IsSet T w o i lines (Ok (list_of [])) (with_code w o i b)
   told : (f : SyntaxFault) → T lines f → IsSet T w o i lines (told_fault f) w

@@ -26,7 +26,7 @@ pub data Progress : Type 0 where
   done : Result Tree Failure → Progress
   -- a verb runs, and what it answers goes to the stage
   verb_next : Entered → Stage → Progress
-  -- the stage comes at once, as after a verb that answers 0
+  -- the stage comes at once, as after a verb that returns 0
   stage_next : Stage → Progress
 
 -- the function answers this
@@ -42,7 +42,7 @@ abbrev pub after_raise : World → Option ErrorCode → Progress × World → Pr
 after_raise w None next = next
 after_raise w (Some code) next = (refuses code, w)
 
--- the verb is entered by a built-in function, which stands between it and its caller
+-- a built-in function enters the verb; its entry is between the verb and its caller
 abbrev pub through : List ℕ → Entered → Entered
 through function e = record e { context = record e.context { callers = BuiltIn function ∷ e.context.callers } }
 

@@ -21,7 +21,7 @@ integer_in (Some (error e)) = None
 integer_in (Some (string s)) = None
 integer_in (Some (list es)) = None
 
--- what comes of something that may raise, or what there is where it raises
+-- the result of something that may raise, or a substitute if it raises
 abbrev pub where_allowed : {A : Type 0} → Option ErrorCode → A → A → A
 where_allowed None next other = next
 where_allowed (Some code) next other = other

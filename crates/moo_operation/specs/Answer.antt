@@ -1,4 +1,4 @@
--- How an answer of the program stands to the value or the error that an operation gives.
+-- How a result of the program relates to the value or the error that an operation gives.
 use Rattle.std.specs.Prelude.{◌≡◌, Result, Ok, Err, IsOkAnd, nat_le, ◌&&◌, if◌then◌else◌}
 use Rattle.moo_value.specs.declared.value.Value.{Value}
 use Rattle.moo_value.specs.declared.error_code.ErrorCode.{ErrorCode}

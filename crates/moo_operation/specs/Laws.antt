@@ -1,4 +1,4 @@
--- What the operations keep to, beside their definitions.
+-- What the operations keep to, besides their definitions.
 use Rattle.std.specs.Prelude.{◌≡◌, ◌≢◌, ℕ, zero, suc, ℤ, pos, negsuc, ◌-◌, ◌^◌, ◌<◌, ◌≤◌, ◌+ℤ◌, ◌*ℤ◌, ◌≤ℤ◌, unsigned_abs, FitsSigned, List, length, Ok}
 use Rattle.std.specs.List.{All, AllWithin, HoldsAt}
 use Rattle.std.specs.Int.{w32}

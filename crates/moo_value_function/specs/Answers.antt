@@ -1,4 +1,4 @@
--- For private clauses: how an answer of the program stands to a list that was made.
+-- For private clauses: how an answer of the program relates to a list that was made.
 use Rattle.std.specs.Prelude.{◌≡◌, List, Result, Ok, Err}
 use Rattle.moo_value.specs.declared.error_code.ErrorCode.TheVariants.{Quota}
 use Rattle.moo_value.specs.declared.list.ListFault.{ListFault}

@@ -1,4 +1,4 @@
--- What the functions that look at any value answer.
+-- The results of the functions that look at any value.
 use Rattle.std.specs.Prelude.{ℕ, ℤ, pos, List, [], ◌∷◌, Result, Ok, Err, codes}
 use Rattle.std.specs.Int.{w32, cast_signed}
 use Rattle.moo_value.specs.declared.error_code.ErrorCode.{ErrorCode}

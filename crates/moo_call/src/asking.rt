@@ -17,7 +17,8 @@ use moo_value::{ErrorCode, Value};
 use moo_world::{Rights, World};
 use std::alloc::AllocError;
 
-/// `notify(o, line)`: asks for a line to be sent to o, and returns 1. E_PERM for others than o itself and wizards.
+/// Runs `notify(o, line)`: asks for a line to be sent to o, and returns 1. E_PERM for others than o itself and
+/// wizards.
 pub(crate) fn notify(
     world: &World,
     active: &Activation,
@@ -34,7 +35,8 @@ pub(crate) fn notify(
     leave(may, 1, notice, notices)
 }
 
-/// `boot_player(o)`: asks for the end of o's connection, and returns 0. E_PERM for others than o itself and wizards.
+/// Runs `boot_player(o)`: asks for the end of o's connection, and returns 0. E_PERM for others than o itself and
+/// wizards.
 pub(crate) fn boot_player(
     world: &World,
     active: &Activation,
@@ -50,7 +52,7 @@ pub(crate) fn boot_player(
     leave(may, 0, Notice::BootPlayer(*player), notices)
 }
 
-/// `dump_database()`: asks for a checkpoint, and returns 0. E_PERM for anyone but a wizard.
+/// Runs `dump_database()`: asks for a checkpoint, and returns 0. E_PERM for anyone but a wizard.
 pub(crate) fn dump_database(
     world: &World,
     active: &Activation,
@@ -66,7 +68,7 @@ pub(crate) fn dump_database(
     leave(may, 0, Notice::DumpDatabase, notices)
 }
 
-/// `shutdown([why])`: asks for the end of the server, perhaps with a text that gives the reason, and returns 0.
+/// Runs `shutdown([why])`: asks for the end of the server, perhaps with a text that gives the reason, and returns 0.
 /// E_PERM for anyone but a wizard.
 pub(crate) fn shutdown(
     world: &World,
@@ -85,7 +87,7 @@ pub(crate) fn shutdown(
     leave(may, 0, Notice::Shutdown(why), notices)
 }
 
-/// `server_log(line)`: asks for a line in the server's log, and returns 0. E_PERM for anyone but a wizard.
+/// Runs `server_log(line)`: asks for a line in the server's log, and returns 0. E_PERM for anyone but a wizard.
 pub(crate) fn server_log(
     world: &World,
     active: &Activation,
@@ -101,7 +103,7 @@ pub(crate) fn server_log(
     leave(may, 0, Notice::ServerLog(line.try_clone()?), notices)
 }
 
-/// `set_player_flag(o, on)`: makes an object a player, or no player if `on` is false, leaves a notice of it, and
+/// Runs `set_player_flag(o, on)`: makes an object a player, or no player if `on` is false, leaves a notice of it, and
 /// returns 0. Raises E_INVARG if o is no object, E_QUOTA for too many players, and E_PERM for anyone but a wizard.
 pub(crate) fn set_player_flag(
     world: &mut World,

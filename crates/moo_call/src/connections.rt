@@ -11,8 +11,9 @@ use moo_outcome::{Connection, Failure, Login, Surroundings, own_number, push};
 use moo_value::{ErrorCode, Value};
 use std::alloc::{AllocError, Global};
 
-/// `connected_players([all])`: the list of connected players, in the order of the connections. If the argument is
-/// given and true, it includes the numbers of connections on which no player is. E_QUOTA for a list past its limits.
+/// Computes `connected_players([all])`: the list of connected players, in the order of the connections. If the
+/// argument is given and true, it includes the numbers of connections on which no player is. E_QUOTA for a list past
+/// its limits.
 pub(crate) fn connected_players(
     alloc: Global,
     around: &Surroundings<'_>,
@@ -49,8 +50,8 @@ fn push_who(players: &mut Vec<Value>, all: bool, connection: &Connection) -> Res
     }
 }
 
-/// `idle_seconds`: the seconds since bytes last came on a player's connection, or since it was opened if none have
-/// come. E_INVARG if no one is connected by this number.
+/// Computes `idle_seconds`: the seconds since bytes last came on a player's connection, or since it was opened if
+/// none have come. E_INVARG if no one is connected by this number.
 pub(crate) fn idle_seconds(around: &Surroundings<'_>, args: &[Value]) -> Result<Value, Failure>
     ensures { answers (elapsed_since last_heard (surroundings_of around.now) (trees args.now)) ≡ seen_answer result }
 {
@@ -64,7 +65,7 @@ pub(crate) fn idle_seconds(around: &Surroundings<'_>, args: &[Value]) -> Result<
     Ok(elapsed(heard, around.moment))
 }
 
-/// `connected_seconds`: the seconds since a player's login. E_INVARG if no one is connected by this number.
+/// Computes `connected_seconds`: the seconds since a player's login. E_INVARG if no one is connected by this number.
 pub(crate) fn connected_seconds(around: &Surroundings<'_>, args: &[Value]) -> Result<Value, Failure>
     ensures { answers (elapsed_since last_login (surroundings_of around.now) (trees args.now)) ≡ seen_answer result }
 {

@@ -60,8 +60,8 @@ impl GivenValues {
         }
     }
 
-    // Returns a block with the caller's values of the command and fresh names of types. Not inlined, so that other
-    // calls need no stack space for it.
+    // Returns a block with the caller's values of the command, and the names of types as a frame begins with them.
+    // Not inlined, so that other calls need no stack space for it.
     #[cold]
     #[inline(never)]
     fn fresh_shared(&self) -> Result<Rc<SharedValues>, AllocError>

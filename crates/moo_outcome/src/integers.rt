@@ -7,7 +7,7 @@ ghost use Rattle.moo_value.specs.declared.value.Value.TheVariants.{Int, List as 
 
 use moo_value::Value;
 
-/// Returns the integer that a value is, if it is one.
+/// Returns the integer in a value, if there is a value and it is one.
 #[inline(always)]
 pub(crate) fn integer_in(value: Option<&Value>) -> Option<i32>
     ensures { IfSome result (λ n. option_map (λ v. tree v.now) value.entry ≡ Some (integer n)) }
@@ -18,7 +18,7 @@ pub(crate) fn integer_in(value: Option<&Value>) -> Option<i32>
     }
 }
 
-/// Returns the integer that a present value is, if it is one.
+/// Returns the integer in a value, if it is one.
 #[inline(always)]
 pub(crate) fn integer_of(value: &Value) -> Option<i32>
     ensures { IfSome result (λ n. Some (tree value.now) ≡ Some (integer n)) }

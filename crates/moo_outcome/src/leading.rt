@@ -121,7 +121,7 @@ pub fn runs_finally(outcome: &Result<Flow, Stop>) -> bool
     }
 }
 
-/// Returns the outcome of a `try` with a cleanup: the cleanup's, unless the cleanup ends normally.
+/// Returns the outcome of a `try` with a cleanup: the cleanup's, or if the cleanup ends normally that of the body.
 pub fn after_finally(body: Result<Flow, Stop>, cleanup: Result<Flow, Stop>) -> Result<Flow, Stop>
     ensures outcome { seen_flow result ≡ after_finally (seen_flow body) (seen_flow cleanup) }
     ensures known { IsKnown result → IsKnown cleanup }

@@ -19,9 +19,9 @@ use moo_program::{Given, Name};
 use moo_value::{MooStr, Value};
 use std::alloc::{AllocError, Global};
 
-/// Holds the variables of a frame. Names that every frame has are fields; each other name of the program has a slot
-/// with a value or none; further names are in a list. Only the further names, and names spelled otherwise than in the
-/// program, need a search.
+/// Holds the variables of a frame: the values of the names that every frame has, a slot with a value or none for each
+/// other name of its program, and a list of further names. Names that every frame has need no search, nor do names
+/// that are set and spelled as in the program.
 #[derive(Drop)]
 pub struct Variables {
     given: GivenValues,

@@ -16,8 +16,8 @@ use moo_value::MooStr;
 use std::alloc::{AllocError, Global};
 use std::collections::BTreeMap;
 
-/// Returns whether some object on a walk defines a name that one of these cells has. It sorts the cells' names once,
-/// and searches them for each defined name.
+/// Returns whether some object on a walk defines a name that one of these cells has; Err is lack of memory. It sorts
+/// the cells' names once, and searches them for each defined name.
 pub fn names_clash(
     objects: &[Option<Object>],
     alloc: Global,

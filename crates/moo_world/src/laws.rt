@@ -80,8 +80,8 @@ pub fn a_new_property_is_seen_below(
     let _weight = value.weight();
 }
 
-/// What is set is read on the object, and on what inherits it. Every other cell stays, and no other
-/// property reads otherwise.
+/// A value that is set is read on the object and on what inherits it. Every other cell stays, and no other property
+/// reads otherwise.
 pub fn a_set_value_is_read(world: &World, x: usize, name: &[u8], value: &Value)
     requires object { IsSome (object_of world.now.objects x) }
     requires defined { is_some (definition_named world.now x (folded name.now)) ≡ true }
@@ -126,8 +126,7 @@ pub fn a_deleted_property_is_gone_below(world: &World, x: usize, name: &[u8])
     world.is_well_formed();
 }
 
-/// What is in an object is within the limits of a list: the objects are distinct, and none is in
-/// itself.
+/// The contents of an object are within the limits of a list: the objects are distinct, and none is in itself.
 pub fn contents_are_within_the_limits(world: &World, x: usize)
     ensures { length (below_of world.now.containment x) < weight_limit }
 {

@@ -93,7 +93,7 @@ impl World {
         Ok(definer)
     }
 
-    // Returns whether a definition may have another name.
+    // Returns Ok if a definition may have another name, else the fault.
     fn test_rename(
         &self,
         alloc: Global,
@@ -117,7 +117,7 @@ impl World {
         self.test_free(alloc, x, new_name)
     }
 
-    // Returns whether a name is free on an object, its ancestors and its descendants.
+    // Returns Ok if a name is free on an object, its ancestors and its descendants, else the fault.
     fn test_free(&self, alloc: Global, x: usize, name: &[u8]) -> Result<(), WorldFault>
         requires { IsSome (object_of self.now.objects x) }
         ensures { Tests result (taken_raises self.now x (folded name.now)) }

@@ -17,8 +17,8 @@ use moo_world::{Rights, World};
 use moo_world_text::{object_specifier_text, preposition_specifier_text, verb_perms_text};
 use std::alloc::{AllocError, Global};
 
-/// `verbs(o)`: the list of the names of an object's own verbs, one string for each, in their order. Raises E_INVARG
-/// if o is no object, E_PERM for a programmer who may not read it, and E_QUOTA for a list past its limits.
+/// Computes `verbs(o)`: the list of the names of an object's own verbs, one string for each, in their order. Raises
+/// E_INVARG if o is no object, E_PERM for a programmer who may not read it, and E_QUOTA for a list past its limits.
 pub fn verbs(
     alloc: Global,
     args: &[Value],
@@ -88,8 +88,9 @@ fn before_place(place: i32, count: usize) -> Option<usize>
     if before < count { Some(before) } else { None }
 }
 
-/// `verb_info(o, v)`: `{owner, perms, names}`, where perms has the letters of `rwxd` that are set. Raises E_VERBNF if
-/// v is none of o's verbs, E_PERM for a programmer who may not read the verb, and E_QUOTA for a list past its limits.
+/// Computes `verb_info(o, v)`: `{owner, perms, names}`, where perms has the letters of `rwxd` that are set. Raises
+/// E_VERBNF if v is none of o's verbs, E_PERM for a programmer who may not read the verb, and E_QUOTA for a list past
+/// its limits.
 pub fn verb_info(
     alloc: Global,
     args: &[Value],
@@ -156,8 +157,8 @@ fn info_elements(alloc: Global, verb: &Verb) -> Result<Vec<Value>, AllocError>
     Ok(Vec::from_array(alloc, elements)?)
 }
 
-/// `verb_args(o, v)`: `{dobj, prep, iobj}`, the preposition with all its forms. Raises E_VERBNF if v is none of o's
-/// verbs, and E_PERM for a programmer who may not read the verb.
+/// Computes `verb_args(o, v)`: `{dobj, prep, iobj}`, the preposition with all its forms. Raises E_VERBNF if v is none
+/// of o's verbs, and E_PERM for a programmer who may not read the verb.
 pub fn verb_args(
     alloc: Global,
     args: &[Value],

@@ -1,4 +1,4 @@
-//! How a call enters a verb: 'Calling Built-in Functions and Other Verbs' of the LambdaMOO Programmer's Manual,
+//! Enters the verbs of calls: 'Calling Built-in Functions and Other Verbs' of the LambdaMOO Programmer's Manual,
 //! 'Expressions' and 'Limits' of docs/LANGUAGE.md.
 ghost use Rattle.std.specs.Prelude.{◌≡◌, if◌then◌else◌, is_some, ◌∷◌, [], None, Some, Ok, Err, codes, option_map, IfOk, IfErr, OnOk, IsTrue};
 ghost use Rattle.std.specs.Option.{unwrap_or};
@@ -64,8 +64,8 @@ pub struct Call {
     pub args: MooList,
 }
 
-/// Enters the verb that a call names, with its owner's rights. E_QUOTA for a list of arguments past the limits,
-/// E_TYPE for a base that is no object or a name that is no string, E_INVIND if the object isn't valid, E_VERBNF if
+/// Enters the verb that a call names, with its owner's rights. E_QUOTA for a list of arguments past the limits;
+/// E_TYPE for a base that is no object or a name that is no string. E_INVIND if the object isn't valid, E_VERBNF if
 /// it has no such executable verb, E_MAXREC if no frame is left. Inlined, so that the entered verb is built in the
 /// caller's frame.
 #[inline(always)]

@@ -27,8 +27,8 @@ pub struct Caller {
 /// raises E_ARGS, then one of a wrong type E_TYPE, then an object that isn't valid E_INVARG. The function's own tests
 /// follow, and the programmer's right comes last. A function that isn't plain raises E_INVARG. After an error or lack
 /// of memory the world is as it was. Memory is needed only for a list, a string or a change that is made, for the
-/// copies of a search that folds letters, for a text that is to be a program, or for the message of an error. The
-/// arguments may be moved out even if the call raises.
+/// copies of a search that folds letters, for parsing a program, or for an error's message. The arguments may be
+/// moved out even if the call raises.
 pub fn call_plain(
     alloc: Global,
     name: &MooStr,

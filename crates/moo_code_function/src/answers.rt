@@ -9,12 +9,16 @@ use moo_operation::{OperationFault, list};
 use moo_value::{ErrorCode, MooStr, Value};
 use std::alloc::{AllocError, Global};
 
+/// The fault that raises E_TYPE.
 pub const TYPE_MISMATCH: OperationFault = OperationFault::Raise(ErrorCode::TypeMismatch);
 
+/// The fault that raises E_PERM.
 pub const PERMISSION: OperationFault = OperationFault::Raise(ErrorCode::Permission);
 
+/// The fault that raises E_VERBNF.
 pub const VERB_NOT_FOUND: OperationFault = OperationFault::Raise(ErrorCode::VerbNotFound);
 
+/// The fault that raises E_QUOTA.
 pub const QUOTA: OperationFault = OperationFault::Raise(ErrorCode::Quota);
 
 /// Returns the list of these lines, or E_QUOTA past its limits.

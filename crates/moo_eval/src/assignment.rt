@@ -1,4 +1,4 @@
-//! Assignments.
+//! Runs assignments.
 ghost use Rattle.std.specs.Prelude.{◌≤◌, None, Result, Err, IfOk, IfErr, OnOk, map};
 ghost use Rattle.moo_program.specs.Tree.{variable, assign, performs, list, splice, element, no_items};
 ghost use Rattle.moo_program.specs.View.{tree, items_of};

@@ -1,4 +1,4 @@
-//! Catches, and calls of verbs and functions.
+//! Evaluates catches, and calls of verbs and functions.
 ghost use Rattle.std.specs.Prelude.{◌≡◌, ◌≢◌, ◌≤◌, ◌<◌, ◌∷◌, ℕ, List, [], Option, None, Some, IfOk, IfErr, IfSome, IfNone, Err, OnOk, is_ok, IsTrue};
 ghost use Rattle.std.specs.Borrow.{Bor};
 ghost use Rattle.moo_value.specs.declared.value.Value.{Value as ValueModel};

@@ -1,4 +1,4 @@
-//! Loops.
+//! Runs loops.
 ghost use Rattle.std.specs.Prelude.{◌≤◌, ◌<◌, ◌∷◌, [], None, Some, OnOk, option_copied};
 ghost use Rattle.moo_value.specs.View.{tree as value_tree, trees};
 ghost use Rattle.moo_program.specs.Tree.{for_list, for_range};

@@ -1,4 +1,4 @@
-//! Operators, indexes, ranges and lists.
+//! Evaluates operators, indexes, ranges and lists.
 ghost use Rattle.std.specs.Prelude.{◌≡◌, ◌≤◌};
 ghost use Rattle.moo_program.specs.Tree.{unary, binary, index, range, list};
 ghost use Rattle.moo_program.specs.View.{tree, items_of};

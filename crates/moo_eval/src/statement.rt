@@ -1,4 +1,4 @@
-//! Statements.
+//! Runs statements.
 ghost use Rattle.std.specs.Prelude.{◌≢◌, ◌≤◌, ◌<◌, None, OnOk};
 ghost use Rattle.moo_program.specs.declared.tree.Stmt.TheVariants.{Return};
 ghost use Rattle.moo_program.specs.Tree.{performs, branches, no_statement};

@@ -1,4 +1,4 @@
-//! Programs that are typed in.
+//! Runs programs that are typed in.
 ghost use Rattle.std.specs.Prelude.{◌≡◌, List, [], ◌∷◌, negsuc, IfOk};
 ghost use Rattle.moo_outcome.specs.Seen.{surroundings_of};
 ghost use Rattle.moo_code_function.specs.Telling.{Faults};

@@ -48,7 +48,7 @@ impl Span {
     }
 }
 
-/// Returns the name of a loop that a statement asks for.
+/// Returns a copy of the loop name in a statement, which shares its bytes.
 pub fn copied_name(name: &Option<MooStr>) -> Result<Option<MooStr>, AllocError>
     ensures copy { IfOk result (λ copy. copy ≡ name.now) }
     ensures memory { OnErr result (IsSome name.now) }

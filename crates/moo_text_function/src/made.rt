@@ -7,6 +7,7 @@ use moo_operation::OperationFault;
 use moo_value::{ErrorCode, MooStr, Value, ValueFault};
 use std::alloc::Global;
 
+/// The fault that raises E_TYPE.
 pub const TYPE_MISMATCH: OperationFault = OperationFault::Raise(ErrorCode::TypeMismatch);
 
 /// Returns the string of these bytes; E_QUOTA past the limit.

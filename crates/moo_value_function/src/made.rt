@@ -4,8 +4,10 @@ ghost use Rattle.moo_value_function.specs.Answers.{Follows};
 use moo_operation::OperationFault;
 use moo_value::{ErrorCode, ListFault, MooList, Value};
 
+/// The fault that raises E_TYPE.
 pub const TYPE_MISMATCH: OperationFault = OperationFault::Raise(ErrorCode::TypeMismatch);
 
+/// The fault that raises E_RANGE.
 pub const RANGE: OperationFault = OperationFault::Raise(ErrorCode::Range);
 
 /// Returns the list that was made, or the error of a fault in making it.

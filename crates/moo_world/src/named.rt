@@ -1,4 +1,4 @@
-//! Properties by their names, the built-in ones among them.
+//! Reads properties by their names, the built-in ones too.
 
 ghost use Rattle.std.specs.Prelude.{◌≡◌, ◌<◌, IsSome, Some, IfOk, None};
 ghost use Rattle.std.specs.List.{All};

@@ -21,10 +21,10 @@ use moo_world::{World, WorldFault};
 use std::alloc::Global;
 
 /// Runs `set_property_info(o, name, {owner, perms[, new]})`: gives a property an owner, permissions and perhaps
-/// another name, and returns 0. Raises E_TYPE or E_INVARG for the list, E_INVARG if o is no object, E_PROPNF if it
-/// has no such property or the name is a built-in one, E_INVARG for a new name that is taken or on an object that
-/// inherits the property, and E_PERM for a programmer who may not write the property or who, not being a wizard,
-/// gives it another owner.
+/// another name, and returns 0. Raises E_TYPE or E_INVARG for the list. Raises E_INVARG if o is no object, and
+/// E_PROPNF if it has no such property or the name is a built-in one. Raises E_INVARG for a new name that is taken or
+/// on an object that inherits the property. Last raises E_PERM for a programmer who may not write the property or
+/// who, not being a wizard, gives it another owner.
 pub fn set_property_info(
     alloc: Global,
     args: &[Value],
@@ -72,9 +72,9 @@ fn test_info(
 }
 
 /// Runs `add_property(o, name, value, {owner, perms})`: defines a property on an object, and returns 0. Raises E_TYPE
-/// or E_INVARG for the list, E_INVARG if o is no object or the name is taken above it, on it or below it, E_QUOTA if
-/// an object would have too many properties, and E_PERM for a programmer who may not write o or who, not being a
-/// wizard, names another owner.
+/// or E_INVARG for the list. Raises E_INVARG if o is no object or the name is taken above it, on it or below it, and
+/// E_QUOTA if an object would have too many properties. Last raises E_PERM for a programmer who may not write o or
+/// who, not being a wizard, names another owner.
 pub fn add_property(
     alloc: Global,
     args: &[Value],

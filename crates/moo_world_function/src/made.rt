@@ -12,12 +12,16 @@ use moo_value::{ErrorCode, Value};
 use moo_world::WorldFault;
 use std::alloc::Global;
 
+/// The fault that raises E_TYPE.
 pub const TYPE_MISMATCH: OperationFault = OperationFault::Raise(ErrorCode::TypeMismatch);
 
+/// The fault that raises E_INVARG.
 pub const INVALID_ARGUMENT: OperationFault = OperationFault::Raise(ErrorCode::InvalidArgument);
 
+/// The fault that raises E_PERM.
 pub const PERMISSION: OperationFault = OperationFault::Raise(ErrorCode::Permission);
 
+/// The fault that raises E_VERBNF.
 pub const VERB_NOT_FOUND: OperationFault = OperationFault::Raise(ErrorCode::VerbNotFound);
 
 /// Returns the list of these values, or E_QUOTA past its limits.

@@ -128,9 +128,9 @@ pub fn is_player(args: &[Value], world: &World) -> Result<Value, OperationFault>
 }
 
 /// Runs `chparent(o, to)`: gives an object another parent, or none for #-1, and returns 0. Raises E_INVARG if one of
-/// the two is no object, E_RECMOVE if `to` is o or below it, E_INVARG if names of properties would clash, E_QUOTA if
-/// an object would have too many properties, and E_PERM for a programmer who doesn't own o or may not inherit from
-/// `to`.
+/// the two is no object, and E_RECMOVE if `to` is o or below it. Raises E_INVARG if names of properties would clash,
+/// and E_QUOTA if an object would have too many properties. Last raises E_PERM for a programmer who doesn't own o or
+/// may not inherit from `to`.
 pub fn change_parent(
     alloc: Global,
     args: &[Value],

@@ -64,8 +64,8 @@ fn delete_at(
 }
 
 /// Runs `set_verb_info(o, v, {owner, perms, names})`: gives a verb an owner, permissions and names, and returns 0.
-/// Raises E_TYPE or E_INVARG for the list, E_VERBNF if v is none of o's verbs, E_INVARG for names without a word, and
-/// E_PERM for a programmer who may not write the verb or who, not being a wizard, gives it another owner.
+/// Raises E_TYPE or E_INVARG for the list, E_VERBNF if v is none of o's verbs, and E_INVARG for names without a word.
+/// Last raises E_PERM for a programmer who may not write the verb or who, not being a wizard, gives it another owner.
 pub fn set_verb_info(
     args: &[Value],
     world: &mut World,
@@ -165,9 +165,9 @@ fn set_args_at(
 }
 
 /// Runs `add_verb(o, {owner, perms, names}, {dobj, prep, iobj})`: adds a verb without a program after the others, and
-/// returns 0. Raises E_TYPE or E_INVARG for the first list, then for the second, E_INVARG if o is no object or the
-/// names are without a word, E_QUOTA for too many verbs, and E_PERM for a programmer who may not write o or who, not
-/// being a wizard, names another owner.
+/// returns 0. Raises E_TYPE or E_INVARG for the first list, then for the second. Raises E_INVARG if o is no object or
+/// the names are without a word, and E_QUOTA for too many verbs. Last raises E_PERM for a programmer who may not
+/// write o or who, not being a wizard, names another owner.
 pub fn add_verb(args: &[Value], world: &mut World, programmer: i32) -> Result<Value, OperationFault>
     ensures { Does result world.old world.new (add_verb world.old programmer (trees args.now)) }
 {

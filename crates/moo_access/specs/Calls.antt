@@ -11,7 +11,7 @@ use Rattle.moo_world.specs.EditCalls.{set_raises, world_set}
 use Rattle.moo_world.specs.Rights.{may_read_property, may_write_property}
 use Rattle.moo_outcome.specs.Outcome.{or_error}
 
--- an answer, if nothing is raised before it
+-- a result, if nothing is raised before it
 abbrev pub unless_raised : {A : Type 0} → Option ErrorCode → Result A ErrorCode → Result A ErrorCode
 unless_raised None r = r
 unless_raised (Some code) r = Err code
@@ -21,7 +21,7 @@ abbrev pub allowed_value : World → ℤ → ℤ → List ℕ → Result Tree Er
 allowed_value w programmer o name =
     if may_read_property w programmer o name then or_error (value_got w (number_of w.objects o) (folded name)) PropertyNotFound else Err Permission
 
--- what is raised before the right is asked for
+-- what is raised before the right is tested
 abbrev pub read_raises : World → Tree → Tree → Option ErrorCode
 read_raises w (object o) (string name) = get_raises w (number_of w.objects o) (folded name)
 read_raises w _ _ = Some TypeMismatch

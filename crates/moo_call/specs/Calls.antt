@@ -23,7 +23,7 @@ use Rattle.moo_call.specs.Tasks.{Reply, nearest_programmer, set_task_perms, repl
 use Rattle.moo_call.specs.Connections.{connected_players, elapsed_since, last_heard, last_login}
 use Rattle.moo_call.specs.Asking.{notify, boot_player, set_player_flag, dump_database, shutdown, server_log}
 
--- the functions that look at the task or its connections, or leave a notice
+-- the functions that inspect the task or its connections, or leave a notice
 abbrev pub is_of_task : Function → Bool
 is_of_task function.TicksLeft = true
 is_of_task function.Callers = true
@@ -66,7 +66,7 @@ unless_refused s (Some code) reply = (Err (fails code), s)
 abbrev pub caller : Context → State → Caller
 caller c s = record { programmer = s.programmer; moment = c.surroundings.moment }
 
--- what a plain call comes to in a task: one of the replies, with the world after it
+-- the result of a plain call in a task: one of the replies, with the world after it
 abbrev pub ComesTo : Replies → Context → State → Result Tree Failure → State → Type 0
 ComesTo Such c s r s' = (reply : Result Tree Raised) × (w : World) × Such reply w × (r ≡ replied c.frame.d (trace c s) reply) × (s' ≡ record s { world = w })
 

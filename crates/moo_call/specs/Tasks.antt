@@ -1,4 +1,4 @@
--- What the functions that look at the running task give, and what they change.
+-- What the functions that inspect the running task give, and what they change.
 use Rattle.std.specs.Prelude.{ℕ, ℤ, pos, negsuc, Bool, List, [], ◌∷◌, Result, Ok, Err, if◌then◌else◌}
 use Rattle.moo_value.specs.declared.error_code.ErrorCode.TheVariants.{TypeMismatch, Permission}
 use Rattle.moo_value.specs.Tree.{Tree, integer, object, error}

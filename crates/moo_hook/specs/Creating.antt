@@ -21,7 +21,7 @@ next_number w = pos (length w.objects)
 abbrev pub owner_of_new : World → ℤ → ℤ
 owner_of_new w owner = if int_eq owner (negsuc 0) then next_number w else owner
 
--- the new object is asked to begin
+-- the new object's `initialize` is called
 abbrev pub initialized : Calling → ℤ → World → Progress × World
 initialized k o w = (hook k w (codes "create") o (codes "initialize") [] (Created o), w)
 

@@ -29,7 +29,7 @@ moved k w what to =
     then after_raise w (move_raises w x place) (move_calls k (world_move w x place) (location w what) (codes "exitfunc") what (Leaving what to))
     else (gives (integer (pos 0)), w)
 
--- The place has to be one, and the object the programmer's; then the place is asked, but for #-1.
+-- The place has to be one, and the object the programmer's; then the place's `accept` is called, except for #-1.
 unfoldable pub moving : Calling → World → ℤ → ℤ → Progress × World
 moving k w what to =
     if not (is_place w to) then (refuses InvalidArgument, w)

@@ -24,12 +24,12 @@ calling c s = record { context = c; variables = s.variables; programmer = s.prog
 pub data Progress : Type 0 where
   -- the call of the function ends
   done : Result Tree Failure → Progress
-  -- a verb runs, and what it answers goes to the stage
+  -- a verb runs, and what it returns goes to the stage
   verb_next : Entered → Stage → Progress
   -- the stage comes at once, as after a verb that returns 0
   stage_next : Stage → Progress
 
--- the function answers this
+-- the function returns this
 abbrev pub gives : Tree → Progress
 gives v = done (Ok v)
 

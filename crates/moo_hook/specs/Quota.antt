@@ -1,4 +1,4 @@
--- How many more objects somebody may own.
+-- How many more objects an owner may have.
 use Rattle.std.specs.Prelude.{ℕ, ℤ, pos, Bool, false, List, codes, ◌+ℤ◌, int_le, Option, Some, None}
 use Rattle.std.specs.Int.{int_wrap, w32}
 use Rattle.moo_value.specs.declared.error_code.ErrorCode.{ErrorCode}

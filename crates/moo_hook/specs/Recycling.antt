@@ -1,4 +1,4 @@
--- `recycle`: an object is taken away.
+-- `recycle`: an object is removed.
 use Rattle.std.specs.Prelude.{ℕ, ℤ, pos, negsuc, List, [], ◌∷◌, codes, Option, Some, None, if◌then◌else◌}
 use Rattle.std.specs.Option.{unwrap_or}
 use Rattle.moo_value.specs.declared.error_code.ErrorCode.TheVariants.{Permission}

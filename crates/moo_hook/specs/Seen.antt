@@ -30,7 +30,7 @@ abbrev pub arguments_of : Option ℤ → List Tree
 arguments_of None = []
 arguments_of (Some o) = object o ∷ []
 
--- For private clauses: an answer of the world, as the outcome of a function.
+-- For private clauses: a result of the world, as the outcome of a function.
 abbrev pub as_outcome : {T : Type 0} → Result T WorldFault → Result T code_failure.Failure
 as_outcome (Ok v) = Ok v
 as_outcome (Err fault) = Err (failed fault)

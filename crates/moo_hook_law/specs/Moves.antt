@@ -54,12 +54,12 @@ pub data Goes (T : Telling) (c : Context) (what to : ℤ) : State → Result Tre
       CallsVerb T c (codes "move") (location s.world what) (codes "exitfunc") (object what ∷ []) (with_move s what to) (Err failure) s' →
       Goes T c what to s (Err failure) s'
 
--- the place is asked, and returns
+-- the place's `accept` is called, and returns
 abbrev pub CallsAccept : Telling → Context → ℤ → ℤ → State → Tree → State → Type 0
 CallsAccept T c what to s v s' = CallsVerb T c (codes "move") to (codes "accept") (object what ∷ []) s (Ok v) s'
 
--- `move(what, to)`: the object has to be there and the programmer's, and the place one. It is asked by `accept`, but for
--- #-1; wizards move what it doesn't accept. What verbs have done before a failure stays.
+-- `move(what, to)`: the object has to be there and the programmer's, and the place one. Its `accept` is called,
+-- except for #-1; wizards move what it doesn't accept. What verbs have done before a failure stays.
 pub data Moves (T : Telling) (c : Context) (what to : ℤ) : State → Result Tree Failure → State → Type 0 where
   no_object : {s : State} →
       is_valid s.world what ≡ false →

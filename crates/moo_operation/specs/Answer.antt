@@ -19,7 +19,7 @@ abbrev pub IsRefused : OperationFault → Result Tree ErrorCode → Type 0
 IsRefused (Raise e) r = r ≡ Err e
 IsRefused Memory r = IsOkAnd r TakesMemory
 
--- the answer is what the operation gives
+-- the result is what the operation gives
 abbrev pub Gives : Result Value OperationFault → Result Tree ErrorCode → Type 0
 Gives (Ok v) r = r ≡ Ok (tree v)
 Gives (Err f) r = IsRefused f r

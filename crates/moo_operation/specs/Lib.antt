@@ -1,4 +1,4 @@
--- What the operations give, and how a call's answer relates to it.
+-- What the operations give, and how a call's result relates to it.
 pub mod Answer
 pub mod Truth
 pub mod Arithmetic

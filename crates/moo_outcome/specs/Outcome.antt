@@ -12,7 +12,7 @@ pub record Raise : Type 0 where
   pub value : Tree
   pub trace : List TraceEntry
 
--- why an expression or a statement does not come to its end
+-- why an expression or a statement does not end normally
 pub data Stop : Type 0 where
   raised : Raise → Stop
   out_of_ticks : List TraceEntry → Stop

@@ -1,4 +1,4 @@
--- Laws of what the program may come to.
+-- Laws of the results that the program may have.
 use Rattle.std.specs.Prelude.{◌≡◌, ◌≤◌, ◌<◌, ℕ, List, Bool, IsTrue, Option, Some, Result, Err, All}
 use Rattle.moo_value.specs.Tree.{Tree}
 use Rattle.moo_program.specs.Tree.{Expr, Stmt, Block}
@@ -75,7 +75,7 @@ ChoosesFaults choice = (lines : List (List ℕ)) (f : SyntaxFault) → choice li
 abbrev pub ProgramsAreNotChosen : Type 0
 ProgramsAreNotChosen = (choice : Choice) → ChoosesFaults choice → PassesPrograms choice
 
--- What comes about by such a choice is among what the program may come to.
+-- A result by such a choice is one that the program may have.
 abbrev pub ExpressionsByChoice : Type 0
 ExpressionsByChoice = (choice : Choice) → ChoosesFaults choice → (c : Context) (e : Expr) (s s' : State) (o : Result Tree Stop) → Evaluates (chosen_by choice) c e s o s' → Evaluates Faults c e s o s'
 

@@ -56,7 +56,7 @@ abbrev pub with_value : Tree → Result (Unit {0}) Failure → Result Tree Failu
 with_value v (Ok done) = Ok v
 with_value v (Err failure) = Err failure
 
--- what a called verb answers: the value that it returns, and 0 if it comes to its end; no jump leaves a program of
+-- what a called verb returns: the value that it returns, and 0 if it comes to its end; no jump leaves a program of
 -- the grammar
 abbrev pub answered : Result Flow Stop → Result Tree Failure
 answered (Ok next) = Ok (integer (pos 0))

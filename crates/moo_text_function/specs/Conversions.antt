@@ -1,4 +1,4 @@
--- What the functions answer that make a value of one type of one of another.
+-- The results of the functions that convert a value of one type to another.
 use Rattle.std.specs.Prelude.{pos, List, [], ◌∷◌, Result, Ok, Err}
 use Rattle.std.specs.List.{flat_map}
 use Rattle.moo_value.specs.declared.error_code.ErrorCode.{ErrorCode}

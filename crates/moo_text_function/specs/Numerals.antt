@@ -38,7 +38,7 @@ is_blank_text s = prefix_len is_blank s == length s
 abbrev pub may_end : Bool → List ℕ → Bool
 may_end point s = is_blank_text (if point && begins 46 s then past is_digit (drop 1 s) else s)
 
--- a plus or a minus, or none, is taken away
+-- the text after a plus, a minus or neither
 abbrev pub past_sign : List ℕ → List ℕ
 past_sign s = if begins 45 s || begins 43 s then drop 1 s else s
 

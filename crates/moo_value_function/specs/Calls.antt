@@ -58,7 +58,7 @@ plain_answer function.Time moment args = Some (time moment args)
 plain_answer function.ServerVersion moment args = Some (server_version args)
 plain_answer _ moment args = None
 
--- such an answer, with the errors as they are raised
+-- such a result, with the errors as they are raised
 abbrev pub simply : Option (Result Tree ErrorCode) → Option (Result Tree Raised)
 simply None = None
 simply (Some (Ok t)) = Some (Ok t)
@@ -111,7 +111,7 @@ Raises (outcome.Value v) r = ⊥
 Raises (outcome.Raise e message v) r = r ≡ record { code = e; message = message; value = tree v }
 Raises outcome.Memory r = Unit {0}
 
--- an outcome is an answer of the program
+-- an outcome is a result of the program
 abbrev pub Tells : Outcome → Result Value OperationFault → Type 0
 Tells o (Ok v) = o ≡ outcome.Value v
 Tells o (Err (fault.Raise e)) = Raises o (plainly e)

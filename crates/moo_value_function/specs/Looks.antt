@@ -1,4 +1,4 @@
--- The results of the functions that look at any value.
+-- The results of the functions that inspect any value.
 use Rattle.std.specs.Prelude.{ℕ, ℤ, pos, List, [], ◌∷◌, Result, Ok, Err, codes}
 use Rattle.std.specs.Int.{w32, cast_signed}
 use Rattle.moo_value.specs.declared.error_code.ErrorCode.{ErrorCode}

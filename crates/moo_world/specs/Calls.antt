@@ -26,13 +26,13 @@ Answers (Err Memory) raises Right = ⊤
 abbrev pub Tests : {T : Type 0} → Result T WorldFault → Option ErrorCode → Type 0
 Tests result raises = Answers result raises (λ v. ⊤)
 
--- a call that takes no memory: it never answers that memory is short
+-- a call that allocates nothing: it never runs out of memory
 abbrev pub TakesNoMemory : {T : Type 0} → Result T WorldFault → Type 0
 TakesNoMemory (Ok v) = ⊤
 TakesNoMemory (Err (Raise e)) = ⊤
 TakesNoMemory (Err Memory) = ⊥
 
--- a call that looks at these raises before it takes memory: if memory runs out, none of them was due
+-- a call that looks at these raises before it allocates: if memory runs out, none of them was due
 abbrev pub RaisesFirst : {T : Type 0} → Result T WorldFault → Option ErrorCode → Type 0
 RaisesFirst (Ok v) raises = ⊤
 RaisesFirst (Err (Raise e)) raises = ⊤

@@ -13,7 +13,8 @@ use Rattle.moo_table.specs.World.{World}
 use Rattle.moo_world.specs.declared.fault.WorldFault.{WorldFault}
 use Rattle.moo_world.specs.declared.fault.WorldFault.TheVariants as world
 
--- the answer and the world after it are what the function gives; a raise and lack of memory leave the world as it was
+-- the result and the world after it are what the function gives; an error and lack of memory leave the world as it
+-- was
 abbrev pub Does : Result Value OperationFault → World → World → Result (Tree × World) ErrorCode → Type 0
 Does (Ok v) old new r = r ≡ Ok (tree v, new)
 Does (Err (Raise e)) old new r = (r ≡ Err e) × (new ≡ old)
@@ -53,7 +54,7 @@ Reads (Ok x) r = r ≡ Ok x
 Reads (Err (Raise e)) r = r ≡ Err e
 Reads (Err Memory) r = Unit {0}
 
--- For private clauses: an answer of the world, as an answer of a function.
+-- For private clauses: a result of the world, as a result of a function.
 abbrev pub told : {T : Type 0} → Result T WorldFault → Result T OperationFault
 told (Ok v) = Ok v
 told (Err (world.Raise e)) = Err (Raise e)
@@ -71,7 +72,7 @@ refused (Ok v) = Err (Raise Permission)
 refused (Err (world.Raise e)) = Err (Raise e)
 refused (Err world.Memory) = Err Memory
 
--- For private clauses: an answer of the world's change, as that of a function.
+-- For private clauses: a result of a change of the world, as that of a function.
 abbrev pub changed : {T : Type 0} → Result T WorldFault → Result Value OperationFault
 changed (Ok v) = Ok (Int (pos 0))
 changed (Err (world.Raise e)) = Err (Raise e)

@@ -11,7 +11,7 @@ use Rattle.moo_world_function.specs.Objects.{valid, parent, children, max_object
 use Rattle.moo_world_function.specs.Properties.{properties, property_info, is_clear_property, add_property, set_property_info, clear_property, delete_property}
 use Rattle.moo_world_function.specs.Verbs.{listed_verbs, verb_info, verb_args, add_verb, set_verb_info, set_verb_args, delete_verb}
 
--- the functions that look at the world or change it, call no verb and look at no connection, frame or clock
+-- the functions that read or change the world, call no verb and read no connection, frame or clock
 abbrev pub is_of_world : Function → Bool
 is_of_world function.Valid = true
 is_of_world function.Parent = true

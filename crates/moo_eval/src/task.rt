@@ -30,7 +30,7 @@ pub enum Ended {
 
 /// Runs the program of a frame, with 100,000 ticks, in the surroundings of `env`, which stay. Its changes of the
 /// world stay too, also if it ends uncaught or out of ticks, and its notices are appended to those of `env`. After
-/// lack of memory the earlier notices of `env` stay in place, and the world is promised to be well-formed, and
+/// lack of memory the earlier notices of `env` stay and come first, and the world is promised to be well-formed, and
 /// nothing else. Errors of the program are no errors of this function: they end the task as `Ended` describes.
 #[tactic(auto, using(crate::proofs::Ending::unchanged))]
 pub fn run_task(alloc: Global, world: &mut World, start: Frame, env: &mut TaskEnv<'_>) -> Ended

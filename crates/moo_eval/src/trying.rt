@@ -85,8 +85,8 @@ impl Task {
         self.run_all(world, active, stack, body, false)
     }
 
-    // Returns the statements of the first handler that names the error, and sets its variable. Not inlined, so that
-    // nested handlers need no stack space for it.
+    // Returns the statements of the first handler that names the error, and sets its variable. Err is the error
+    // itself if no handler names it. Not inlined, so that nested handlers need no stack space for it.
     #[inline(never)]
     fn begin_handler<'a>(
         &self,

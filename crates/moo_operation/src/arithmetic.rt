@@ -55,7 +55,7 @@ pub fn remainder(a: i32, b: i32) -> Result<Value, OperationFault>
     Ok(Value::Int(a.wrapping_rem(b)))
 }
 
-/// Returns `a ^ b`, modulo 2^32.
+/// Returns `a ^ b`, modulo 2^32. A negative `b` gives 0 unless `a` is 1 or -1, and E_DIV if `a` is 0.
 pub fn power(a: i32, b: i32) -> Result<Value, OperationFault>
     ensures { Gives result (power a b) }
 {
@@ -65,7 +65,7 @@ pub fn power(a: i32, b: i32) -> Result<Value, OperationFault>
     Ok(Value::Int(wrapped_power(a, b as u32)))
 }
 
-// Returns `a` to the power -n.
+// Returns `a` to the power -n, truncated to an integer; E_DIV if `a` is 0.
 fn inverse_power(a: i32, n: u32) -> Result<Value, OperationFault>
     ensures { Gives result (inverse_power a n) }
 {

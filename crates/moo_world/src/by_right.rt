@@ -232,7 +232,8 @@ impl World {
         self.set_found_by(programmer, o, x, name.string().as_bytes(), place, value)
     }
 
-    // Sets a property with the rights of a programmer, given the place of its cell if it may be set there.
+    // Sets a property with the rights of a programmer: in the cell at a place where it may be set, if one is given,
+    // else after the tests in order.
     #[inline(always)]
     fn set_found_by(
         &mut self,
@@ -327,7 +328,8 @@ impl World {
     }
 }
 
-// Returns whether a built-in property has this literal name. It is asked only if no cell of that name was ever found.
+// Returns whether a built-in property has this literal name; false without a test if a cell of that name was found
+// before.
 #[inline(always)]
 fn is_built_in(name: &Text) -> bool
     ensures { IsTrue result → is_some (built_in_of (folded name.now)) ≡ true }

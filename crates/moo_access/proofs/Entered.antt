@@ -45,7 +45,7 @@ taken_at name n w x (b ∷ bs) ys h =
     ∙ sym (two_tests (bytes_eq (folded name) n) (bytes_eq (folded b.name) n) (Some w) (Some b.value) (value_of_name (bs ++ bind name x ∷ ys) n) (apart name b.name n differs))
     ∙ ap (cond (bytes_eq (folded name) n) (Some w)) (sym (split (bytes_eq (folded b.name) n) b (find (λ y. bytes_eq (folded y.name) n) (bs ++ bind name x ∷ ys))))
 
--- A value among bindings that is taken over where it is set elsewhere.
+-- A value among bindings that is taken over if it is set elsewhere.
 replaced : (name : List ℕ) (o : Option Tree) (x : Tree) (xs ys : List Binding) → is_new name xs ≡ true → value_of_name (xs ++ bind name (unwrap_or o x) ∷ ys) ≡ with_taken (value_of_name (xs ++ bind name x ∷ ys)) name o
 replaced name None x xs ys h = refl
 replaced name (Some w) x xs ys h = λ j n. taken_at name n w x xs ys h j
@@ -67,7 +67,7 @@ told f dobj iobj argstr dobjstr prepstr iobjstr =
     ∷ bind (codes "args") (list_of f.args)
     ∷ []
 
--- What tells of the command is taken over one after another.
+-- The variables of the command are taken over one after another.
 pub taken : (f : Frame) (e : List ℕ → Option Tree) → value_of_name (handed_bindings f e) ≡ called_variables f e
 taken f e =
     let dobj = unwrap_or (e (codes "dobj")) (object f.dobj) in
@@ -88,7 +88,7 @@ taken f e =
     ∙ ap (λ v. with_taken v (codes "dobjstr") (e (codes "dobjstr"))) (replaced (codes "dobj") (e (codes "dobj")) (object f.dobj) (take 10 one) (drop 11 one) refl
     ∙ ap (λ v. with_taken v (codes "dobj") (e (codes "dobj"))) (replaced (codes "argstr") (e (codes "argstr")) (string f.argstr) (take 13 none) (drop 14 none) refl)))))
 
--- A verb that is found is entered where a frame is left for it.
+-- A verb that is found is entered if a frame is left for it.
 pub enters : (w : World) (c : Context) (vars : List ℕ → Option Tree) (p this other : ℤ) (name : List ℕ) (vs : List Tree) (r : Result (ℤ × Verb) ErrorCode) {found : ℤ × Verb} {player : ℤ} {f : Frame} {e : Entered} →
     other ≡ this → r ≡ Ok found → has_frame_left c.callers ≡ true →
     player ≡ player_of_call w c.frame vars p → f ≡ called_frame c.frame player other found name vs → e ≡ entered c vars p f →
@@ -109,7 +109,7 @@ listed w c vars p this from name vs args {found = found} r made same there gives
     ∙ ap (λ xs. answers (entered_found w c vars p this name xs (Ok found))) (sym same)
     ∙ gives
 
--- The same of what a call names.
+-- The object and the name that a call names.
 pub named : (w : World) (c : Context) (vars : List ℕ → Option Tree) (p this : ℤ) (name : List ℕ) (x y : Tree) (vs args : List Tree) {whole : Tree} {found : ℤ × Verb} (r : Result Entered Failure) →
     made_list vs ≡ Ok whole → args ≡ vs → (x ≡ object this) × (y ≡ string name) × (found_verb w this name ≡ Ok found) → answers (entered_found w c vars p this name args (Ok found)) ≡ r →
     answers (entered_verb w c vars p x y vs) ≡ r

@@ -26,7 +26,7 @@ pub not_let_go : {before after : List ℕ → Option Tree} (name : List ℕ) (co
 not_let_go name code (kept e) h = e
 not_let_go name code (let_go w v o e) h = let q = sym o ∙ h in absurd cc
 
--- where there is no error there is a value
+-- if there is no error there is a value
 pub some_value : (r : Result Tree ErrorCode) → result_err r ≡ None → (w : Tree) × (r ≡ Ok w)
 some_value (Ok w) h = (w, refl)
 some_value (Err code) h = absurd cc

@@ -13,7 +13,7 @@ use Rattle.moo_outcome.specs.Seen.{failure_of}
 use Rattle.moo_access.specs.Calls.{unless_raised}
 use Rattle.moo_access.specs.Fault.{failed}
 
--- want of the right is raised last
+-- a missing right is raised last
 abbrev pub raises_with : Option ErrorCode → Bool → Option ErrorCode
 raises_with first may = option_or first (if may then None else Some Permission)
 

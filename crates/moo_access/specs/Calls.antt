@@ -11,7 +11,7 @@ use Rattle.moo_world.specs.EditCalls.{set_raises, world_set}
 use Rattle.moo_world.specs.Rights.{may_read_property, may_write_property}
 use Rattle.moo_outcome.specs.Outcome.{or_error}
 
--- an answer, where nothing is raised before it
+-- a result, if nothing is raised before it
 abbrev pub unless_raised : {A : Type 0} → Option ErrorCode → Result A ErrorCode → Result A ErrorCode
 unless_raised None r = r
 unless_raised (Some code) r = Err code
@@ -21,7 +21,7 @@ abbrev pub allowed_value : World → ℤ → ℤ → List ℕ → Result Tree Er
 allowed_value w programmer o name =
     if may_read_property w programmer o name then or_error (value_got w (number_of w.objects o) (folded name)) PropertyNotFound else Err Permission
 
--- what is raised before the right is asked for
+-- what is raised before the right is tested
 abbrev pub read_raises : World → Tree → Tree → Option ErrorCode
 read_raises w (object o) (string name) = get_raises w (number_of w.objects o) (folded name)
 read_raises w _ _ = Some TypeMismatch
@@ -32,7 +32,7 @@ read_property w programmer (object o) (string name) =
     unless_raised (get_raises w (number_of w.objects o) (folded name)) (allowed_value w programmer o name)
 read_property w programmer _ _ = Err TypeMismatch
 
--- the world with a property set, where the programmer may set it
+-- the world with a property set, if the programmer may set it
 abbrev pub allowed_world : World → ℤ → ℤ → List ℕ → Tree → Result World ErrorCode
 allowed_world w programmer o name v =
     if may_write_property w programmer o name then Ok (world_set w (number_of w.objects o) (folded name) v) else Err Permission

@@ -34,7 +34,7 @@ pub record Entered : Type 0 where
 abbrev pub verb_there : World → VerbAt → Option (ℤ × Verb)
 verb_there w place = option_map (λ v. (place.definer, v)) (verb_numbered w place.definer place.index)
 
--- the first verb that fits, of those that can be executed
+-- the first verb that matches, of those that can be executed
 abbrev pub called_verb : World → ℤ → List ℕ → Option (ℤ × Verb)
 called_verb w o name =
     option_and_then (verb_there w) (option_map verb_place (option_and_then (verb_found w need.Call name) (number_of w.objects o)))
@@ -43,7 +43,7 @@ called_verb w o name =
 abbrev pub found_verb : World → ℤ → List ℕ → Result (ℤ × Verb) ErrorCode
 found_verb w o name = if is_some (object_numbered w o) then or_error (called_verb w o name) VerbNotFound else Err InvalidIndirection
 
--- how many frames stand, the running one among them
+-- how many frames there are, the running one among them
 abbrev pub frames : List TraceEntry → ℕ
 frames callers = suc (frame_count callers)
 
@@ -63,7 +63,7 @@ object_or other (Some (error code)) = other
 object_or other (Some (string text)) = other
 object_or other (Some (list es)) = other
 
--- the player of a called verb: that of the caller's frame, or what its variable holds where a wizard calls
+-- the player of a called verb: that of the caller's frame, or what its variable holds if a wizard calls
 abbrev pub player_of_call : World → Frame → (List ℕ → Option Tree) → ℤ → ℤ
 player_of_call w f variables programmer = if is_wizard w programmer then object_or f.player (variables (codes "player")) else f.player
 
@@ -105,21 +105,21 @@ called_frame f player this found name vs = verb_frame found (record {
   args = vs;
 })
 
--- the variables that tell of the command
+-- the variables of the command
 abbrev pub command_names : List (List ℕ)
 command_names = codes "argstr" ∷ codes "dobj" ∷ codes "dobjstr" ∷ codes "prepstr" ∷ codes "iobj" ∷ codes "iobjstr" ∷ []
 
--- with a variable as it stands elsewhere, if it is set there
+-- with the value of a variable from elsewhere, if it is set there
 abbrev pub with_taken : (List ℕ → Option Tree) → List ℕ → Option Tree → List ℕ → Option Tree
 with_taken variables name None = variables
 with_taken variables name (Some v) = with_variable variables (bind name v)
 
--- with these variables as they stand elsewhere
+-- with the values of these variables from elsewhere
 abbrev pub taken_over : (List ℕ → Option Tree) → List (List ℕ) → (List ℕ → Option Tree) → List ℕ → Option Tree
 taken_over elsewhere [] variables = variables
 taken_over elsewhere (name ∷ names) variables = taken_over elsewhere names (with_taken variables name (elsewhere name))
 
--- the variables of a called verb: those of its frame, with what tells of the command as it stands with the caller
+-- the variables of a called verb: those of its frame, with those of the command as in the caller
 abbrev pub called_variables : Frame → (List ℕ → Option Tree) → List ℕ → Option Tree
 called_variables f variables = taken_over variables command_names (value_of_name (first_bindings f))
 
@@ -131,7 +131,7 @@ entered c variables programmer f = record {
   programmer = f.programmer;
 }
 
--- a verb that was found is entered where a frame is left for it
+-- a verb that was found is entered if a frame is left for it
 abbrev pub entered_found : World → Context → (List ℕ → Option Tree) → ℤ → ℤ → List ℕ → List Tree → Result (ℤ × Verb) ErrorCode → Result Entered ErrorCode
 entered_found w c variables programmer this name vs (Err code) = Err code
 entered_found w c variables programmer this name vs (Ok found) =
@@ -153,6 +153,6 @@ after_list (Err code) r = Err code
 abbrev pub entered_verb : World → Context → (List ℕ → Option Tree) → ℤ → Tree → Tree → List Tree → Result Entered ErrorCode
 entered_verb w c variables programmer base name vs = after_list (made_list vs) (entered_by w c variables programmer base name vs)
 
--- the same for a verb that is looked for from an object on, and runs on another
+-- the entered verb of a name that is found from one object on, and runs on another
 abbrev pub entered_from : World → Context → (List ℕ → Option Tree) → ℤ → ℤ → ℤ → List ℕ → List Tree → Result Entered ErrorCode
 entered_from w c variables programmer this from name vs = after_list (made_list vs) (entered_found w c variables programmer this name vs (found_verb w from name))

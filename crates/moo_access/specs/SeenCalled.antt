@@ -1,4 +1,4 @@
--- What the program's entered verbs stand for in the meaning.
+-- The meaning of the program's entered verbs.
 use Rattle.std.specs.Prelude.{ℤ, None}
 use Rattle.moo_object.specs.declared.verb.Verb.{Verb}
 use Rattle.moo_outcome.specs.Seen.{context_of, variables_of}

@@ -1,4 +1,4 @@
--- What the program's targets stand for in the meaning.
+-- The meaning of the program's targets.
 use Rattle.std.specs.Prelude.{List, [], ◌∷◌, map, reverse}
 use Rattle.moo_value.specs.Tree.{Tree}
 use Rattle.moo_value.specs.View.{tree}

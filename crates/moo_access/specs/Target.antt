@@ -28,7 +28,7 @@ pub record Path : Type 0 where
   pub root : Root
   pub steps : List Step
 
--- what stands before the indexes and ranges of a target
+-- what comes before the indexes and ranges of a target
 abbrev pub root_of : Expr → Expr
 root_of (index a i) = root_of a
 root_of (range a i j) = root_of a

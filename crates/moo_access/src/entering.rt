@@ -1,4 +1,4 @@
-//! How a call enters a verb: 'Calling Built-in Functions and Other Verbs' of the LambdaMOO Programmer's Manual,
+//! Enters the verbs of calls: 'Calling Built-in Functions and Other Verbs' of the LambdaMOO Programmer's Manual,
 //! 'Expressions' and 'Limits' of docs/LANGUAGE.md.
 ghost use Rattle.std.specs.Prelude.{◌≡◌, if◌then◌else◌, is_some, ◌∷◌, [], None, Some, Ok, Err, codes, option_map, IfOk, IfErr, OnOk, IsTrue};
 ghost use Rattle.std.specs.Option.{unwrap_or};
@@ -22,10 +22,10 @@ use moo_value::{ErrorCode, ListFault, MooList, MooStr, Value};
 use moo_world::{Rights, VerbAt, World};
 use std::alloc::{AllocError, Global};
 
-/// How many frames a task may have.
+/// The largest number of frames of a task.
 pub const MOST_FRAMES: usize = 50;
 
-/// A verb that was entered: its frame with what called it, and what changes while it runs.
+/// A verb that was entered: its frame, its callers, and its state while it runs.
 #[derive(Drop)]
 pub struct Called<'a> {
     pub stack: CallStack<'a>,
@@ -47,8 +47,8 @@ pub struct Sought<'a> {
     pub found: Found<'a>,
 }
 
-/// What a frame is told beside its verb: what the verb is called on, by whom and by what name, and the command. Objects
-/// are told by their numbers, #-1 for none; each field is that of `Frame`.
+/// What a frame receives besides its verb: the object it is called on, the caller, the name, and the command. Objects
+/// are given by their numbers, #-1 for none; each field is that of `Frame`.
 #[derive(Drop)]
 pub struct Call {
     pub this: i32,
@@ -64,10 +64,10 @@ pub struct Call {
     pub args: MooList,
 }
 
-/// Enters the verb that a call names, with its owner's rights: E_QUOTA for a list of arguments past
-/// the limits, E_TYPE for what is no object or no name, E_INVIND where the object isn't valid,
-/// E_VERBNF where it has no such verb that can be executed, E_MAXREC where no frame is left. Inlined, so that what is entered
-/// is made where it runs.
+/// Enters the verb that a call names, with its owner's rights. E_QUOTA for a list of arguments past the limits;
+/// E_TYPE for a base that is no object or a name that is no string. E_INVIND if the object isn't valid, E_VERBNF if
+/// it has no such executable verb, E_MAXREC if no frame is left. Inlined, so that the entered verb is built in the
+/// caller's frame.
 #[inline(always)]
 pub fn enter_verb<'a>(
     alloc: Global,
@@ -84,7 +84,8 @@ pub fn enter_verb<'a>(
     enter_sought(alloc, world, stack, active, sought, args)
 }
 
-// The verb that a call names: E_TYPE for what is no object or no name, then what `sought_verb` tells.
+// Returns the verb that a call names: E_TYPE for a base that is no object or a name that is no string, then the
+// errors of `sought_verb`.
 #[inline(always)]
 fn named_verb<'a>(world: &'a World, base: &Value, name: &'a Value) -> Result<Sought<'a>, ErrorCode>
     ensures { IsSought world.now (tree base.now) (tree name.now) result }
@@ -95,8 +96,8 @@ fn named_verb<'a>(world: &'a World, base: &Value, name: &'a Value) -> Result<Sou
     }
 }
 
-/// The verb that a call of a name on an object runs: E_INVIND where the object isn't valid, E_VERBNF where it has no such verb that
-/// can be executed.
+/// Returns the verb that a call of a name on an object runs: E_INVIND if the object isn't valid, E_VERBNF if it has
+/// no such executable verb.
 #[inline(always)]
 pub fn sought_verb<'a>(
     world: &'a World,
@@ -109,8 +110,9 @@ pub fn sought_verb<'a>(
     Ok(Sought { this, name, found })
 }
 
-/// Enters the verb that a call names, with its owner's rights: E_QUOTA for a list of arguments past the limits, then what `sought_verb`
-/// tells, and E_MAXREC where no frame is left. Inlined, so that what is entered is made where it runs.
+/// Enters the verb that a call names, with its owner's rights: E_QUOTA for a list of arguments past the limits, then
+/// the errors of `sought_verb`, and E_MAXREC if no frame is left. Inlined, so that the entered verb is built in the
+/// caller's frame.
 #[inline(always)]
 pub fn enter_sought<'a>(
     alloc: Global,
@@ -127,9 +129,9 @@ pub fn enter_sought<'a>(
     enter_found(alloc, world, stack, active, this, found, name, args)
 }
 
-/// Enters the verb of a name that is found from an object on, to run on another object, with its owner's rights:
-/// E_QUOTA for a list of arguments past the limits, E_INVIND where the object that it is looked for on isn't valid,
-/// E_VERBNF where there is no such verb that can be executed, E_MAXREC where no frame is left.
+/// Enters the verb of a name that is found from one object on, to run on another object, with its owner's rights.
+/// E_QUOTA for a list of arguments past the limits, E_INVIND if the object where the search starts isn't valid,
+/// E_VERBNF if there is no such executable verb, E_MAXREC if no frame is left.
 pub fn enter_verb_from<'a>(
     alloc: Global,
     world: &World,
@@ -169,7 +171,7 @@ fn enter_found<'a>(
     entered(alloc, stack, active, frame, program)
 }
 
-// The list of the arguments.
+// Returns the list of the arguments.
 #[inline(always)]
 fn arguments(alloc: Global, args: Vec<Value>) -> Result<MooList, Failure>
     ensures ok { OnOk result (made_list (trees args.items) ≡ Ok (list_of (trees args.items))) }
@@ -183,8 +185,8 @@ fn arguments(alloc: Global, args: Vec<Value>) -> Result<MooList, Failure>
     }
 }
 
-/// The verb that a call on an object runs, and the object that has it: the first that fits, of those that can be executed. E_INVIND
-/// where the object isn't valid, E_VERBNF where it has none.
+/// Returns the verb that a call on an object runs, and the object that has it: the first executable verb that
+/// matches. E_INVIND if the object isn't valid, E_VERBNF if it has none.
 #[inline(always)]
 pub fn found_verb<'a>(world: &'a World, this: i32, name: &MooStr) -> Result<Found<'a>, ErrorCode>
     ensures ok { IfOk result (λ found. found_verb world.now this name.now ≡ Ok (found_of found)) }
@@ -196,7 +198,7 @@ pub fn found_verb<'a>(world: &'a World, this: i32, name: &MooStr) -> Result<Foun
     }
 }
 
-// Why a call on an object runs no verb, where none fits.
+// Returns the error of a call on an object for which no verb matches.
 #[cold]
 #[inline(never)]
 fn nothing_found(world: &World, this: i32) -> ErrorCode
@@ -209,8 +211,8 @@ fn nothing_found(world: &World, this: i32) -> ErrorCode
     }
 }
 
-/// The verb that an object is called by this name with, of those that can be executed: the first that fits of its own,
-/// and then of its ancestors'. An object that isn't valid has none.
+/// Returns the executable verb that a call of this name on an object runs: the first match among its own verbs, and
+/// then among its ancestors'. An object that isn't valid has none.
 #[inline(always)]
 pub fn called_verb<'a>(world: &'a World, object: i32, name: &[u8]) -> Option<Found<'a>>
     ensures { option_map found_of result ≡ called_verb world.now object name.now }
@@ -219,7 +221,7 @@ pub fn called_verb<'a>(world: &'a World, object: i32, name: &[u8]) -> Option<Fou
     verb_there(world, place)
 }
 
-/// The verb at a place, if there is one.
+/// Returns the verb at a place, if there is one.
 #[inline(always)]
 pub fn verb_there(world: &World, place: VerbAt) -> Option<Found<'_>>
     ensures { option_map found_of result ≡ verb_there world.now place }
@@ -231,15 +233,15 @@ pub fn verb_there(world: &World, place: VerbAt) -> Option<Found<'_>>
     })
 }
 
-/// Whether a frame is left for what is called next.
+/// Returns whether a frame is left for what is called next.
 pub fn has_frame_left(stack: &CallStack<'_>) -> bool
     ensures { result ≡ has_frame_left stack.now.callers }
 {
     stack.callers.frames() < MOST_FRAMES - 1
 }
 
-/// The player of a called verb: a wizard may have put another into the variable. Whether the caller is one is asked only where another
-/// stands there.
+/// Returns the player of a called verb: a wizard may have put another into the variable. The wizard's flag is read
+/// only if the variable holds another value.
 #[inline(always)]
 pub fn player_of_call(world: &World, caller: &Frame, active: &Activation) -> i32
     ensures { result ≡ player_of_call world.now caller.now (variables_of active.now.variables) active.now.programmer }
@@ -256,7 +258,7 @@ pub fn player_of_call(world: &World, caller: &Frame, active: &Activation) -> i32
     }
 }
 
-// Whether a value is this object.
+// Returns whether a value is this object.
 #[inline(always)]
 fn is_object(value: Option<&Value>, number: i32) -> bool
     ensures { IsTrue result → option_map (λ v. tree v.now) value.entry ≡ Some (object number) }
@@ -292,8 +294,8 @@ fn called_frame(
     verb_frame(alloc, found, call)
 }
 
-/// The frame of a verb that was found: its owner is the programmer, and it has the d bit and the program of its verb. The
-/// error is want of memory.
+/// Returns the frame of a verb that was found: its owner is the programmer, and it has the d bit and the program of
+/// its verb. Err is lack of memory.
 #[inline(always)]
 pub fn verb_frame(alloc: Global, found: Found<'_>, call: Call) -> Result<Frame, AllocError>
     ensures { IfOk result (λ frame. frame ≡ verb_frame (found_of found.entry) call) }
@@ -319,7 +321,8 @@ pub fn verb_frame(alloc: Global, found: Found<'_>, call: Call) -> Result<Frame, 
     })
 }
 
-/// The program of a verb, an empty one where it has none. It is shared: it goes on as it is when the verb gets another.
+/// Returns the program of a verb, an empty one if it has none. The program is shared: a running frame keeps it when
+/// the verb gets another.
 #[inline(always)]
 pub fn program_of(alloc: Global, verb: &Verb) -> Result<Program, AllocError>
     ensures { IfOk result (λ program. program ≡ unwrap_or verb.now.program no_statement) }
@@ -330,8 +333,8 @@ pub fn program_of(alloc: Global, verb: &Verb) -> Result<Program, AllocError>
     }
 }
 
-// The verb of a frame begins, with a slot for each name of its program. It answers as who calls it does, so that what was entered
-// is not moved.
+// Begins the verb of a frame, with a slot for each name of its program. It has the result type of its callers, so
+// that the entered verb is not moved.
 #[inline(always)]
 fn entered<'a>(
     alloc: Global,
@@ -358,7 +361,7 @@ fn entered<'a>(
     })
 }
 
-// The variables of a frame, with what tells of the command as it stands with the caller.
+// Returns the variables of a frame; those of the command have the values that they have in the caller.
 #[inline(always)]
 fn called_variables(
     alloc: Global,

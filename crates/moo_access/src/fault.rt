@@ -1,11 +1,11 @@
-//! Refusals of the world.
+//! Errors of the world as failures of a node.
 ghost use Rattle.std.specs.Prelude.{◌≡◌};
 ghost use Rattle.moo_access.specs.Fault.{failed};
 
 use moo_outcome::{Failure, Stop};
 use moo_world::WorldFault;
 
-/// What a refusal of the world is to a node.
+/// Converts a fault of the world to a failure of a node.
 pub fn failed(fault: WorldFault) -> Failure
     ensures { result ≡ failed fault }
 {

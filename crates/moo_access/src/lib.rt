@@ -1,5 +1,5 @@
-//! What evaluation reaches in a world: properties, verbs to run, and what targets of assignments set.
-//! A room behind `moo_eval`.
+//! Accesses of evaluation to a world: properties, verbs to run, and targets of assignments. An internal crate of
+//! `moo_eval`.
 #![tactic(auto)]
 
 mod entering;

@@ -13,9 +13,9 @@ use moo_value::{ErrorCode, MooStr, Value};
 use moo_world::{Rights, World};
 use std::alloc::Global;
 
-/// The value of a property, read with the rights of a programmer: E_TYPE where the base is no object or the name no
-/// string, E_INVIND where the object isn't valid, E_PROPNF where it has no such property, E_PERM where the programmer
-/// may not read it.
+/// Returns the value of a property, read with the rights of a programmer. E_TYPE if the base is no object or the name
+/// no string, E_INVIND if the object isn't valid, E_PROPNF if it has no such property, E_PERM if the programmer may
+/// not read it.
 pub fn read_property(
     alloc: Global,
     world: &World,
@@ -35,7 +35,7 @@ pub fn read_property(
     }
 }
 
-// Reads any property so, the built-in ones among them: one thing is looked at after the other.
+// Reads any property, the built-in ones too, testing one condition after the other.
 #[inline(never)]
 fn read_in_order(
     alloc: Global,
@@ -55,9 +55,9 @@ fn read_in_order(
     }
 }
 
-/// Sets a property, with the rights of a programmer: E_TYPE, E_INVIND and E_PROPNF as `read_property`, then for a
-/// built-in one E_TYPE for a name that is no string or an owner that is no object, and E_PERM for the place and the
-/// contents, and E_PERM where the programmer may not set it. Where it is refused nothing changes.
+/// Sets a property, with the rights of a programmer. E_TYPE, E_INVIND and E_PROPNF as `read_property`. For a built-in
+/// property then E_TYPE for a name that is no string or an owner that is no object, and E_PERM for the location and
+/// the contents. Last E_PERM if the programmer may not set it. If it is refused, nothing changes.
 pub fn write_property(
     world: &mut World,
     programmer: i32,

@@ -22,7 +22,7 @@ use moo_value::{ErrorCode, Value};
 use moo_world::World;
 use std::alloc::{AllocError, Global};
 
-/// A target as it is written: what stands before its indexes and ranges, and these from there on.
+/// The syntax of a target: the root, and the indexes and ranges that follow it.
 #[derive(Drop)]
 pub struct Target<'a> {
     pub root: &'a Expr,
@@ -67,7 +67,7 @@ pub struct Path<'a> {
     pub steps: Vec<Step>,
 }
 
-/// A target, taken apart.
+/// Splits a target into its root and its indexes and ranges.
 pub fn taken_apart<'a>(alloc: Global, target: &'a Expr) -> Result<Target<'a>, AllocError>
     ensures root { IfOk result (λ t. expression t.root.now ≡ root_of (expression target.now)) }
     ensures spots { IfOk result (λ t. map spot_of t.spots.items ≡ spots (expression target.now)) }
@@ -90,7 +90,7 @@ pub fn taken_apart<'a>(alloc: Global, target: &'a Expr) -> Result<Target<'a>, Al
     }
 }
 
-/// The base and the name of a property.
+/// Returns the base and the name of a property expression.
 pub fn as_property(root: &Expr) -> Option<(&Expr, &Expr)>
     ensures some { IfSome result (λ p. expression root.now ≡ property (expression p.0.now) (expression p.1.now)) }
     ensures none { IfNone result (root_parts (expression root.now) ≡ no_items) }
@@ -101,7 +101,8 @@ pub fn as_property(root: &Expr) -> Option<(&Expr, &Expr)>
     }
 }
 
-/// What a root without parts names. What is no target is E_TYPE; no program has it before `=`.
+/// Returns what a root without indexes names. An expression that is no target is E_TYPE; no program has it before
+/// `=`.
 pub fn root_alone(root: &Expr) -> Result<Root<'_>, Failure>
     ensures { answers (root_from (expression root.now) []) ≡ seen_by root_seen result }
 {
@@ -127,7 +128,7 @@ impl<'a> Root<'a> {
 }
 
 impl Step {
-    // What has the places in the container.
+    // Returns the part of the container at the places.
     fn value(&self, alloc: Global) -> Result<Value, OperationFault>
         ensures { Gives result (part_at (tree self.now.container) (places_of self.now.places)) }
     {
@@ -137,7 +138,7 @@ impl Step {
         }
     }
 
-    // The container with another value at the places.
+    // Returns the container with another value at the places.
     fn with(self, alloc: Global, value: Value) -> Result<Value, OperationFault>
         ensures { Gives result (with_part (tree self.container) (places_of self.places) (tree value)) }
     {
@@ -152,8 +153,8 @@ impl Step {
 }
 
 impl<'a> Path<'a> {
-    /// The value to which the path leads: E_VARNF for a variable that isn't set, what `read_property` raises, E_TYPE
-    /// and E_RANGE for a place that the innermost container hasn't.
+    /// Returns the value at the end of the path: E_VARNF for a variable that isn't set, the errors of
+    /// `read_property`, E_TYPE and E_RANGE for a place that the innermost container doesn't have.
     pub fn value(&self, alloc: Global, world: &World, active: &Activation) -> Result<Value, Failure>
         ensures { IsKnownFailure result → answers (held world.now active.now.programmer (root_seen self.now.root) (steps_of self.now.steps.items) (variables_of active.now.variables)) ≡ seen_answer result }
     {
@@ -164,9 +165,9 @@ impl<'a> Path<'a> {
     }
 }
 
-/// The outermost container, with the value at the end of the steps, or the value itself where there is no step. Raises
-/// what the first container raises that doesn't take what it is given, from the innermost on: E_TYPE, E_RANGE, E_INVARG
-/// or E_QUOTA.
+/// Returns the outermost container with the value at the end of the steps, or the value itself if there is no step.
+/// Raises the error of the first container, from the innermost on, that doesn't take its new part: E_TYPE, E_RANGE,
+/// E_INVARG or E_QUOTA.
 pub fn rebuilt(alloc: Global, steps: Vec<Step>, value: Value) -> Result<Value, Failure>
     ensures { IsKnownFailure result → answers (rebuilt (steps_of steps.items) (Ok (tree value))) ≡ seen_answer result }
 {
@@ -178,7 +179,7 @@ pub fn rebuilt(alloc: Global, steps: Vec<Step>, value: Value) -> Result<Value, F
     Ok(whole)
 }
 
-/// Goes on into a container.
+/// Appends a step into a container.
 pub fn push_step(path: &mut Path<'_>, step: Step) -> Result<(), AllocError>
     ensures root { OnOk result (path.new.root ≡ path.old.root) }
     ensures steps { OnOk result (steps_of path.new.steps.items ≡ step_of step ∷ steps_of path.old.steps.items) }
@@ -187,8 +188,8 @@ pub fn push_step(path: &mut Path<'_>, step: Step) -> Result<(), AllocError>
     Ok(())
 }
 
-/// Sets a variable, or what the steps lead to in it: raises what `rebuilt` raises, and then the variable stays as it
-/// was. A list that nothing else shares is changed in place.
+/// Sets a variable, or the part of it at the end of the steps. Raises the errors of `rebuilt`; the variable then
+/// keeps its value. A list that nothing else shares is changed in place.
 pub fn set_variable(
     alloc: Global,
     variables: &mut Variables,
@@ -227,7 +228,8 @@ fn set_part(
     Ok(())
 }
 
-// Where the container takes the value, the variable lets go of it: so the step alone holds it, if nothing else does.
+// Sets the variable to 0 if its container takes the value. Then the step alone holds the container, if nothing else
+// does.
 fn let_go(
     variables: &mut Variables,
     name: &Name,

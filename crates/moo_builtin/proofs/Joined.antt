@@ -38,7 +38,7 @@ raises_reply (outcome.Value v) r old new Such raises is same = absurd raises
 raises_reply (outcome.Raise e message v) r old new Such raises is same = (subst (λ (x : Raised). Such (Err x) new) raises is, same)
 raises_reply outcome.Memory r old new Such raises is same = same
 
--- an outcome that tells an answer
+-- an outcome that carries a result
 tells_reply : (a : Result Value OperationFault) (o : Outcome) (old new : World) (Such : Replies) → Tells o a → Replied a old new Such → IsReply o old new Such
 tells_reply (Ok v) o old new Such tells is = subst (λ (x : Outcome). IsReply x old new Such) (sym tells) is
 tells_reply (Err (Raise e)) o old new Such tells is = raises_reply o (plainly e) old new Such tells is.0 is.1

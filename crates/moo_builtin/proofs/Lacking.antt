@@ -1,4 +1,4 @@
--- Memory is wanting for a plain call only where it may be.
+-- Memory runs out for a plain call only where it may.
 use Rattle.std.proofs.Common.{inl, inr, ◌≡◌, List, true, false, Some, Result, Ok, Err, refl, sym, subst}
 use Rattle.moo_value.specs.declared.error_code.ErrorCode.{ErrorCode}
 use Rattle.moo_value.specs.declared.value.Value.{Value}
@@ -25,7 +25,7 @@ may_lack (outcome.Value v) May may = tt
 may_lack (outcome.Raise e message v) May may = tt
 may_lack outcome.Memory May may = may
 
--- an outcome that tells an answer lacks memory where the answer does, and where it raises an error
+-- an outcome of a result lacks memory if the result does, and if it raises an error
 tells_lacks : (a : Result Value OperationFault) (o : Outcome) (May : Type 0) → Tells o a → ((e : ErrorCode) → a ≡ Err (Raise e) → May) → (a ≡ Err Memory → May) → LacksOnly o May
 tells_lacks (Ok v) o May tells raises lacks = subst (λ (x : Outcome). LacksOnly x May) (sym tells) tt
 tells_lacks (Err (Raise e)) o May tells raises lacks = may_lack o May (raises e refl)

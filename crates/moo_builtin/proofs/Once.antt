@@ -24,7 +24,7 @@ same_fault p q = let h = sym p ∙ q in cc
 no_fault : {o : Option SyntaxFault} {f : SyntaxFault} → o ≡ None → o ≡ Some f → ⊥
 no_fault p q = let h = sym p ∙ q in cc
 
--- a choice tells one fault at most
+-- a choice has one fault at most
 pub chosen_once : (choice : Choice) → PassesPrograms choice → TellsOne (chosen_by choice)
 chosen_once choice passes = record { one = λ lines f g p q. same_fault p q; none = λ lines b f parsed p. no_fault (passes lines b parsed) p }
 

@@ -1,4 +1,4 @@
--- What a call comes to, it may come to where more may be told of texts.
+-- The result of a call stays possible if more faults may be reported for texts.
 use Rattle.std.proofs.Common.{ℕ, ℤ, List, Result}
 use Rattle.moo_value.specs.Tree.{Tree}
 use Rattle.moo_function.specs.declared.function.Function.{Function}

@@ -1,4 +1,4 @@
--- A call of a plain function: one that calls no verb, leaves no notice, and looks at no frame, tick or connection.
+-- A call of a plain function: one that calls no verb, leaves no notice, and reads no frame, tick or connection.
 use Rattle.std.specs.Prelude.{◌≡◌, ℕ, List, Bool, if◌then◌else◌, Option, None, Some, Result, Ok, Err}
 use Rattle.moo_value.specs.declared.error_code.ErrorCode.{ErrorCode}
 use Rattle.moo_value.specs.declared.error_code.ErrorCode.TheVariants.{InvalidArgument}
@@ -16,7 +16,7 @@ use Rattle.moo_code_function.specs.Answers.{Outcomes}
 use Rattle.moo_code_function.specs.Calls.{is_of_code, Answers}
 use Rattle.moo_builtin.specs.declared.call.Caller.{Caller}
 
--- what a function looks at beside its arguments: nothing, the objects of the world, or the code of a verb
+-- what a function reads besides its arguments: nothing, the objects of the world, or the code of a verb
 pub data Field : Type 0 where
   values : Field
   objects : Field
@@ -25,12 +25,12 @@ pub data Field : Type 0 where
 abbrev pub field : Function → Field
 field f = if is_of_world f then objects else if is_of_code f then code else values
 
--- an answer as it is given, an error as it is raised
+-- a result as it is returned, an error as it is raised
 abbrev pub raising : Result Tree ErrorCode → Result Tree Raised
 raising (Ok v) = Ok v
 raising (Err e) = Err (plainly e)
 
--- an answer with the world after it; an error leaves the world as it is
+-- a result with the world after it; an error leaves the world as it is
 abbrev pub Leaves : Result (Tree × World) ErrorCode → World → Result Tree Raised → World → Type 0
 Leaves (Ok p) w r after = (r ≡ Ok p.0) × (after ≡ p.1)
 Leaves (Err e) w r after = (r ≡ Err (plainly e)) × (after ≡ w)
@@ -50,8 +50,9 @@ Follows values T f args w c r after = (r ≡ given (answer f c.moment args)) × 
 Follows objects T f args w c r after = Leaves (world_answer f w c.programmer args) w r after
 Follows code T f args w c r after = IsOf (Answers T f w c.programmer args) r after
 
--- A call by a name, its letters in any case: what it answers or raises, and the world after it. A name of no function raises E_INVARG. The
--- number of the arguments, then their types, then whether their objects are valid come before what the function itself looks at.
+-- A call by a name, its letters in any case: what it returns or raises, and the world after it. A name of no function
+-- raises E_INVARG. The number of the arguments, then their types, then whether their objects are valid come before
+-- what the function itself looks at.
 pub data CallsPlain (T : Telling) (name : List ℕ) (args : List Tree) (w : World) (c : Caller) : Result Tree Raised → World → Type 0 where
   unknown : function_of name ≡ None →
       CallsPlain T name args w c (Err (plainly InvalidArgument)) w

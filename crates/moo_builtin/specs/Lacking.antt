@@ -1,4 +1,4 @@
--- Where memory may be wanting for a plain call.
+-- Where memory may run out for a plain call.
 use Rattle.std.specs.Prelude.{◌≡◌, ◌⊎◌, List, Option, None, Some, Result, Ok, Err, ⊤}
 use Rattle.moo_value.specs.declared.error_code.ErrorCode.{ErrorCode}
 use Rattle.moo_value.specs.Tree.{Tree}
@@ -25,7 +25,7 @@ RaisesOr (Err e) May = ⊤
 abbrev pub CodeRaisesOr : Function → World → Caller → List Tree → Type 0
 CodeRaisesOr f w c args = ((e : ErrorCode) × Answers Faults f w c.programmer args (Err e) w) ⊎ CodeMayLack f w c.programmer args
 
--- For arguments that fit: where the functions of the field may lack it, and for the message of an error.
+-- For arguments that fit: if the functions of the field may run out of memory, and for the message of an error.
 abbrev pub AnswerMayLack : Field → Function → List Tree → World → Caller → Type 0
 AnswerMayLack values f args w c = ValueMayLack f args (given (answer f c.moment args))
 AnswerMayLack objects f args w c = RaisesOr (world_answer f w c.programmer args) (WorldMayLack f w c.programmer args)
@@ -36,7 +36,7 @@ abbrev pub CallMayLack : Option Function → List Tree → World → Caller → 
 CallMayLack None args w c = ⊤
 CallMayLack (Some f) args w c = refusal (is_valid w) (row f) args ≡ None → AnswerMayLack (field f) f args w c
 
--- where memory is wanting, it may be
+-- if memory runs out, it may be
 abbrev pub LacksOnly : Outcome → Type 0 → Type 0
 LacksOnly (outcome.Value v) May = ⊤
 LacksOnly (outcome.Raise e message v) May = ⊤

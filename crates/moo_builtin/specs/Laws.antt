@@ -7,7 +7,7 @@ use Rattle.moo_code_function.specs.Telling.{Faults, Choice, PassesPrograms, chos
 use Rattle.moo_builtin.specs.declared.call.Caller.{Caller}
 use Rattle.moo_builtin.specs.Calls.{CallsPlain}
 
--- for one input a call has at most one result, whatever is chosen to be told of texts that are no programs
+-- for one input a call has at most one result, whichever faults are chosen for texts that are no programs
 abbrev pub OneResult : Type 0
 OneResult = (choice : Choice) → PassesPrograms choice → (name : List ℕ) (args : List Tree) (w v u : World) (c : Caller) (r q : Result Tree Raised) → CallsPlain (chosen_by choice) name args w c r v → CallsPlain (chosen_by choice) name args w c q u → (r ≡ q) × (v ≡ u)
 

@@ -1,4 +1,4 @@
--- How an outcome of the program stands to what a call comes to.
+-- How an outcome of the program relates to the result of a call.
 use Rattle.std.specs.Prelude.{◌≡◌, Option, None, Some, Result, Ok, Err}
 use Rattle.moo_value.specs.declared.error_code.ErrorCode.{ErrorCode}
 use Rattle.moo_value.specs.Tree.{Tree}
@@ -8,11 +8,11 @@ use Rattle.moo_value_function.specs.declared.call.Outcome.TheVariants as outcome
 use Rattle.moo_value_function.specs.Calls.{Raised, plainly}
 use Rattle.moo_table.specs.World.{World}
 
--- what a call may come to: an answer or a raise, and the world after it
+-- what a call may result in: a result or an error, and the world after it
 abbrev pub Replies : Type 1
 Replies = Result Tree Raised → World → Type 0
 
--- the outcome and the world after it are such; a raise and want of memory leave the world as it was
+-- the outcome and the world after it are such; an error and lack of memory leave the world as it was
 abbrev pub IsReply : Outcome → World → World → Replies → Type 0
 IsReply (outcome.Value v) old new Such = Such (Ok (tree v)) new
 IsReply (outcome.Raise e message v) old new Such = Such (Err (record { code = e; message = message; value = tree v })) new × (new ≡ old)

@@ -1,4 +1,4 @@
-//! A call of a plain function.
+//! Calls plain functions.
 ghost use Rattle.std.specs.Prelude.{◌≡◌, ℕ, List, None, Some};
 ghost use Rattle.moo_value.specs.View.{trees};
 ghost use Rattle.moo_value_function.specs.Calls.{answer, Shows};
@@ -16,19 +16,19 @@ use moo_world::World;
 use moo_world_function::{call_world, refusal};
 use std::alloc::Global;
 
-/// For whom a call is made, and when: in seconds since 1970.
+/// The programmer for whom a call is made, and the moment, in seconds since 1970.
 #[derive(Clone, Copy, Debug)]
 pub struct Caller {
     pub programmer: i32,
     pub moment: u32,
 }
 
-/// Calls a plain function by its name, letters folded. A name of no function raises E_INVARG. A wrong number of arguments
-/// raises E_ARGS, then one of a wrong type E_TYPE, then an object that isn't valid E_INVARG; then comes what the function
-/// itself looks at, and the programmer's right last. A function that isn't plain raises E_INVARG. A raise and want of
-/// memory leave the world as it was. Memory is wanting only for a list, a string or a change that is made, for the
-/// copies of a search that folds letters, for a text that is to be a program, or for the message of an error. The
-/// arguments may be taken out of their places, where it raises too.
+/// Calls a plain function by its name, letters folded. An unknown name raises E_INVARG. A wrong number of arguments
+/// raises E_ARGS, then one of a wrong type E_TYPE, then an object that isn't valid E_INVARG. The function's own tests
+/// follow, and the programmer's right comes last. A function that isn't plain raises E_INVARG. After an error or lack
+/// of memory the world is as it was. Memory is needed only for a list, a string or a change that is made, for the
+/// copies of a search that folds letters, for parsing a program, or for an error's message. The arguments may be
+/// moved out even if the call raises.
 pub fn call_plain(
     alloc: Global,
     name: &MooStr,
@@ -43,7 +43,8 @@ pub fn call_plain(
     call_found(alloc, function, args, world, caller)
 }
 
-/// The same by the function of the name, where there is one.
+/// Calls the plain function that was found for a name, if there is one. It is `call_plain` after the look-up of the
+/// name.
 pub fn call_found(
     alloc: Global,
     function: Option<Function>,
@@ -60,7 +61,7 @@ pub fn call_found(
     called(alloc, function, args, world, caller)
 }
 
-// A call of a function of the table.
+// Calls a function of the table.
 fn called(
     alloc: Global,
     function: Function,
@@ -75,7 +76,7 @@ fn called(
     unless_refused(alloc, refused, function, args, world, caller)
 }
 
-// What a function gives, unless its arguments are refused.
+// Calls a function, unless its arguments are refused.
 fn unless_refused(
     alloc: Global,
     refused: Option<ErrorCode>,
@@ -93,7 +94,7 @@ fn unless_refused(
     }
 }
 
-// What a function gives for arguments that fit its row of the table.
+// Calls a function with arguments that fit its row of the table.
 fn followed(
     alloc: Global,
     function: Function,
@@ -113,7 +114,7 @@ fn followed(
     over_values(alloc, function, args, caller.moment)
 }
 
-// What a function over values gives, for arguments that fit its row of the table.
+// Calls a function over values with arguments that fit its row of the table.
 fn over_values(alloc: Global, function: Function, args: &mut [Value], moment: u32) -> Outcome
     ensures { Shows function (trees args.old) result (given (answer function moment (trees args.old))) }
 {

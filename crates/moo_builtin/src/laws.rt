@@ -1,4 +1,4 @@
-//! What plain calls keep to.
+//! Laws of plain calls.
 ghost use Rattle.moo_builtin.specs.Laws.{OneResult, RaisesChangeNothing};
 
 /// For one input a call has at most one result.

@@ -1,4 +1,4 @@
-//! The plain built-in functions: those that call no verb, leave no notice, and look at no frame, tick or connection.
+//! The plain built-in functions: those that call no verb, leave no notice, and read no frame, tick or connection.
 #![tactic(auto)]
 
 mod call;

@@ -29,7 +29,7 @@ use Rattle.moo_call.specs.declared.spliced.Extreme.TheVariants.{Least, Greatest}
 use Rattle.moo_call.specs.Spliced.{extreme_of, extreme_from}
 use Rattle.moo_call.proofs.Counted.{raises_reply}
 
--- an answer of the program, as it is told
+-- a result of the program, as it is returned
 pub settles : (o : Outcome) (a : Result Value OperationFault) (r : Result Tree ErrorCode) (w : World) (Such : Replies) → Tells o a → Gives a r → Such (raising r) w → IsReply o w w Such
 settles o (Ok v) r w Such told gives is = subst (λ (x : Outcome). IsReply x w w Such) (sym told) (subst (λ (x : Result Tree ErrorCode). Such (raising x) w) gives is)
 settles o (Err (Raise e)) r w Such told gives is = raises_reply o (plainly e) w Such told (subst (λ (x : Result Tree ErrorCode). Such (raising x) w) gives is)
@@ -89,7 +89,7 @@ integers_refused : (valid : ℤ → Bool) (name : List ℕ) (ts : List Tree) →
 integers_refused valid name ts =
     ap (λ b. judged (nat_le 1 (length ts)) b (all_valid valid (integers name) ts)) (integers_fit name 0 ts) ∙ ap (λ b. judged (nat_le 1 (length ts)) (are_integers ts) b) (integers_valid valid name 0 ts)
 
--- behind a number one that is no integer
+-- after a number one that is no integer
 least_of_other : (i : ℤ) (ts : List Tree) → are_integers ts ≡ false → least_of i ts ≡ Err TypeMismatch
 least_of_other i [] h = absurd cc
 least_of_other i (integer j ∷ ts) h = least_of_other (if int_lt j i then j else i) ts h

@@ -44,7 +44,7 @@ ends_at_list fault from at spliced ss i s own elements last vs h is values list 
     let rest = in_a_row (drop (i + 1) ss) ++ last in
     ends_as fault (from vs) (spliced (trees elements ++ rest)) (ap from (sym all) ∙ stands last ∙ ap at (split ss i s last h is ∙ ap (λ x. trees x ++ (s.list ++ rest)) (sym values)) ∙ past (s.list ++ rest) ∙ ap (λ x. spliced (x ++ rest)) (sym list)) (ends rest)
 
--- past the last stretch the values behind it are left
+-- past the last stretch the values after it are left
 left : (from at : Giving) (ss : List Stretch) (i : ℕ) (behind last : List Value) (vs : List Tree) → length ss ≤ i → behind ≡ last → in_a_row ss ++ trees last ≡ vs → StandsAt from ss i at → from vs ≡ at (trees behind ++ [])
 left from at ss i behind last vs h same all stands =
     ap from (sym all) ∙ stands (trees last) ∙ ap (λ x. at (in_a_row x ++ trees last)) (drop_all i ss h) ∙ ap at (ap trees (sym same) ∙ sym (append-nil (trees behind)))
@@ -55,7 +55,7 @@ finished from at to ss i behind last vs h same all stands past = left from at ss
 pub ends_at_last : (fault : OperationFault) (from at : Giving) (ss : List Stretch) (i : ℕ) (behind last : List Value) (vs : List Tree) → length ss ≤ i → behind ≡ last → in_a_row ss ++ trees last ≡ vs → StandsAt from ss i at → Ends fault at (trees behind) → Gives (Err fault) (from vs)
 ends_at_last fault from at ss i behind last vs h same all stands ends = ends_as fault (from vs) (at (trees behind ++ [])) (left from at ss i behind last vs h same all stands) (ends [])
 
--- where there is no stretch
+-- if there is no stretch
 pub alone : (from : Giving) (ss : List Stretch) (behind last : List Value) (vs : List Tree) → ss ≡ [] → behind ≡ last → in_a_row ss ++ trees last ≡ vs → from (trees behind) ≡ from vs
 alone from ss behind last vs none same all = ap from (ap trees same ∙ ap (λ x. in_a_row x ++ trees last) (sym none) ∙ all)
 

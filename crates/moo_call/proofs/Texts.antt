@@ -22,6 +22,6 @@ made s h = ap (λ b. if b && true then Ok (string s) else Err Quota) (le-leb (1 
 pub whole : (s : List ℕ) (r : Result Tree ErrorCode) → IsString s → r ≡ text_from s [] → r ≡ Ok (string s)
 whole s r h is = is ∙ ap (λ x. limited (string x)) (append-nil s) ∙ made s h
 
--- memory may be wanting for it
+-- memory may run out for it
 pub may_lack : (ts : List Tree) → Gives (Err Memory) (to_text ts)
 may_lack ts = limited_made (string (flat_map plain ts)) tt

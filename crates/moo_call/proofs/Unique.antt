@@ -1,4 +1,5 @@
--- For one input a call of a function has at most one result, where of each text at most one fault is told, and of a program none.
+-- For one input a call of a function has at most one result, if at most one fault is reported for each text, and none
+-- for a program.
 use Rattle.std.proofs.Common.{◌≡◌, ℕ, List, Option, None, Some, Result, sym, ap, ◌∙◌}
 use Rattle.moo_value.specs.Tree.{Tree}
 use Rattle.moo_function.specs.declared.function.Function.{Function}

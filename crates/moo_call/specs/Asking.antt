@@ -13,7 +13,7 @@ use Rattle.moo_outcome.specs.Outcome.{fails}
 use Rattle.moo_access.specs.State.{State}
 use Rattle.moo_call.specs.Tasks.{Reply}
 
--- with one notice more, behind the others
+-- with one notice more, after the others
 abbrev pub noticed : Notice → State → State
 noticed n s = record s { notices = s.notices ++ n ∷ [] }
 
@@ -24,7 +24,7 @@ leaves may answer n s = if may then (Ok (integer answer), noticed n s) else (Err
 abbrev pub is_run_by_wizard : State → Bool
 is_run_by_wizard s = is_wizard s.world s.programmer
 
--- of oneself, or of anybody for wizards
+-- to oneself, or to anyone for wizards
 abbrev pub notify : List Tree → State → Reply
 notify (object o ∷ string line ∷ []) s = leaves (controls s.world s.programmer o) (pos 1) (notice.Notify o line) s
 notify _ s = (Err (fails TypeMismatch), s)

@@ -23,7 +23,7 @@ use Rattle.moo_call.specs.Tasks.{Reply, nearest_programmer, set_task_perms, repl
 use Rattle.moo_call.specs.Connections.{connected_players, elapsed_since, last_heard, last_login}
 use Rattle.moo_call.specs.Asking.{notify, boot_player, set_player_flag, dump_database, shutdown, server_log}
 
--- the functions that look at the task or its connections, or leave a notice
+-- the functions that inspect the task or its connections, or leave a notice
 abbrev pub is_of_task : Function → Bool
 is_of_task function.TicksLeft = true
 is_of_task function.Callers = true
@@ -66,21 +66,21 @@ unless_refused s (Some code) reply = (Err (fails code), s)
 abbrev pub caller : Context → State → Caller
 caller c s = record { programmer = s.programmer; moment = c.surroundings.moment }
 
--- what a plain call comes to in a task: one of the replies, with the world after it
+-- the result of a plain call in a task: one of the replies, with the world after it
 abbrev pub ComesTo : Replies → Context → State → Result Tree Failure → State → Type 0
 ComesTo Such c s r s' = (reply : Result Tree Raised) × (w : World) × Such reply w × (r ≡ replied c.frame.d (trace c s) reply) × (s' ≡ record s { world = w })
 
--- the function, where it is one of the task
+-- the function, if it is one of the task
 abbrev pub task_function : Option Function → Option Function
 task_function None = None
 task_function (Some f) = if is_of_task f then Some f else None
 
--- a function of the task, or where there is none of that name a plain call
+-- a function of the task, or if there is none of that name a plain call
 abbrev pub CallsAs : Telling → Option Function → Context → List ℕ → List Tree → State → Result Tree Failure → State → Type 0
 CallsAs T (Some f) c name args s r s' = unless_refused s (refusal (is_valid s.world) (row f) args) (task_reply f c args s) ≡ (r, s')
 CallsAs T None c name args s r s' = ComesTo (CallsPlain T name args s.world (caller c s)) c s r s'
 
--- A call of a built-in function by its name, in any case: its answer and the state after it. Where it reads a text that is no program,
--- it tells a fault that T lets it tell.
+-- A call of a built-in function by its name, in any case: its result and the state after it. If it reads a text that
+-- is no program, it reports a fault that T allows.
 abbrev pub CallsFunction : Telling → Context → List ℕ → List Tree → State → Result Tree Failure → State → Type 0
 CallsFunction T c name args s r s' = CallsAs T (task_function (function_of name)) c name args s r s'

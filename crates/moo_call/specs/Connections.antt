@@ -1,4 +1,4 @@
--- What the functions that look at the open connections give.
+-- What the functions that inspect the open connections give.
 use Rattle.std.specs.Prelude.{ℕ, ◌+◌, ◌-◌, ◌^◌, ◌%◌, ℤ, List, [], ◌∷◌, ◌++◌, Bool, true, false, Option, None, Some, Result, Err, if◌then◌else◌}
 use Rattle.std.specs.Int.{w32, cast_signed}
 use Rattle.std.specs.Option.{unwrap_or, option_map}
@@ -13,7 +13,7 @@ use Rattle.moo_outcome.specs.declared.surroundings.Login.{Login}
 use Rattle.moo_outcome.specs.Outcome.{or_error}
 use Rattle.moo_outcome.specs.Surroundings.{Surroundings, own_number}
 
--- the player on a connection; where there is none the connection's own number, if those are asked for too
+-- the player on a connection; if there is none the connection's own number, if those are asked for too
 abbrev pub who : (all : Bool) → ℕ → Option Login → List Tree
 who all c (Some login) = object login.player ∷ []
 who true c None = object (own_number c) ∷ []
@@ -49,7 +49,7 @@ abbrev pub elapsed_since : (Connection × Login → ℕ) → Surroundings → Li
 elapsed_since moment around (object o ∷ []) = or_error (option_map (λ c. elapsed (moment c) around.moment) (connected o around.connections)) InvalidArgument
 elapsed_since moment around _ = Err TypeMismatch
 
--- when bytes came last, or where none have come when the connection was opened
+-- when bytes last came, or if none have come, when the connection was opened
 abbrev pub last_heard : Connection × Login → ℕ
 last_heard c = unwrap_or c.0.heard c.0.opened
 

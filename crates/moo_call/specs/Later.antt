@@ -1,4 +1,4 @@
--- How a state of a task stands to one that comes after it.
+-- How a state of a task relates to one that comes after it.
 use Rattle.std.specs.Prelude.{◌≡◌, ◌≤◌, List, ◌++◌}
 use Rattle.moo_outcome.specs.declared.notice.Notice.{Notice}
 use Rattle.moo_access.specs.State.{State}

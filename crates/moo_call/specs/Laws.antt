@@ -7,7 +7,7 @@ use Rattle.moo_access.specs.State.{State}
 use Rattle.moo_code_function.specs.Telling.{Faults, Choice, PassesPrograms, chosen_by}
 use Rattle.moo_call.specs.Calls.{CallsFunction}
 
--- for one input a call has at most one result, whatever is chosen to be told of texts that are no programs
+-- for one input a call has at most one result, whichever faults are chosen for texts that are no programs
 abbrev pub OneResultOfCalls : Type 0
 OneResultOfCalls = (choice : Choice) → PassesPrograms choice → (c : Context) (name : List ℕ) (args : List Tree) (s s' t : State) (r q : Result Tree Failure) → CallsFunction (chosen_by choice) c name args s r s' → CallsFunction (chosen_by choice) c name args s q t → (r ≡ q) × (s' ≡ t)
 

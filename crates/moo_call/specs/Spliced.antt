@@ -26,14 +26,14 @@ abbrev pub extreme_of : Extreme → ℤ → Giving
 extreme_of Least i ts = least_of i ts
 extreme_of Greatest i ts = greatest_of i ts
 
--- the same where there may be no number so far: one is needed
+-- the least or the greatest, if there may be no number so far: one is needed
 abbrev pub extreme_from : Extreme → Option ℤ → Giving
 extreme_from e (Some i) ts = extreme_of e i ts
 extreme_from e None [] = Err Arguments
 extreme_from e None (integer i ∷ ts) = extreme_of e i ts
 extreme_from e None _ = Err TypeMismatch
 
--- the further of two numbers, where there may be none so far
+-- the further of two numbers, if there may be none so far
 abbrev pub better : Extreme → Option ℤ → ℤ → ℤ
 better e None j = j
 better Least (Some i) j = int_min i j

@@ -1,4 +1,4 @@
--- What the functions that look at the running task give, and what they change.
+-- What the functions that inspect the running task give, and what they change.
 use Rattle.std.specs.Prelude.{ℕ, ℤ, pos, negsuc, Bool, List, [], ◌∷◌, Result, Ok, Err, if◌then◌else◌}
 use Rattle.moo_value.specs.declared.error_code.ErrorCode.TheVariants.{TypeMismatch, Permission}
 use Rattle.moo_value.specs.Tree.{Tree, integer, object, error}
@@ -17,13 +17,13 @@ Reply = Result Tree Failure × State
 abbrev pub most_ticks : ℕ
 most_ticks = 100000
 
--- the programmer of the nearest frame of a verb, #-1 where there is none
+-- the programmer of the nearest frame of a verb, #-1 if there is none
 abbrev pub nearest_programmer : List TraceEntry → ℤ
 nearest_programmer [] = negsuc 0
 nearest_programmer (Verb f ∷ callers) = f.programmer
 nearest_programmer (BuiltIn name ∷ callers) = nearest_programmer callers
 
--- the running frame goes on for another programmer, where it runs for this one or for a wizard
+-- the running frame gets another programmer, if its own programmer is that one or a wizard
 abbrev pub set_task_perms : List Tree → State → Reply
 set_task_perms (object o ∷ []) s =
     if controls s.world s.programmer o then (Ok (integer (pos 0)), record s { programmer = o }) else (Err (fails Permission), s)
@@ -33,7 +33,7 @@ set_task_perms _ s = (Err (fails TypeMismatch), s)
 abbrev pub raised_here : Bool → List TraceEntry → Raised → Result Tree Failure
 raised_here d trace r = if d then Err (stops (raised (record { code = r.code; message = r.message; value = r.value; trace = trace }))) else Ok (error r.code)
 
--- the reply of a call where it stands: its answer, or its error, which is raised here
+-- the reply of a call: its result, or its error, which is raised here
 abbrev pub replied : Bool → List TraceEntry → Result Tree Raised → Result Tree Failure
 replied d trace (Ok v) = Ok v
 replied d trace (Err r) = raised_here d trace r

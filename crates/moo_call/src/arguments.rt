@@ -1,4 +1,4 @@
-//! How many arguments a function is called with: 'Functions' of docs/LANGUAGE.md.
+//! The number of arguments of a call: 'Functions' of docs/LANGUAGE.md.
 ghost use Rattle.std.specs.Prelude.{◌≡◌, IsTrue, Some};
 ghost use Rattle.moo_value.specs.declared.error_code.ErrorCode.TheVariants.{Arguments};
 ghost use Rattle.moo_function.specs.Table.{row};
@@ -7,7 +7,7 @@ ghost use Rattle.moo_function.specs.Check.{mismatch};
 use moo_function::Function;
 use moo_outcome::Gathered;
 
-/// Whether there are more values than the function takes, whatever they are: a call with them raises E_ARGS.
+/// Returns whether there are more values than the function takes; a call with them raises E_ARGS whatever they are.
 #[tactic(auto, using(crate::proofs::Counted::too_many))]
 pub fn are_too_many(function: Function, values: &Gathered) -> bool
     ensures { IsTrue result → mismatch (row function) values.now ≡ Some Arguments }

@@ -1,7 +1,7 @@
-//! Functions that leave a notice, which is met once the task has ended: 'Operations on Network Connections',
-//! 'Operations on Player Objects' and 'Administrative Operations' of the LambdaMOO Programmer's Manual, 'Functions over
-//! the running task' of docs/LANGUAGE.md. Arguments that don't fit the function's row, with which no call comes here,
-//! raise E_TYPE. What raises changes nothing.
+//! Functions that leave a notice, which the server handles once the task has ended: 'Operations on Network
+//! Connections', 'Operations on Player Objects' and 'Administrative Operations' of the LambdaMOO Programmer's Manual,
+//! 'Functions over the running task' of docs/LANGUAGE.md. Arguments that don't fit the function's row raise E_TYPE;
+//! no call has such arguments. A call that raises changes nothing.
 ghost use Rattle.std.specs.Prelude.{◌≡◌, ◌++◌, ◌∷◌, [], ℕ, OnOk};
 ghost use Rattle.moo_value.specs.View.{tree, trees};
 ghost use Rattle.moo_outcome.specs.Seen.{seen_answer, IsKnownFailure};
@@ -17,7 +17,8 @@ use moo_value::{ErrorCode, Value};
 use moo_world::{Rights, World};
 use std::alloc::AllocError;
 
-/// `notify(o, line)`: asks for a line to be sent to o, and answers 1. E_PERM for others than o itself and wizards.
+/// Runs `notify(o, line)`: asks for a line to be sent to o, and returns 1. E_PERM for others than o itself and
+/// wizards.
 pub(crate) fn notify(
     world: &World,
     active: &Activation,
@@ -34,7 +35,8 @@ pub(crate) fn notify(
     leave(may, 1, notice, notices)
 }
 
-/// `boot_player(o)`: asks for the end of o's connection, and answers 0. E_PERM for others than o itself and wizards.
+/// Runs `boot_player(o)`: asks for the end of o's connection, and returns 0. E_PERM for others than o itself and
+/// wizards.
 pub(crate) fn boot_player(
     world: &World,
     active: &Activation,
@@ -50,7 +52,7 @@ pub(crate) fn boot_player(
     leave(may, 0, Notice::BootPlayer(*player), notices)
 }
 
-/// `dump_database()`: asks for a checkpoint, and answers 0. E_PERM for who is no wizard.
+/// Runs `dump_database()`: asks for a checkpoint, and returns 0. E_PERM for anyone but a wizard.
 pub(crate) fn dump_database(
     world: &World,
     active: &Activation,
@@ -66,8 +68,8 @@ pub(crate) fn dump_database(
     leave(may, 0, Notice::DumpDatabase, notices)
 }
 
-/// `shutdown([why])`: asks for the end of the server, perhaps with a text that tells why, and answers 0. E_PERM for who
-/// is no wizard.
+/// Runs `shutdown([why])`: asks for the end of the server, perhaps with a text that gives the reason, and returns 0.
+/// E_PERM for anyone but a wizard.
 pub(crate) fn shutdown(
     world: &World,
     active: &Activation,
@@ -85,7 +87,7 @@ pub(crate) fn shutdown(
     leave(may, 0, Notice::Shutdown(why), notices)
 }
 
-/// `server_log(line)`: asks for a line in the server's log, and answers 0. E_PERM for who is no wizard.
+/// Runs `server_log(line)`: asks for a line in the server's log, and returns 0. E_PERM for anyone but a wizard.
 pub(crate) fn server_log(
     world: &World,
     active: &Activation,
@@ -101,8 +103,8 @@ pub(crate) fn server_log(
     leave(may, 0, Notice::ServerLog(line.try_clone()?), notices)
 }
 
-/// `set_player_flag(o, on)`: makes an object a player, or no player where `on` is false, leaves a notice of it, and
-/// answers 0. Raises E_INVARG where o is no object, E_QUOTA for too many players, and E_PERM for who is no wizard.
+/// Runs `set_player_flag(o, on)`: makes an object a player, or no player if `on` is false, leaves a notice of it, and
+/// returns 0. Raises E_INVARG if o is no object, E_QUOTA for too many players, and E_PERM for anyone but a wizard.
 pub(crate) fn set_player_flag(
     world: &mut World,
     active: &Activation,
@@ -128,7 +130,7 @@ pub(crate) fn set_player_flag(
     Ok(Value::Int(0))
 }
 
-// Leaves a notice behind the others and answers, for those who may; E_PERM for others.
+// Appends a notice and returns its result, if that is allowed; else raises E_PERM.
 fn leave(
     may: bool,
     answer: i32,

@@ -1,4 +1,4 @@
-//! A call of a built-in function.
+//! Calls built-in functions.
 ghost use Rattle.std.specs.Prelude.{◌≡◌, ℕ, List, None, Some};
 ghost use Rattle.moo_outcome.specs.declared.notice.Notice.{Notice};
 ghost use Rattle.moo_value.specs.View.{trees};
@@ -27,11 +27,11 @@ use moo_world::World;
 use moo_world_function::refusal;
 use std::alloc::{AllocError, Global};
 
-/// Calls a built-in function for the running frame and its programmer: one that looks at the task, of which so many ticks
-/// are left, or its connections, or that leaves a notice, or a plain one. A wrong number of arguments raises E_ARGS, then
-/// one of a wrong type E_TYPE, then an object that isn't valid E_INVARG, then comes what the function itself looks at, and
-/// the programmer's right last. No function, and one that calls verbs, raises E_INVARG. The lists that were spliced in are
-/// not copied where there are more arguments than the function takes.
+/// Calls a built-in function for the running frame and its programmer: one that reads the task, of which so many
+/// ticks are left, or its connections, one that leaves a notice, or a plain one. A wrong number of arguments raises
+/// E_ARGS, then one of a wrong type E_TYPE, then an object that isn't valid E_INVARG. The function's own tests
+/// follow, and the programmer's right comes last. An unknown function, and one that calls verbs, raises E_INVARG. If
+/// there are more arguments than the function takes, lists that were spliced in are not copied.
 pub fn call_function(
     alloc: Global,
     world: &mut World,
@@ -102,7 +102,7 @@ fn unless_refused(
     }
 }
 
-// A call of a plain function, for the programmer of the running frame.
+// Calls a plain function, for the programmer of the running frame.
 fn plain(
     alloc: Global,
     world: &mut World,
@@ -126,7 +126,7 @@ fn plain(
     }
 }
 
-// What a plain call comes to.
+// Converts the outcome of a plain call to a result.
 fn outcome(
     alloc: Global,
     function: Option<Function>,
@@ -150,7 +150,7 @@ fn outcome(
     }
 }
 
-// A plain call with the values themselves.
+// Calls a plain function with the values themselves.
 fn called(
     alloc: Global,
     function: Function,

@@ -1,4 +1,4 @@
-//! Functions that look at the open connections: 'Operations on Network Connections' of the LambdaMOO Programmer's
+//! Functions that inspect the open connections: 'Operations on Network Connections' of the LambdaMOO Programmer's
 //! Manual, 'Functions over the running task' of docs/LANGUAGE.md.
 ghost use Rattle.std.specs.Prelude.{◌≡◌, ◌++◌, OnOk};
 ghost use Rattle.moo_value.specs.View.{tree, trees};
@@ -11,8 +11,9 @@ use moo_outcome::{Connection, Failure, Login, Surroundings, own_number, push};
 use moo_value::{ErrorCode, Value};
 use std::alloc::{AllocError, Global};
 
-/// `connected_players([all])`: the list of who is connected, in the order of the connections. Where the argument is
-/// there and true, so are the numbers of connections on which nobody is. E_QUOTA for a list past its limits.
+/// Computes `connected_players([all])`: the list of connected players, in the order of the connections. If the
+/// argument is given and true, it includes the numbers of connections on which no player is. E_QUOTA for a list past
+/// its limits.
 pub(crate) fn connected_players(
     alloc: Global,
     around: &Surroundings<'_>,
@@ -28,7 +29,7 @@ pub(crate) fn connected_players(
     Ok(operation::list(alloc, players)?)
 }
 
-// The argument that may be left out is there and true.
+// Returns whether the optional argument is given and true.
 fn is_asked(args: &[Value]) -> bool
     ensures { result ≡ is_asked (trees args.now) }
 {
@@ -38,7 +39,7 @@ fn is_asked(args: &[Value]) -> bool
     }
 }
 
-// Puts the player on a connection at the end, or where nobody is its own number, if those are asked for too.
+// Appends the player on a connection, or if there is none its own number, if those are asked for too.
 fn push_who(players: &mut Vec<Value>, all: bool, connection: &Connection) -> Result<(), AllocError>
     ensures { OnOk result (trees players.new.items ≡ trees players.old.items ++ who all connection.now.number connection.now.login) }
 {
@@ -49,8 +50,8 @@ fn push_who(players: &mut Vec<Value>, all: bool, connection: &Connection) -> Res
     }
 }
 
-/// `idle_seconds`: the seconds since bytes came last on a player's connection, or where none have come since it was
-/// opened. E_INVARG where nobody is connected by this number.
+/// Computes `idle_seconds`: the seconds since bytes last came on a player's connection, or since it was opened if
+/// none have come. E_INVARG if no one is connected by this number.
 pub(crate) fn idle_seconds(around: &Surroundings<'_>, args: &[Value]) -> Result<Value, Failure>
     ensures { answers (elapsed_since last_heard (surroundings_of around.now) (trees args.now)) ≡ seen_answer result }
 {
@@ -64,7 +65,7 @@ pub(crate) fn idle_seconds(around: &Surroundings<'_>, args: &[Value]) -> Result<
     Ok(elapsed(heard, around.moment))
 }
 
-/// `connected_seconds`: the seconds since a player's login. E_INVARG where nobody is connected by this number.
+/// Computes `connected_seconds`: the seconds since a player's login. E_INVARG if no one is connected by this number.
 pub(crate) fn connected_seconds(around: &Surroundings<'_>, args: &[Value]) -> Result<Value, Failure>
     ensures { answers (elapsed_since last_login (surroundings_of around.now) (trees args.now)) ≡ seen_answer result }
 {
@@ -77,7 +78,7 @@ pub(crate) fn connected_seconds(around: &Surroundings<'_>, args: &[Value]) -> Re
     Ok(elapsed(login.moment, around.moment))
 }
 
-// The connection of a player, with the login.
+// Returns the connection of a player, with the login.
 fn connected(player: i32, connections: &[Connection]) -> Option<(Connection, Login)>
     ensures { result ≡ connected player connections.now }
 {
@@ -91,7 +92,7 @@ fn connected(player: i32, connections: &[Connection]) -> Option<(Connection, Log
     None
 }
 
-// The seconds from one moment to another, in 32 bits with a sign.
+// Returns the seconds from one moment to another, in 32 bits with a sign.
 fn elapsed(from: u32, to: u32) -> Value
     ensures { tree result ≡ elapsed from to }
 {

@@ -1,5 +1,4 @@
-//! Calls of built-in functions in a running task.
-//! A room behind `moo_eval`.
+//! Calls of built-in functions in a running task. An internal crate of `moo_eval`.
 #![tactic(auto)]
 
 mod arguments;

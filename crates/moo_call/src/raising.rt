@@ -1,4 +1,4 @@
-//! Errors that are raised where a call stands.
+//! Raises errors of a call.
 ghost use Rattle.std.specs.Prelude.{◌≡◌};
 ghost use Rattle.moo_value.specs.View.{tree};
 ghost use Rattle.moo_outcome.specs.Seen.{trace_of, seen_answer, IsKnownFailure};
@@ -8,7 +8,7 @@ use moo_outcome::{Activation, CallStack, Failure, Raise, Stop};
 use moo_value::{ErrorCode, MooStr, Value};
 use std::alloc::Global;
 
-/// Raises an error where the call stands. Without the d bit it is the value of the call.
+/// Raises an error of a call. Without the d bit the error is the value of the call.
 pub(crate) fn raised_here(
     alloc: Global,
     stack: &CallStack<'_>,

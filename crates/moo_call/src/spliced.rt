@@ -1,4 +1,4 @@
-//! The functions that take any number of values, over the lists that are spliced in where they lie: no list is copied.
+//! The functions that take any number of values. They read spliced lists in place, so no list is copied.
 ghost use Rattle.std.specs.Prelude.{◌≡◌, ◌++◌, None, IfOk, IfErr, OnOk};
 ghost use Rattle.moo_value.specs.Size.{IsString};
 ghost use Rattle.moo_value.specs.View.{trees};
@@ -19,7 +19,7 @@ pub enum Extreme {
     Greatest,
 }
 
-/// `min` or `max` of values: E_ARGS of none, E_TYPE where one is no integer.
+/// Computes `min` or `max` of values: E_ARGS if there are none, E_TYPE if one is no integer.
 pub fn extreme_number(extreme: Extreme, values: Gathered) -> Result<Value, OperationFault>
     ensures { Gives result (extreme_from extreme None values) }
 {
@@ -35,7 +35,7 @@ pub fn extreme_number(extreme: Extreme, values: Gathered) -> Result<Value, Opera
     }
 }
 
-// The extreme of a number so far and of values.
+// Returns the extreme of a number so far and of values.
 fn extreme_so_far(
     extreme: Extreme,
     so_far: Option<i32>,
@@ -54,7 +54,7 @@ fn extreme_so_far(
     Ok(found)
 }
 
-// The number, or the one so far where that is further.
+// Returns the number, or the one so far if that is further.
 fn better(extreme: Extreme, so_far: Option<i32>, number: i32) -> i32
     ensures { result ≡ better extreme so_far number }
 {
@@ -67,7 +67,7 @@ fn better(extreme: Extreme, so_far: Option<i32>, number: i32) -> i32
     }
 }
 
-/// `tostr` of values: E_QUOTA as soon as their texts are longer than a string may be.
+/// Computes `tostr` of values: E_QUOTA as soon as their texts are longer than a string may be.
 pub fn joined_text(alloc: Global, values: Gathered) -> Result<Value, OperationFault>
     ensures { Gives result (to_text values) }
 {
@@ -87,7 +87,7 @@ pub fn joined_text(alloc: Global, values: Gathered) -> Result<Value, OperationFa
     }
 }
 
-// Puts the texts of values at the end of a text, as long as all is no longer than a string may be.
+// Appends the texts of values to a text; E_QUOTA as soon as the whole is longer than a string may be.
 fn append_texts(alloc: Global, text: &mut Vec<u8>, values: &[Value]) -> Result<(), OperationFault>
     requires { IsString text.old.items }
     ensures ok { OnOk result (GoesOn (text_from text.old.items) (trees values.now) (text_from text.new.items)) }

@@ -1,4 +1,4 @@
-//! Functions that look at the running task or its connections, or leave a notice.
+//! Functions that inspect the running task or its connections, or leave a notice.
 ghost use Rattle.std.specs.Prelude.{◌≡◌, ℕ, List, None};
 ghost use Rattle.moo_value.specs.View.{trees};
 ghost use Rattle.moo_outcome.specs.declared.notice.Notice.{Notice};
@@ -19,7 +19,7 @@ use moo_value::{ErrorCode, Value};
 use moo_world::{Rights, World};
 use std::alloc::Global;
 
-/// Whether a function looks at the task or its connections, or leaves a notice.
+/// Returns whether a function inspects the task or its connections, or leaves a notice.
 pub(crate) fn is_of_task(function: Function) -> bool
     ensures { result ≡ is_of_task function }
 {
@@ -41,7 +41,7 @@ pub(crate) fn is_of_task(function: Function) -> bool
     }
 }
 
-/// What a function of the task gives, for arguments that fit its row of the table.
+/// Calls a function of the task, with arguments that fit its row of the table.
 pub(crate) fn task_reply(
     alloc: Global,
     world: &mut World,
@@ -72,7 +72,7 @@ pub(crate) fn task_reply(
     }
 }
 
-// The frames that the running one was called from.
+// Returns the frames that the running one was called from.
 fn callers(alloc: Global, stack: &CallStack<'_>) -> Result<Value, Failure>
     ensures { IsKnownFailure result → answers (listed (frame_lists stack.now.callers)) ≡ seen_answer result }
 {
@@ -81,7 +81,7 @@ fn callers(alloc: Global, stack: &CallStack<'_>) -> Result<Value, Failure>
     Ok(operation::list(alloc, frames)?)
 }
 
-// The programmer of the frame that called the running one.
+// Returns the programmer of the frame that called the running one.
 fn nearest_programmer(callers: &Callers) -> i32
     ensures { result ≡ nearest_programmer callers.now }
 {
@@ -95,7 +95,8 @@ fn nearest_programmer(callers: &Callers) -> i32
     -1
 }
 
-// Gives the running frame another programmer, where it runs for this one or for a wizard.
+// Sets the running frame's programmer to the one given, if the present programmer is that one or a wizard; else
+// E_PERM.
 fn set_task_perms(world: &World, active: &mut Activation, args: &[Value]) -> Result<Value, Failure>
     ensures { (ticks : ℕ) (notices : List Notice) → set_task_perms (trees args.now) (state_at ticks notices world.now active.old) ≡ (seen_answer result, state_at ticks notices world.now active.new) }
 {

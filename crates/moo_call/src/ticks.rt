@@ -4,10 +4,10 @@ ghost use Rattle.moo_call.specs.Tasks.{most_ticks};
 
 use std::marker::Model;
 
-/// How many ticks a task has.
+/// How many ticks a task begins with.
 pub const MOST_TICKS: u32 = 100_000;
 
-/// How many ticks a task has left.
+/// Counts the ticks that a task has left.
 #[derive(Drop)]
 pub struct Ticks {
     left: u32,
@@ -25,14 +25,14 @@ impl Model for Ticks {
 }
 
 impl Ticks {
-    /// Those of a task that begins.
+    /// Returns the ticks of a task that begins.
     pub fn full() -> Ticks
         ensures { result ≡ most_ticks }
     {
         Ticks { left: MOST_TICKS }
     }
 
-    /// Takes one, where one is left, and tells whether it did.
+    /// Takes one tick if one is left, and returns whether it did.
     pub fn take(&mut self) -> bool
         ensures taken { IsTrue result → (0 < self.old) × (self.new ≡ self.old - 1) }
         ensures spent { IsFalse result → (self.old ≡ 0) × (self.new ≡ self.old) }
@@ -52,7 +52,7 @@ impl Ticks {
         self.left = left;
     }
 
-    /// How many are left, as an integer of the language.
+    /// Returns how many ticks are left, as an integer of the language.
     pub fn left(&self) -> i32
         ensures { result ≡ pos self.now }
     {

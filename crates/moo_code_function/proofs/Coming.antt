@@ -48,7 +48,7 @@ set_done (Err Memory) old new o i lines b parsed ok err = err.1
 pub not_memory : (kind : SyntaxFaultKind) → is_of_text kind ≡ true → kind ≢ Memory'
 not_memory kind is same = let no : false ≡ true = subst (λ k. is_of_text k ≡ true) same is in absurd cc
 
--- a fault that was told
+-- a fault that was reported
 pub set_told : (a : Result Value OperationFault) (w : World) (o : ℤ) (i : ℕ) (lines : List (List ℕ)) (f : SyntaxFault) → Blames Known lines f.line f.kind
     → Gives a (told_fault f) → (IsAnswered a → is_of_text f.kind ≡ true) → Comes a w w (IsSet Faults w o i lines)
 set_told (Ok v) w o i lines f blames gives kind = subst (λ (r : Result Tree ErrorCode). IsSet Faults w o i lines r w) gives (IsSet.told f (blames, not_memory f.kind (kind tt)))
@@ -69,7 +69,7 @@ pub may_be_set : (w : World) (p o : ℤ) (t : Tree) (i : ℕ) → verb_to_set w 
 unfolding verb_to_set
 may_be_set w p o t i h = asked_of (chosen w o t) (λ k. program_raises w (number_of w.objects o) k true) (may_program w p o) i h
 
--- memory is wanting where it may be
+-- memory runs out only where it may
 pub may_lack : (a : Result Value OperationFault) (May : Type 0) → May → LacksOnly a May
 may_lack (Ok v) May may = tt
 may_lack (Err (Raise e)) May may = tt

@@ -1,4 +1,5 @@
--- For one input set_verb_code comes to at most one outcome, where of each text at most one fault is told, and of a program none.
+-- For one input set_verb_code has at most one outcome, if at most one fault is reported for each text, and none for a
+-- program.
 use Rattle.std.proofs.Common.{◌≡◌, ℕ, List, [], ◌∷◌, Result, Ok, Err, refl, sym, ap, ◌∙◌}
 use Rattle.std.specs.Prelude.{ℤ}
 use Rattle.moo_value.specs.declared.error_code.ErrorCode.{ErrorCode}

@@ -1,4 +1,4 @@
--- What comes of a call stays so where more may be told of texts.
+-- The result of a call stays possible if more faults may be reported for texts.
 use Rattle.std.proofs.Common.{ℕ, List, [], ◌∷◌, Result, Ok, Err}
 use Rattle.std.specs.Prelude.{ℤ}
 use Rattle.moo_value.specs.declared.error_code.ErrorCode.{ErrorCode}
@@ -9,7 +9,7 @@ use Rattle.moo_code_function.specs.Telling.{Telling}
 use Rattle.moo_code_function.specs.Answers.{Outcomes, Then}
 use Rattle.moo_code_function.specs.Setting.{verb_to_set, given_lines, IsSet, SetsText, SetsCode}
 
--- what the one may tell, the other may tell too
+-- what the one may report, the other may report too
 abbrev pub Wider : Telling → Telling → Type 0
 Wider T U = (lines : List (List ℕ)) (f : SyntaxFault) → T lines f → U lines f
 

@@ -1,4 +1,4 @@
--- What the functions on the code of verbs come to.
+-- The results of the functions on the code of verbs.
 use Rattle.std.specs.Prelude.{ℤ, List, [], ◌∷◌, Bool, true, false, IsOk}
 use Rattle.moo_value.specs.Tree.{Tree, object}
 use Rattle.moo_text_function.specs.Answers.{IsMade}
@@ -16,7 +16,7 @@ is_of_code VerbCode = true
 is_of_code SetVerbCode = true
 is_of_code _ = false
 
--- what each of them comes to for arguments that fit
+-- the result of each of them for arguments that fit
 abbrev pub Answers : Telling → Function → World → ℤ → List Tree → Outcomes
 Answers T VerbCode w p args r after = Only (verb_code w p args) w r after
 Answers T SetVerbCode w p args r after = SetsCode T w p args r after
@@ -27,7 +27,7 @@ abbrev pub SetMayLack : World → ℤ → List Tree → Type 0
 SetMayLack w p (object o ∷ t ∷ text ∷ []) = IsOk (verb_to_set w p o t)
 SetMayLack w p _ = ⊥
 
--- where memory may be wanting: for a listing that is made, and for a text that is read
+-- where memory may run out: for a listing that is made, and for a text that is read
 abbrev pub MayLack : Function → World → ℤ → List Tree → Type 0
 MayLack VerbCode w p args = IsMade (verb_code w p args)
 MayLack SetVerbCode w p args = SetMayLack w p args

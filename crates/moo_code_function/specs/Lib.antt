@@ -1,4 +1,4 @@
--- What the functions on the code of verbs answer.
+-- The results of the functions on the code of verbs.
 pub mod Answers
 pub mod Listed
 pub mod Telling

@@ -1,4 +1,4 @@
--- What verb_code answers.
+-- The result of verb_code.
 use Rattle.std.specs.Prelude.{ℕ, ℤ, List, [], ◌∷◌, map, Bool, true, false, Option, Some, None, Result, Err}
 use Rattle.moo_value.specs.declared.error_code.ErrorCode.{ErrorCode}
 use Rattle.moo_value.specs.declared.error_code.ErrorCode.TheVariants.{TypeMismatch}
@@ -25,7 +25,7 @@ code_lines full indents (Some b) = listed full indents b
 abbrev pub code_of_verb : (full indents : Bool) → Verb → Tree
 code_of_verb full indents v = list_of (map (λ line. string line) (code_lines full indents v.program))
 
--- the list is E_QUOTA past the limits, so where a line is too long for a string
+-- the list is E_QUOTA past the limits, and so if a line is too long for a string
 unfoldable pub chosen_code : World → ℤ → ℤ → Tree → (full indents : Bool) → Result Tree ErrorCode
 chosen_code w p o t full indents = on_verb (chosen w o t) (told_of_verb w p o (code_of_verb full indents))
 

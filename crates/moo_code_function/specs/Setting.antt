@@ -1,4 +1,4 @@
--- What set_verb_code answers, and what it changes.
+-- The result of set_verb_code, and what it changes.
 use Rattle.std.specs.Prelude.{◌≡◌, ℕ, ℤ, List, [], ◌∷◌, Bool, true, false, ◌&&◌, Some, Result, Ok, Err}
 use Rattle.std.specs.Option.{unwrap_or}
 use Rattle.moo_value.specs.declared.error_code.ErrorCode.{ErrorCode}
@@ -56,17 +56,17 @@ given_lines _ = Err TypeMismatch
 abbrev pub with_code : World → ℤ → ℕ → Block → World
 with_code w o i b = world_with_object w (number_of w.objects o) (with_changed_verb i (with_program (Some b)))
 
--- the fault is one of the text, and no want of memory
+-- the fault is one of the text, and no lack of memory
 abbrev pub is_of_text : SyntaxFaultKind → Bool
 is_of_text Memory = false
 is_of_text _ = true
 
--- what a player is told of a fault
+-- the value that describes a fault to a player
 abbrev pub told_fault : SyntaxFault → Result Tree ErrorCode
 told_fault f = limited (list_of (string (fault_text f) ∷ []))
 
--- Lines for a verb: a program of known functions becomes the verb's program, and the answer is {}. Any other text changes nothing,
--- and a fault that may be told of it is told.
+-- Sets the lines of a verb. A program of known functions becomes the verb's program, and the result is {}. Any other
+-- text changes nothing, and the result describes one of its faults that may be reported.
 pub data IsSet (T : Telling) (w : World) (o : ℤ) (i : ℕ) (lines : List (List ℕ)) : Result Tree ErrorCode → World → Type 0 where
   set : {b : Block} → IsParsed Known lines b → IsSet T w o i lines (Ok (list_of [])) (with_code w o i b)
   told : (f : SyntaxFault) → T lines f → IsSet T w o i lines (told_fault f) w

@@ -1,4 +1,4 @@
--- What is told of a text that is no program.
+-- The faults that are reported for a text that is no program.
 use Rattle.std.specs.Prelude.{◌≡◌, ◌≢◌, ℕ, List, Option, None, Some}
 use Rattle.moo_program.specs.Tree.{Block}
 use Rattle.moo_grammar.specs.declared.names.Names.TheVariants.{Known}
@@ -7,15 +7,15 @@ use Rattle.moo_syntax.specs.declared.syntax_fault.SyntaxFault.{SyntaxFault}
 use Rattle.moo_syntax.specs.declared.syntax_fault.SyntaxFaultKind.TheVariants.{Memory}
 use Rattle.moo_syntax.specs.Programs.{Blames}
 
--- which faults may be told of the lines of a text
+-- which faults may be reported for the lines of a text
 abbrev pub Telling : Type 1
 Telling = List (List ℕ) → SyntaxFault → Type 0
 
--- The program tells any fault that the text has. Want of memory is none.
+-- The program reports any fault that the text has. Lack of memory is none.
 abbrev pub Faults : Telling
 Faults lines f = Blames Known lines f.line f.kind × (f.kind ≢ Memory)
 
--- For the laws: a choice of what each text is told, which is nothing of a program.
+-- For the laws: a choice of the fault that each text reports; a program has none.
 abbrev pub Choice : Type 0
 Choice = List (List ℕ) → Option SyntaxFault
 

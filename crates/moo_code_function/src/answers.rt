@@ -1,4 +1,4 @@
-//! Errors of these functions, and the lists of strings that they answer.
+//! Results of functions on code: their errors, and lists of strings.
 ghost use Rattle.std.specs.Prelude.{◌≡◌, IfOk, map};
 ghost use Rattle.moo_value.specs.Tree.{string, list_of};
 ghost use Rattle.moo_value.specs.View.{trees};
@@ -9,15 +9,19 @@ use moo_operation::{OperationFault, list};
 use moo_value::{ErrorCode, MooStr, Value};
 use std::alloc::{AllocError, Global};
 
+/// The fault that raises E_TYPE.
 pub const TYPE_MISMATCH: OperationFault = OperationFault::Raise(ErrorCode::TypeMismatch);
 
+/// The fault that raises E_PERM.
 pub const PERMISSION: OperationFault = OperationFault::Raise(ErrorCode::Permission);
 
+/// The fault that raises E_VERBNF.
 pub const VERB_NOT_FOUND: OperationFault = OperationFault::Raise(ErrorCode::VerbNotFound);
 
+/// The fault that raises E_QUOTA.
 pub const QUOTA: OperationFault = OperationFault::Raise(ErrorCode::Quota);
 
-/// The list of these lines, or E_QUOTA past its limits.
+/// Returns the list of these lines, or E_QUOTA past its limits.
 #[tactic(auto, using(moo_text_function::proofs::Making::limited_made))]
 pub fn listed(alloc: Global, lines: Vec<MooStr>) -> Result<Value, OperationFault>
     ensures { Gives result (limited (list_of (map (λ line. string line) lines.items))) }

@@ -14,10 +14,10 @@ use moo_value::Value;
 use moo_world::World;
 use std::alloc::Global;
 
-/// What a function that lists the code of a verb or sets it comes to for a programmer, for arguments that fit its row of
-/// the table. A verb that isn't there raises E_VERBNF; the programmer's right comes last. A raise and want of memory leave
-/// the world as it was; memory is wanting only for a listing, or for a text once its verb may be set. `None`, with nothing
-/// changed, where the function is another one.
+/// Calls a function that lists or sets the code of a verb, for a programmer. The arguments fit its row of the table.
+/// A missing verb raises E_VERBNF; the programmer's right comes last. After an error or lack of memory the world is
+/// as it was. Memory is needed only for a listing, or for a text once its verb may be set. `None`, with nothing
+/// changed, for any other function.
 pub fn call_code(
     alloc: Global,
     function: Function,

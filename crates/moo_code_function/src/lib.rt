@@ -1,5 +1,4 @@
-//! The built-in functions that list the code of a verb and set it.
-//! A room behind `moo_builtin`.
+//! The built-in functions that list the code of a verb and set it. An internal crate of `moo_builtin`.
 #![tactic(auto)]
 
 mod answers;

@@ -1,4 +1,4 @@
-//! `verb_code`.
+//! Computes `verb_code`.
 ghost use Rattle.std.specs.Prelude.{◌≡◌, IfOk, IfErr};
 ghost use Rattle.moo_value.specs.View.{tree, trees};
 ghost use Rattle.moo_operation.specs.Answer.{limited};
@@ -17,15 +17,15 @@ use moo_world::{Rights, World};
 use moo_world_function::{chosen, numbered_verb};
 use std::alloc::Global;
 
-/// How code is listed.
+/// The layout of a listing.
 #[derive(Clone, Copy)]
 struct Form {
     full: bool,
     indents: bool,
 }
 
-/// `verb_code`: the short listing of a verb's program, or the full one where the third argument is true, with indents, unless
-/// the fourth is false. A verb without a program has no lines.
+/// Computes `verb_code`: the short listing of a verb's program, or the full one if the third argument is true. It is
+/// indented unless the fourth argument is false. A verb without a program has no lines.
 pub fn verb_code(
     alloc: Global,
     args: &[Value],

@@ -1,4 +1,4 @@
-//! `set_verb_code`.
+//! Computes `set_verb_code`.
 ghost use Rattle.std.specs.Prelude.{◌≡◌, ◌∷◌, ◌++◌, [], true, None, Ok, Err, IsOk, IfOk, IfErr, OnOk};
 ghost use Rattle.moo_value.specs.declared.error_code.ErrorCode.{ErrorCode};
 ghost use Rattle.moo_value.specs.Tree.{object, string, list_of};
@@ -23,8 +23,8 @@ use moo_world::{Rights, World, WorldFault};
 use moo_world_function::chosen;
 use std::alloc::{AllocError, Global};
 
-/// `set_verb_code`: sets a verb's program and answers `{}`. For a text that is no program it changes nothing, and answers
-/// a list of the line that tells its fault.
+/// Computes `set_verb_code`: sets a verb's program and returns `{}`. For a text that is no program it changes
+/// nothing, and returns a list with the line that describes its fault.
 pub fn set_verb_code(
     alloc: Global,
     args: &[Value],
@@ -57,7 +57,7 @@ fn set_chosen(
     }
 }
 
-// The place of the verb, where it is one that the programmer may give a program.
+// Returns the place of the verb, if the programmer may give it a program.
 #[tactic(auto, unfolding(crate::specs::Setting::verb_to_set))]
 fn verb_to_set(o: i32, choice: &Value, world: &World, programmer: i32) -> Result<usize, ErrorCode>
     ensures { result ≡ verb_to_set world.now programmer o (tree choice.now) }
@@ -89,7 +89,7 @@ fn may_program(o: i32, index: usize, world: &World, programmer: i32) -> bool
     Rights::may_write_verb(world, programmer, o, index) && is_programmer(world, programmer)
 }
 
-/// Whether somebody has the flag of programmers, which wizards need too.
+/// Returns whether somebody has the programmer flag. Wizards need it too.
 pub fn is_programmer(world: &World, programmer: i32) -> bool
     ensures { result ≡ is_programmer world.now programmer }
 {
@@ -180,7 +180,7 @@ fn set_program(
     }
 }
 
-/// The answer that tells a fault, where it is one of the text: a list of its line.
+/// Returns a list with the line that describes a fault of the text; any other fault is Err.
 #[tactic(auto, using(moo_text_function::proofs::Making::limited_made))]
 pub fn told_fault(alloc: Global, fault: &SyntaxFault) -> Result<Value, OperationFault>
     ensures text { Gives result (told_fault fault.now) }

@@ -1,4 +1,4 @@
--- Lists that grow in the variable that they stand in by a call.
+-- Lists that grow in their variable by a call.
 use Rattle.std.proofs.Common.{◌≡◌, ℕ, ℤ, length, List, [], ◌∷◌, ◌++◌, Bool, true, false, Some, None, Result, Ok, Err, refl, sym, ap, ◌∙◌, subst}
 use Rattle.std.proofs.lemmas.List.Edits.{insert_end}
 use Rattle.moo_value.specs.Tree.{Tree, list_of}
@@ -31,7 +31,7 @@ use Rattle.moo_fast_path.specs.Growth.{Appends, appends}
 use Rattle.moo_eval.specs.Growth.{IsLengthened, SettlesAs}
 use Rattle.moo_semantics.specs.Meaning.{Evaluates, Computes, operands_end, applies, no_more, element_stops, element_then, call_is}
 
--- what stands behind the last element
+-- what comes after the last element
 behind_all : (vs : List Tree) (v : Tree) → list_append (list_of vs ∷ v ∷ []) ≡ made_list (vs ++ v ∷ [])
 behind_all vs v = ap (λ ts. put_in ts (length ts) v) (trees_of-elements_of vs) ∙ ap made_list (insert_end vs v)
 
@@ -59,12 +59,12 @@ call_made {v = v} vs h d g made is =
     let told = answers_as made ∙ ap (λ r. given (simply (Some r))) (sym (behind_all vs v ∙ is)) in
     applies (element_then d (element_then g no_more refl) refl) no_more (call_is (no_caller _ h) (calls _ _ h (raising made) (follows h refl (told, refl))))
 
--- an error that is raised where the call stands is settled as the call's own
+-- an error that is raised at the call is settled as the call's own
 settles_alike : (d : Bool) (entries : List TraceEntry) (code : ErrorCode) → settled d entries (replied d entries (Err (plainly code))) ≡ settled d entries (Err (fails code))
 settles_alike true entries code = refl
 settles_alike false entries code = refl
 
--- the list with one more behind it
+-- the list with one more after it
 pub appended : {T : Telling} {c : Context} {x : List ℕ} {e longer : Expr} {s s1 s2 t : State} {v w : Tree} (vs : List Tree) → Appends x e longer → Evaluates T c (variable x) s (Ok (list_of vs)) s1 → Evaluates T c e s1 (Ok v) s2 → made_list (vs ++ v ∷ []) ≡ Ok w → bound (bind x w ∷ []) s2 ≡ t → IsLengthened T c x longer s t
 appended {s2 = s2} {w = w} vs (appends h) d g made sets = record { value = w; between = s2; computes = call_made vs h d g (Ok w) made; sets = sets }
 

@@ -1,4 +1,4 @@
--- A number that counts from `low` up to `high`: it fits where they do, and the number after it fits the wider type.
+-- A number that counts from `low` up to `high`: it fits if they do, and the number after it fits the wider type.
 use Rattle.std.proofs.Common.{◌≡◌, ℤ, pos, negsuc, ◌+ℤ◌, Bool, true, sym, ap, ◌∙◌, arith}
 use Rattle.std.specs.Prelude.{◌≤ℤ◌, int_le}
 use Rattle.std.proofs.lemmas.Int.{to_z-of_z, ints}

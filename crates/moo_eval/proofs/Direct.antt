@@ -25,7 +25,7 @@ leaf_gives z (variable_leaf h) = begins z (applies no_more no_more (variable_is 
 pub assigned : {T : Telling} {c : Context} {x : List ℕ} {e : Expr} {s s' s'' : State} {v : Tree} → Evaluates T c e s (Ok v) s' → bound (bind x v ∷ []) s' ≡ s'' → Computes T c (assign (variable x) e) s (Ok v) s''
 assigned d f = applies no_more no_more (assign_is (assigns (locates (finds no_more refl) inside) d (stores refl (puts_variable f)) refl))
 
--- where the value stops, nothing is set
+-- if the value stops, nothing is set
 pub unassigned : {T : Telling} {c : Context} {x : List ℕ} {e : Expr} {s s' : State} {stop : Stop} → Evaluates T c e s (Err stop) s' → Computes T c (assign (variable x) e) s (Err (stops stop)) s'
 unassigned d = applies no_more no_more (assign_is (value_stops (locates (finds no_more refl) inside) d))
 

@@ -38,7 +38,7 @@ first_runs around start before callers ticks variables programmer notices b o la
     let state : ◌≡◌ {A = State} (record { ticks = ticks; world = before; variables = variables; programmer = programmer; notices = notices }) (first_state start before) = λ i. record { ticks = q i; world = before; variables = r i; programmer = v i; notices = m i } in
     subst (λ x. RunsAll Faults (first_context around start) x (first_state start before) o last) u (subst (λ x. RunsAll Faults x b (first_state start before) o last) context (subst (λ x. RunsAll Faults (record { frame = start; callers = callers; indexed = None; surroundings = around }) b x o last) state d))
 
--- notices that stay, with others behind them or without
+-- notices that stay, with others after them or without
 pub behind : (old new more : List Notice) → new ≡ old ++ more → IsBegunBy old new
 behind old new more added = (more, added)
 

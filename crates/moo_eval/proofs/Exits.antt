@@ -40,7 +40,7 @@ before-before xs ys (Err f) = refl
 pub gathered : (ts us ys : List Tree) (o : Result (List Tree) Failure) → us ≡ ts ++ ys → before ts (before ys o) ≡ before us o
 gathered ts us ys o p = before-before ts ys o ∙ ap (λ x. before x o) (sym p)
 
--- where the list of the arguments fails, so does the call
+-- if the list of the arguments fails, so does the call
 pub unlisted : {A : Type 0} {failure : Failure} (r : Result Tree ErrorCode) (next : Result A ErrorCode) → answers r ≡ Err failure → answers (after_list r next) ≡ Err failure
 unlisted {failure = failure} (Ok t) next h = let e : ◌≡◌ {A = Result Tree Failure} (Ok t) (Err failure) = h in cc
 unlisted {failure = failure} (Err code) next h = let e : ◌≡◌ {A = Result Tree Failure} (Err (fails code)) (Err failure) = h in let f : fails code ≡ failure = cc in ap Err f
@@ -56,7 +56,7 @@ goes_on-not (flow_case.Continue n) h = refl
 pub same_state : {n : ℕ} {w : World} {f g : List ℕ → Option Tree} {p q : ℤ} {ns : List Notice} → f ≡ g → p ≡ q → ◌≡◌ {A = State} (record { ticks = n; world = w; variables = f; programmer = p; notices = ns }) (record { ticks = n; world = w; variables = g; programmer = q; notices = ns })
 same_state {n = n} {w = w} {ns = ns} e h = λ i. record { ticks = n; world = w; variables = e i; programmer = h i; notices = ns }
 
--- a name that may be left out stands in no list that is evaluated
+-- a name that may be left out occurs in no list that is evaluated
 abbrev pub IsOptional : Item → Type 0
 IsOptional (Element' p e) = ⊥
 IsOptional (Splice' p e) = ⊥

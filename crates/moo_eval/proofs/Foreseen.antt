@@ -50,7 +50,7 @@ placed_ahead {n = n} {notices = notices} c h p =
     let two : n - 2 ≡ n - 1 - 1 = omega arith in
     statement_begins (omega (arith, h)) (put_alone (omega (arith, h)) (put (ap (λ o. answers (or_error o VariableNotFound)) p.holds) (worth_gives (rw two at p.gives_place) (within c (p.container ∷ [])) notices) (worth_gives p.gives_value c notices) p.is (same_state (sym p.sets) (sym p.keeps))))
 
--- what is known at once is put behind the list in a variable
+-- what is known at once is put after the list in a variable
 longer : {T : Telling} {c : Context} {x : List ℕ} {e longer : Expr} {s s1 s2 t : State} {v w : Tree} (vs : List Tree) → Lengthens x e longer → Evaluates T c (variable x) s (Ok (list_of vs)) s1 → Evaluates T c e s1 (Ok v) s2 → made_list (vs ++ v ∷ []) ≡ Ok w → bound (bind x w ∷ []) s2 ≡ t → IsLengthened T c x longer s t
 longer vs splices d g made sets = lengthened vs d g made sets
 longer vs (calls a) d g made sets = appended vs a d g made sets

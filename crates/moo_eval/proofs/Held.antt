@@ -1,4 +1,4 @@
--- Where the beginning of a line decides its answer.
+-- How the beginning of a line decides its result.
 use Rattle.std.proofs.Common.{ℕ, List}
 use Rattle.moo_value.specs.Tree.{IsText}
 use Rattle.moo_value.specs.Size.{IsString}

@@ -39,7 +39,7 @@ pub takes_one : (rest all : Block) {n m k : ℕ} → all ≢ no_statement → (r
 takes_one no_statement all begins ahead within behind later = omega (arith, ahead (λ e. begins (sym e)), later)
 takes_one (then first others) all begins ahead within behind later = omega (arith, within, behind (begins_with first others))
 
--- what holds where one comes to its end holds where the other does, which comes to its end only then
+-- what holds if one comes to its end holds if the other does, which comes to its end only then
 pub comes_on : {A B E F : Type 0} (P : Type 0) (r : Result A E) (o : Result B F) → OnOk r (IsTrue (is_ok o)) → OnOk o P → OnOk r P
 comes_on P (Ok x) (Ok y) c h = h
 comes_on P (Ok x) (Err f) c h = absurd (false≢true c)

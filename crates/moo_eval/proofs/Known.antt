@@ -32,11 +32,11 @@ state_with n notices w variables p = record { ticks = n; world = w; variables = 
 abbrev pub GivesWith : World → (List ℕ → Option Tree) → ℤ → ℕ → Expr → Tree → ℕ → Type 0
 GivesWith w variables p n e v m = (c : Context) (notices : List Notice) → Evaluates Faults c e (state_with n notices w variables p) (Ok v) (state_with m notices w variables p)
 
--- the same of a place of a value, inside its index
+-- an expression inside the index of a value has this value by the rules
 abbrev pub GivesInside : World → (List ℕ → Option Tree) → ℤ → Tree → ℕ → Expr → Tree → ℕ → Type 0
 GivesInside w variables p x n e y m = (c : Context) (notices : List Notice) → Evaluates Faults (within c (x ∷ [])) e (state_with n notices w variables p) (Ok y) (state_with m notices w variables p)
 
--- the same of items, none of which is a splice
+-- items, none of which is a splice, have these values by the rules
 abbrev pub AllGiveWith : World → (List ℕ → Option Tree) → ℤ → ℕ → Items → List Tree → ℕ → Type 0
 AllGiveWith w variables p n items vs m = (c : Context) (notices : List Notice) → EvaluatesAll Faults c items (state_with n notices w variables p) (Ok vs) (state_with m notices w variables p)
 

@@ -1,4 +1,4 @@
--- Lists that grow in the variable that they stand in.
+-- Lists that grow in their variable.
 use Rattle.std.proofs.Common.{◌≡◌, ℕ, ◌<◌, List, [], ◌∷◌, ◌++◌, Result, Ok, Err, refl, ap}
 use Rattle.moo_value.specs.Tree.{Tree, list_of}
 use Rattle.moo_value.specs.View.{tree}
@@ -18,7 +18,7 @@ use Rattle.moo_eval.specs.Growth.{IsLengthened}
 use Rattle.moo_semantics.specs.Meaning.{Evaluates, Computes, Does, begins, applies, operands_end, no_more, element_stops, element_then, splice_stops, splice_fails, splice_then, list_is}
 use Rattle.moo_eval.proofs.Direct.{assigned, unassigned, performed, unperformed}
 
--- the elements of a list with one more behind them
+-- the elements of a list with one more after them
 pub lengthened : {T : Telling} {c : Context} {x : List ℕ} {e : Expr} {s s1 s2 t : State} {v w : Tree} (vs : List Tree) → Evaluates T c (variable x) s (Ok (list_of vs)) s1 → Evaluates T c e s1 (Ok v) s2 → made_list (vs ++ v ∷ []) ≡ Ok w → bound (bind x w ∷ []) s2 ≡ t → IsLengthened T c x (program.list (splice (variable x) (element e no_items))) s t
 lengthened {s2 = s2} {w = w} vs d g made sets = record {
   value = w;

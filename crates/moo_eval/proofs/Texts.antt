@@ -14,6 +14,6 @@ front (b ∷ s) t h = (h.0, front s t h.1)
 pub text_inside : (line : List ℕ) → IsText (program_text line) → IsText line
 text_inside line h = All-from_recursion IsTextByte line (front line (codes ";") (recursion_from_All IsTextByte (program_text line) h).1.1.1.1.1.1.1)
 
--- a line that leaves no room for the words round it
+-- a line that is too long with the words around it
 pub heavy_text : (line : List ℕ) → weight_limit ≤ length line + 8 → ¬ IsString (program_text line)
 heavy_text line h s = omega (arith, h, s.fits, length-append (codes "return ") (line ++ codes ";"), length-append line (codes ";"))

@@ -7,7 +7,7 @@ use Rattle.moo_access.specs.State.{State}
 use Rattle.moo_code_function.specs.Telling.{Faults}
 use Rattle.moo_semantics.specs.Meaning.{Evaluates}
 
--- two expressions give these values, the second from where the first ends
+-- two expressions have these values, the second from the state in which the first ends
 pub record GivesBoth (c : Context) (a b : Expr) (x y : Tree) (s s'' : State) : Type 0 where
   pub between : State
   pub base : Evaluates Faults c a s (Ok x) between

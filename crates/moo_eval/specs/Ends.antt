@@ -1,4 +1,4 @@
--- What the program's answer for a task stands for.
+-- The meaning of the program's result for a task.
 pub use Rattle.moo_outcome.specs.Traceback.{texts}
 pub use Rattle.moo_semantics.specs.Notices.{LeavesNotices, IsBegunBy}
 use Rattle.moo_value.specs.View.{tree}
@@ -6,7 +6,7 @@ use Rattle.moo_eval.specs.declared.task.Ended as code
 use Rattle.moo_eval.specs.declared.task.Ended.TheVariants as ended
 use Rattle.moo_semantics.specs.Task.{End, value, uncaught, out_of_ticks}
 
--- what holds of the end; of want of memory nothing is said
+-- what holds of the end; of lack of memory nothing is said
 abbrev pub IfEnded : code.Ended → (End → Type 0) → Type 0
 IfEnded (ended.Value v) P = P (value (tree v))
 IfEnded (ended.Uncaught lines) P = P (uncaught (texts lines.items))

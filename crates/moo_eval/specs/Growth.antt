@@ -1,4 +1,4 @@
--- Lists that grow in the variable that they stand in.
+-- Lists that grow in their variable.
 use Rattle.std.specs.Prelude.{◌≡◌, ℕ, List, [], ◌∷◌, Result, Ok, Err}
 use Rattle.moo_value.specs.Tree.{Tree}
 use Rattle.moo_program.specs.Tree.{Expr}

@@ -1,4 +1,4 @@
-//! Assignments.
+//! Runs assignments.
 ghost use Rattle.std.specs.Prelude.{◌≤◌, None, Result, Err, IfOk, IfErr, OnOk, map};
 ghost use Rattle.moo_program.specs.Tree.{variable, assign, performs, list, splice, element, no_items};
 ghost use Rattle.moo_program.specs.View.{tree, items_of};
@@ -50,7 +50,7 @@ impl Task {
         self.assign_path(world, active, stack, indexed, target, value)
     }
 
-    // The target is found first, then the value is evaluated, then it is stored.
+    // Finds the target first, then evaluates the value, then stores it.
     #[cycle(evaluation)]
     #[inline(never)]
     fn assign_path(
@@ -71,7 +71,7 @@ impl Task {
         Ok(value)
     }
 
-    // A variable without an index is no way to go.
+    // Assigns to a variable without indexes, which has no path.
     #[cycle(evaluation)]
     #[inline(never)]
     fn assign_variable(
@@ -92,8 +92,8 @@ impl Task {
         Ok(value)
     }
 
-    /// An assignment to a variable, whose own value is not used. What it is set to is evaluated node by node: it is not known at
-    /// once, where it is of a kind that may be. Not inlined, so that nested statements hold no room for it.
+    /// Assigns to a variable, if the assignment's own value is not used. The assigned expression is evaluated node by
+    /// node. Not inlined, so that nested statements need no stack space for it.
     #[cycle(evaluation)]
     #[inline(never)]
     pub(crate) fn assign_alone(
@@ -113,7 +113,8 @@ impl Task {
         Ok(Flow::Next)
     }
 
-    /// `name = {@name, last}`, whose own value is not used. Not inlined, so that nested statements hold no room for it.
+    /// Runs `name = {@name, last}`, if the assignment's own value is not used. Not inlined, so that nested statements
+    /// need no stack space for it.
     #[cycle(evaluation)]
     #[inline(never)]
     pub(crate) fn lengthen(
@@ -139,7 +140,7 @@ impl Task {
         }
     }
 
-    // Sets the variable to the list `{@name, last}`, if it is one.
+    // Sets the variable to the list `{@name, last}`, if that is one.
     #[cycle(evaluation)]
     fn put_behind(
         &mut self,
@@ -162,7 +163,7 @@ impl Task {
         Ok(())
     }
 
-    // The way to what a target sets, whose containers are read from the root on.
+    // Returns the path to what a target sets; its containers are read from the root on.
     #[cycle(evaluation)]
     #[inline(never)]
     fn locate<'a>(
@@ -189,7 +190,7 @@ impl Task {
         Ok(path)
     }
 
-    // What the root of a target names.
+    // Returns what the root of a target names.
     #[cycle(evaluation)]
     #[inline(never)]
     fn find<'a>(
@@ -213,7 +214,7 @@ impl Task {
         }
     }
 
-    // The container at the end of a path, and the places in it, where `$` measures it.
+    // Returns the container at the end of a path, and the places in it; in them `$` is the container's length.
     #[cycle(evaluation)]
     #[inline(never)]
     fn step(
@@ -273,7 +274,8 @@ impl Task {
         }
     }
 
-    // Sets a variable, or what the steps lead to in it. Not inlined, so that nested scatters hold no room for it.
+    // Sets a variable, or the part of it at the end of the steps. Not inlined, so that nested scatters need no stack
+    // space for it.
     #[inline(never)]
     fn store_variable(
         &self,
@@ -288,7 +290,7 @@ impl Task {
         Ok(())
     }
 
-    // Names that get an element are set first, then those with a default, from the left.
+    // Sets the names that get an element first, then those with a default, from the left.
     #[cycle(evaluation)]
     fn scatter(
         &mut self,
@@ -306,7 +308,8 @@ impl Task {
         self.set_defaults(world, active, stack, indexed, &defaults)
     }
 
-    // Sets the names that get an element: those with a default that get none. Not inlined, so that nested scatters hold no room for it.
+    // Sets the names that get an element, and returns those with a default that get none. Not inlined, so that nested
+    // scatters need no stack space for it.
     #[inline(never)]
     fn deal<'a>(
         &self,

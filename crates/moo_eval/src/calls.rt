@@ -1,4 +1,4 @@
-//! Catches, and calls of verbs and functions.
+//! Evaluates catches, and calls of verbs and functions.
 ghost use Rattle.std.specs.Prelude.{◌≡◌, ◌≢◌, ◌≤◌, ◌<◌, ◌∷◌, ℕ, List, [], Option, None, Some, IfOk, IfErr, IfSome, IfNone, Err, OnOk, is_ok, IsTrue};
 ghost use Rattle.std.specs.Borrow.{Bor};
 ghost use Rattle.moo_value.specs.declared.value.Value.{Value as ValueModel};
@@ -55,7 +55,8 @@ impl Task {
         read_property(self.alloc(), world, active.programmer, &base, &name)
     }
 
-    // The verb runs over the same world and with the ticks that are left, in a frame of its own where it needs one.
+    // Calls a verb, over the same world and with the ticks that are left. It runs in a frame of its own if it needs
+    // one.
     #[cycle(evaluation)]
     #[inline(never)]
     pub(crate) fn verb_call(
@@ -76,7 +77,7 @@ impl Task {
         self.call_verb(world, active, stack, &base, &name, values)
     }
 
-    // What a verb is called on, and its name.
+    // Returns the object that a verb is called on, and its name.
     #[cycle(evaluation)]
     #[inline(always)]
     fn callee(
@@ -100,8 +101,8 @@ impl Task {
         Ok((base, name))
     }
 
-    // The object that a verb is called on, where it is known at once, and the verb's name, where that is written out, if all their ticks
-    // are left, which are taken then. Else nothing has begun.
+    // Returns the object that a verb is called on, if the fast path finds it, and the verb's name, if that is a
+    // literal. All their ticks have to be left, and are taken then. Else nothing has begun.
     #[inline(never)]
     fn callee_at_once(
         &mut self,
@@ -128,7 +129,7 @@ impl Task {
         Some((Value::Obj(this), Value::Str(name)))
     }
 
-    // The verb that is called, its operands evaluated.
+    // Calls a verb, its operands evaluated.
     #[cycle(evaluation)]
     #[inline(always)]
     fn call_verb(
@@ -151,8 +152,8 @@ impl Task {
         }
     }
 
-    // The verb of a name that is called on an object. What it returns at once needs no frame. Not inlined: calls in the arguments of calls
-    // would each hold its room.
+    // Calls the verb of a name on an object. A value that the verb returns at once needs no frame. Not inlined, so
+    // that calls in the arguments of calls need no stack space for it.
     #[cycle(evaluation)]
     #[inline(never)]
     fn call_named(
@@ -176,7 +177,7 @@ impl Task {
         self.run_called(world, called)
     }
 
-    // A call on what is no object, or by what is no name, is refused where verbs are entered.
+    // Refuses a call on a value that is no object, or by a name that is no string, as entering the verb does.
     #[cycle(evaluation)]
     #[cold]
     #[inline(never)]
@@ -197,8 +198,8 @@ impl Task {
         self.run_called(world, called)
     }
 
-    // A verb that was entered runs to its end, its first statements ahead, as far as they are known at once. It takes a tick where it has
-    // a statement. Inlined, so that what was entered is not moved.
+    // Runs an entered verb to its end. It takes a tick if it has a statement. Inlined, so that the entered verb is
+    // not moved.
     #[cycle(evaluation)]
     #[inline(always)]
     fn run_called(&mut self, world: &mut World, called: Called<'_>) -> Result<Value, Failure>
@@ -241,7 +242,8 @@ impl Task {
         self.call_caller(world, active, stack, caller, values)
     }
 
-    // A function that calls verbs, its arguments evaluated. Not inlined, likewise.
+    // Calls a function that calls verbs, its arguments evaluated. Not inlined, so that nested calls need no stack
+    // space for it.
     #[cycle(evaluation)]
     #[inline(never)]
     fn call_caller(
@@ -259,8 +261,8 @@ impl Task {
         self.proceed(world, active, stack, first)
     }
 
-    // A function that calls verbs goes on until it ends. Not inlined, as `call_function` and `start_call`: nested calls would
-    // each hold its room on the stack.
+    // Continues a function that calls verbs until it ends. Not inlined, as `call_function` and `start_call`, so that
+    // nested calls need no stack space for it.
     #[cycle(evaluation)]
     #[inline(never)]
     fn proceed<'a>(
@@ -284,7 +286,7 @@ impl Task {
         }
     }
 
-    // The codes come first. An error that they name is the value, or what `other` gives in its place.
+    // Evaluates the codes first. If they name the error, it is the value, or `other` gives the value in its place.
     #[cycle(evaluation)]
     #[inline(never)]
     pub(crate) fn catch(
@@ -311,7 +313,7 @@ impl Task {
         }
     }
 
-    /// The values of the codes of a catch or of a handler.
+    /// Returns the values of the codes of a catch or of a handler.
     #[cycle(evaluation)]
     pub(crate) fn guards(
         &mut self,
@@ -334,7 +336,7 @@ impl Task {
     }
 }
 
-// The same string, where there is memory for it.
+// Returns a copy of a string that shares its bytes, if there is memory for it.
 #[inline(always)]
 fn copied_text(text: &MooStr) -> Option<MooStr>
     ensures { IfSome result (λ copy. copy ≡ text.now) }
@@ -342,7 +344,7 @@ fn copied_text(text: &MooStr) -> Option<MooStr>
     text.try_clone().ok()
 }
 
-// What a called verb answers: the value that it returns, and 0 where it comes to its end.
+// Returns the value of a called verb: the one that it returns, or 0 if it comes to its end.
 fn answered(outcome: Result<Flow, Stop>) -> Result<Value, Failure>
     ensures answer { answered (seen_flow outcome) ≡ seen_answer result }
     ensures known { IsKnownFailure result → IsKnown outcome }

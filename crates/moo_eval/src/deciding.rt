@@ -1,4 +1,4 @@
-//! Expressions of which not every part is evaluated.
+//! Expressions that evaluate only some of their parts.
 ghost use Rattle.std.specs.Prelude.{◌≤◌};
 ghost use Rattle.moo_program.specs.Tree.{logic, conditional};
 ghost use Rattle.moo_program.specs.View.{tree};
@@ -16,7 +16,7 @@ use moo_value::Value;
 use moo_world::World;
 
 impl Task {
-    // The second operand is evaluated only where the first doesn't decide.
+    // Evaluates the second operand only if the first doesn't decide.
     #[cycle(evaluation)]
     #[inline(never)]
     pub(crate) fn logic(
@@ -39,7 +39,7 @@ impl Task {
         Ok(self.evaluate(world, active, stack, indexed, right)?)
     }
 
-    // The test decides which of two is evaluated.
+    // Evaluates the test, and then one of the two expressions.
     #[cycle(evaluation)]
     #[inline(never)]
     pub(crate) fn conditional(

@@ -1,4 +1,4 @@
-//! How a function that calls verbs goes on, past those that have nothing to run.
+//! Continues functions that call verbs, skipping verbs without statements.
 ghost use Rattle.std.specs.Prelude.{◌≡◌, None, IfOk, IfErr};
 ghost use Rattle.moo_value.specs.View.{tree};
 ghost use Rattle.moo_outcome.specs.Seen.{context_of, IsKnownFailure};
@@ -15,7 +15,7 @@ use moo_outcome::{Activation, CallStack, Failure};
 use moo_value::Value;
 use moo_world::World;
 
-/// What a function that calls verbs waits for: nothing, since it answers, or a verb with statements.
+/// What a function that calls verbs waits for: nothing, since it has its value, or a verb with statements.
 #[derive(Drop)]
 pub(crate) enum Pending<'a> {
     Answer(Value),
@@ -23,7 +23,7 @@ pub(crate) enum Pending<'a> {
 }
 
 impl Task {
-    /// Goes on at a stage with what its verb answered, up to the next verb that has a statement.
+    /// Continues at a stage with the value of its verb, up to the next verb that has a statement.
     pub(crate) fn resume<'a>(
         &mut self,
         world: &mut World,
@@ -41,7 +41,7 @@ impl Task {
         self.pass_over(world, active, stack, next)
     }
 
-    /// A verb without a statement changes nothing and answers 0, and so does one that is missing.
+    /// Continues past verbs that are missing or have no statement. Such a verb changes nothing and returns 0.
     pub(crate) fn pass_over<'a>(
         &mut self,
         world: &mut World,
@@ -65,7 +65,7 @@ impl Task {
     }
 }
 
-// The stage that comes next where no statement runs before it.
+// Returns the stage that comes next if no statement runs before it.
 fn idle_stage<'a>(progress: Progress<'a>) -> Result<Stage, Pending<'a>>
     ensures ok { IfOk result (IsIdle progress.entry) }
     ensures same { IfErr result (λ pending. pending_progress pending ≡ progress_of progress.entry) }

@@ -1,4 +1,4 @@
-//! Expressions.
+//! Evaluates expressions.
 ghost use Rattle.std.specs.Prelude.{◌≡◌, ◌-◌, ◌<◌, ◌≤◌, ℕ, List, [], ◌++◌, None, Ok, Err, IfOk, IfErr, OnOk, OnErr};
 ghost use Rattle.moo_program.specs.View.{tree, items_of};
 ghost use Rattle.moo_value.specs.View.{tree as tree_of};
@@ -28,18 +28,19 @@ use moo_worth::{may_be_known, may_have_worth};
 use std::alloc::{AllocError, Global};
 use std::cell::Cell;
 
-/// What a task may still use, and what it has asked for so far.
+/// The resources that a task may still use, and its requests so far.
 #[derive(Drop)]
 pub struct Task {
     pub(crate) ticks_left: Ticks,
     notices: Vec<Notice>,
     pub(crate) alloc: Global,
-    /// A hint: whether the call that was looked at last was answered without a frame. Where it wasn't, calls aren't looked at ahead.
+    /// A hint: whether the last call that the fast path looked at was answered without a frame. If it wasn't, the
+    /// fast path skips calls.
     pub(crate) answering: Cell<bool>,
 }
 
 impl Task {
-    /// A task that begins.
+    /// Returns a task that begins.
     pub fn new(alloc: Global) -> Task
         ensures ticks { result.ticks_left ≡ most_ticks }
         ensures notices { result.notices.items ≡ [] }
@@ -52,7 +53,7 @@ impl Task {
         }
     }
 
-    /// Puts the notices behind these.
+    /// Appends the task's notices to these.
     pub(crate) fn leave_notices(&mut self, notices: &mut Vec<Notice>) -> Result<(), AllocError>
         ensures left { OnOk result (notices.new.items ≡ notices.old.items ++ self.old.notices.items) }
         ensures kept { OnErr result (notices.new.items ≡ notices.old.items) }
@@ -60,7 +61,7 @@ impl Task {
         notices.append(&mut self.notices)
     }
 
-    /// Takes a tick, where one is left.
+    /// Takes a tick, if one is left.
     #[inline]
     pub(crate) fn take_tick(
         &mut self,
@@ -78,7 +79,8 @@ impl Task {
         Ok(())
     }
 
-    // The end of a task that has no tick left. Not inlined, so that what takes a tick needs no room for it.
+    // Returns the end of a task that has no tick left. Not inlined, so that taking a tick needs no stack space for
+    // it.
     #[cold]
     #[inline(never)]
     fn spent(&self, active: &Activation, stack: &CallStack<'_>) -> Stop
@@ -90,7 +92,7 @@ impl Task {
         }
     }
 
-    /// The value of an expression, which takes a tick as it begins. `indexed` is what `$` measures.
+    /// Returns the value of an expression, which takes a tick as it begins. `indexed` is the value that `$` measures.
     #[cycle(evaluation)]
     pub fn evaluate(
         &mut self,
@@ -125,8 +127,8 @@ impl Task {
         self.evaluate_node(world, active, stack, indexed, expr)
     }
 
-    /// The same of a part of an expression. Inlined: where its worth is never known at once, nested expressions hold no room for it but
-    /// that of `evaluate_node`.
+    /// Returns the value of a part of an expression. Inlined, so that nested expressions need only the stack space of
+    /// `evaluate_node` for parts that the fast path never handles.
     #[cycle(evaluation)]
     #[inline(always)]
     pub(crate) fn evaluate_part(
@@ -146,8 +148,8 @@ impl Task {
         self.evaluate_node(world, active, stack, indexed, expr)
     }
 
-    // An expression of any kind. Neither it nor what computes each kind is inlined: nested expressions would each hold the room of
-    // all kinds on the stack.
+    // Evaluates an expression of any kind. Neither this function nor those for each kind are inlined, so that nested
+    // expressions need no stack space for all kinds.
     #[cycle(evaluation)]
     #[inline(never)]
     pub(crate) fn evaluate_node(
@@ -168,7 +170,7 @@ impl Task {
         }
     }
 
-    /// What a failure comes to. Not inlined, so that nested expressions hold no room for it.
+    /// Returns the outcome of a failure. Not inlined, so that nested expressions need no stack space for it.
     #[inline(never)]
     pub(crate) fn settled(
         &self,
@@ -182,12 +184,12 @@ impl Task {
         settle(self.alloc, stack, active, Err(failure))
     }
 
-    /// Where values are made.
+    /// Returns the allocator of values.
     pub(crate) fn alloc(&self) -> Global {
         self.alloc
     }
 
-    /// Calls a built-in function, which may look at the ticks that are left and leave notices.
+    /// Calls a built-in function, which may read the ticks that are left and leave notices.
     #[inline(never)]
     pub(crate) fn call_function(
         &mut self,
@@ -212,7 +214,8 @@ impl Task {
         )
     }
 
-    /// A function that calls verbs goes on at a stage, and may leave notices. It comes nearer to its end.
+    /// Continues a function that calls verbs at a stage; it may leave notices. Each call brings the function nearer
+    /// to its end.
     pub(crate) fn resume_call<'a>(
         &mut self,
         world: &mut World,
@@ -283,7 +286,7 @@ impl Task {
         }
     }
 
-    /// Items from left to right. Inlined, so that nested lists and calls hold its room once.
+    /// Evaluates items from left to right. Inlined, so that nested lists and calls need its stack space once.
     #[cycle(evaluation)]
     #[inline(always)]
     pub(crate) fn evaluate_all(
@@ -317,8 +320,8 @@ impl Task {
     }
 }
 
-// Whether the worth of a part of an expression may be known at once. Of calls that of `length` alone is looked at, and no list and no range
-// is, so that nested ones hold no room for more than `evaluate_node`.
+// Returns whether the fast path may handle a part of an expression. Of calls only `length` is included, and no list
+// and no range is, so that nested ones need only the stack space of `evaluate_node`.
 #[inline]
 fn may_be_known_within(expr: &Expr) -> bool {
     match expr {

@@ -1,4 +1,4 @@
-//! A line of input, run as a program: 'Running a line' of docs/LANGUAGE.md.
+//! Runs a line of input as a program: 'Running a line' of docs/LANGUAGE.md.
 ghost use Rattle.std.specs.Prelude.{◌≡◌, ◌≢◌, [], ◌∷◌, IfOk, IfSome, IfNone, OnOk};
 ghost use Rattle.moo_value.specs.Tree.{IsText};
 ghost use Rattle.moo_value.specs.Size.{IsString};
@@ -19,18 +19,18 @@ const RUN: u8 = 0;
 /// The status of a line that was refused.
 const REFUSED: u8 = 5;
 
-/// What a line of input is answered.
+/// The result of a line of input.
 #[derive(Drop)]
 pub struct EvalLine {
     /// The lines to print, each without an end of line.
     pub lines: Vec<Vec<u8>>,
-    /// 0 where the line was run, 5 where it was refused.
+    /// 0 if the line was run, 5 if it was refused.
     pub status: u8,
 }
 
-/// Runs `line`, bytes without an end of line, as the program `return LINE;`, in a frame like that of the built-in
-/// `eval` and over an empty world. Answers the value's literal or the lines of a traceback with status 0, and where the
-/// line is no program the line that tells why, with status 5. The error is want of memory.
+/// Runs `line`, bytes without an end of line, as the program `return LINE;`. It runs in a frame like that of the
+/// built-in `eval` and over an empty world. Returns the value's literal or the lines of a traceback with status 0. If
+/// the line is no program, returns the line that gives the reason, with status 5. Err is lack of memory.
 pub fn eval_line(alloc: Global, line: &[u8]) -> Result<EvalLine, AllocError>
     ensures { IfOk result (λ answer. AnswersLine line.now (texts answer.lines.items) answer.status) }
 {
@@ -59,7 +59,7 @@ pub fn eval_line(alloc: Global, line: &[u8]) -> Result<EvalLine, AllocError>
     }
 }
 
-// The answer of one line, for a line of input that is refused.
+// Returns the result of a refused line of input, which has one line.
 fn refused(alloc: Global, line: Vec<u8>) -> Result<EvalLine, AllocError>
     ensures lines { IfOk result (λ answer. texts answer.lines.items ≡ line.items ∷ []) }
     ensures status { IfOk result (λ answer. answer.status ≡ REFUSED) }
@@ -71,7 +71,7 @@ fn refused(alloc: Global, line: Vec<u8>) -> Result<EvalLine, AllocError>
     })
 }
 
-// The program that a line is, or `None` where it is too heavy for a string.
+// Returns the program that a line is, or `None` if it is too heavy for a string.
 #[tactic(auto, using(crate::proofs::Texts::heavy_text))]
 fn program_text(alloc: Global, line: &[u8]) -> Result<Option<MooStr>, AllocError>
     requires { IsText line.now }
@@ -89,7 +89,7 @@ fn program_text(alloc: Global, line: &[u8]) -> Result<Option<MooStr>, AllocError
     Ok(Some(text))
 }
 
-// The line that a player is told, where the fault isn't want of memory.
+// Returns the line that describes a fault of the text; Err if the fault is lack of memory.
 fn fault_line(alloc: Global, fault: &SyntaxFault) -> Result<Vec<u8>, AllocError>
     ensures text { IfOk result (λ text. text.items ≡ fault_text fault.now) }
     ensures told { OnOk result (fault.now.kind ≢ Memory) }

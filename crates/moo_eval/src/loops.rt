@@ -1,4 +1,4 @@
-//! Loops.
+//! Runs loops.
 ghost use Rattle.std.specs.Prelude.{◌≤◌, ◌<◌, ◌∷◌, [], None, Some, OnOk, option_copied};
 ghost use Rattle.moo_value.specs.View.{tree as value_tree, trees};
 ghost use Rattle.moo_program.specs.Tree.{for_list, for_range};
@@ -19,7 +19,7 @@ use moo_value::{MooStr, Value};
 use moo_world::World;
 
 impl Task {
-    // A turn of a `while`, which takes a tick as it begins: how the loop ends, or `None` where it goes on.
+    // Runs a turn of a `while`, which takes a tick as it begins. Returns how the loop ends, or `None` if it goes on.
     #[cycle(evaluation)]
     fn turn(
         &mut self,
@@ -41,7 +41,7 @@ impl Task {
         Ok(after_turn(own.as_ref(), flow))
     }
 
-    // What is left of a turn: how the loop ends, or `None` where it goes on.
+    // Runs the rest of a turn. Returns how the loop ends, or `None` if it goes on.
     #[cycle(evaluation)]
     #[inline(always)]
     fn end_turn(
@@ -62,7 +62,7 @@ impl Task {
         Ok(after_turn(own, flow))
     }
 
-    // A turn of a `for`, which takes a tick before the variable is set.
+    // Runs a turn of a `for`, which takes a tick before the variable is set.
     #[cycle(evaluation)]
     #[inline(always)]
     fn visit(
@@ -87,7 +87,7 @@ impl Task {
         Ok(after_turn(Some(name.text()), flow))
     }
 
-    // A `while`, from a test on.
+    // Runs a `while`, from a test on.
     #[cycle(evaluation)]
     #[inline(never)]
     pub(crate) fn repeat(
@@ -198,7 +198,7 @@ impl Task {
         }
     }
 
-    // The counter goes one past `high`, so it is wider than the numbers.
+    // Runs the turns of a `for` over a range. The counter goes one past `high`, so it is wider than the numbers.
     #[cycle(evaluation)]
     fn count(
         &mut self,

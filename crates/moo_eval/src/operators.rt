@@ -1,4 +1,4 @@
-//! Operators, indexes, ranges and lists.
+//! Evaluates operators, indexes, ranges and lists.
 ghost use Rattle.std.specs.Prelude.{◌≡◌, ◌≤◌};
 ghost use Rattle.moo_program.specs.Tree.{unary, binary, index, range, list};
 ghost use Rattle.moo_program.specs.View.{tree, items_of};
@@ -58,7 +58,7 @@ impl Task {
         Ok(integers::binary(self.alloc, operator, &left, &right)?)
     }
 
-    // The index is evaluated with the base as what `$` measures.
+    // Evaluates `base[index]`; in the index `$` is the length of the base.
     #[cycle(evaluation)]
     #[inline(never)]
     pub(crate) fn index(
@@ -117,7 +117,7 @@ impl Task {
     }
 }
 
-// The list of values. Not inlined: nested lists would each hold its room on the stack.
+// Returns the list of values. Not inlined, so that nested lists need no stack space for it.
 #[inline(never)]
 fn listed(alloc: Global, values: Gathered) -> Result<Value, Failure>
     ensures { IsKnownFailure result → answers (made_list values) ≡ seen_answer result }

@@ -1,4 +1,4 @@
-//! Statements.
+//! Runs statements.
 ghost use Rattle.std.specs.Prelude.{◌≢◌, ◌≤◌, ◌<◌, None, OnOk};
 ghost use Rattle.moo_program.specs.declared.tree.Stmt.TheVariants.{Return};
 ghost use Rattle.moo_program.specs.Tree.{performs, branches, no_statement};
@@ -16,7 +16,7 @@ use moo_value::Value;
 use moo_world::World;
 
 impl Task {
-    // A statement, which takes a tick as it begins. One that was tried ahead isn't tried again.
+    // Runs a statement, which takes a tick as it begins. A statement that the fast path has tried isn't tried again.
     #[cycle(evaluation)]
     fn run(
         &mut self,
@@ -71,7 +71,7 @@ impl Task {
         }
     }
 
-    // The value of the expression, or 0 where there is none.
+    // Returns the value of the expression as the flow of a `return`, or 0 if there is none.
     #[cycle(evaluation)]
     fn give(
         &mut self,
@@ -89,7 +89,7 @@ impl Task {
         }
     }
 
-    // An expression whose value is not used.
+    // Evaluates an expression whose value is not used.
     #[cycle(evaluation)]
     fn evaluate_alone(
         &mut self,
@@ -117,7 +117,8 @@ impl Task {
         Ok(Flow::Next)
     }
 
-    /// Statements in order, up to one that leads elsewhere. `tried` tells that the first has been tried ahead, so that it isn't tried again.
+    /// Runs statements in order, up to one that leads elsewhere. `tried` is true if the fast path has tried the first
+    /// one.
     #[cycle(evaluation)]
     pub(crate) fn run_all(
         &mut self,
@@ -141,7 +142,7 @@ impl Task {
         Ok(Flow::Next)
     }
 
-    /// The statements of a loop or of an arm. The first of them are run ahead, as far as they are known at once.
+    /// Runs the statements of a loop or of an arm. The fast path runs the first of them as far as it can.
     #[cycle(evaluation)]
     #[inline(always)]
     pub(crate) fn run_body(
@@ -161,7 +162,7 @@ impl Task {
         self.run_all(world, active, stack, rest, true)
     }
 
-    // The first arm of an `if` whose condition is true.
+    // Runs the first arm of an `if` whose condition is true.
     #[cycle(evaluation)]
     #[inline(never)]
     fn branch(

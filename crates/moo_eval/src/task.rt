@@ -1,4 +1,4 @@
-//! Whole tasks: 'MOO Tasks' of the LambdaMOO Programmer's Manual, 'Tracebacks' and 'Limits' of docs/LANGUAGE.md.
+//! Runs whole tasks: 'MOO Tasks' of the LambdaMOO Programmer's Manual, 'Tracebacks' and 'Limits' of docs/LANGUAGE.md.
 ghost use Rattle.std.specs.Prelude.{◌≡◌};
 ghost use Rattle.moo_outcome.specs.Seen.{seen_flow, IsKnown};
 ghost use Rattle.moo_outcome.specs.Variables.{first_bindings, value_of_name};
@@ -24,14 +24,14 @@ pub enum Ended {
     Uncaught(Vec<Vec<u8>>),
     /// Without a tick left: the lines of its traceback, in the same form.
     OutOfTicks(Vec<Vec<u8>>),
-    /// For want of memory, which no code catches. Of the world no more is promised then than that it is whole.
+    /// For lack of memory, which no code catches. The world is then promised to be well-formed, and nothing else.
     Memory,
 }
 
-/// Runs the program of a frame, with 100,000 ticks, in the surroundings of `env`, which stay. What it changed in the
-/// world stays too, also where it ends uncaught or out of ticks, and its notices come behind those of `env`. After want
-/// of memory the notices of `env` stay and begin those that stand there, and of the world no more is promised than that
-/// it is whole. Errors of the program are no errors of this: they end the task as `Ended` tells.
+/// Runs the program of a frame, with 100,000 ticks, in the surroundings of `env`, which stay. Its changes of the
+/// world stay too, also if it ends uncaught or out of ticks, and its notices are appended to those of `env`. After
+/// lack of memory the earlier notices of `env` stay and come first, and the world is promised to be well-formed, and
+/// nothing else. Errors of the program are no errors of this function: they end the task as `Ended` describes.
 #[tactic(auto, using(crate::proofs::Ending::unchanged))]
 pub fn run_task(alloc: Global, world: &mut World, start: Frame, env: &mut TaskEnv<'_>) -> Ended
     ensures ends { IfEnded result (λ end. LeavesNotices env.old.notices.items (TaskEnds Faults (surroundings_of env.old.surroundings) start world.old end world.new) env.new.notices.items) }

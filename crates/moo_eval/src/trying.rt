@@ -1,4 +1,4 @@
-//! `try`, with handlers or with a cleanup.
+//! Runs `try`, with handlers or with a cleanup.
 ghost use Rattle.std.specs.Prelude.{◌≤◌, None, Result, Err, IfOk, IfErr, map};
 ghost use Rattle.moo_program.specs.Tree.{try_except, try_finally};
 ghost use Rattle.moo_program.specs.View.{block, handlers_of};
@@ -21,7 +21,7 @@ use moo_program::{Handler, Stmt};
 use moo_world::World;
 
 impl Task {
-    // The codes of all handlers come before the statements.
+    // Evaluates the codes of all handlers, then runs the statements.
     #[cycle(evaluation)]
     #[inline(never)]
     pub(crate) fn try_except(
@@ -44,7 +44,7 @@ impl Task {
         }
     }
 
-    // The codes of handlers, in order.
+    // Returns the codes of handlers, in order.
     #[cycle(evaluation)]
     #[inline(never)]
     fn prepare<'a>(
@@ -67,7 +67,7 @@ impl Task {
         Ok(guarded)
     }
 
-    // The first handler that names the error runs, or the error goes on.
+    // Runs the first handler that names the error, or passes the error on.
     #[cycle(evaluation)]
     #[inline(always)]
     fn handle(
@@ -85,8 +85,8 @@ impl Task {
         self.run_all(world, active, stack, body, false)
     }
 
-    // The statements of the first handler that names the error, whose variable is set. Not inlined, so that nested handlers hold no
-    // room for it.
+    // Returns the statements of the first handler that names the error, and sets its variable. Err is the error
+    // itself if no handler names it. Not inlined, so that nested handlers need no stack space for it.
     #[inline(never)]
     fn begin_handler<'a>(
         &self,
@@ -105,7 +105,7 @@ impl Task {
         Ok(taken.body)
     }
 
-    // The cleanup runs after the statements, however they end, unless the ticks ran out.
+    // Runs the cleanup after the statements, however they end, unless ticks or memory ran out.
     #[cycle(evaluation)]
     #[inline(never)]
     pub(crate) fn try_finally(

@@ -1,4 +1,4 @@
-//! Programs that are typed in.
+//! Runs programs that are typed in.
 ghost use Rattle.std.specs.Prelude.{◌≡◌, List, [], ◌∷◌, negsuc, IfOk};
 ghost use Rattle.moo_outcome.specs.Seen.{surroundings_of};
 ghost use Rattle.moo_code_function.specs.Telling.{Faults};
@@ -16,8 +16,8 @@ use moo_world::World;
 use std::alloc::{AllocError, Global};
 
 /// Runs a program that was typed in by nobody (programmer, player and caller are #-1), at the moment 0 and without
-/// connections, and gives the lines that are shown of its end: the value's literal, or the traceback. The error is want
-/// of memory, also the program's own. What it asked for is dropped.
+/// connections. Returns the lines that show its end: the value's literal, or the traceback. Err is lack of memory,
+/// also the program's own. Its notices are dropped.
 pub fn run_typed(
     alloc: Global,
     world: &mut World,
@@ -37,7 +37,7 @@ pub fn run_typed(
     }
 }
 
-// The moment 0 without connections.
+// Returns the surroundings of the moment 0 without connections.
 fn nowhere(alloc: Global) -> TaskEnv<'static>
     ensures { surroundings_of result.surroundings ≡ nowhere }
 {
@@ -50,7 +50,7 @@ fn nowhere(alloc: Global) -> TaskEnv<'static>
     }
 }
 
-/// One line.
+/// Returns one line as a list of lines.
 pub(crate) fn one_line(alloc: Global, line: Vec<u8>) -> Result<Vec<Vec<u8>>, AllocError>
     ensures { IfOk result (λ lines. texts lines.items ≡ line.items ∷ []) }
 {

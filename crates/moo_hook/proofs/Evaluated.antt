@@ -43,7 +43,7 @@ module _ (k : Calling) (w : World) (text copy : List ℕ) (same : copy ≡ text)
   pub tells : (f : SyntaxFault) (r : Result Tree Failure) → Blames Known (copy ∷ []) f.line f.kind → is_of_text f.kind ≡ true → answers (no_program f) ≡ r → EvaluatesText Faults k w text (done r)
   tells f r blames of_text told = subst (λ q. EvaluatesText Faults k w text (done q)) told (faulty may f (subst (λ t. Blames Known (t ∷ []) f.line f.kind) same blames, not_memory f.kind of_text))
 
--- where a frame is left, the program runs in it
+-- if a frame is left, the program runs in it
 pub has_room : (k : Calling) (program : Block) (e : Entered) → has_frame_left k.context.callers ≡ true → e ≡ typed_below k program → program_next k program ≡ verb_next e Evaluated
 has_room k program e left is = ap (λ b. if b then verb_next (typed_below k program) Evaluated else refuses MaximumRecursion) left ∙ ap (λ x. verb_next x Evaluated) (sym is)
 
@@ -58,7 +58,7 @@ typed_so (Ok h) k program b f p q this above begun framed whose player caller =
     ∙ ap (λ x. typed_frame program k.programmer k.context.frame.player x) caller))
 typed_so (Err e) k program b f p q this above begun framed whose player caller = tt
 
--- by whether there is room for it
+-- by whether the limits allow it
 not_made : (b : Bool) (t : Tree) (e : ErrorCode) → cond b (Ok t) (Err Quota) ≡ Err e → (b ≡ false) × (Quota ≡ e)
 not_made true t e h = absurd cc
 not_made false t e h = (refl, cc)
@@ -90,7 +90,7 @@ pub refused_so : (f : OperationFault) (r : Result Tree ErrorCode) → IsRefused 
 refused_so (Raise e) r h k = ap answers h
 refused_so Memory r h k = absurd k
 
--- a fault that can't be told, with memory enough
+-- a fault that can't be reported, with memory enough
 pub untold : (e : OperationFault) (f : SyntaxFault) → Gives (Err e) (told_fault f) → HadMemoryIn (failed e) → answers (no_program f) ≡ Err (failure_of (failed e))
 untold (Raise code) f gives k = ap answers (too_large (fault_text f) (pos 0) code gives)
 untold Memory f gives k = absurd k

@@ -1,5 +1,5 @@
--- For one input a call that calls verbs has at most one first step, where of each text at most one fault is told, and of a
--- program none.
+-- For one input a call that calls verbs has at most one first step, if at most one fault is reported for each text,
+-- and none for a program.
 use Rattle.std.proofs.Common.{◌≡◌, ℕ, List, [], ◌∷◌, refl, sym, ap, ◌∙◌}
 use Rattle.moo_value.specs.Tree.{Tree, string}
 use Rattle.moo_function.specs.declared.function.Function.{Function}

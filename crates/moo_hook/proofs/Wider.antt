@@ -1,4 +1,4 @@
--- A call that calls verbs begins as it does where more may be told of texts, too.
+-- A call that calls verbs begins in the same way if more faults may be reported for texts.
 use Rattle.std.proofs.Common.{ℕ, List, [], ◌∷◌}
 use Rattle.moo_value.specs.Tree.{Tree, string}
 use Rattle.moo_function.specs.declared.function.Function.{Function}

@@ -33,7 +33,7 @@ abbrev pub verb_caller : Option Function → Option Function
 verb_caller None = None
 verb_caller (Some f) = if calls_verbs f then Some f else None
 
--- the function that a name calls, where it is one that calls verbs
+-- the function that a name calls, if it is one that calls verbs
 abbrev pub caller_of : List ℕ → Option Function
 caller_of name = verb_caller (function_of name)
 
@@ -41,7 +41,7 @@ abbrev pub move_begins : Calling → World → List Tree → Progress × World
 move_begins k w (object what ∷ object to ∷ []) = moving k w what to
 move_begins k w _ = (refuses TypeMismatch, w)
 
--- the owner is the programmer, where no other is given
+-- the owner is the programmer, if no other is given
 abbrev pub create_begins : Calling → World → List Tree → Progress × World
 create_begins k w (object up ∷ []) = creating k w up k.programmer
 create_begins k w (object up ∷ object owner ∷ []) = creating k w up owner
@@ -59,7 +59,7 @@ first_progress function.Create k w vs = create_begins k w vs
 first_progress function.Recycle k w vs = recycle_begins k w vs
 first_progress _ k w vs = (refuses TypeMismatch, w)
 
--- what a function begins with, for arguments that fit, and the world then; of a text that is no program `eval` may tell this
+-- what a function begins with, for arguments that fit, and the world then; T allows the faults that `eval` may report
 abbrev pub Begins : Telling → Function → Calling → World → List Tree → Progress → World → Type 0
 Begins T function.Eval k w vs step after = EvalBegins T k w vs step × (after ≡ w)
 Begins T f k w vs step after = first_progress f k w vs ≡ (step, after)

@@ -17,16 +17,16 @@ may_be_parent w p to = int_eq to (negsuc 0) || may_inherit_from w p to
 abbrev pub next_number : World → ℤ
 next_number w = pos (length w.objects)
 
--- #-1 as the owner stands for the new object itself
+-- the owner #-1 means the new object itself
 abbrev pub owner_of_new : World → ℤ → ℤ
 owner_of_new w owner = if int_eq owner (negsuc 0) then next_number w else owner
 
--- the new object is asked to begin
+-- the new object's `initialize` is called
 abbrev pub initialized : Calling → ℤ → World → Progress × World
 initialized k o w = (hook k w (codes "create") o (codes "initialize") [] (Created o), w)
 
--- The parent comes first, then the owner's quota and the world's room, then the right to give it to this owner. The object
--- is made, and counts for its owner.
+-- The parent comes first, then the owner's quota and the limit of the world, then the right to give it to this owner.
+-- The object is made, and counts in its owner's quota.
 unfoldable pub creating : Calling → World → ℤ → ℤ → Progress × World
 creating k w up owner =
     let p = place_of w.objects up in

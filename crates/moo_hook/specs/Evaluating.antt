@@ -49,16 +49,16 @@ begun_below k f = record {
   programmer = f.programmer;
 }
 
--- The program has the programmer and the player of the running frame, and the object of that frame as its caller. The function
--- stands between the two.
+-- The program has the programmer and the player of the running frame, and the object of that frame as its caller. The
+-- function's entry is between the two.
 abbrev pub typed_below : Calling → Block → Entered
 typed_below k program = through (codes "eval") (begun_below k (typed_frame program k.programmer k.context.frame.player k.context.frame.this))
 
--- it runs where a frame is left for it
+-- it runs if a frame is left for it
 abbrev pub program_next : Calling → Block → Progress
 program_next k program = if has_frame_left k.context.callers then verb_next (typed_below k program) Evaluated else refuses MaximumRecursion
 
--- what is answered of a text that is no program: 0, and a list of the line that tells its fault
+-- the result for a text that is no program: 0, and a list of the line that describes its fault
 abbrev pub no_program : SyntaxFault → Result Tree ErrorCode
 no_program fault = made_list (integer (pos 0) ∷ list_of (string (fault_text fault) ∷ []) ∷ [])
 
@@ -66,7 +66,8 @@ no_program fault = made_list (integer (pos 0) ∷ list_of (string (fault_text fa
 abbrev pub has_given : Tree → Result Tree ErrorCode
 has_given v = made_list (integer (pos 1) ∷ v ∷ [])
 
--- Programmers alone evaluate, and wizards only where they are programmers. Of a text that is no program a fault is told.
+-- Only programmers evaluate, and wizards only if they are programmers. For a text that is no program a fault is
+-- reported.
 pub data EvaluatesText (T : Telling) (k : Calling) (w : World) (text : List ℕ) : Progress → Type 0 where
   forbidden : is_programmer w k.programmer ≡ false → EvaluatesText T k w text (refuses Permission)
   faulty : is_programmer w k.programmer ≡ true → (fault : SyntaxFault) → T (text ∷ []) fault → EvaluatesText T k w text (done (answers (no_program fault)))

@@ -12,15 +12,15 @@ use Rattle.moo_hook.specs.Progressing.{Calling, Progress, gives, refuses, after_
 use Rattle.moo_world_function.specs.Objects.{is_valid}
 use Rattle.moo_hook.specs.Objects.{is_place, location}
 
--- `move` calls a verb of an object, which is told what moves
+-- `move` calls a verb of an object, with the moved object as its argument
 abbrev pub move_calls : Calling → World → ℤ → List ℕ → ℤ → Stage → Progress × World
 move_calls k w o name what stage = (hook k w (codes "move") o name (object what ∷ []) stage, w)
 
--- both are still there, and the object stands elsewhere
+-- both are still valid, and the object is elsewhere
 abbrev pub is_to_move : World → ℤ → ℤ → Bool
 is_to_move w what to = is_valid w what && is_place w to && not (int_eq (location w what) to)
 
--- The move itself, where there is one to make; then the place that it leaves is told.
+-- The move itself, if there is one to make; then the `exitfunc` of the place that it leaves is called.
 unfoldable pub moved : Calling → World → ℤ → ℤ → Progress × World
 moved k w what to =
     let x = number_of w.objects what in
@@ -29,7 +29,7 @@ moved k w what to =
     then after_raise w (move_raises w x place) (move_calls k (world_move w x place) (location w what) (codes "exitfunc") what (Leaving what to))
     else (gives (integer (pos 0)), w)
 
--- The place has to be one, and the object the programmer's; then the place is asked, but for #-1.
+-- The place has to be one, and the object the programmer's; then the place's `accept` is called, except for #-1.
 unfoldable pub moving : Calling → World → ℤ → ℤ → Progress × World
 moving k w what to =
     if not (is_place w to) then (refuses InvalidArgument, w)
@@ -45,10 +45,10 @@ may_enter w programmer answer = answer || is_wizard w programmer
 unfoldable pub accepted : Calling → World → ℤ → ℤ → Bool → Progress × World
 accepted k w what to answer = if may_enter w k.programmer answer then moved k w what to else (refuses NotAccepted, w)
 
--- it is still where it was moved to, which is still there
+-- it is still where it was moved to, and that place is still valid
 abbrev pub has_come : World → ℤ → ℤ → Bool
 has_come w what to = is_valid w what && is_valid w to && int_eq (location w what) to
 
--- after the old place was told: the new one is told, where the object is still there
+-- after the `exitfunc` of the old place: the `enterfunc` of the new one is called, if the object is still there
 unfoldable pub left_behind : Calling → World → ℤ → ℤ → Progress × World
 left_behind k w what to = if has_come w what to then move_calls k w to (codes "enterfunc") what Entering else (gives (integer (pos 0)), w)

@@ -1,4 +1,4 @@
--- Where objects stand.
+-- The places of objects.
 use Rattle.std.specs.Prelude.{ℤ, pos, negsuc, Bool, ◌||◌, Option, slice_get}
 use Rattle.std.specs.Option.{unwrap_or, option_map, option_and_then}
 use Rattle.std.specs.Ordering.{int_eq}

@@ -14,8 +14,8 @@ abbrev pub run_by : Stage → Result Entered Failure → Progress
 run_by stage (Ok e) = verb_next e stage
 run_by stage (Err failure) = done (Err failure)
 
--- The verb is looked for by the name of the running one, from the parent of the object on that has it. It runs on the
--- same object.
+-- The search uses the name of the running verb, and starts at the parent of the object that has it. The verb runs on
+-- the same object.
 unfoldable pub passing : Calling → World → List Tree → Progress
 passing k w vs =
     let f = k.context.frame in

@@ -24,12 +24,12 @@ calling c s = record { context = c; variables = s.variables; programmer = s.prog
 pub data Progress : Type 0 where
   -- the call of the function ends
   done : Result Tree Failure → Progress
-  -- a verb runs, and what it answers goes to the stage
+  -- a verb runs, and what it returns goes to the stage
   verb_next : Entered → Stage → Progress
-  -- the stage comes at once, as after a verb that answers 0
+  -- the stage comes at once, as after a verb that returns 0
   stage_next : Stage → Progress
 
--- the function answers this
+-- the function returns this
 abbrev pub gives : Tree → Progress
 gives v = done (Ok v)
 
@@ -42,7 +42,7 @@ abbrev pub after_raise : World → Option ErrorCode → Progress × World → Pr
 after_raise w None next = next
 after_raise w (Some code) next = (refuses code, w)
 
--- the verb is entered by a built-in function, which stands between it and its caller
+-- a built-in function enters the verb; its entry is between the verb and its caller
 abbrev pub through : List ℕ → Entered → Entered
 through function e = record e { context = record e.context { callers = BuiltIn function ∷ e.context.callers } }
 

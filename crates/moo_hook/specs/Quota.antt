@@ -1,4 +1,4 @@
--- How many more objects somebody may own.
+-- How many more objects an owner may have.
 use Rattle.std.specs.Prelude.{ℕ, ℤ, pos, Bool, false, List, codes, ◌+ℤ◌, int_le, Option, Some, None}
 use Rattle.std.specs.Int.{int_wrap, w32}
 use Rattle.moo_value.specs.declared.error_code.ErrorCode.{ErrorCode}
@@ -21,7 +21,7 @@ integer_in (Some (error e)) = None
 integer_in (Some (string s)) = None
 integer_in (Some (list es)) = None
 
--- what comes of something that may raise, or what there is where it raises
+-- the result of something that may raise, or a substitute if it raises
 abbrev pub where_allowed : {A : Type 0} → Option ErrorCode → A → A → A
 where_allowed None next other = next
 where_allowed (Some code) next other = other

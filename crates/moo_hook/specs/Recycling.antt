@@ -1,4 +1,4 @@
--- `recycle`: an object is taken away.
+-- `recycle`: an object is removed.
 use Rattle.std.specs.Prelude.{ℕ, ℤ, pos, negsuc, List, [], ◌∷◌, codes, Option, Some, None, if◌then◌else◌}
 use Rattle.std.specs.Option.{unwrap_or}
 use Rattle.moo_value.specs.declared.error_code.ErrorCode.TheVariants.{Permission}
@@ -16,7 +16,7 @@ use Rattle.moo_hook.specs.Quota.{quota, with_quota}
 abbrev pub recycle_calls : Calling → World → ℤ → List ℕ → List Tree → Progress × World
 recycle_calls k w o name vs = (hook k w (codes "recycle") o name vs (Emptying o), w)
 
--- the object has to be the programmer's, and is told
+-- the object has to be the programmer's, and its `recycle` is called
 unfoldable pub recycling : Calling → World → ℤ → Progress × World
 recycling k w o = if may_own w k.programmer o then recycle_calls k w o (codes "recycle") [] else (refuses Permission, w)
 
@@ -27,14 +27,14 @@ owner_of w o = (unwrap_or (object_numbered w o) nothing).owner
 abbrev pub uncounted : World → ℤ → World
 uncounted w owner = with_quota w owner (quota w owner) (pos 1)
 
--- The object is taken away, where no verb has done so, and no longer counts for its owner: the quota is the one that is
--- found once the object is gone.
+-- The object is removed, unless a verb has done so, and no longer counts in its owner's quota: the quota is the one
+-- that is found once the object is gone.
 unfoldable pub taken_away : World → ℤ → Progress × World
 taken_away w o =
     let x = number_of w.objects o in
     after_raise w (recycle_raises x) (stage_next (Recycled o), uncounted (world_recycle w x) (owner_of w o))
 
--- what is in it is moved out, and the object is told
+-- one of the contents is moved out, and the object's `exitfunc` is called
 unfoldable pub moved_out : Calling → World → ℤ → ℤ → Progress × World
 moved_out k w o inside =
     let y = number_of w.objects inside in

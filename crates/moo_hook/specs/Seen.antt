@@ -1,4 +1,4 @@
--- What the program's steps stand for.
+-- The meaning of the program's steps.
 use Rattle.std.specs.Prelude.{ℤ, List, [], ◌∷◌, Option, None, Some, Result, Ok, Err}
 use Rattle.moo_value.specs.Tree.{Tree, object}
 use Rattle.moo_value.specs.View.{tree}
@@ -25,12 +25,12 @@ abbrev pub seen_progress : Result code_progress.Progress code_failure.Failure �
 seen_progress (Ok step) = progress_of step
 seen_progress (Err failure) = done (Err (failure_of failure))
 
--- For private clauses: the arguments of a verb that is told of an object, or of nothing.
+-- For private clauses: the arguments of a verb: an object, or nothing.
 abbrev pub arguments_of : Option ℤ → List Tree
 arguments_of None = []
 arguments_of (Some o) = object o ∷ []
 
--- For private clauses: an answer of the world, as the outcome of a function.
+-- For private clauses: a result of the world, as the outcome of a function.
 abbrev pub as_outcome : {T : Type 0} → Result T WorldFault → Result T code_failure.Failure
 as_outcome (Ok v) = Ok v
 as_outcome (Err fault) = Err (failed fault)

@@ -27,7 +27,7 @@ next_progress k w (stage.Emptying o) v = emptied k w o (first_inside w o)
 next_progress k w (stage.Recycled o) v = (gives (integer (pos 0)), w)
 next_progress k w stage.Evaluated v = (done (answers (has_given v)), w)
 
--- that an object was taken away is told once its verbs have run
+-- the notice of a removed object is left once its verbs have run
 abbrev pub noticed : Stage → List Notice → List Notice
 noticed (stage.Recycled o) notices = notices ++ Recycle o ∷ []
 noticed _ notices = notices

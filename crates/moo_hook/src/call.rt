@@ -1,4 +1,4 @@
-//! The begin of a call.
+//! Begins calls of functions that call verbs.
 ghost use Rattle.std.specs.Prelude.{◌≡◌, ℕ, List, Err, IfOk, IfErr};
 ghost use Rattle.moo_operation.specs.Places.{made_list};
 ghost use Rattle.moo_outcome.specs.Outcome.{answers};
@@ -25,7 +25,8 @@ use moo_world::World;
 use moo_world_function::refusal;
 use std::alloc::Global;
 
-/// The function, where it is one that calls verbs or runs a program: `pass`, `move`, `create`, `recycle` or `eval`.
+/// Returns the function, if it is one that calls verbs or runs a program: `pass`, `move`, `create`, `recycle` or
+/// `eval`.
 pub fn verb_caller(function: Option<Function>) -> Option<Function>
     ensures { result ≡ verb_caller function }
 {
@@ -44,11 +45,11 @@ fn calls_verbs(function: Function) -> bool
     )
 }
 
-/// Begins a call of a function that calls verbs, and tells what comes first: its answer, a verb, or a stage. A wrong
-/// number of arguments raises E_ARGS, then one of a wrong type E_TYPE, then an object that isn't valid E_INVARG; then
-/// comes what the function itself looks at. Another function, with which no call comes here, raises E_TYPE. The lists
-/// that were spliced in are not copied where there are more arguments than the function takes, and for `pass` where they
-/// are too heavy together for a list.
+/// Begins a call of a function that calls verbs, and returns what comes first: its value, a verb, or a stage. A wrong
+/// number of arguments raises E_ARGS, then one of a wrong type E_TYPE, then an object that isn't valid E_INVARG; the
+/// function's own tests follow. Any other function raises E_TYPE; no call has one. Lists that were spliced in are not
+/// copied if there are more arguments than the function takes, and for `pass` if they are too heavy together for a
+/// list.
 #[inline(never)]
 pub fn start_call<'a>(
     alloc: Global,
@@ -70,7 +71,7 @@ pub fn start_call<'a>(
     }
 }
 
-// The values of the arguments. Those of `pass` have to make a list.
+// Returns the values of the arguments. Those of `pass` have to make a list.
 fn arguments(alloc: Global, function: Function, values: Gathered) -> Result<Vec<Value>, Failure>
     ensures ok { IfOk result (λ args. trees args.items ≡ values) }
     ensures err { IfErr result (λ failure. HadMemoryIn failure → (function ≡ Pass) × (answers (made_list values) ≡ Err (failure_of failure))) }

@@ -13,9 +13,9 @@ use moo_value::ErrorCode;
 use moo_world::{Rights, World};
 use std::alloc::Global;
 
-/// Makes an object: E_PERM where the parent isn't fertile, then E_QUOTA where the owner may not own more or there is no
-/// number left, then E_PERM where the owner isn't the programmer. It counts for its owner, and its `initialize` is
-/// called: E_MAXREC where no frame is left for it, and the object stays.
+/// Makes an object: E_PERM if the parent isn't fertile, then E_QUOTA if the owner may not own more or there is no
+/// number left, then E_PERM if the owner isn't the programmer. It counts in its owner's quota, and its `initialize`
+/// is called: E_MAXREC if no frame is left for it, and the object stays.
 pub(crate) fn create<'a>(
     alloc: Global,
     world: &mut World,
@@ -53,21 +53,21 @@ pub(crate) fn create<'a>(
     )
 }
 
-// Whether the programmer may make an object inherit from another, or from none.
+// Returns whether the programmer may make an object inherit from another, or from none.
 fn may_be_parent(world: &World, programmer: i32, to: i32) -> bool
     ensures { result ≡ may_be_parent world.now programmer to }
 {
     to == -1 || Rights::may_inherit_from(world, programmer, to)
 }
 
-// #-1 as the owner stands for the new object itself.
+// Returns the owner of a new object; #-1 means the new object itself.
 fn owner_of_new(world: &World, owner: i32) -> i32
     ensures { result ≡ owner_of_new world.now owner }
 {
     if owner != -1 {
         return owner;
     }
-    // For the proof alone: the length fits 32 bits.
+    // For the proof alone: the length fits in 32 bits.
     world.is_well_formed();
     world.objects().len() as i32
 }

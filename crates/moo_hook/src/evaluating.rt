@@ -24,8 +24,8 @@ use moo_value::{ErrorCode, MooList, MooStr, Value};
 use moo_world::World;
 use std::alloc::{AllocError, Global};
 
-/// Runs a text as a program: E_PERM where the programmer hasn't the flag of programmers, then for a text that is no
-/// program the answer that tells a fault of it, then E_MAXREC where no frame is left.
+/// Runs a text as a program: E_PERM if the programmer doesn't have the programmer flag. For a text that is no program
+/// it returns the value that describes a fault of it. Then E_MAXREC if no frame is left.
 pub(crate) fn begin_evaluating<'a>(
     alloc: Global,
     world: &World,
@@ -60,7 +60,7 @@ fn evaluate_text<'a>(
     }
 }
 
-// The answer that tells a fault, where it is one of the text.
+// Returns the value that describes a fault of the text; any other fault is Err.
 fn no_program(alloc: Global, fault: &SyntaxFault) -> Result<Value, Failure>
     ensures text { IsKnownFailure result → answers (no_program fault.now) ≡ seen_answer result }
     ensures kind { IsKnownFailure result → is_of_text fault.now.kind ≡ true }
@@ -69,14 +69,15 @@ fn no_program(alloc: Global, fault: &SyntaxFault) -> Result<Value, Failure>
     flagged(alloc, 0, lines)
 }
 
-/// The answer of a program that has come to its end with this value, `{1, value}`: E_QUOTA past the limits of a list.
+/// Returns the value of `eval` for a program that has ended with this value, `{1, value}`: E_QUOTA past the limits of
+/// a list.
 pub(crate) fn has_given(alloc: Global, value: Value) -> Result<Value, Failure>
     ensures { IsKnownFailure result → answers (has_given (tree value)) ≡ seen_answer result }
 {
     flagged(alloc, 1, value)
 }
 
-// A list of two, where it is within the limits.
+// Returns a list of a flag and a value; E_QUOTA past the limits.
 fn flagged(alloc: Global, flag: i32, value: Value) -> Result<Value, Failure>
     ensures { IsKnownFailure result → answers (made_list (integer flag ∷ tree value ∷ [])) ≡ seen_answer result }
 {
@@ -128,7 +129,7 @@ fn typed_below<'a>(
     through(alloc, "eval", called)
 }
 
-// A frame that the running one calls.
+// Begins a frame that the running one calls.
 fn begun_below<'a>(
     alloc: Global,
     stack: &CallStack<'a>,
@@ -153,8 +154,8 @@ fn begun_below<'a>(
     })
 }
 
-/// The frame of a program that is typed in, with the d bit: `this`, the definer, `dobj` and `iobj` are #-1, the strings
-/// empty, but for the names `Input to EVAL`, and there are no arguments.
+/// Returns the frame of a program that is typed in, with the d bit. `this`, the definer, `dobj` and `iobj` are #-1.
+/// The strings are empty, except the names, which are `Input to EVAL`, and there are no arguments.
 pub fn typed_frame(
     alloc: Global,
     program: Program,

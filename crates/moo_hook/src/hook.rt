@@ -15,8 +15,8 @@ use moo_value::{ErrorCode, MooStr, Value};
 use moo_world::World;
 use std::alloc::{AllocError, Global};
 
-/// Calls a verb of an object for a function, and tells it of an object, or of nothing: E_MAXREC where no frame is left.
-/// Where there is no such verb that can be executed, the stage comes at once, and nothing is made for the call.
+/// Calls a verb of an object for a function, with an object as its argument, or without arguments: E_MAXREC if no
+/// frame is left. If there is no such executable verb, the stage comes at once, and nothing is made for the call.
 pub(crate) fn hook<'a>(
     alloc: Global,
     world: &World,
@@ -86,7 +86,7 @@ fn is_missing(code: ErrorCode) -> bool
     )
 }
 
-/// The verb is entered by a function, which stands between it and its caller.
+/// Enters a verb for a function, whose entry comes between the verb and its caller.
 pub(crate) fn through<'a>(
     alloc: Global,
     function: &str,
@@ -107,14 +107,14 @@ pub(crate) fn through<'a>(
     })
 }
 
-/// A string of these bytes.
+/// Returns a string of these bytes.
 pub(crate) fn text(alloc: Global, bytes: &str) -> Result<MooStr, AllocError>
     ensures { IfOk result (λ s. s ≡ bytes.now) }
 {
     MooStr::try_from_bytes(alloc, bytes.as_bytes()).map_err(|_| AllocError)
 }
 
-// The arguments of a verb that is told of an object, or of nothing.
+// Returns the arguments of a verb: an object, or nothing.
 fn arguments(alloc: Global, what: Option<i32>) -> Result<Vec<Value>, AllocError>
     ensures { IfOk result (λ args. trees args.items ≡ arguments_of what) }
 {

@@ -1,6 +1,5 @@
-//! The built-in functions that call verbs, and `eval`, which runs a program, stage by stage: what each does between two
-//! verbs, and which verb comes next.
-//! A room behind `moo_eval`.
+//! The built-in functions that call verbs, and `eval`, which runs a program. Each runs in stages: the work between
+//! two verbs, and the verb that comes next. An internal crate of `moo_eval`.
 #![tactic(auto)]
 
 mod call;

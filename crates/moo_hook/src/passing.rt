@@ -14,9 +14,9 @@ use moo_value::Value;
 use moo_world::World;
 use std::alloc::Global;
 
-/// Calls the verb of the running one's name that is found from the parent of its object on: E_QUOTA for a list of
-/// arguments past the limits, E_INVIND where there is no parent, E_VERBNF where it has no such verb that can be
-/// executed, E_MAXREC where no frame is left.
+/// Calls the verb of the running one's name that is found from the parent of its object on. E_QUOTA for a list of
+/// arguments past the limits, E_INVIND if there is no parent, E_VERBNF if it has no such executable verb, E_MAXREC if
+/// no frame is left.
 pub(crate) fn pass<'a>(
     alloc: Global,
     world: &World,

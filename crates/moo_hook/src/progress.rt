@@ -1,4 +1,4 @@
-//! Steps and stages of a function.
+//! Steps and stages of a function that calls verbs.
 ghost use Rattle.std.specs.Prelude.{◌≡◌, IfOk};
 ghost use Rattle.moo_access.specs.SeenCalled.{entered_of};
 ghost use Rattle.moo_hook.specs.Progressing.{verb_next};
@@ -10,10 +10,10 @@ use moo_value::Value;
 use moo_world::WorldFault;
 use std::alloc::{AllocError, Global};
 
-/// What comes once a verb that a function called has answered.
+/// What a function continues with once a verb that it called has returned.
 #[derive(Clone, Copy)]
 pub enum Stage {
-    /// The verb that `pass` called: its answer is that of the function.
+    /// The verb that `pass` called: its value is that of the function.
     Passed,
     /// `initialize` of this object, which was made.
     Created(i32),
@@ -23,27 +23,28 @@ pub enum Stage {
     Leaving(i32, i32),
     /// `enterfunc` of the place that the object came to.
     Entering,
-    /// A verb of this object, which is to be recycled once nothing is in it.
+    /// A verb of this object, which is to be recycled once it has no contents.
     Emptying(i32),
-    /// Nothing: this object was taken away.
+    /// Nothing: this object was recycled.
     Recycled(i32),
-    /// The program that `eval` runs: its answer stands behind a 1.
+    /// The program that `eval` runs: its value comes after a 1.
     Evaluated,
 }
 
 /// What a function does next.
 #[derive(Drop)]
 pub enum Progress<'a> {
-    /// It answers.
+    /// It returns this value.
     Done(Value),
-    /// A verb runs, and what it answers goes to the stage.
+    /// A verb runs, and its value goes to the stage.
     VerbNext(Box<Called<'a>>, Stage),
-    /// The stage comes at once, as after a verb that answers 0.
+    /// The stage comes at once, as after a verb that returns 0.
     StageNext(Stage),
 }
 
 impl<'a> Progress<'a> {
-    /// A verb runs next, and what it answers goes to the stage. It stands in a block of its own, since most steps have none.
+    /// Returns the step in which a verb runs, and its value goes to the stage. The verb is boxed, since most steps
+    /// have none.
     pub(crate) fn verb_next(
         alloc: Global,
         called: Called<'a>,
@@ -56,7 +57,7 @@ impl<'a> Progress<'a> {
     }
 }
 
-/// An answer of the world, as the outcome of a function.
+/// Converts a result of the world to the outcome of a function.
 pub(crate) fn as_outcome<T: Drop>(answer: Result<T, WorldFault>) -> Result<T, Failure>
     ensures { result ≡ as_outcome answer }
 {

@@ -11,7 +11,7 @@ use std::alloc::{AllocError, Global};
 /// The property that holds a quota.
 const QUOTA: &[u8] = b"ownership_quota";
 
-/// The quota of an owner: an integer in its property, looked up.
+/// Returns the quota of an owner: the integer in its property, if it has one.
 pub(crate) fn quota(alloc: Global, world: &World, owner: i32) -> Result<Option<i32>, AllocError>
     ensures { IfOk result (λ left. left ≡ quota world.now owner) }
 {
@@ -31,7 +31,7 @@ fn integer_in(value: &Value) -> Option<i32>
     }
 }
 
-/// Whether a quota allows no object more.
+/// Returns whether a quota allows no further object.
 pub(crate) fn is_used_up(quota: Option<i32>) -> bool
     ensures { result ≡ is_used_up quota }
 {
@@ -41,7 +41,7 @@ pub(crate) fn is_used_up(quota: Option<i32>) -> bool
     }
 }
 
-/// Sets a quota that was so high, and becomes greater by so much. Who has none isn't counted.
+/// Sets an owner's quota to `quota` plus `change`. An owner without a quota isn't counted.
 pub(crate) fn change_quota(world: &mut World, owner: i32, quota: Option<i32>, change: i32)
     ensures { world.new ≡ with_quota world.old owner quota change }
 {
@@ -49,7 +49,7 @@ pub(crate) fn change_quota(world: &mut World, owner: i32, quota: Option<i32>, ch
         return;
     };
     let value = Value::Int(sum(left, change));
-    // Where the owner no longer has the property, nothing is set.
+    // If the owner no longer has the property, nothing is set.
     let _set = world.set(owner, QUOTA, value);
 }
 

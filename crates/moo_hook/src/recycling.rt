@@ -1,6 +1,6 @@
 //! `recycle`: 'Fundamental Operations on Objects' of the LambdaMOO Programmer's Manual, 'Functions over the running
-//! task' of docs/LANGUAGE.md. Where no frame is left for a verb that is to be called, E_MAXREC is raised; what was done
-//! stays.
+//! task' of docs/LANGUAGE.md. If no frame is left for a verb that is to be called, E_MAXREC is raised; earlier
+//! changes stay.
 ghost use Rattle.std.specs.Prelude.{◌≡◌};
 ghost use Rattle.moo_outcome.specs.Seen.{IsKnownFailure};
 ghost use Rattle.moo_hook.specs.Objects.{first_inside};
@@ -16,7 +16,7 @@ use moo_value::ErrorCode;
 use moo_world::{Rights, World};
 use std::alloc::Global;
 
-/// Begins to take an object away: E_PERM where it isn't the programmer's. Its `recycle` is called.
+/// Begins to recycle an object: E_PERM if the programmer doesn't control it. Its `recycle` is called.
 pub(crate) fn begin_recycling<'a>(
     alloc: Global,
     world: &World,
@@ -32,8 +32,8 @@ pub(crate) fn begin_recycling<'a>(
     call_verb(alloc, world, stack, active, o, "recycle", None)
 }
 
-/// Moves the first of what is in the object out, and calls the object's `exitfunc`. Where nothing is in it the object
-/// is taken away, and no longer counts for its owner: E_INVARG where a verb has taken it away before.
+/// Moves the first of the object's contents out, and calls the object's `exitfunc`. If it has no contents the object
+/// is removed, and no longer counts in its owner's quota: E_INVARG if a verb has recycled it before.
 pub(crate) fn empty<'a>(
     alloc: Global,
     world: &mut World,
@@ -63,7 +63,7 @@ fn move_out<'a>(
     call_verb(alloc, world, stack, active, o, "exitfunc", Some(inside))
 }
 
-// The object no longer counts for its owner, whose quota is the one that is found once the object is gone.
+// Removes the object. It no longer counts in its owner's quota, which is read once the object is gone.
 fn take_away<'a>(alloc: Global, world: &mut World, o: i32) -> Result<Progress<'a>, Failure>
     ensures { IsKnownFailure result → taken_away world.old o ≡ (seen_progress result, world.new) }
 {
@@ -83,7 +83,7 @@ fn owner_of(world: &World, o: i32) -> i32
     }
 }
 
-// A verb of the object is called, after which its contents come.
+// Calls a verb of the object, after which its contents are moved out.
 fn call_verb<'a>(
     alloc: Global,
     world: &World,

@@ -1,4 +1,4 @@
-//! What comes once a verb has answered.
+//! The stages that follow once a verb has returned.
 ghost use Rattle.std.specs.Prelude.{◌≡◌, ◌≤◌, ℕ, None, IfOk, OnOk};
 ghost use Rattle.moo_value.specs.View.{tree};
 ghost use Rattle.moo_outcome.specs.Seen.{context_of, IsKnownFailure};
@@ -17,9 +17,9 @@ use moo_value::Value;
 use moo_world::World;
 use std::alloc::{AllocError, Global};
 
-/// Goes on with a function at a stage, with what the verb before it answered, and tells what comes next. Raises what
-/// the stage raises (`accept`, `leave`, `empty`); what was done before stays. That an object was taken away is left as
-/// a notice. As long as no verb changes the world, fewer stages are left after it.
+/// Continues a function at a stage, with the value of the verb before it, and returns what comes next. Raises the
+/// errors of the stage (`accept`, `leave`, `empty`); earlier changes stay. A recycled object leaves a notice. As long
+/// as no verb changes the world, fewer stages are left after it.
 pub fn resume_call<'a>(
     alloc: Global,
     world: &mut World,
@@ -38,7 +38,7 @@ pub fn resume_call<'a>(
     next_progress(alloc, world, stack, active, stage, answer)
 }
 
-// That an object was taken away is told once its verbs have run.
+// Leaves the notice of a recycled object, once its verbs have run.
 fn notice(notices: &mut Vec<Notice>, stage: Stage) -> Result<(), AllocError>
     ensures { OnOk result (notices.new.items ≡ noticed stage notices.old.items) }
 {

@@ -1,4 +1,4 @@
--- A verb that a function calls, and what comes behind it.
+-- A verb that a function calls, and what comes after it.
 use Rattle.std.proofs.Common.{◌≡◌, ℕ, ℤ, pos, List, Bool, true, false, not, ◌&&◌, Option, None, Some, Result, Ok, Err, if◌then◌else◌, refl, sym, subst}
 use Rattle.moo_value.specs.declared.error_code.ErrorCode.{ErrorCode}
 use Rattle.moo_value.specs.declared.error_code.ErrorCode.TheVariants.{InvalidArgument}
@@ -56,12 +56,12 @@ pub unless_raised : {T : Telling} {c : Context} {s s' : State} {r : Result Tree 
 unless_raised P None next raised goes d = goes refl d
 unless_raised P (Some code) next raised goes is_done = raised code refl refl refl
 
--- the first step of a function, and what comes behind it
+-- the first step of a function, and what comes after it
 pub begun : {T : Telling} {c : Context} (s : State) {s' s'' : State} {first : Progress × World} {p : Progress} {w : World} {r : Result Tree Failure} → first ≡ (p, w) → record s { world = w } ≡ s' → Proceeds T c p s' r s'' → GoesOn T c s first r s''
 begun {T = T} {c = c} s {s'' = s''} {p = p} {r = r} e u d =
     subst (λ (x : Progress × World). GoesOn T c s x r s'') (sym e) (subst (λ (t : State). Proceeds T c p t r s'') (sym u) d)
 
--- A call with an object that has to be valid is refused where it isn't.
+-- A call with an object that has to be valid is refused if it isn't.
 pub refused_object : {code : ErrorCode} (P : ErrorCode → Type 0) (here : Bool) → (here ≡ false → P InvalidArgument) → (if not (here && true) then Some InvalidArgument else None) ≡ Some code → P code
 refused_object P true gone q = absurd cc
 refused_object {code = code} P false gone q = let e : InvalidArgument ≡ code = cc in subst P e (gone refl)

@@ -42,7 +42,7 @@ data After (T : Telling) (c : Context) (o : ℤ) (e : Entered) : State → Resul
   stopped : {s s' : State} {failure : Failure} → HasRun T e s (Err failure) s' → After T c o e s (Err failure) s'
   went_on : {s s' s'' : State} {v : Tree} {r : Result Tree Failure} → HasRun T e s (Ok v) s' → Empties T c o s' r s'' → After T c o e s r s''
 
--- a verb of the object is called, and then it is emptied, where that has not failed
+-- a verb of the object is called, and then it is emptied, if that has not failed
 data Told (T : Telling) (c : Context) (o : ℤ) (s : State) (name : List ℕ) (vs : List Tree) : Result Tree Failure → State → Type 0 where
   fails_there : {s' : State} {failure : Failure} → CallsVerb T c (codes "recycle") o name vs s (Err failure) s' → Told T c o s name vs (Err failure) s'
   then_empties : {s' s'' : State} {v : Tree} {r : Result Tree Failure} → CallsVerb T c (codes "recycle") o name vs s (Ok v) s' → Empties T c o s' r s'' → Told T c o s name vs r s''

@@ -18,7 +18,7 @@ abbrev pub WhatMoveDoes : Type 0
 WhatMoveDoes = (c : Context) (what to : ℤ) (p : Progress) (s s' s'' : State) (r : Result Tree Failure) →
     Starts Faults c function.Move (object what ∷ object to ∷ []) s p s' → Proceeds Faults c p s' r s'' → Moves Faults c what to s r s''
 
--- A call of `create`: the owner is the programmer, where no other is given.
+-- A call of `create`: the owner is the programmer, if no other is given.
 abbrev pub WhatCreateDoes : Type 0
 WhatCreateDoes = (c : Context) (up : ℤ) (p : Progress) (s s' s'' : State) (r : Result Tree Failure) →
     Starts Faults c function.Create (object up ∷ []) s p s' → Proceeds Faults c p s' r s'' → Creates Faults c up s.programmer s r s''

@@ -20,11 +20,11 @@ use Rattle.moo_hook_law.specs.Verbs.{CallsVerb}
 abbrev pub move_error : State → ℤ → ℤ → Option ErrorCode
 move_error s what to = move_raises s.world (number_of s.world.objects what) (place_of s.world.objects to)
 
--- the object stands at its new place, and nothing else has changed
+-- the object is at its new place, and nothing else has changed
 abbrev pub with_move : State → ℤ → ℤ → State
 with_move s what to = record s { world = world_move s.world (number_of s.world.objects what) (place_of s.world.objects to) }
 
--- The new place is told by `enterfunc`, where the object is still there.
+-- The `enterfunc` of the new place is called, if the object is still there.
 pub data Arrives (T : Telling) (c : Context) (what to : ℤ) : State → Result Tree Failure → State → Type 0 where
   gone_on : {s : State} →
       has_come s.world what to ≡ false →
@@ -36,8 +36,8 @@ pub data Arrives (T : Telling) (c : Context) (what to : ℤ) : State → Result 
       has_come s.world what to ≡ true → CallsVerb T c (codes "move") to (codes "enterfunc") (object what ∷ []) s (Err failure) s' →
       Arrives T c what to s (Err failure) s'
 
--- The object moves, where both are still there and it stands elsewhere; then the place that it has left is told by
--- `exitfunc`.
+-- The object moves, if both are still valid and it is elsewhere; then the `exitfunc` of the place that it has left is
+-- called.
 pub data Goes (T : Telling) (c : Context) (what to : ℤ) : State → Result Tree Failure → State → Type 0 where
   stays : {s : State} →
       is_to_move s.world what to ≡ false →
@@ -54,12 +54,12 @@ pub data Goes (T : Telling) (c : Context) (what to : ℤ) : State → Result Tre
       CallsVerb T c (codes "move") (location s.world what) (codes "exitfunc") (object what ∷ []) (with_move s what to) (Err failure) s' →
       Goes T c what to s (Err failure) s'
 
--- the place is asked, and answers
+-- the place's `accept` is called, and returns
 abbrev pub CallsAccept : Telling → Context → ℤ → ℤ → State → Tree → State → Type 0
 CallsAccept T c what to s v s' = CallsVerb T c (codes "move") to (codes "accept") (object what ∷ []) s (Ok v) s'
 
--- `move(what, to)`: the object has to be there and the programmer's, and the place one. It is asked by `accept`, but for
--- #-1; wizards move what it doesn't accept. What verbs have done before a failure stays.
+-- `move(what, to)`: the object has to be there and the programmer's, and the place one. Its `accept` is called,
+-- except for #-1; wizards move what it doesn't accept. What verbs have done before a failure stays.
 pub data Moves (T : Telling) (c : Context) (what to : ℤ) : State → Result Tree Failure → State → Type 0 where
   no_object : {s : State} →
       is_valid s.world what ≡ false →

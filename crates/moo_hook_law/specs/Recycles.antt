@@ -23,12 +23,12 @@ out_error s inside = move_raises s.world (number_of s.world.objects inside) (pla
 abbrev pub with_out : State → ℤ → State
 with_out s inside = record s { world = world_move s.world (number_of s.world.objects inside) (place_of s.world.objects (negsuc 0)) }
 
--- the object is gone, counts no more for its owner, and that is told
+-- the object is gone, no longer counts in its owner's quota, and a notice is left of it
 abbrev pub without : State → ℤ → State
 without s o = record s { world = uncounted (world_recycle s.world (number_of s.world.objects o)) (owner_of s.world o); notices = s.notices ++ Recycle o ∷ [] }
 
--- What is in an object is moved out, the first one first, and `exitfunc` told of each, until nothing is in it. Then it is
--- taken away, if no verb has done so before.
+-- The contents of an object are moved out, the first one first, and its `exitfunc` is called for each, until it has
+-- none. Then it is removed, unless a verb has done so before.
 pub data Empties (T : Telling) (c : Context) (o : ℤ) : State → Result Tree Failure → State → Type 0 where
   gone_before : {s : State} {code : ErrorCode} →
       first_inside s.world o ≡ None → recycle_raises (number_of s.world.objects o) ≡ Some code →
@@ -48,7 +48,7 @@ pub data Empties (T : Telling) (c : Context) (o : ℤ) : State → Result Tree F
       CallsVerb T c (codes "recycle") o (codes "exitfunc") (object inside ∷ []) (with_out s inside) (Err failure) s' →
       Empties T c o s (Err failure) s'
 
--- `recycle(o)`: the object has to be there and the programmer's. It is told by `recycle`.
+-- `recycle(o)`: the object has to be valid and the programmer's. Its `recycle` is called.
 pub data Recycles (T : Telling) (c : Context) (o : ℤ) : State → Result Tree Failure → State → Type 0 where
   no_object : {s : State} →
       is_valid s.world o ≡ false →

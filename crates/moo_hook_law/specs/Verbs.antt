@@ -1,4 +1,4 @@
--- Verbs that a function calls where they can be called.
+-- Verbs that a function calls if they can be called.
 use Rattle.std.specs.Prelude.{◌≡◌, ℕ, ℤ, pos, List, Bool, true, false, Result, Ok, Err}
 use Rattle.moo_value.specs.Tree.{Tree, integer, object, string}
 use Rattle.moo_outcome.specs.Outcome.{Stop, Failure, fails, stops, Flow, answers}
@@ -19,8 +19,8 @@ abbrev pub says_none : Failure → Bool
 says_none (fails code) = is_missing code
 says_none (stops stop) = false
 
--- A function calls a verb of an object, and goes on in the state that it leaves. A verb that can't be called is passed
--- over, as if it had answered 0; where it stops, or no frame is left for it, the function ends with its failure.
+-- A function calls a verb of an object, and goes on in the state that it leaves. A verb that can't be called is
+-- skipped, as if it had returned 0. If it stops, or no frame is left for it, the function ends with its failure.
 pub data CallsVerb (T : Telling) (c : Context) (function : List ℕ) (o : ℤ) (name : List ℕ) (vs : List Tree) : State → Result Tree Failure → State → Type 0 where
   passed_over : {s : State} {failure : Failure} →
       entering c o name vs s ≡ Err failure → says_none failure ≡ true →

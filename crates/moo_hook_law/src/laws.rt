@@ -2,21 +2,22 @@
 //! 'Functions over the running task' of docs/LANGUAGE.md.
 ghost use Rattle.moo_hook_law.specs.Laws.{WhatMoveDoes, WhatCreateDoes, WhatCreateForDoes, WhatRecycleDoes};
 
-/// `move` asks the new place by `accept`, moves the object, tells the old place by `exitfunc`, and then the new one by
-/// `enterfunc`.
+/// `move` calls the new place's `accept`, moves the object, and calls the old place's `exitfunc` and then the new
+/// one's `enterfunc`.
 #[tactic(none)]
 pub fn what_move_does()
     ensures { WhatMoveDoes }
 {}
 
-/// `create` makes an object that counts for its owner, and tells it by `initialize`.
+/// `create` makes an object that counts in its owner's quota, and calls its `initialize`.
 #[tactic(none)]
 pub fn what_create_does()
     ensures own { WhatCreateDoes }
     ensures another { WhatCreateForDoes }
 {}
 
-/// `recycle` tells the object by `recycle`, moves out what is in it, tells of each by `exitfunc`, and takes the object away.
+/// `recycle` calls the object's `recycle`, moves its contents out, calls its `exitfunc` for each, and removes the
+/// object.
 #[tactic(none)]
 pub fn what_recycle_does()
     ensures { WhatRecycleDoes }

@@ -1,5 +1,5 @@
-//! What `move`, `create` and `recycle` do, said as those who call them see it: laws over whole calls.
-//! A room behind `moo_eval`.
+//! Laws over whole calls of `move`, `create` and `recycle`, as their callers see them. An internal crate of
+//! `moo_eval`.
 #![tactic(auto)]
 
 pub mod laws;

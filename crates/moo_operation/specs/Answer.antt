@@ -1,4 +1,4 @@
--- How an answer of the program stands to the value or the error that an operation gives.
+-- How a result of the program relates to the value or the error that an operation gives.
 use Rattle.std.specs.Prelude.{◌≡◌, Result, Ok, Err, IsOkAnd, nat_le, ◌&&◌, if◌then◌else◌}
 use Rattle.moo_value.specs.declared.value.Value.{Value}
 use Rattle.moo_value.specs.declared.error_code.ErrorCode.{ErrorCode}
@@ -10,16 +10,16 @@ use Rattle.moo_value.specs.Faults.{TakesMemory}
 use Rattle.moo_operation.specs.declared.fault.OperationFault.{OperationFault}
 use Rattle.moo_operation.specs.declared.fault.OperationFault.TheVariants.{Raise, Memory}
 
--- the value, or E_QUOTA where it is too heavy or too deep
+-- the value, or E_QUOTA if it is too heavy or too deep
 abbrev pub limited : Tree → Result Tree ErrorCode
 limited t = if nat_le (weight t) weight_limit && nat_le (depth t) depth_limit then Ok t else Err Quota
 
--- the operation gives this error, or a value for which memory was wanting
+-- the operation gives this error, or a value for which memory ran out
 abbrev pub IsRefused : OperationFault → Result Tree ErrorCode → Type 0
 IsRefused (Raise e) r = r ≡ Err e
 IsRefused Memory r = IsOkAnd r TakesMemory
 
--- the answer is what the operation gives
+-- the result is what the operation gives
 abbrev pub Gives : Result Value OperationFault → Result Tree ErrorCode → Type 0
 Gives (Ok v) r = r ≡ Ok (tree v)
 Gives (Err f) r = IsRefused f r

@@ -7,13 +7,13 @@ use Rattle.moo_value.specs.Splice.{spliced}
 use Rattle.moo_operation.specs.Answer.{limited}
 use Rattle.moo_operation.specs.Places.{or_range}
 
--- how many of n elements stand before the one at a place, if there is one
+-- how many of n elements come before the one at a place, if there is one
 abbrev pub before_place : ℤ → ℕ → Option ℕ
 before_place (pos zero) n = None
 before_place (pos (suc k)) n = if nat_lt k n then Some k else None
 before_place (negsuc m) n = None
 
--- a string of one byte in place of the byte behind the first k
+-- a string of one byte in place of the byte after the first k
 abbrev pub with_byte : List ℕ → ℕ → List ℕ → Result Tree ErrorCode
 with_byte s k t = if length t == 1 then Ok (string (spliced s k (k + 1) t)) else Err InvalidArgument
 
@@ -22,12 +22,12 @@ with_index_of (string s) (integer i) (string t) = or_range (before_place i (leng
 with_index_of (list es) (integer i) v = or_range (before_place i (length (trees_of es))) (λ k. limited (list_of (slice_set (trees_of es) k v)))
 with_index_of _ _ _ = Err TypeMismatch
 
--- an integer, or 0 where it is below
+-- an integer, or 0 if it is below
 abbrev pub at_least_zero : ℤ → ℕ
 at_least_zero (pos n) = n
 at_least_zero (negsuc n) = 0
 
--- How many of n elements stand before the place low, and how many up to the place high. A low below 1 counts as 1, a
+-- How many of n elements come before the place low, and how many up to the place high. A low below 1 counts as 1, a
 -- high above n as n.
 abbrev pub ends : ℤ → ℤ → ℕ → Option (ℕ × ℕ)
 ends low high n =

@@ -6,7 +6,7 @@ use Rattle.moo_value.specs.declared.error_code.ErrorCode.TheVariants.{TypeMismat
 use Rattle.moo_value.specs.Tree.{Tree, integer, list, trees_of}
 use Rattle.moo_operation.specs.Truth.{equal, truth_value}
 
--- a test of how two values are ordered, where they have an order
+-- a test of how two values are ordered, if they have an order
 abbrev pub compared : (Ordering → Bool) → Option Ordering → Result Tree ErrorCode
 compared test None = Err TypeMismatch
 compared test (Some o) = Ok (truth_value (test o))

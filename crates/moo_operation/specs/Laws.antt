@@ -1,4 +1,4 @@
--- What the operations keep to, beside their definitions.
+-- What the operations keep to, besides their definitions.
 use Rattle.std.specs.Prelude.{◌≡◌, ◌≢◌, ℕ, zero, suc, ℤ, pos, negsuc, ◌-◌, ◌^◌, ◌<◌, ◌≤◌, ◌+ℤ◌, ◌*ℤ◌, ◌≤ℤ◌, unsigned_abs, FitsSigned, List, length, Ok}
 use Rattle.std.specs.List.{All, AllWithin, HoldsAt}
 use Rattle.std.specs.Int.{w32}
@@ -34,7 +34,7 @@ DividesTowardsZero =
     (a b q r : ℤ) → FitsSigned w32 a → FitsSigned w32 b → (¬ IsLeastByMinusOne a b)
     → binary_of Divide (integer a) (integer b) ≡ Ok (integer q) → binary_of Remainder (integer a) (integer b) ≡ Ok (integer r) → IsDivision a b q r
 
--- what `in` answers of these elements: 0 where none is equal, else the place of the first one that is
+-- what `in` returns for these elements: 0 if none is equal, else the place of the first one that is
 abbrev pub IsFirstPlace : Tree → List Tree → ℕ → Type 0
 IsFirstPlace t ts zero = All (λ u. fold_letters t ≢ fold_letters u) ts
 IsFirstPlace t ts (suc k) = (k < length ts) × HoldsAt (λ u. fold_letters t ≡ fold_letters u) ts k × AllWithin (λ u. fold_letters t ≢ fold_letters u) ts 0 k

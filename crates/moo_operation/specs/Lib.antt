@@ -1,4 +1,4 @@
--- What the operations give, and how a call's answer stands to it.
+-- What the operations give, and how a call's result relates to it.
 pub mod Answer
 pub mod Truth
 pub mod Arithmetic
@@ -8,5 +8,5 @@ pub mod Places
 pub mod Assignment
 -- What they keep to.
 pub mod Laws
--- What private clauses want, and no public clause cites.
+-- Definitions that only private clauses use.
 pub mod Bounds

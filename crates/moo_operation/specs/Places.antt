@@ -5,7 +5,7 @@ use Rattle.moo_value.specs.declared.error_code.ErrorCode.TheVariants.{TypeMismat
 use Rattle.moo_value.specs.Tree.{Tree, integer, string, list, list_of, trees_of}
 use Rattle.moo_operation.specs.Answer.{limited}
 
--- what is made of what was found, or E_RANGE where nothing was
+-- what is made of what was found, or E_RANGE if nothing was
 abbrev pub or_range : {A : Type 0} → Option A → (A → Result Tree ErrorCode) → Result Tree ErrorCode
 or_range None f = Err Range
 or_range (Some x) f = f x
@@ -21,7 +21,7 @@ index_of (string s) (integer i) = or_range (at_place s i) (λ b. Ok (string (b �
 index_of (list es) (integer i) = or_range (at_place (trees_of es) i) (λ t. Ok t)
 index_of _ _ = Err TypeMismatch
 
--- the elements from one place to another: none where the first place is above the last, else both have to be inside
+-- the elements from one place to another: none if the first place is above the last, else both have to be inside
 abbrev pub part : {X : Type 0} → List X → ℤ → ℤ → Option (List X)
 part xs low high =
     if int_lt high low then Some []
@@ -38,7 +38,7 @@ length_of (string s) = Ok (integer (pos (length s)))
 length_of (list es) = Ok (integer (pos (length (trees_of es))))
 length_of _ = Err TypeMismatch
 
--- the values that a list puts in where it is spliced
+-- the values that a list contributes when it is spliced
 abbrev pub spliced_of : Tree → Result (List Tree) ErrorCode
 spliced_of (list es) = Ok (trees_of es)
 spliced_of _ = Err TypeMismatch

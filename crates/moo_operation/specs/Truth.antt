@@ -42,7 +42,7 @@ abbrev mutual
 abbrev pub equal : Tree → Tree → Bool
 equal a b = same_tree (fold_letters a) (fold_letters b)
 
--- the answer of a test, as a value
+-- the result of a test, as a value
 abbrev pub truth_value : Bool → Tree
 truth_value true = integer (pos 1)
 truth_value false = integer (pos 0)

@@ -7,35 +7,35 @@ ghost use Rattle.moo_operation.specs.Arithmetic.{quotient, remainder, power, inv
 use crate::fault::{DIVISION, OperationFault};
 use moo_value::Value;
 
-/// `-a`.
+/// Returns `-a`, modulo 2^32.
 pub fn negated(a: i32) -> i32
     ensures { result ≡ int_wrap w32 (neg_ℤ a) }
 {
     a.wrapping_neg()
 }
 
-/// `a + b`.
+/// Returns `a + b`, modulo 2^32.
 pub fn sum(a: i32, b: i32) -> i32
     ensures { result ≡ int_wrap w32 (a +ℤ b) }
 {
     a.wrapping_add(b)
 }
 
-/// `a - b`.
+/// Returns `a - b`, modulo 2^32.
 pub fn difference(a: i32, b: i32) -> i32
     ensures { result ≡ int_wrap w32 (a -ℤ b) }
 {
     a.wrapping_sub(b)
 }
 
-/// `a * b`.
+/// Returns `a * b`, modulo 2^32.
 pub fn product(a: i32, b: i32) -> i32
     ensures { result ≡ int_wrap w32 (a *ℤ b) }
 {
     a.wrapping_mul(b)
 }
 
-/// `a / b`, truncated towards zero. The least integer by -1 gives itself.
+/// Returns `a / b`, truncated towards zero; E_DIV if `b` is 0. The least integer divided by -1 gives itself.
 pub fn quotient(a: i32, b: i32) -> Result<Value, OperationFault>
     ensures { Gives result (quotient a b) }
 {
@@ -45,7 +45,7 @@ pub fn quotient(a: i32, b: i32) -> Result<Value, OperationFault>
     Ok(Value::Int(wrapped_quotient(a, b)))
 }
 
-/// `a % b`, which has the sign of `a`.
+/// Returns `a % b`, which has the sign of `a`; E_DIV if `b` is 0.
 pub fn remainder(a: i32, b: i32) -> Result<Value, OperationFault>
     ensures { Gives result (remainder a b) }
 {
@@ -55,7 +55,7 @@ pub fn remainder(a: i32, b: i32) -> Result<Value, OperationFault>
     Ok(Value::Int(a.wrapping_rem(b)))
 }
 
-/// `a ^ b`.
+/// Returns `a ^ b`, modulo 2^32. A negative `b` gives 0 unless `a` is 1 or -1, and E_DIV if `a` is 0.
 pub fn power(a: i32, b: i32) -> Result<Value, OperationFault>
     ensures { Gives result (power a b) }
 {
@@ -65,7 +65,7 @@ pub fn power(a: i32, b: i32) -> Result<Value, OperationFault>
     Ok(Value::Int(wrapped_power(a, b as u32)))
 }
 
-// `a` to the power -n.
+// Returns `a` to the power -n, truncated to an integer; E_DIV if `a` is 0.
 fn inverse_power(a: i32, n: u32) -> Result<Value, OperationFault>
     ensures { Gives result (inverse_power a n) }
 {

@@ -13,7 +13,8 @@ use crate::fault::{OperationFault, QUOTA, RANGE, TYPE_MISMATCH};
 use moo_value::{ErrorCode, ListFault, MooList, MooStr, Value, ValueFault};
 use std::alloc::Global;
 
-/// `base` as `base[index] = value` leaves it. An element of a list that nothing else shares is replaced in place.
+/// Returns what `base` is after `base[index] = value`. An element of a list that nothing else shares is replaced in
+/// place.
 pub fn with_index(
     alloc: Global,
     base: Value,
@@ -29,7 +30,7 @@ pub fn with_index(
     }
 }
 
-/// The error that `with_index` of these raises.
+/// Returns the error that `with_index` of these arguments raises, if any.
 pub fn index_refusal(base: &Value, index: &Value, value: &Value) -> Option<ErrorCode>
     ensures { result ≡ result_err (with_index_of (tree base.now) (tree index.now) (tree value.now)) }
 {
@@ -44,7 +45,7 @@ pub fn index_refusal(base: &Value, index: &Value, value: &Value) -> Option<Error
     }
 }
 
-/// `base` as `base[low..high] = value` leaves it.
+/// Returns what `base` is after `base[low..high] = value`.
 pub fn with_range(
     alloc: Global,
     base: &Value,
@@ -75,7 +76,7 @@ pub fn with_range(
     }
 }
 
-/// How many of `length` elements stand before the one at a place, if there is one.
+/// Returns how many of `length` elements come before the one at a place, which counts from 1, if there is one.
 pub(crate) fn before_place(place: i32, length: usize) -> Option<usize>
     ensures value { result ≡ before_place place length }
     ensures bound { IfSome result (λ k. k < length) }
@@ -87,7 +88,7 @@ pub(crate) fn before_place(place: i32, length: usize) -> Option<usize>
     if before < length { Some(before) } else { None }
 }
 
-// Where a byte of a string is replaced, and by which string of one byte.
+// Returns where a byte of a string is replaced, and the string of one byte that replaces it.
 fn byte_place<'a>(
     string: &MooStr,
     index: &Value,
@@ -126,7 +127,7 @@ fn with_byte(
     }
 }
 
-// Where an element of a list is replaced.
+// Returns where an element of a list is replaced.
 fn element_place(list: &MooList, index: &Value) -> Result<usize, ErrorCode>
     ensures ok { IfOk result (λ k. (v : Tree) → with_index_of (list_of list.now) (tree index.now) v ≡ limited (list_of (slice_set list.now k v))) }
     ensures bound { IfOk result (λ k. k < length list.now) }
@@ -171,7 +172,7 @@ fn replaced(
     }
 }
 
-// How many of `length` elements stand before the place `low`, and how many up to the place `high`.
+// Returns how many of `length` elements come before the place `low`, and how many up to the place `high`.
 fn ends(low: i32, high: i32, length: usize) -> Option<(usize, usize)>
     ensures value { result ≡ ends low high length }
     ensures front { IfSome result (λ e. e.0 ≤ length) }

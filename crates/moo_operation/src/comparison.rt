@@ -12,14 +12,14 @@ use moo_program::operator::LogicOperator;
 use moo_value::Value;
 use std::cmp::Ordering;
 
-/// Whether a value counts as true.
+/// Returns whether a value counts as true.
 pub fn is_true(value: &Value) -> bool
     ensures { result ≡ is_true (tree value.now) }
 {
     value.is_true()
 }
 
-/// Whether the first operand decides, so that it is the operator's value and the second operand is not evaluated.
+/// Returns whether the first operand alone decides the operator's value, so that the second operand is not evaluated.
 pub fn is_decided(operator: LogicOperator, first: &Value) -> bool
     ensures { result ≡ is_decided operator (tree first.now) }
 {
@@ -29,21 +29,21 @@ pub fn is_decided(operator: LogicOperator, first: &Value) -> bool
     }
 }
 
-/// Whether two values are equal as `==` has it, letters folded.
+/// Returns whether two values are equal in the sense of `==`, letters folded.
 pub fn is_equal(a: &Value, b: &Value) -> bool
     ensures { result ≡ equal (tree a.now) (tree b.now) }
 {
     moo_value::equal(a, b)
 }
 
-/// 1 or 0.
+/// Returns the integer 1 for true, 0 for false.
 pub(crate) fn truth_value(test: bool) -> Value
     ensures { tree result ≡ truth_value test }
 {
     Value::Int(i32::from(test))
 }
 
-/// How two values are ordered; values without an order raise E_TYPE.
+/// Returns how two values are ordered; values without an order raise E_TYPE.
 pub(crate) fn ordering(a: &Value, b: &Value) -> Result<Ordering, OperationFault>
     ensures ok { IfOk result (λ o. order (tree a.now) (tree b.now) ≡ Some o) }
     ensures no_memory { IfErr result (λ fault. fault ≡ TYPE_MISMATCH) }
@@ -52,7 +52,7 @@ pub(crate) fn ordering(a: &Value, b: &Value) -> Result<Ordering, OperationFault>
     moo_value::order(a, b).ok_or(TYPE_MISMATCH)
 }
 
-/// The first place of an equal element, 0 for none.
+/// Returns the first place of an equal element, 0 for none.
 pub(crate) fn place_in(value: &Value, list: &Value) -> Result<Value, OperationFault>
     ensures { Gives result (place_in (tree value.now) (tree list.now)) }
 {

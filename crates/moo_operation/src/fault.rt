@@ -7,7 +7,7 @@ use moo_value::ErrorCode;
 pub enum OperationFault {
     /// The operation raises this error.
     Raise(ErrorCode),
-    /// Memory for the value was refused.
+    /// Memory for the value ran out.
     Memory,
 }
 

@@ -14,17 +14,18 @@ ghost use Rattle.moo_operation.specs.Places.{index_of, range_of, made_list};
 ghost use Rattle.moo_operation.specs.Assignment.{with_index_of, with_range_of};
 ghost use Rattle.moo_operation.specs.Laws.{IsWrapped, DividesTowardsZero, FindsFirstPlace, IndexesRange, MeasuresRange};
 
-/// What is left of an integer in 32 bits differs from it by a multiple of 2^32.
+/// An integer wrapped to 32 bits differs from the original by a multiple of 2^32.
 pub fn wrapping_keeps_the_residue()
     ensures { (z : ℤ) → IsWrapped z (int_wrap w32 z) }
 {}
 
-/// Division truncates towards zero and the remainder is what it leaves, the least integer by -1 aside.
+/// Division truncates towards zero, and the remainder is what is left over; the least integer divided by -1 is the
+/// exception.
 pub fn division_truncates_towards_zero()
     ensures { DividesTowardsZero }
 {}
 
-/// The test of equality holds where two values are the same with their letters folded.
+/// The test of equality holds if and only if two values are the same with their letters folded.
 pub fn equality_folds_letters()
     ensures { (a b : Tree) → IsTrue (equal a b) ↔ (fold_letters a ≡ fold_letters b) }
 {}
@@ -34,13 +35,13 @@ pub fn truth_is_tested()
     ensures { (t : Tree) → IsTrue (is_true t) ↔ IsTruthy t }
 {}
 
-/// A value within the limits of weight and depth stays, another is E_QUOTA.
+/// A value within the limits of weight and depth is kept; another one raises E_QUOTA.
 pub fn limits_are_tested()
     ensures within { (t : Tree) → IsWithinLimits t → limited t ≡ Ok t }
     ensures past { (t : Tree) → (¬ IsWithinLimits t) → limited t ≡ Err Quota }
 {}
 
-/// `in` answers the first place of an equal element, or 0.
+/// `in` gives the first place of an equal element, or 0.
 pub fn a_place_is_the_first()
     ensures { FindsFirstPlace }
 {}
@@ -51,7 +52,7 @@ pub fn a_range_is_a_part()
     ensures length { MeasuresRange }
 {}
 
-/// What the operations give for values within the limits of weight and depth is such a value.
+/// For values within the limits of weight and depth, the operations give values within them.
 pub fn values_stay_within_the_limits()
     ensures unary { (operator : UnaryOperator) (a : Tree) → IfOk (unary_of operator a) IsStored }
     ensures binary { (operator : BinaryOperator) (a b : Tree) → IsStored a → IsStored b → IfOk (binary_of operator a b) IsStored }

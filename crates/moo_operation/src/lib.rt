@@ -1,5 +1,4 @@
-//! What the operators of the language give for values.
-//! A room behind `moo_eval`.
+//! The operators of the language over values. An internal crate of `moo_eval`.
 #![tactic(auto)]
 
 mod arithmetic;

@@ -1,4 +1,4 @@
-//! Values that are made, within the limits of weight and depth.
+//! Makes values, within the limits of weight and depth.
 ghost use Rattle.std.specs.Prelude.{◌≡◌, ◌≤◌, pos, Ok};
 ghost use Rattle.moo_value.specs.Tree.{integer};
 ghost use Rattle.moo_value.specs.Size.{weight_limit};
@@ -10,7 +10,7 @@ use crate::fault::{OperationFault, QUOTA};
 use moo_value::{ListFault, MooList, Value};
 use std::alloc::{AllocError, Global};
 
-/// The list of these values.
+/// Returns the list of these values; E_QUOTA past the limits.
 pub fn list(alloc: Global, values: Vec<Value>) -> Result<Value, OperationFault>
     ensures { Gives result (made_list (trees values.items)) }
 {
@@ -21,7 +21,7 @@ pub fn list(alloc: Global, values: Vec<Value>) -> Result<Value, OperationFault>
     }
 }
 
-/// A count of bytes or elements of a value.
+/// Returns a count of bytes or elements of a value, as an integer of the language.
 pub(crate) fn number_of(count: usize) -> Value
     requires { count ≤ weight_limit }
     ensures { tree result ≡ integer (pos count) }
@@ -29,7 +29,7 @@ pub(crate) fn number_of(count: usize) -> Value
     Value::Int(count as i32)
 }
 
-/// The same value. Memory is wanting only for a string or a list.
+/// Returns a copy of a value that shares its contents. Only a string or a list can run out of memory.
 pub(crate) fn shared(value: &Value) -> Result<Value, OperationFault>
     ensures { Gives result (Ok (tree value.now)) }
 {

@@ -15,7 +15,7 @@ use moo_program::operator::{BinaryOperator, UnaryOperator};
 use moo_value::{MooStr, Value, ValueFault};
 use std::alloc::Global;
 
-/// What an operator in front of one operand gives.
+/// Returns the value of a unary operator.
 pub fn unary(operator: UnaryOperator, value: &Value) -> Result<Value, OperationFault>
     ensures { Gives result (unary_of operator (tree value.now)) }
 {
@@ -28,7 +28,7 @@ pub fn unary(operator: UnaryOperator, value: &Value) -> Result<Value, OperationF
     }
 }
 
-/// What an operator between two operands gives.
+/// Returns the value of a binary operator.
 pub fn binary(
     alloc: Global,
     operator: BinaryOperator,
@@ -69,7 +69,7 @@ pub fn binary(
     }
 }
 
-// Both operands as integers; others raise E_TYPE.
+// Returns both operands as integers; others raise E_TYPE.
 fn integers(a: &Value, b: &Value) -> Result<(i32, i32), OperationFault>
     ensures first { IfOk result (λ p. tree a.now ≡ integer p.0) }
     ensures second { IfOk result (λ p. tree b.now ≡ integer p.1) }
@@ -82,7 +82,7 @@ fn integers(a: &Value, b: &Value) -> Result<(i32, i32), OperationFault>
     }
 }
 
-// The sum of two integers, or two strings joined.
+// Returns the sum of two integers, or two strings joined.
 fn add(alloc: Global, a: &Value, b: &Value) -> Result<Value, OperationFault>
     ensures { Gives result (added (tree a.now) (tree b.now)) }
 {

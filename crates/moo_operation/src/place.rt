@@ -1,4 +1,4 @@
-//! Parts of strings and lists by their places, which are counted from 1.
+//! Parts of strings and lists by their places, which count from 1.
 ghost use Rattle.std.specs.Prelude.{◌≡◌, ◌≤◌, length, slice_range, Ok, Err, IfOk, IfErr, IfSome};
 ghost use Rattle.moo_value.specs.Tree.{list_of};
 ghost use Rattle.moo_value.specs.Tree as trees_of_values;
@@ -13,7 +13,8 @@ use crate::made::{number_of, shared};
 use moo_value::{ErrorCode, MooList, MooStr, Value};
 use std::alloc::{AllocError, Global};
 
-/// `base[index]`: a string of one byte, or an element of a list.
+/// Returns `base[index]`: a string of one byte, or an element of a list. E_TYPE for other values, E_RANGE for no such
+/// place.
 pub fn index(alloc: Global, base: &Value, index: &Value) -> Result<Value, OperationFault>
     ensures { Gives result (index_of (tree base.now) (tree index.now)) }
 {
@@ -34,7 +35,7 @@ pub fn index(alloc: Global, base: &Value, index: &Value) -> Result<Value, Operat
     }
 }
 
-/// `base[low..high]`: a part of a string or a list.
+/// Returns `base[low..high]`: a part of a string or a list. E_TYPE for other values, E_RANGE for places outside it.
 pub fn range(
     alloc: Global,
     base: &Value,
@@ -60,7 +61,7 @@ pub fn range(
     }
 }
 
-/// The length of a string or a list, which is `$` inside its index.
+/// Returns the length of a string or a list, the value of `$` inside its index.
 pub fn length_of(base: &Value) -> Result<Value, OperationFault>
     ensures { Gives result (length_of (tree base.now)) }
 {
@@ -71,7 +72,7 @@ pub fn length_of(base: &Value) -> Result<Value, OperationFault>
     }
 }
 
-/// The elements that `@value` puts into a list.
+/// Returns the elements that `@value` puts into a list.
 pub fn spliced(value: &Value) -> Result<&[Value], ErrorCode>
     ensures ok { IfOk result (λ vs. spliced_of (tree value.now) ≡ Ok (trees vs.now)) }
     ensures err { IfErr result (λ e. spliced_of (tree value.now) ≡ Err e) }
@@ -109,7 +110,7 @@ fn list_part(alloc: Global, list: &MooList, from: usize, to: usize) -> Result<Va
     }
 }
 
-// Where a range of `length` elements begins and ends, counted from 0, its end not included.
+// Returns the half-open range, counted from 0, of the places `low` to `high` among `length` elements.
 fn bounds(low: i32, high: i32, length: usize) -> Option<(usize, usize)>
     ensures value { result ≡ bounds low high length }
     ensures order { IfSome result (λ b. b.0 ≤ b.1) }

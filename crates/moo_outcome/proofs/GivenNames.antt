@@ -1,4 +1,4 @@
--- Where the value of a name that every frame has stands.
+-- The place of the value of a name that every frame has.
 use Rattle.std.proofs.Common.{◌≡◌, ℕ, ◌<◌, ◌≤◌, Bool, true, false, not, cond, nat_lt, ◌+◌, suc, List, [], ◌∷◌, Option, Some, None, map, length, get_or, position, refl, sym, ap, ◌∙◌, arith}
 use Rattle.std.proofs.Math.ListN.{set}
 use Rattle.std.specs.Option.{option_map}
@@ -19,7 +19,7 @@ use Rattle.moo_outcome.specs.Seen.{slot_value}
 use Rattle.moo_outcome.proofs.Names.{is_own, slot_at, no_slot, unslotted}
 use Rattle.moo_outcome.proofs.Stored.{set_slot, put_elsewhere}
 
--- where a name whose letters are folded stands
+-- the place of a name whose letters are folded
 abbrev place : List ℕ → List (List ℕ) → Option ℕ
 place n names = position (λ own. bytes_eq (folded own) n) names
 
@@ -97,7 +97,7 @@ unfolding given_names
 nowhere name n i e at = let bad : ◌≡◌ {A = Option ℕ} None (Some i) = sym (no_place (is_own name) all_given e) ∙ at in absurd cc
 
 module _ (v : GivenValues) (elsewhere : List ℕ → Option Tree) (name : List ℕ) (g : Given) (is : given_of name ≡ Some g) (x : Value) where
-  -- what a name that every frame has stands for
+  -- the value of a name that every frame has
   pub given_at : Some x ≡ get_or (given_values v) (given_slot g) None → Some (tree x) ≡ slot_value given_names (given_values v) elsewhere (folded name)
   given_at at = ap (option_map (λ y. tree y)) at ∙ sym (slot_at name given_names (given_values v) elsewhere None (given_slot g) (given_place name g is) (within g))
 
@@ -106,7 +106,7 @@ module _ (v : GivenValues) (elsewhere : List ℕ → Option Tree) (name : List �
   given_set = set_slot name x given_names (given_values v) elsewhere (given_slot g) (given_place name g is) (within g)
 
 module _ (v : GivenValues) (elsewhere : List ℕ → Option Tree) (name : List ℕ) (is : given_of name ≡ None) where
-  -- what another name stands for
+  -- the value of another name
   pub other_at : elsewhere (folded name) ≡ slot_value given_names (given_values v) elsewhere (folded name)
   other_at = sym (no_slot name given_names (given_values v) elsewhere (λ i at. nowhere name 18 i is at))
 

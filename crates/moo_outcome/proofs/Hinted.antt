@@ -1,4 +1,4 @@
--- Where a name of a program stands.
+-- The places of the names of a program.
 use Rattle.std.proofs.Common.{◌≡◌, ℕ, ◌<◌, Bool, true, false, nat_lt, List, [], Some, length, get_or, position, refl, sym, ap, ◌∙◌, arith}
 use Rattle.std.specs.List.{IsDistinct}
 use Rattle.std.specs.Str.{bytes_eq}
@@ -19,7 +19,7 @@ within i n h = grind arith
 position_at : (p : List ℕ → Bool) (xs : List (List ℕ)) (i : ℕ) → i < length xs → p (get_or xs i []) ≡ true → ((k : ℕ) → k < i → p (get_or xs k []) ≡ false) → position p xs ≡ Some i
 position_at p xs i h e a = rw (position_or_len_is p xs i [] (omega arith) a (λ l. e), within i (length xs) h) refl
 
--- of different names each stands where it is spelled so
+-- of different names each is at the place with its spelling
 spelled_at : (names : List (List ℕ)) (i : ℕ) (name : List ℕ) → IsDistinct bytes_eq names → i < length names → get_or names i [] ≡ name → position (λ own. bytes_eq own name) names ≡ Some i
 spelled_at names i name u h same = position_at (λ own. bytes_eq own name) names i h ((bytes_eq-Decides _ _).1 same) (λ k l. ap (bytes_eq (get_or names k [])) (sym same) ∙ apart_from_distinct bytes_eq names k i [] u l h)
 

@@ -71,7 +71,7 @@ nothing_at name (own ∷ slots) (x ∷ values) elsewhere a =
 pub no_slot : (name : List ℕ) (slots : List (List ℕ)) (values : List (Option Value)) (elsewhere : List ℕ → Option Tree) → ((i : ℕ) → position (is_own name) slots ≡ Some i → length values ≤ i) → slot_value slots values elsewhere (folded name) ≡ elsewhere (folded name)
 no_slot name slots values elsewhere h = nothing_at name slots values elsewhere (unslotted (is_own name) slots (length values) h)
 
--- where no slot has a value
+-- if no slot has a value
 pub nothing_set : (slots names : List (List ℕ)) (n : List ℕ) → slot_value slots (map (λ name. None) names) (value_of_name []) n ≡ None
 nothing_set [] names n = refl
 nothing_set (own ∷ slots) [] n = refl

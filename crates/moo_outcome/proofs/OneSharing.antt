@@ -1,4 +1,4 @@
--- The values of a scatter are dealt in one way, and only where their number fits.
+-- The values of a scatter are assigned in one way, and only if their number fits.
 use Rattle.std.proofs.Common.{◌≡◌, ℕ, zero, suc, ◌+◌, ◌-◌, ◌≤◌, List, [], ◌∷◌, ◌++◌, Bool, true, false, ◌&&◌, ◌||◌, cond, nat_le, length, take, drop, refl, sym, ap, ◌∙◌, arith}
 use Rattle.std.proofs.lemmas.List.{take_at, drop_at, length-append}
 use Rattle.std.proofs.lemmas.Bool.Decides.{nat_tests}
@@ -10,7 +10,7 @@ use Rattle.moo_outcome.specs.Scatter.{binds, required, optionals, takes_rest, fi
 use Rattle.moo_outcome.specs.Dealing.{Deals, all_dealt, plain, others, filled, filled_default, without, takes_default}
 use Rattle.moo_outcome.proofs.Shared.{no_rest}
 
--- how much is for the name behind `@` is no matter where there is none
+-- the number for the name after `@` is no matter if there is none
 same_rest : (xs : Items) (spare a b : ℕ) (vs : List Tree) → takes_rest xs ≡ false → shares xs spare a vs ≡ shares xs spare b vs
 same_rest no_items spare a b vs h = refl
 same_rest (element e xs) spare a b [] h = same_rest xs spare a b [] h
@@ -49,7 +49,7 @@ enough_lacking (defaulted x d xs) zero b h k = absurd (omega (arith, h))
 enough_lacking (defaulted x d xs) (suc a) zero h k = absurd (omega (arith, k))
 enough_lacking (defaulted x d xs) (suc a) (suc b) h k = enough_lacking xs a b (omega (arith, h)) (omega (arith, k))
 
--- how many values names with `?` got, and how many the name behind `@`
+-- how many values names with `?` got, and how many the name after `@`
 record Counted (lacks filling : Bool) (xs : Items) (vs : List Tree) (bs : List Binding) (ds : List LeftOut) : Type 0 where
   pub spare : ℕ
   pub rest : ℕ
@@ -61,7 +61,7 @@ record Counted (lacks filling : Bool) (xs : Items) (vs : List Tree) (bs : List B
   pub full : lacks ≡ false → spare ≡ optionals xs
   pub shut : filling ≡ false → spare ≡ 0
 
--- the values of the name behind `@` and those behind it
+-- the values of the name after `@` and those after it
 with_rest : (us vs : List Tree) (takes : Bool) (r k rest : ℕ) → takes ≡ false → length vs ≡ r + k + cond takes rest 0 → length us + length vs ≡ r + k + length us
 with_rest us vs true r k rest h n = absurd cc
 with_rest us vs false r k rest h n = omega (arith, n)

@@ -44,7 +44,7 @@ too_heavy ss i w h weighs =
     ap list_weight (ap in_a_row (sym (take-append-drop i ss)) ∙ flat_map-append of_stretch (take i ss) (drop i ss)) in
     omega (arith, h, all, weighs, no_less (in_a_row (take i ss)) (in_a_row (drop i ss)))
 
--- with others behind them they are no list
+-- with others after them they are no list
 pub no_list : (ts us : List Tree) → weight_limit < list_weight ts → answers (made_list (ts ++ us)) ≡ Err (failure_of (refused list.TooLarge))
 no_list ts us h = ap answers (limited_past (list_of (ts ++ us)) (λ limits. omega (arith, h, no_less ts us, limits.weight)))
 

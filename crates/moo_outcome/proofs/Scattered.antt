@@ -10,7 +10,7 @@ use Rattle.moo_program.specs.declared.tree.Item.{Item}
 use Rattle.moo_program.specs.Tree.{Items}
 use Rattle.moo_program.specs.View.{with_item, items_of}
 
--- a fact of the items that are left is one of the next and of those behind it
+-- a fact of the items that are left is one of the next and of those after it
 pub items_next : {X : Type 0} (f : Items → X) (items : List Item) (i : ℕ) (item : Item) → i < length items → item ≡ get_or items i item → f (items_of (drop i items)) ≡ f (with_item item (items_of (drop (i + 1) items)))
 items_next f items i item h e = at_drop_more (λ r. f (items_of r)) items i item h ∙ ap (λ x. f (with_item x (items_of (drop (i + 1) items)))) (sym e)
 

@@ -9,7 +9,7 @@ use Rattle.moo_outcome.specs.Variables.{bind}
 use Rattle.moo_outcome.specs.Scatter.{required, optionals, takes_rest, fits, shares, lacking, given, missing}
 use Rattle.moo_outcome.specs.Dealing.{Deals, all_dealt, plain, others, filled, filled_default, without, takes_default}
 
--- behind one name with `@` there is no other
+-- after one name with `@` there is no other
 pub no_rest : (xs : Items) → are_names true xs ≡ true → takes_rest xs ≡ false
 no_rest no_items h = refl
 no_rest (element (variable x) xs) h = no_rest xs h
@@ -18,7 +18,7 @@ no_rest (splice e xs) h = absurd cc
 no_rest (optional x xs) h = no_rest xs h
 no_rest (defaulted x d xs) h = no_rest xs h
 
--- how many are left for the name behind `@`, which is none behind it
+-- how many are left for the name after `@`, which is none after it
 rest_counted : (xs : Items) (n rest : ℕ) → takes_rest xs ≡ false → n ≡ required xs + optionals xs + rest → n - rest ≡ required xs + optionals xs + cond (takes_rest xs) rest 0
 rest_counted xs n rest none h = subst (λ b. n - rest ≡ required xs + optionals xs + cond b rest 0) (sym none) (omega (arith, h))
 
@@ -65,7 +65,7 @@ both : (a b : Bool) → (a && b) ≡ true → (a ≡ true) × (b ≡ true)
 both true b h = (refl, h)
 both false b h = absurd cc
 
--- with a name behind `@` nothing is too much
+-- with a name after `@` nothing is too much
 count_of : (b : Bool) (n r o : ℕ) → r ≤ n → o ≤ n - r → (b || nat_le n (r + o)) ≡ true → n ≡ r + o + cond b (n - r - o) 0
 count_of true n r o p q t = omega (arith, p, q)
 count_of false n r o p q t = grind (arith, nat_tests)

@@ -30,14 +30,14 @@ slot_at (x ∷ slots) [] i s a h e = absurd a
 slot_at (x ∷ slots) (n ∷ names) zero s a h e = subst (IsSlotOf n) (sym e) a.0
 slot_at (x ∷ slots) (n ∷ names) (suc i) s a h e = slot_at slots names i s a.1 (omega (arith, h)) e
 
--- and another slot of the name may stand there
+-- and another slot of the name may replace it
 pub slot_set : (slots : List Slot) (names : List (List ℕ)) (i : ℕ) (s : Slot) → AreSlotsOf slots names → IsSlotOf (get_or names i []) s → AreSlotsOf (set slots i s) names
 slot_set [] names i s a b = a
 slot_set (x ∷ slots) [] i s a b = absurd a
 slot_set (x ∷ slots) (n ∷ names) zero s a b = (b, a.1)
 slot_set (x ∷ slots) (n ∷ names) (suc i) s a b = (a.0, slot_set slots names i s a.1 b)
 
--- and the same one with another value
+-- and the slot itself with another value
 pub value_set : (slots : List Slot) (names : List (List ℕ)) (i : ℕ) (s : Slot) (v : Value) → AreSlotsOf slots names → i < length slots → s ≡ get_or slots i s → AreSlotsOf (set slots i (with_value s v)) names
 value_set slots names i s v a h e =
     let own = slot_at slots names i s a h e in
@@ -47,7 +47,7 @@ value_set slots names i s v a h e =
 pub held_at : (slots : List Slot) (i : ℕ) (s : Slot) → i < length slots → s ≡ get_or slots i s → get_or (values_in slots) i None ≡ value_in s
 held_at slots i s h e = get_or-map value_in slots i s None h ∙ ap value_in (sym e)
 
--- where one is set
+-- if one is set
 set_in : (s : Slot) (v : Value) → value_in s ≡ Some v → s.value ≡ v
 set_in s v e = flag s.is_set e
   where
@@ -55,7 +55,7 @@ set_in s v e = flag s.is_set e
     flag true e = cc
     flag false e = absurd cc
 
--- what a slot has of its name tells where the name stands
+-- the numbers of a slot determine the place of the name
 module _ (p : Block) (slots : List Slot) (i : ℕ) (s : Slot) (name : List ℕ) (are : AreSlotsOf slots (program.slots p)) (within : i < length slots) (at : s ≡ get_or slots i s) (text : IsText name) (known : s.number ≢ 0 → (given_of name ≡ None) × AreNumbersOf s.number s.further name) (unknown : s.number ≡ 0 → s.further ≡ 0) where
   own : IsSlotOf (get_or (program.slots p) i []) s
   own = slot_at slots (program.slots p) i s are within at
@@ -135,7 +135,7 @@ module _ (held : Held) (p : Block) (slots : List Slot) (i : ℕ) (is : seen p sl
         let s = get_or slots i unset_slot in
         rw e (value_set slots (program.slots p) i s v a within (get_or_default slots i unset_slot s within))
 
-  -- a name stands at the place of each slot
+  -- a name is at the place of each slot
   pub room : i < length held.values → AreSlotsOf slots (program.slots p) → i < length (program.slots p)
   room h a = omega (arith, place h, fits slots (program.slots p) a)
 

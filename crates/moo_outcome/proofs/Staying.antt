@@ -27,7 +27,7 @@ still_held h slot other v is = let still = set_still h.values slot other v is.0 
 abbrev with_own : Variables → Held → Variables
 with_own old own = record { given = old.given; own = own; others = old.others }
 
--- where a slot is set
+-- a variable keeps its slot if a slot is set
 pub stands_still : (old : Variables) (own : Held) (slot : ℕ) (v : Value) → own ≡ with_held old.own slot v → (name : List ℕ) (other : ℕ) → StandsIn old name other → StandsIn (with_own old own) name other
 stands_still old own slot v is name other stands = record {
   own = stands.own;
@@ -35,7 +35,7 @@ stands_still old own slot v is name other stands = record {
   held = subst (λ h. IsHeld h other) (sym is) (still_held old.own slot other v stands.held);
 }
 
--- where one may be set
+-- and if one may be set
 pub stands_either : (old : Variables) (own : Held) (slot : ℕ) (b : Bool) → (IsTrue b → (v : Value) × (own ≡ with_held old.own slot v)) → (IsFalse b → own ≡ old.own) → (name : List ℕ) (other : ℕ) → StandsIn old name other → StandsIn (with_own old own) name other
 stands_either old own slot true put kept = let is = put refl in stands_still old own slot is.0 is.1
 stands_either old own slot false put kept = λ name other stands. subst (λ h. StandsIn (with_own old h) name other) (sym (kept refl)) stands

@@ -1,4 +1,4 @@
--- Which errors a catch answers for.
+-- Which errors a catch handles.
 use Rattle.std.specs.Prelude.{List, [], Bool, true, false, Option, Some, None, if◌then◌else◌, Result, Ok, Err}
 use Rattle.std.specs.List.{list_any}
 use Rattle.moo_value.specs.declared.error_code.ErrorCode.{ErrorCode}

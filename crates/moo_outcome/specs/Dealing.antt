@@ -6,9 +6,9 @@ use Rattle.moo_program.specs.Target.{are_names}
 use Rattle.moo_outcome.specs.Variables.{Binding, bind}
 use Rattle.moo_outcome.specs.Scatter.{LeftOut, fits, given, missing}
 
--- All values go to the names in order: one to a plain name, any number to the one behind `@`, as a list. A name with `?` gets one too, or
--- none: then the names with `?` behind it get none either, and the one behind `@` gets the empty list. `lacks`: some name gets none. `filling`:
--- none so far.
+-- All values go to the names in order: one to a plain name, any number to the one after `@`, as a list. A name with
+-- `?` gets one too, or none: then the names with `?` after it get none either, and the one after `@` gets the empty
+-- list. `lacks`: some name gets none. `filling`: none so far.
 pub data Deals (lacks : Bool) : (filling : Bool) → Items → List Tree → List Binding → List LeftOut → Type 0 where
   all_dealt : {filling : Bool} →
       Deals lacks filling no_items [] [] []
@@ -33,7 +33,7 @@ pub data Deals (lacks : Bool) : (filling : Bool) → Items → List Tree → Lis
       lacks ≡ true → Deals lacks false xs vs bs ds →
       Deals lacks filling (defaulted x d xs) vs bs (record { name = x; value = d } ∷ ds)
 
--- where a number of values fits the names of a scatter, they are dealt so
+-- if a number of values fits the names of a scatter, they are assigned so
 abbrev pub ValuesAreDealt : Type 0
 ValuesAreDealt = (xs : Items) (vs : List Tree) → are_names false xs ≡ true → fits xs (length vs) ≡ true → (lacks : Bool) × Deals lacks true xs vs (given xs vs) (missing xs vs)
 
@@ -41,6 +41,6 @@ ValuesAreDealt = (xs : Items) (vs : List Tree) → are_names false xs ≡ true �
 abbrev pub DealtInOneWay : Type 0
 DealtInOneWay = (xs : Items) (vs : List Tree) (lacks : Bool) (bs : List Binding) (ds : List LeftOut) → are_names false xs ≡ true → Deals lacks true xs vs bs ds → (bs ≡ given xs vs) × (ds ≡ missing xs vs)
 
--- and where they are dealt so, their number fits
+-- and if they are assigned so, their number fits
 abbrev pub DealtValuesFit : Type 0
 DealtValuesFit = (xs : Items) (vs : List Tree) (lacks : Bool) (bs : List Binding) (ds : List LeftOut) → are_names false xs ≡ true → Deals lacks true xs vs bs ds → fits xs (length vs) ≡ true

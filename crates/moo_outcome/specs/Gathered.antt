@@ -5,7 +5,7 @@ use Rattle.moo_value.specs.Tree.{Tree}
 use Rattle.moo_value.specs.View.{trees}
 use Rattle.moo_outcome.specs.declared.gathered.Stretch.{Stretch}
 
--- the values of a stretch: its own, and behind them those of its list
+-- the values of a stretch: its own, and after them those of its list
 abbrev pub of_stretch : Stretch → List Tree
 of_stretch s = trees s.values.items ++ s.list
 

@@ -69,11 +69,11 @@ types =
     ∷ integer (pos 9)
     ∷ []
 
--- what is told of the command
+-- the values of the variables of the command
 abbrev pub command_of : SharedValues → List Tree
 command_of s = tree s.dobj ∷ tree s.iobj ∷ tree s.argstr ∷ tree s.dobjstr ∷ tree s.prepstr ∷ tree s.iobjstr ∷ []
 
--- what a frame tells of it
+-- the values of these variables from a frame
 abbrev pub command_in : Frame → List Tree
 command_in f = object f.dobj ∷ object f.iobj ∷ string f.argstr ∷ string f.dobjstr ∷ string f.prepstr ∷ string f.iobjstr ∷ []
 

@@ -1,4 +1,4 @@
--- What handlers of a `try` take, and what they are told.
+-- What handlers of a `try` take, and what their variables are set to.
 use Rattle.std.specs.Prelude.{ℕ, ◌-◌, List, [], ◌∷◌, ◌++◌, length, take, Option, Some, None, Result, Ok, Err}
 use Rattle.std.specs.List.{find}
 use Rattle.moo_value.specs.declared.error_code.ErrorCode.{ErrorCode}
@@ -39,7 +39,7 @@ abbrev pub alone : Result Tree ErrorCode → Result (List Tree) ErrorCode
 alone (Ok t) = Ok (t ∷ [])
 alone (Err code) = Err code
 
--- A built-in function has no frame that is told of.
+-- A built-in function has no frame in the list.
 abbrev pub entry_lists : TraceEntry → Result (List Tree) ErrorCode
 entry_lists (Verb f) = alone (frame_list f)
 entry_lists (BuiltIn name) = Ok []

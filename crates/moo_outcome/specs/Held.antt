@@ -4,7 +4,7 @@ use Rattle.std.specs.Coded.{Coded, code_by, coded×, coded_ℕ, coded_list, code
 use Rattle.moo_value.specs.contracts.value.Value as contracts
 use Rattle.moo_value.specs.declared.value.Value.{Value}
 
--- the names, and the values by their slots, where they are set
+-- the names, and the values by their slots, if they are set
 pub record Held : Type 0 where
   pub names : List (List ℕ)
   pub values : List (Option Value)

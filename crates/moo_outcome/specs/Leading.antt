@@ -1,4 +1,4 @@
--- Where loops and cleanups lead.
+-- The control flow of loops and cleanups.
 use Rattle.std.specs.Prelude.{ℕ, ℤ, Bool, true, false, List, Option, Some, None, Result, Ok, Err, if◌then◌else◌}
 use Rattle.std.specs.Str.{bytes_eq}
 use Rattle.moo_value.specs.declared.error_code.ErrorCode.{ErrorCode}
@@ -15,7 +15,7 @@ is_meant own None = true
 is_meant None (Some meant) = false
 is_meant (Some own) (Some meant) = bytes_eq (folded own) (folded meant)
 
--- how a loop of this name ends after its statements led somewhere, or none where it goes on
+-- how a loop of this name ends after its statements had this flow, or none if it goes on
 abbrev pub after_turn : Option (List ℕ) → Result Flow Stop → Option (Result Flow Stop)
 after_turn own (Err stop) = Some (Err stop)
 after_turn own (Ok next) = None
@@ -23,7 +23,7 @@ after_turn own (Ok (returned v)) = Some (Ok (returned v))
 after_turn own (Ok (broken name)) = Some (Ok (if is_meant own name then next else broken name))
 after_turn own (Ok (continued name)) = if is_meant own name then None else Some (Ok (continued name))
 
--- where a `for` has nothing to go through: an error, or with the d bit off no turn
+-- a `for` with nothing to visit: an error, or with the d bit off no turn
 abbrev pub no_turn : Bool → List TraceEntry → ErrorCode → Result Flow Stop
 no_turn true trace code = Err (raised (plain_raise code trace))
 no_turn false trace code = Ok next
@@ -34,7 +34,7 @@ runs_finally (Ok flow) = true
 runs_finally (Err (raised raise)) = true
 runs_finally (Err (out_of_ticks trace)) = false
 
--- where the cleanup leads, unless it comes to its end: then where the statements before it led
+-- the flow of the cleanup, unless it ends normally: then that of the statements before it
 abbrev pub after_finally : Result Flow Stop → Result Flow Stop → Result Flow Stop
 after_finally body (Ok next) = body
 after_finally body (Ok (returned v)) = Ok (returned v)

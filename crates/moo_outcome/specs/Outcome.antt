@@ -12,7 +12,7 @@ pub record Raise : Type 0 where
   pub value : Tree
   pub trace : List TraceEntry
 
--- why an expression or a statement does not come to its end
+-- why an expression or a statement does not end normally
 pub data Stop : Type 0 where
   raised : Raise → Stop
   out_of_ticks : List TraceEntry → Stop
@@ -22,7 +22,7 @@ pub data Failure : Type 0 where
   fails : ErrorCode → Failure
   stops : Stop → Failure
 
--- where a statement leads
+-- where execution continues after a statement
 pub data Flow : Type 0 where
   next : Flow
   returned : Tree → Flow
@@ -31,7 +31,7 @@ pub data Flow : Type 0 where
   -- to the next turn of the loop of this name, or of the innermost
   continued : Option (List ℕ) → Flow
 
--- a value, or the error where there is none
+-- a value, or the error if there is none
 abbrev pub or_error : {A : Type 0} → Option A → ErrorCode → Result A ErrorCode
 or_error None code = Err code
 or_error (Some v) code = Ok v

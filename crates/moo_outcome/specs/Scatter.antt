@@ -34,12 +34,12 @@ takes_rest (defaulted x d xs) = takes_rest xs
 abbrev pub fits : Items → ℕ → Bool
 fits xs n = nat_le (required xs) n && (takes_rest xs || nat_le n (required xs + optionals xs))
 
--- the values of a list, where they can be dealt: E_TYPE without a list, E_ARGS for a wrong count
+-- the values of a list, if they can be assigned: E_TYPE without a list, E_ARGS for a wrong count
 abbrev pub dealt : Items → Tree → Result (List Tree) ErrorCode
 dealt xs (list es) = if fits xs (length (trees_of es)) then Ok (trees_of es) else Err Arguments
 dealt xs _ = Err TypeMismatch
 
--- A variable gets this value. Nothing else stands in a scatter of a program.
+-- A variable gets this value. A scatter of a program has no other targets.
 abbrev pub binds : Expr → Tree → List Binding
 binds (variable x) v = bind x v ∷ []
 binds _ v = []
@@ -58,12 +58,12 @@ shares (defaulted x d xs) zero rest vs = shares xs zero rest vs
 shares (defaulted x d xs) (suc spare) rest [] = shares xs spare rest []
 shares (defaulted x d xs) (suc spare) rest (v ∷ vs) = bind x v ∷ shares xs spare rest vs
 
--- a name and what gives its value where the list has none
+-- a name and the expression of its value if the list has none
 pub record LeftOut : Type 0 where
   pub name : List ℕ
   pub value : Expr
 
--- the defaults of the names that get no value, where `spare` of them get one
+-- the defaults of the names that get no value, if `spare` of them get one
 abbrev pub lacking : Items → ℕ → List LeftOut
 lacking no_items spare = []
 lacking (element e xs) spare = lacking xs spare

@@ -1,4 +1,4 @@
--- What the program's values stand for in the meaning.
+-- The meaning of the program's values.
 use Rattle.std.specs.Prelude.{ℕ, Bool, IsTrue, List, [], ◌∷◌, Box, Option, Some, None, Result, Ok, Err, map, option_map, reverse, if◌then◌else◌}
 use Rattle.std.specs.Str.{bytes_eq}
 use Rattle.std.specs.Borrow.{Bor}
@@ -38,7 +38,7 @@ binding_of v = record { name = v.name; value = tree v.value }
 abbrev pub value_among : List Variable → List ℕ → Option Tree
 value_among others = value_of_name (map binding_of (reverse others))
 
--- the value in the slot of a folded name, and where it has none the value elsewhere
+-- the value in the slot of a folded name, and if it has none the value elsewhere
 abbrev pub slot_value : List (List ℕ) → List (Option Value) → (List ℕ → Option Tree) → List ℕ → Option Tree
 slot_value (own ∷ slots) (value ∷ values) elsewhere name =
     if bytes_eq (folded own) name then option_map (λ v. tree v) value else slot_value slots values elsewhere name
@@ -82,7 +82,7 @@ trace_of stack active = entries stack.running active.programmer stack.callers
 abbrev pub raise_of : code_raise.Raise → Raise
 raise_of raise = let account = raise.account.value in record { code = raise.code; message = account.message; value = tree account.value; trace = account.trace.items }
 
--- Want of memory has no meaning: `IsKnown` is false of it, so what stands here for it is never read.
+-- Lack of memory has no meaning: `IsKnown` is false of it, so its value here is never read.
 abbrev pub stop_of : code_stop.Stop → Stop
 stop_of (stop_case.Raised raise) = raised (raise_of raise)
 stop_of (stop_case.OutOfTicks trace) = out_of_ticks trace.items
@@ -110,7 +110,7 @@ abbrev pub seen_answers : Result (Vec Value Global) code_failure.Failure → Res
 seen_answers (Ok vs) = Ok (trees vs.items)
 seen_answers (Err failure) = Err (failure_of failure)
 
--- what an answer stands for, by what its value stands for
+-- the meaning of a result, by the meaning of its value
 abbrev pub seen_by : {A B : Type 0} → (A → B) → Result A code_failure.Failure → Result B Failure
 seen_by f (Ok v) = Ok (f v)
 seen_by f (Err failure) = Err (failure_of failure)
@@ -123,7 +123,7 @@ abbrev pub seen_flow : Result code_flow.Flow code_stop.Stop → Result Flow Stop
 seen_flow (Ok flow) = Ok (flow_of flow)
 seen_flow (Err stop) = Err (stop_of stop)
 
--- how a loop ends after a turn, or none where it goes on
+-- how a loop ends after a turn, or none if it goes on
 abbrev pub seen_turn : Result (Option code_flow.Flow) code_stop.Stop → Option (Result Flow Stop)
 seen_turn (Ok None) = None
 seen_turn (Ok (Some flow)) = Some (Ok (flow_of flow))
@@ -144,7 +144,7 @@ HadMemory (stop_case.Raised raise) = Unit {0}
 HadMemory (stop_case.OutOfTicks trace) = Unit {0}
 HadMemory stop_case.Memory = ⊥
 
--- an outcome that the meaning speaks of: want of memory may come anywhere, and nothing is said of it
+-- an outcome that the meaning speaks of: lack of memory may come anywhere, and nothing is said of it
 abbrev pub IsKnown : {A : Type 0} → Result A code_stop.Stop → Type 0
 IsKnown (Ok v) = Unit {0}
 IsKnown (Err stop) = HadMemory stop
@@ -157,7 +157,7 @@ abbrev pub IsKnownFailure : {A : Type 0} → Result A code_failure.Failure → T
 IsKnownFailure (Ok v) = Unit {0}
 IsKnownFailure (Err failure) = HadMemoryIn failure
 
--- memory is wanting only where this holds
+-- memory runs out only if this holds
 abbrev pub LacksOnlyWhere : Type 0 → code_stop.Stop → Type 0
 LacksOnlyWhere P (stop_case.Raised raise) = Unit {0}
 LacksOnlyWhere P (stop_case.OutOfTicks trace) = Unit {0}
@@ -167,7 +167,7 @@ abbrev pub LacksOnlyIn : Type 0 → code_failure.Failure → Type 0
 LacksOnlyIn P (failure_case.Fails code) = Unit {0}
 LacksOnlyIn P (failure_case.Stops stop) = LacksOnlyWhere P stop
 
--- what becomes of a failure may take memory: an error is raised with its traceback where the d bit is on, and a stop is passed on
+-- settling a failure may allocate: an error is raised with its traceback if the d bit is on, and a stop is passed on
 abbrev pub MayLack : Bool → code_failure.Failure → Type 0
 MayLack d (failure_case.Fails code) = IsTrue d
 MayLack d (failure_case.Stops stop) = ¬ HadMemory stop

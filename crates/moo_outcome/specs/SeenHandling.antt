@@ -1,4 +1,4 @@
--- What the program's handlers stand for in the meaning.
+-- The meaning of the program's handlers.
 use Rattle.std.specs.Prelude.{option_copied, List, Result, Ok, Err, map}
 use Rattle.std.specs.declared.vec.Vec.{Vec}
 use Rattle.std.specs.declared.alloc.Global.{Global}

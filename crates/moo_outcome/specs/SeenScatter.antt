@@ -1,4 +1,4 @@
--- What the program's scatters stand for in the meaning.
+-- The meaning of the program's scatters.
 use Rattle.std.specs.Prelude.{ℕ, List, [], ◌∷◌, Option, Some, None}
 use Rattle.std.specs.Borrow.{Bor}
 use Rattle.moo_value.specs.declared.value.Value.{Value}

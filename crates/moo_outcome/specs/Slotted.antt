@@ -13,7 +13,7 @@ value_in slot = if slot.is_set then Some slot.value else None
 abbrev pub values_in : List Slot → List (Option Value)
 values_in = map value_in
 
--- a slot where none is set
+-- a slot in which no value is set
 abbrev pub unset_slot : Slot
 unset_slot = record { number = 0; further = 1; is_set = false; value = Int (pos 0) }
 

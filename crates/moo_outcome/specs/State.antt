@@ -33,7 +33,7 @@ abbrev pub measured : Option Tree → Result Tree ErrorCode
 measured None = Err TypeMismatch
 measured (Some v) = length_of v
 
--- what is told of a frame
+-- the data of a frame in a trace
 abbrev pub trace_frame : Frame → ℤ → TraceFrame
 trace_frame f programmer = record {
   this = f.this;

@@ -9,10 +9,10 @@ pub record Surroundings : Type 0 where
   -- those that are open, in the order of their numbers
   pub connections : List Connection
 
--- the number that a connection goes by while nobody is connected on it: -2 - c
+-- the number of a connection on which no one is connected: -2 - c
 abbrev pub own_number : ℕ → ℤ
 own_number c = negsuc (c + 1)
 
--- connections stand in the order of their numbers, each number once
+-- connections are in the order of their numbers, each number once
 abbrev pub AreInOrder : List Connection → Type 0
 AreInOrder cs = IsStrictlyIncreasing (map (λ c. c.number) cs)

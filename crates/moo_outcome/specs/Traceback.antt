@@ -1,4 +1,4 @@
--- The lines that tell of an error and of where it came from.
+-- The lines of a traceback: the error and its frames.
 use Rattle.std.specs.Prelude.{ℕ, List, [], ◌∷◌, ◌++◌, codes, map, if◌then◌else◌}
 use Rattle.std.specs.Ordering.{int_eq}
 use Rattle.std.specs.declared.vec.Vec.{Vec}
@@ -9,7 +9,7 @@ use Rattle.moo_outcome.specs.declared.frame.TraceFrame.{TraceFrame}
 use Rattle.moo_outcome.specs.declared.frame.TraceEntry.{TraceEntry}
 use Rattle.moo_outcome.specs.declared.frame.TraceEntry.TheVariants.{Verb, BuiltIn}
 
--- the object, where it isn't the one that has the verb
+-- the object, if it isn't the one that has the verb
 abbrev pub this_text : TraceFrame → List ℕ
 this_text f = if int_eq f.this f.definer then [] else codes " (this == " ++ literal (object f.this) ++ codes ")"
 

@@ -48,8 +48,8 @@ text_bindings f =
 abbrev pub first_bindings : Frame → List Binding
 first_bindings f = type_bindings ++ object_bindings f ++ text_bindings f ++ bind (codes "args") (list_of f.args) ∷ []
 
--- The variables that the frame of a called verb begins with, by those of its caller: what tells of the command stands as it
--- does there, if it is set.
+-- The variables that the frame of a called verb begins with, from those of its caller: those of the command have the
+-- caller's values, if they are set.
 abbrev pub handed_bindings : Frame → (List ℕ → Option Tree) → List Binding
 handed_bindings f caller =
     type_bindings

@@ -16,7 +16,7 @@ use moo_program::{Literal, Name};
 use moo_value::{ErrorCode, Value};
 use std::alloc::AllocError;
 
-/// The value of a literal.
+/// Returns the value of a literal.
 pub fn literal_value(literal: &Literal) -> Result<Value, AllocError>
     ensures value { IfOk result (λ v. tree v ≡ literal_value literal.now) }
     ensures memory { OnErr result (TakesMemory (literal_value literal.now)) }
@@ -29,7 +29,7 @@ pub fn literal_value(literal: &Literal) -> Result<Value, AllocError>
     }
 }
 
-/// The value of a variable.
+/// Returns the value of a variable.
 pub fn read_variable(active: &Activation, name: &Name) -> Result<Value, Failure>
     ensures value { IsKnownFailure result → answers (or_error (variables_of active.now.variables (folded name.now)) VariableNotFound) ≡ seen_answer result }
     ensures memory { IfErr result (LacksOnlyIn (IsSomeAnd (variables_of active.now.variables (folded name.now)) TakesMemory)) }
@@ -40,7 +40,7 @@ pub fn read_variable(active: &Activation, name: &Name) -> Result<Value, Failure>
     }
 }
 
-/// The length of what is indexed.
+/// Returns the length of the indexed value.
 pub fn measure(indexed: Option<&Value>) -> Result<Value, Failure>
     ensures { answers (measured (indexed_of indexed.entry)) ≡ seen_answer result }
 {
@@ -50,7 +50,7 @@ pub fn measure(indexed: Option<&Value>) -> Result<Value, Failure>
     }
 }
 
-/// Puts a value at the end.
+/// Appends a value.
 pub fn push(values: &mut Vec<Value>, value: Value) -> Result<(), AllocError>
     ensures { OnOk result (values.new.items ≡ values.old.items ++ value ∷ []) }
 {
@@ -58,7 +58,7 @@ pub fn push(values: &mut Vec<Value>, value: Value) -> Result<(), AllocError>
     Ok(())
 }
 
-/// Puts copies of these values at the end.
+/// Appends copies of these values.
 pub(crate) fn append(values: &mut Vec<Value>, more: &[Value]) -> Result<(), AllocError>
     ensures { OnOk result (values.new.items ≡ values.old.items ++ more.now) }
 {

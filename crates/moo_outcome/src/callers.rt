@@ -1,4 +1,4 @@
-//! What the running code was called from, step by step: 'MOO Tasks' of the LambdaMOO Programmer's Manual.
+//! The callers of the running code, step by step: 'MOO Tasks' of the LambdaMOO Programmer's Manual.
 ghost use Rattle.std.specs.Prelude.{◌≡◌, ◌∷◌, [], ◌++◌, IfOk, IfSome, IfNone, OnOk};
 ghost use Rattle.moo_outcome.specs.Frames.{frame_count};
 
@@ -7,17 +7,17 @@ use std::alloc::{AllocError, Global};
 use std::marker::Model;
 use std::rc::Rc;
 
-/// The entries of what the running code was called from, the nearest first. A clone shares them, so that a call copies
-/// none.
+/// Holds the entries of the callers of the running code, the nearest first. A clone shares them, so that a call
+/// copies none.
 #[cycle(callers)]
 #[derive(Drop)]
 pub struct Callers {
-    /// How many of them are frames of verbs.
+    /// Returns how many of the callers are frames of verbs.
     frames: usize,
     nearest: Nearest,
 }
 
-/// The nearest entry, if there is one, and what it was called from.
+/// The nearest entry, if there is one, and its own callers.
 #[cycle(callers)]
 #[derive(Drop)]
 enum Nearest {
@@ -46,7 +46,7 @@ impl Model for Callers {
 }
 
 impl Callers {
-    /// Of what nothing has called.
+    /// Returns the callers of code that nothing has called.
     pub fn none() -> Callers
         ensures { result ≡ [] }
     {
@@ -56,7 +56,7 @@ impl Callers {
         }
     }
 
-    /// The same entries, shared.
+    /// Returns the same callers, shared.
     #[inline(always)]
     pub fn try_clone(&self) -> Result<Callers, AllocError>
         ensures { IfOk result (λ copy. copy ≡ self.now) }
@@ -71,7 +71,7 @@ impl Callers {
         })
     }
 
-    /// These with a nearer one before them.
+    /// Returns these callers with a nearer one before them.
     #[inline(always)]
     pub fn with_nearest(self, alloc: Global, entry: TraceEntry) -> Result<Callers, AllocError>
         ensures { IfOk result (λ all. all ≡ entry ∷ self) }
@@ -84,7 +84,7 @@ impl Callers {
         })
     }
 
-    // How many frames there are with this entry.
+    // Returns how many frames there are with this entry.
     #[inline(always)]
     fn frames_behind(&self, entry: &TraceEntry) -> Result<usize, AllocError>
         ensures { IfOk result (λ frames. frames ≡ frame_count (entry.now ∷ self.now)) }
@@ -98,14 +98,14 @@ impl Callers {
         }
     }
 
-    /// How many of them are frames of verbs.
+    /// Returns how many of them are frames of verbs.
     pub fn frames(&self) -> usize
         ensures { result ≡ frame_count self.now }
     {
         self.frames
     }
 
-    /// The nearest, and those behind it.
+    /// Returns the nearest caller, and the further ones.
     pub fn split_first(&self) -> Option<(&TraceEntry, &Callers)>
         ensures some { IfSome result (λ p. self.now ≡ p.0.now ∷ p.1.now) }
         ensures none { IfNone result (self.now ≡ []) }
@@ -116,7 +116,7 @@ impl Callers {
         }
     }
 
-    /// Copies of them in a row.
+    /// Returns copies of the entries as a vector.
     pub fn to_vec(&self, alloc: Global) -> Result<Vec<TraceEntry>, AllocError>
         ensures { IfOk result (λ all. all.items ≡ self.now) }
     {
@@ -125,7 +125,7 @@ impl Callers {
         Ok(all)
     }
 
-    /// Puts copies of them at the end of a row.
+    /// Appends copies of the entries to a vector.
     pub(crate) fn append_to(&self, all: &mut Vec<TraceEntry>) -> Result<(), AllocError>
         ensures { OnOk result (all.new.items ≡ all.old.items ++ self.now) }
     {

@@ -1,4 +1,4 @@
-//! Which errors a catch answers for.
+//! Which errors a catch handles.
 ghost use Rattle.std.specs.Prelude.{◌≡◌, IfErr, IsErrAnd};
 ghost use Rattle.std.specs.List.{list_any};
 ghost use Rattle.moo_value.specs.Tree.{error};
@@ -14,7 +14,7 @@ use moo_program::Codes;
 use moo_value::{ErrorCode, Value};
 use std::alloc::Global;
 
-/// The values of the codes of a handler. Without the d bit codes that fail name no error.
+/// Returns the values of the codes of a handler. Without the d bit, codes that fail name no error.
 pub fn settle_codes(
     alloc: Global,
     stack: &CallStack<'_>,
@@ -32,7 +32,7 @@ pub fn settle_codes(
     }
 }
 
-/// The error that a catch of these codes, which were evaluated to `values`, answers for, if one was raised.
+/// Returns the error that a catch of these codes handles, if one was raised. `values` are the values of the codes.
 pub fn caught(codes: &Codes, values: &[Value], outcome: &Result<Value, Stop>) -> Option<ErrorCode>
     ensures { result ≡ caught (codes_of codes.now) (trees values.now) (seen_value outcome.now) }
 {

@@ -1,5 +1,5 @@
-//! Frames, and what a traceback tells of them: 'Naming Values Within a Verb' and 'MOO Tasks' of the LambdaMOO
-//! Programmer's Manual, 'Variables' and 'Tracebacks' of docs/LANGUAGE.md. Objects are told by their numbers, #-1 for
+//! Frames, and their lines in a traceback: 'Naming Values Within a Verb' and 'MOO Tasks' of the LambdaMOO
+//! Programmer's Manual, 'Variables' and 'Tracebacks' of docs/LANGUAGE.md. Objects are given by their numbers, #-1 for
 //! none.
 ghost use Rattle.std.specs.Prelude.{◌≡◌, IfOk};
 ghost use Rattle.moo_outcome.specs.State.{trace_frame};
@@ -12,7 +12,7 @@ use moo_grammar::Program;
 use moo_value::{MooList, MooStr};
 use std::alloc::{AllocError, Global};
 
-/// A program that is to run, and what its code is told.
+/// A program that is to run, and the values that its code begins with.
 #[derive(Drop)]
 pub struct Frame {
     pub program: Program,
@@ -36,11 +36,11 @@ pub struct Frame {
     pub names: MooStr,
     /// The name that it was called by.
     pub verb: MooStr,
-    /// What stands behind the first word of the command.
+    /// The text after the first word of the command.
     pub argstr: MooStr,
     /// The words of the direct object.
     pub dobjstr: MooStr,
-    /// The preposition, as it stands in the command.
+    /// The preposition, as the command has it.
     pub prepstr: MooStr,
     /// The words of the indirect object.
     pub iobjstr: MooStr,
@@ -48,7 +48,7 @@ pub struct Frame {
     pub args: MooList,
 }
 
-/// What is told of one frame of a task, by a traceback, by `callers` and to a handler.
+/// The data of one frame of a task, as a traceback, `callers` and a handler show it.
 #[derive(Drop)]
 pub struct TraceFrame {
     /// The object that the verb was called on.
@@ -69,11 +69,11 @@ pub struct TraceFrame {
 pub enum TraceEntry {
     /// A frame of a verb, or of a program that is typed in.
     Verb(TraceFrame),
-    /// A built-in function that called what stands before it, by its name.
+    /// A built-in function that called the entry before it, by its name.
     BuiltIn(MooStr),
 }
 
-/// The running frame and what it was called from, with what is round the task.
+/// The running frame and its callers, with the surroundings of the task.
 #[derive(Drop)]
 pub struct CallStack<'a> {
     pub running: Frame,
@@ -109,7 +109,7 @@ impl TraceEntry {
 }
 
 impl Frame {
-    /// What is told of the frame while it runs for this programmer.
+    /// Returns the data of the frame while it runs for this programmer.
     #[inline(always)]
     fn trace_frame(&self, programmer: i32) -> Result<TraceFrame, AllocError>
         ensures { IfOk result (λ told. told ≡ trace_frame self.now programmer) }
@@ -126,7 +126,7 @@ impl Frame {
 }
 
 impl CallStack<'_> {
-    /// The entries from the running frame down.
+    /// Returns the entries from the running frame down.
     pub fn trace(&self, alloc: Global, active: &Activation) -> Result<Vec<TraceEntry>, AllocError>
         ensures { IfOk result (λ all. all.items ≡ trace_of self.now active.now) }
     {
@@ -137,7 +137,7 @@ impl CallStack<'_> {
         Ok(all)
     }
 
-    /// What a verb is called from that the running frame calls.
+    /// Returns the callers of a verb that the running frame calls.
     #[inline(always)]
     pub fn callers_of_called(
         &self,
@@ -152,7 +152,7 @@ impl CallStack<'_> {
     }
 }
 
-/// What changes while a frame runs.
+/// The state of a frame that changes while it runs.
 #[derive(Drop)]
 pub struct Activation {
     pub variables: Variables,

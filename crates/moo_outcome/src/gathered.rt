@@ -1,4 +1,4 @@
-//! The values that the items of a list or of a call give, gathered from left to right.
+//! The values that the items of a list or of a call have, collected from left to right.
 ghost use Rattle.std.specs.Prelude.{◌≡◌, ◌<◌, ◌+◌, ◌-◌, ◌^◌, ◌++◌, ◌∷◌, [], List, Ok, Err, min, length, IsTrue, IfOk, IfErr, IfSome, IfNone, OnOk};
 ghost use Rattle.moo_value.specs.Tree.{Tree, list_of};
 ghost use Rattle.moo_value.specs.Size.{list_weight, weight_limit, IsWithinLimits};
@@ -15,16 +15,16 @@ use std::alloc::{AllocError, Global};
 use std::marker::Model;
 use std::mem;
 
-/// Values in a row. The lists that were spliced in are shared: their elements are copied only when the values are asked
-/// for.
+/// Holds values in order. Lists that were spliced in are shared: their elements are copied only when the values are
+/// read.
 #[derive(Drop)]
 pub struct Gathered {
     stretches: Vec<Stretch>,
-    /// The values behind the last stretch.
+    /// The values after the last stretch.
     last: Vec<Value>,
 }
 
-/// Values, and a list that was spliced in behind them.
+/// Values, and a list that was spliced in after them.
 #[derive(Drop)]
 pub struct Stretch {
     pub values: Vec<Value>,
@@ -47,7 +47,7 @@ impl Model for Gathered {
 }
 
 impl Gathered {
-    /// No values, with room for as many as there are items.
+    /// Returns no values, with capacity for as many as there are items.
     pub fn with_room(alloc: Global, count: usize) -> Result<Gathered, AllocError>
         ensures { IfOk result (λ gathered. gathered ≡ []) }
     {
@@ -58,7 +58,7 @@ impl Gathered {
         })
     }
 
-    /// Puts a value at the end.
+    /// Appends a value.
     #[inline(always)]
     pub fn push(&mut self, value: Value) -> Result<(), AllocError>
         ensures { OnOk result (self.new ≡ self.old ++ tree value ∷ []) }
@@ -67,7 +67,7 @@ impl Gathered {
         Ok(())
     }
 
-    /// Puts the elements of a list at the end: E_TYPE without a list.
+    /// Appends the elements of a list: E_TYPE for a value that is no list.
     pub fn splice(&mut self, alloc: Global, value: Value) -> Result<(), Failure>
         ensures ok { OnOk result ((more : List Tree) × (answers (spliced_of (tree value)) ≡ Ok more) × (self.new ≡ self.old ++ more)) }
         ensures err { IfErr result (λ failure. HadMemoryIn failure → answers (spliced_of (tree value)) ≡ Err (failure_of failure)) }
@@ -78,7 +78,7 @@ impl Gathered {
         Ok(self.push_list(alloc, list)?)
     }
 
-    // Puts a list behind the values so far.
+    // Appends a list to the values so far.
     fn push_list(&mut self, alloc: Global, list: MooList) -> Result<(), AllocError>
         ensures { OnOk result (self.new ≡ self.old ++ list) }
     {
@@ -87,14 +87,14 @@ impl Gathered {
         Ok(())
     }
 
-    /// How many values there are, at most 2^64 - 1.
+    /// Returns how many values there are, at most 2^64 - 1.
     pub fn len(&self) -> usize
         ensures { result ≡ min (length self.now) (2 ^ 64 - 1) }
     {
         count(&self.stretches).saturating_add(self.last.len())
     }
 
-    /// The values.
+    /// Returns the values.
     pub fn into_values(self, alloc: Global) -> Result<Vec<Value>, AllocError>
         ensures { IfOk result (λ values. trees values.items ≡ self) }
     {
@@ -102,7 +102,7 @@ impl Gathered {
         joined(alloc, &stretches, last)
     }
 
-    /// The stretches of the values as they lie, and the values behind the last one.
+    /// Returns the stretches of the values without copying, and the values after the last one.
     pub fn into_stretches(self) -> (Vec<Stretch>, Vec<Value>)
         ensures { in_a_row result.0.items ++ trees result.1.items ≡ self }
     {
@@ -110,8 +110,8 @@ impl Gathered {
         (stretches, last)
     }
 
-    /// The values, for the arguments of a verb, which have to make a list: E_QUOTA, before an element is copied, where the
-    /// lists that were spliced in are too heavy together.
+    /// Returns the values for the arguments of a verb, which have to make a list: E_QUOTA, before an element is
+    /// copied, if the lists that were spliced in are too heavy together.
     #[inline(always)]
     pub fn into_arguments(self, alloc: Global) -> Result<Vec<Value>, Failure>
         ensures ok { IfOk result (λ values. trees values.items ≡ self) }
@@ -124,8 +124,8 @@ impl Gathered {
         spliced_arguments(alloc, stretches, last)
     }
 
-    /// The list of the values: E_QUOTA past the limits of weight and depth, before an element is copied where the lists
-    /// that were spliced in are too heavy together. A list that was spliced in alone is that list.
+    /// Returns the list of the values: E_QUOTA past the limits of weight and depth, before an element is copied if
+    /// the lists that were spliced in are too heavy together. A list that was spliced in alone is returned itself.
     pub fn into_list(self, alloc: Global) -> Result<MooList, Failure>
         ensures ok { IfOk result (λ list. list ≡ self) }
         ensures limits { OnOk result (made_list self ≡ Ok (list_of self)) }
@@ -151,7 +151,7 @@ impl Gathered {
     }
 }
 
-// The same with lists that were spliced in.
+// Returns the values for the arguments of a verb, if lists were spliced in.
 #[inline(never)]
 fn spliced_arguments(
     alloc: Global,
@@ -167,7 +167,7 @@ fn spliced_arguments(
     Ok(joined(alloc, &stretches, last)?)
 }
 
-// Takes out the only stretch, where it is a list alone.
+// Takes out the only stretch, if it is a list alone.
 fn take_only_list(stretches: &mut Vec<Stretch>) -> Option<MooList>
     ensures some { IfSome result (λ list. in_a_row stretches.old.items ≡ list) }
     ensures limits { IfSome result (λ list. IsWithinLimits (list_of list)) }
@@ -181,7 +181,7 @@ fn take_only_list(stretches: &mut Vec<Stretch>) -> Option<MooList>
     Some(list)
 }
 
-// Whether the lists in these stretches are too heavy for one list.
+// Returns whether the lists in these stretches are too heavy for one list.
 fn are_too_heavy(stretches: &[Stretch]) -> bool
     ensures { IsTrue result → weight_limit < list_weight (in_a_row stretches.now) }
 {
@@ -195,7 +195,7 @@ fn are_too_heavy(stretches: &[Stretch]) -> bool
     false
 }
 
-// The values of stretches, and those behind them.
+// Returns the values of stretches, and those after them.
 fn joined(
     alloc: Global,
     stretches: &[Stretch],
@@ -216,7 +216,7 @@ fn joined(
     Ok(values)
 }
 
-// How many values stretches have.
+// Returns how many values stretches have.
 fn count(stretches: &[Stretch]) -> usize
     ensures { result ≡ min (length (in_a_row stretches.now)) (2 ^ 64 - 1) }
 {

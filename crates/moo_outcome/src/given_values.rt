@@ -11,7 +11,8 @@ use moo_value::Value;
 use std::alloc::{AllocError, Global};
 use std::rc::Rc;
 
-/// The values of the names that every frame has: its own, and those that it shares with the frame that called it.
+/// Holds the values of the names that every frame has: its own, and those that it shares with the frame that called
+/// it.
 #[derive(Drop)]
 pub(crate) struct GivenValues {
     alloc: Global,
@@ -24,7 +25,7 @@ pub(crate) struct GivenValues {
 }
 
 impl GivenValues {
-    /// Those that the first frame of a task begins with.
+    /// Returns the values that the first frame of a task begins with.
     pub(crate) fn first(alloc: Global, frame: &Frame) -> Result<GivenValues, AllocError>
         ensures values { IfOk result (λ given. seen_values (given_values given) ≡ values_with frame.now given.shared.value) }
         ensures types { IfOk result (λ given. types_of given.shared.value ≡ types) }
@@ -34,7 +35,7 @@ impl GivenValues {
         GivenValues::with_shared(alloc, frame, shared)
     }
 
-    /// Those that the frame of a called verb begins with, where these are its caller's.
+    /// Returns the values that the frame of a called verb begins with, from those of its caller.
     #[inline(always)]
     pub(crate) fn handed(&self, frame: &Frame) -> Result<GivenValues, AllocError>
         ensures values { IfOk result (λ given. seen_values (given_values given) ≡ values_with frame.now given.shared.value) }
@@ -45,7 +46,8 @@ impl GivenValues {
         GivenValues::with_shared(self.alloc, frame, shared)
     }
 
-    // What is shared with a called verb: the same block, where the names of types have what a frame begins with.
+    // Returns the block that a called verb shares with its caller, if the names of types have the values that a frame
+    // begins with.
     #[inline(always)]
     fn handed_shared(&self) -> Result<Rc<SharedValues>, AllocError>
         ensures types { IfOk result (λ shared. types_of shared.value ≡ types) }
@@ -58,7 +60,8 @@ impl GivenValues {
         }
     }
 
-    // A block with the same of the command, where the names of types don't have it. Not inlined, so that other calls hold no room for it.
+    // Returns a block with the caller's values of the command, and the names of types as a frame begins with them.
+    // Not inlined, so that other calls need no stack space for it.
     #[cold]
     #[inline(never)]
     fn fresh_shared(&self) -> Result<Rc<SharedValues>, AllocError>
@@ -68,7 +71,7 @@ impl GivenValues {
         Ok(Rc::new(self.alloc, self.shared.with_types()?)?)
     }
 
-    // Those of a frame, with these shared ones.
+    // Returns the values of a frame, with these shared ones.
     #[inline(always)]
     fn with_shared(
         alloc: Global,
@@ -91,7 +94,7 @@ impl GivenValues {
         })
     }
 
-    /// The value of a name.
+    /// Returns the value of a name.
     #[inline(always)]
     pub(crate) fn get(&self, given: Given) -> &Value
         ensures { Some result.now ≡ get_or (given_values self.now) (given_slot given) None }
@@ -133,7 +136,7 @@ impl GivenValues {
         Ok(())
     }
 
-    /// Sets the value of a name that the frame doesn't share, and tells whether it is one.
+    /// Sets the value of a name that the frame doesn't share, and returns whether it is one.
     pub(crate) fn put(&mut self, given: Given, value: Value) -> bool
         ensures put { IsTrue result → given_values self.new ≡ set (given_values self.old) (given_slot given) (Some value) }
         ensures kept { IsFalse result → self.new ≡ self.old }

@@ -1,4 +1,4 @@
-//! Lists that grow where they stand.
+//! Lists that grow in place.
 ghost use Rattle.std.specs.Prelude.{◌≡◌, ◌++◌, ◌∷◌, [], List, IsTrue, IsFalse};
 ghost use Rattle.moo_value.specs.Tree.{Tree, list_of};
 ghost use Rattle.moo_value.specs.Size.{IsWithinLimits};
@@ -7,8 +7,8 @@ ghost use Rattle.moo_value.specs.declared.value.Value.TheVariants.{List as ListO
 
 use moo_value::Value;
 
-/// Puts a value behind a list, where nothing else shares the list, it is within the limits with it and there is memory for it, and tells
-/// whether it did.
+/// Appends a value to a list in place, and returns whether it did. Nothing else may share the list, the longer list
+/// has to be within the limits, and memory has to be available.
 #[inline(always)]
 pub(crate) fn push_in(place: &mut Value, value: Value) -> bool
     ensures put { IsTrue result → (ts : List Tree) × (place.old ≡ ListOf ts) × IsWithinLimits (list_of (ts ++ tree value ∷ [])) × (place.new ≡ ListOf (ts ++ tree value ∷ [])) }

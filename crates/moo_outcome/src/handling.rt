@@ -1,4 +1,4 @@
-//! Handlers of a `try`: which one takes an error, and what it is told.
+//! Handlers of a `try`: which one takes an error, and what its variable is set to.
 ghost use Rattle.std.specs.Prelude.{◌≡◌, ◌++◌, ◌∷◌, [], List, Ok, Err, map, option_copied, option_map, IfErr, OnOk, IsSome};
 ghost use Rattle.moo_value.specs.Tree.{Tree};
 ghost use Rattle.moo_value.specs.View.{trees};
@@ -22,7 +22,7 @@ use moo_program::{Codes, Handler, Name, Stmt};
 use moo_value::{ErrorCode, Value};
 use std::alloc::{AllocError, Global};
 
-/// The variable that a handler sets, if it sets one, its codes and its statements.
+/// The variable that a handler sets, if any, its codes and its statements.
 #[derive(Drop)]
 pub struct HandlerParts<'a> {
     pub name: Option<&'a Name>,
@@ -39,7 +39,7 @@ pub struct Guarded<'a> {
     pub values: Vec<Value>,
 }
 
-/// The parts of a handler.
+/// Returns the parts of a handler.
 pub fn handler_parts(value: &Handler) -> HandlerParts<'_>
     ensures { (hs : Handlers) → with_handler value.now hs ≡ handler (option_copied result.name) (codes_of result.codes.now) (block result.body.now) hs }
 {
@@ -57,7 +57,7 @@ pub fn handler_parts(value: &Handler) -> HandlerParts<'_>
     }
 }
 
-/// Puts a handler at the end, with the values of its codes.
+/// Appends a handler, with the values of its codes.
 pub fn push_guarded<'a>(
     all: &mut Vec<Guarded<'a>>,
     parts: HandlerParts<'a>,
@@ -82,7 +82,7 @@ impl Guarded<'_> {
     }
 }
 
-/// The first handler that names the error.
+/// Returns the first handler that names the error.
 pub fn chosen<'g, 'a>(all: &'g [Guarded<'a>], code: ErrorCode) -> Option<&'g Guarded<'a>>
     ensures { option_map (λ g. guarded_of g.now) result ≡ chosen (map guarded_of all.now) code }
 {
@@ -94,7 +94,7 @@ pub fn chosen<'g, 'a>(all: &'g [Guarded<'a>], code: ErrorCode) -> Option<&'g Gua
     None
 }
 
-// `{this, verb, programmer, definer, player}`
+// Returns `{this, verb, programmer, definer, player}`.
 fn frame_list(alloc: Global, frame: &TraceFrame) -> Result<Value, Failure>
     ensures { IsKnownFailure result → answers (frame_list frame.now) ≡ seen_answer result }
 {
@@ -107,7 +107,7 @@ fn frame_list(alloc: Global, frame: &TraceFrame) -> Result<Value, Failure>
     Ok(operation::list(alloc, values)?)
 }
 
-// Puts what is told of an entry at the end: a built-in function has no frame that is told of.
+// Appends the list of an entry that is a frame; a built-in function has none.
 fn push_entry(alloc: Global, values: &mut Vec<Value>, entry: &TraceEntry) -> Result<(), Failure>
     ensures ok { OnOk result ((more : List Tree) × (entry_lists entry.now ≡ Ok more) × (trees values.new.items ≡ trees values.old.items ++ more)) }
     ensures err { IfErr result (λ failure. HadMemoryIn failure → answers (entry_lists entry.now) ≡ Err (failure_of failure)) }
@@ -120,7 +120,7 @@ fn push_entry(alloc: Global, values: &mut Vec<Value>, entry: &TraceEntry) -> Res
     Ok(())
 }
 
-/// The frames of a trace, the first one first.
+/// Returns the frames of a trace, the first one first.
 pub fn frame_lists(alloc: Global, trace: &[TraceEntry]) -> Result<Vec<Value>, Failure>
     ensures { IsKnownFailure result → answers (frame_lists trace.now) ≡ seen_answers result }
 {
@@ -131,7 +131,7 @@ pub fn frame_lists(alloc: Global, trace: &[TraceEntry]) -> Result<Vec<Value>, Fa
     Ok(values)
 }
 
-// The entries of a trace down to the frame that has these callers.
+// Returns the entries of a trace down to the frame that has these callers.
 fn above<'a>(callers: &Callers, trace: &'a [TraceEntry]) -> &'a [TraceEntry]
     ensures { result.now ≡ above callers.now trace.now }
 {
@@ -144,7 +144,7 @@ fn above<'a>(callers: &Callers, trace: &'a [TraceEntry]) -> &'a [TraceEntry]
     &trace[..count]
 }
 
-// `{code, message, value, frames}`, with the frames from the raising one to that which has these callers.
+// Returns `{code, message, value, frames}`, with the frames from the raising one to that which has these callers.
 fn told(alloc: Global, callers: &Callers, raise: Raise) -> Result<Value, Failure>
     ensures { IsKnownFailure result → answers (told callers.now (raise_of raise)) ≡ seen_answer result }
 {
@@ -160,8 +160,8 @@ fn told(alloc: Global, callers: &Callers, raise: Raise) -> Result<Value, Failure
     Ok(operation::list(alloc, values)?)
 }
 
-/// Sets the variable of a handler, if it has one, to `{code, message, value, frames}`. The frames go from the raising one
-/// to the handler's own. Past the limits E_QUOTA is raised, whatever the d bit.
+/// Sets the variable of a handler, if it has one, to `{code, message, value, frames}`. The frames go from the raising
+/// one to the handler's own. Past the limits E_QUOTA is raised, whatever the d bit.
 pub fn set_caught(
     alloc: Global,
     stack: &CallStack<'_>,

@@ -7,7 +7,7 @@ ghost use Rattle.moo_value.specs.declared.value.Value.TheVariants.{Int, List as 
 
 use moo_value::Value;
 
-/// The integer that a value is.
+/// Returns the integer in a value, if there is a value and it is one.
 #[inline(always)]
 pub(crate) fn integer_in(value: Option<&Value>) -> Option<i32>
     ensures { IfSome result (λ n. option_map (λ v. tree v.now) value.entry ≡ Some (integer n)) }
@@ -18,7 +18,7 @@ pub(crate) fn integer_in(value: Option<&Value>) -> Option<i32>
     }
 }
 
-/// The same of a value that is there.
+/// Returns the integer in a value, if it is one.
 #[inline(always)]
 pub(crate) fn integer_of(value: &Value) -> Option<i32>
     ensures { IfSome result (λ n. Some (tree value.now) ≡ Some (integer n)) }
@@ -29,7 +29,7 @@ pub(crate) fn integer_of(value: &Value) -> Option<i32>
     }
 }
 
-/// Puts an integer in the place of a value.
+/// Overwrites a value with an integer.
 #[inline(always)]
 pub(crate) fn set_integer(place: &mut Value, number: i32)
     ensures { place.new ≡ Int number }
@@ -41,7 +41,7 @@ pub(crate) fn set_integer(place: &mut Value, number: i32)
     replace_by_integer(place, number);
 }
 
-// The same where another value stands there: a function of its own, so that what holds an integer pays nothing for it.
+// Overwrites a value that is no integer with one. It is a separate function, so that the common case stays short.
 #[cold]
 #[inline(never)]
 fn replace_by_integer(place: &mut Value, number: i32)
@@ -50,7 +50,7 @@ fn replace_by_integer(place: &mut Value, number: i32)
     *place = Value::Int(number);
 }
 
-/// Puts an integer at a place of a list, in the place of another integer, where nothing else shares the list, and tells whether it did.
+/// Replaces an integer at a place of a list by another, if nothing else shares the list, and returns whether it did.
 #[inline(always)]
 pub(crate) fn put_element_in(place: &mut Value, index: usize, number: i32) -> bool
     ensures put { IsTrue result → (ts : List Tree) × (place.old ≡ ListOf ts) × (index < length ts) × IsWithinLimits (list_of (set ts index (integer number))) × (place.new ≡ ListOf (set ts index (integer number))) }

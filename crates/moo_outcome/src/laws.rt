@@ -1,8 +1,9 @@
 //! The law of scatters.
 ghost use Rattle.moo_outcome.specs.Dealing.{ValuesAreDealt, DealtInOneWay, DealtValuesFit};
 
-/// Where a number of values fits a scatter, and only there, each value can go to one of its names, in order; of the names with `?` the last
-/// ones get none, and the name behind `@` gets what the others leave. This can be done in one way.
+/// If and only if a number of values fits a scatter, the values can be assigned to its names in order. The last of
+/// the names with `?` get none if values are missing, and the name after `@` gets what the others leave. There is
+/// exactly one such assignment.
 pub fn every_value_is_dealt()
     ensures all { ValuesAreDealt }
     ensures only { DealtInOneWay }

@@ -1,4 +1,4 @@
-//! Where loops and cleanups lead.
+//! The control flow of loops and cleanups.
 ghost use Rattle.std.specs.Prelude.{◌≡◌, Ok, Err, option_copied, IfOk, IfErr, OnErr, IsSome, IsTrue};
 ghost use Rattle.moo_value.specs.View.{tree};
 ghost use Rattle.moo_outcome.specs.Leading.{is_meant, after_turn, no_turn, runs_finally, after_finally, span_of, numbered};
@@ -10,7 +10,7 @@ use crate::spelling::is_same_name;
 use moo_value::{ErrorCode, MooStr, Value};
 use std::alloc::{AllocError, Global};
 
-/// The integers or objects that a `for` goes through, from `low` up to `high`.
+/// Holds the integers or objects that a `for` visits, from `low` up to `high`.
 #[derive(Drop)]
 pub struct Span {
     pub low: i32,
@@ -19,7 +19,7 @@ pub struct Span {
 }
 
 impl Span {
-    /// From one integer or object up to another; E_TYPE for other values.
+    /// Returns the span from one integer or object up to another; E_TYPE for other values.
     pub fn new(low: &Value, high: &Value) -> Result<Span, ErrorCode>
         ensures ok { IfOk result (λ span. span_of (tree low.now) (tree high.now) ≡ Ok span) }
         ensures err { IfErr result (λ code. span_of (tree low.now) (tree high.now) ≡ Err code) }
@@ -36,7 +36,7 @@ impl Span {
         })
     }
 
-    /// The integer or object of this number.
+    /// Returns the integer or object of this number.
     pub fn value(&self, number: i32) -> Value
         ensures { tree result ≡ numbered self.now.are_objects number }
     {
@@ -48,7 +48,7 @@ impl Span {
     }
 }
 
-/// The name of a loop that a statement asks for.
+/// Returns a copy of the loop name in a statement, which shares its bytes.
 pub fn copied_name(name: &Option<MooStr>) -> Result<Option<MooStr>, AllocError>
     ensures copy { IfOk result (λ copy. copy ≡ name.now) }
     ensures memory { OnErr result (IsSome name.now) }
@@ -59,7 +59,7 @@ pub fn copied_name(name: &Option<MooStr>) -> Result<Option<MooStr>, AllocError>
     }
 }
 
-// Whether the loop of this name is meant: without a name any is.
+// Returns whether a statement means the loop of this name; without a name it means any loop.
 fn is_meant(own: Option<&MooStr>, meant: &Option<MooStr>) -> bool
     ensures { result ≡ is_meant (option_copied own.entry) meant.now }
 {
@@ -70,7 +70,7 @@ fn is_meant(own: Option<&MooStr>, meant: &Option<MooStr>) -> bool
     }
 }
 
-/// How a loop of this name ends after a turn that led there, or `None` where it goes on.
+/// Returns how a loop of this name ends after a turn with this flow, or `None` if it goes on.
 #[inline]
 pub fn after_turn(own: Option<&MooStr>, flow: Flow) -> Option<Flow>
     ensures { seen_turn (Ok result) ≡ after_turn (option_copied own.entry) (Ok (flow_of flow)) }
@@ -93,7 +93,8 @@ pub fn after_turn(own: Option<&MooStr>, flow: Flow) -> Option<Flow>
     }
 }
 
-/// Where a `for` has nothing to go through: the error is raised, or without the d bit there is no turn.
+/// Returns the outcome of a `for` that raises an error before its first turn: the error, or without the d bit no
+/// turn.
 pub fn no_turn(
     alloc: Global,
     stack: &CallStack<'_>,
@@ -109,7 +110,7 @@ pub fn no_turn(
     Err(raised(alloc, stack, active, Failure::Fails(code)))
 }
 
-/// Whether a cleanup runs after this outcome: not after the end of the ticks, or want of memory.
+/// Returns whether a cleanup runs after this outcome: not if the ticks have run out, or memory.
 pub fn runs_finally(outcome: &Result<Flow, Stop>) -> bool
     ensures outcome { IsKnown outcome.now → result ≡ runs_finally (seen_flow outcome.now) }
     ensures known { IsTrue result → IsKnown outcome.now }
@@ -120,7 +121,7 @@ pub fn runs_finally(outcome: &Result<Flow, Stop>) -> bool
     }
 }
 
-/// The outcome of a `try` with a cleanup: the cleanup's, unless that came to its end.
+/// Returns the outcome of a `try` with a cleanup: the cleanup's, or if the cleanup ends normally that of the body.
 pub fn after_finally(body: Result<Flow, Stop>, cleanup: Result<Flow, Stop>) -> Result<Flow, Stop>
     ensures outcome { seen_flow result ≡ after_finally (seen_flow body) (seen_flow cleanup) }
     ensures known { IsKnown result → IsKnown cleanup }

@@ -1,6 +1,5 @@
-//! What evaluation rests on: frames and their variables, how evaluation may end, tracebacks, and how scatters deal
-//! values to names.
-//! A room behind `moo_eval`.
+//! The data of evaluation: frames and their variables, outcomes, tracebacks, and how scatters assign values to names.
+//! An internal crate of `moo_eval`.
 #![tactic(auto)]
 
 mod access;

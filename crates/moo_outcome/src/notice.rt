@@ -1,8 +1,8 @@
-//! What a task asks for, to be done when it has ended.
+//! Requests of a task, which are carried out when it has ended.
 
 use moo_value::MooStr;
 
-/// What a task asks for.
+/// A request of a task.
 #[derive(Drop)]
 pub enum Notice {
     /// A line for a player, or for the number of a connection on which nobody is connected.
@@ -14,7 +14,7 @@ pub enum Notice {
     /// This object was recycled.
     Recycle(i32),
     DumpDatabase,
-    /// The server is to end; with the text that tells why, if there is one.
+    /// The server is to end; with the text that gives the reason, if there is one.
     Shutdown(Option<MooStr>),
     /// A line for the server's log.
     ServerLog(MooStr),

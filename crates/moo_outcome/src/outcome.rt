@@ -9,14 +9,14 @@ use moo_operation::OperationFault;
 use moo_value::{ErrorCode, ListFault, MooStr, Value};
 use std::alloc::{AllocError, Global};
 
-/// An error that was raised, and what is told of it, which stands on the heap: so an outcome is small.
+/// An error that was raised. Its details are on the heap, so that an outcome is small.
 #[derive(Drop)]
 pub struct Raise {
     pub code: ErrorCode,
     pub account: Box<Account>,
 }
 
-/// What is told of an error that was raised, with the entries from where it was raised.
+/// The details of an error that was raised, with the entries from where it was raised.
 #[derive(Drop)]
 pub struct Account {
     pub message: MooStr,
@@ -25,7 +25,7 @@ pub struct Account {
 }
 
 impl Raise {
-    /// An error as it is raised with this message and this value.
+    /// Returns an error that is raised with this message and this value.
     pub fn new(
         alloc: Global,
         code: ErrorCode,
@@ -47,17 +47,17 @@ impl Raise {
     }
 }
 
-/// Why an expression or a statement did not come to its end.
+/// Why an expression or a statement did not end normally.
 #[derive(Drop)]
 pub enum Stop {
     Raised(Raise),
-    /// No tick was left: the entries from where it was wanted. No handler and no cleanup runs.
+    /// No tick was left: the entries from where it was needed. No handler and no cleanup runs.
     OutOfTicks(Vec<TraceEntry>),
-    /// Memory was wanting.
+    /// Memory ran out.
     Memory,
 }
 
-/// Where a statement leads.
+/// Where execution continues after a statement.
 #[derive(Drop)]
 pub enum Flow {
     /// To the next statement.
@@ -70,7 +70,7 @@ pub enum Flow {
     Continue(Option<MooStr>),
 }
 
-/// Why a node gave no value: an error of its own, or a stop of a part of it.
+/// Why a node has no value: an error of its own, or a stop of a part of it.
 #[derive(Drop)]
 pub enum Failure {
     Fails(ErrorCode),
@@ -147,7 +147,7 @@ impl From<ListFault> for Failure {
     }
 }
 
-/// The error as it is raised: with its message, and 0 as its value.
+/// Returns an error that is raised with its own message, and 0 as its value.
 fn plain_raise(alloc: Global, code: ErrorCode, trace: Vec<TraceEntry>) -> Result<Raise, AllocError>
     ensures { IfOk result (λ raise. raise_of raise ≡ plain_raise code trace.items) }
 {
@@ -157,7 +157,7 @@ fn plain_raise(alloc: Global, code: ErrorCode, trace: Vec<TraceEntry>) -> Result
     Raise::new(alloc, code, message, Value::Int(0), trace)
 }
 
-/// With the d bit an error is raised, and without it the error is the value.
+/// Returns the outcome of a node. With the d bit an error is raised, and without it the error is the value.
 pub fn settle(
     alloc: Global,
     stack: &CallStack<'_>,
@@ -181,7 +181,7 @@ pub fn settle(
     }
 }
 
-/// The stop of a failure: its own error is raised, whatever the d bit.
+/// Returns the stop of a failure: its own error is raised, whatever the d bit.
 pub fn raised(alloc: Global, stack: &CallStack<'_>, active: &Activation, failure: Failure) -> Stop
     ensures stop { HadMemory result → stop_of result ≡ raised_by (trace_of stack.now active.now) (failure_of failure) }
     ensures known { HadMemory result → HadMemoryIn failure }
@@ -196,7 +196,7 @@ pub fn raised(alloc: Global, stack: &CallStack<'_>, active: &Activation, failure
     }
 }
 
-// The error as it is raised where the frame is.
+// Returns the error as it is raised in the running frame.
 fn raise_here(
     alloc: Global,
     stack: &CallStack<'_>,

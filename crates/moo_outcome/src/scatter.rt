@@ -1,4 +1,4 @@
-//! Scatters: how the values of a list are dealt to names.
+//! Scatters: how the values of a list are assigned to names.
 ghost use Rattle.std.specs.Prelude.{◌≡◌, ◌+◌, ◌||◌, ◌++◌, ◌∷◌, [], ◌≤◌, cond, Ok, Err, map, drop, length, IfOk, IfErr, OnOk, IfSome, IfNone};
 ghost use Rattle.moo_value.specs.View.{tree};
 ghost use Rattle.moo_program.specs.Tree.{Items, element, splice, optional};
@@ -14,14 +14,14 @@ use moo_program::{Expr, Item, Name};
 use moo_value::{ErrorCode, MooList, Value};
 use std::alloc::{AllocError, Global};
 
-/// A name that a list leaves out, and what gives its value.
+/// A name that gets no value from a list, and the expression of its default.
 #[derive(Drop)]
 pub struct LeftOut<'a> {
     pub name: &'a Name,
     pub value: &'a Expr,
 }
 
-/// The list whose elements can be dealt: E_TYPE without a list, E_ARGS for a wrong count.
+/// Returns the list whose elements are assigned: E_TYPE for a value that is no list, E_ARGS for a wrong count.
 pub fn dealt<'a>(items: &[Item], value: &'a Value) -> Result<&'a MooList, ErrorCode>
     ensures ok { IfOk result (λ list. dealt (items_of items.now) (tree value.now) ≡ Ok list.now) }
     ensures err { IfErr result (λ code. dealt (items_of items.now) (tree value.now) ≡ Err code) }
@@ -64,7 +64,7 @@ fn is_rest(item: &Item) -> bool
     matches!(item, Item::Splice(_))
 }
 
-// How many names have to get a value.
+// Returns how many names have to get a value.
 fn required(items: &[Item]) -> usize
     ensures count { result ≡ required (items_of items.now) }
     ensures bound { result ≤ length items.now }
@@ -76,7 +76,7 @@ fn required(items: &[Item]) -> usize
     count
 }
 
-// How many may be left out.
+// Returns how many names may be left out.
 fn optionals(items: &[Item]) -> usize
     ensures count { result ≡ optionals (items_of items.now) }
     ensures bound { result ≤ length items.now }
@@ -88,7 +88,7 @@ fn optionals(items: &[Item]) -> usize
     count
 }
 
-// Whether one takes all that the others leave.
+// Returns whether a name takes all that the others leave.
 fn takes_rest(items: &[Item]) -> bool
     ensures { result ≡ takes_rest (items_of items.now) }
 {
@@ -100,8 +100,8 @@ fn takes_rest(items: &[Item]) -> bool
     false
 }
 
-// What is left to be dealt: the values from `next` on, of which `spare` are for names that may be left out, and `rest`
-// for the name that takes what the others leave.
+// What is left to be assigned: the values from `next` on, of which `spare` are for names that may be left out, and
+// `rest` for the name that takes what the others leave.
 #[derive(Drop)]
 struct Dealing<'a> {
     list: &'a MooList,
@@ -145,7 +145,7 @@ fn set_share(active: &mut Activation, share: Option<(&Name, Value)>) -> Result<(
 }
 
 impl<'a> Dealing<'a> {
-    // What an item gets, if it gets anything.
+    // Returns what an item gets, if it gets anything.
     fn share<'b>(
         &mut self,
         alloc: Global,
@@ -160,7 +160,7 @@ impl<'a> Dealing<'a> {
         }
     }
 
-    // The next value, for a name that has to get one.
+    // Returns the next value, for a name that has to get one.
     fn one<'b>(&mut self, target: &'b Expr) -> Result<Option<(&'b Name, Value)>, AllocError>
         ensures share { IfOk result (λ share. (xs : Items) → shares (element (view.tree target.now) xs) self.old.spare self.old.rest (drop self.old.next self.old.list.now) ≡ share_of share ++ shares xs self.new.spare self.new.rest (drop self.new.next self.new.list.now)) }
     {
@@ -170,7 +170,7 @@ impl<'a> Dealing<'a> {
         }
     }
 
-    // The next value, for a name that may be left out.
+    // Returns the next value, for a name that may be left out.
     fn spared<'b>(&mut self, name: &'b Name) -> Result<Option<(&'b Name, Value)>, AllocError>
         ensures share { IfOk result (λ share. (xs : Items) → shares (optional name.now xs) self.old.spare self.old.rest (drop self.old.next self.old.list.now) ≡ share_of share ++ shares xs self.new.spare self.new.rest (drop self.new.next self.new.list.now)) }
     {
@@ -184,7 +184,7 @@ impl<'a> Dealing<'a> {
         }
     }
 
-    // The values that the other names leave.
+    // Returns the values that the other names leave.
     fn others<'b>(
         &mut self,
         alloc: Global,
@@ -216,7 +216,7 @@ impl<'a> Dealing<'a> {
     }
 }
 
-// A value for a variable. Nothing else stands in a scatter of a program.
+// Returns a value for a variable. A scatter of a program has no other targets.
 fn named(target: &Expr, value: Value) -> Option<(&Name, Value)>
     ensures { share_of result ≡ binds (view.tree target.now) (tree value) }
 {
@@ -226,7 +226,7 @@ fn named(target: &Expr, value: Value) -> Option<(&Name, Value)>
     }
 }
 
-/// The names that the list leaves out, where they have a default.
+/// Returns the names that the list leaves out, if they have a default.
 pub fn missing<'a>(
     alloc: Global,
     items: &'a [Item],
@@ -242,7 +242,7 @@ pub fn missing<'a>(
     Ok(names)
 }
 
-// The name of an item, where no value is left for it and it has a default.
+// Returns the name of an item, if no value is left for it and it has a default.
 fn left_out<'a>(spare: &mut usize, item: &'a Item) -> Option<LeftOut<'a>>
     ensures { (xs : Items) → lacking (with_item item.now xs) spare.old ≡ left_out_by result ++ lacking xs spare.new }
 {

@@ -1,5 +1,4 @@
-//! The values of variables that a called verb has from its caller: those of the names of types, and what is told of the
-//! command.
+//! The values of variables that a called verb has from its caller: the names of types, and the parts of the command.
 ghost use Rattle.std.specs.Prelude.{◌≡◌, IsTrue, IfOk, OnOk};
 ghost use Rattle.moo_outcome.specs.GivenValues.{with_shared, types_of, types, command_of, command_in};
 
@@ -9,7 +8,7 @@ use moo_value::Value;
 use std::alloc::{AllocError, Global};
 use std::rc::Rc;
 
-/// The values of the names of types, and what is told of the command.
+/// Holds the values of the names of types, and the parts of the command.
 #[derive(Drop)]
 pub(crate) struct SharedValues {
     pub(crate) num: Value,
@@ -28,7 +27,7 @@ pub(crate) struct SharedValues {
 }
 
 impl SharedValues {
-    /// Those that the first frame of a task begins with.
+    /// Returns the values that the first frame of a task begins with.
     pub(crate) fn first(frame: &Frame) -> Result<SharedValues, AllocError>
         ensures types { IfOk result (λ shared. types_of shared ≡ types) }
         ensures command { IfOk result (λ shared. command_of shared ≡ command_in frame.now) }
@@ -50,7 +49,7 @@ impl SharedValues {
         })
     }
 
-    /// The same of the command, and the names of types as a frame begins with them.
+    /// Returns the same parts of the command, and the names of types with the values that a frame begins with.
     pub(crate) fn with_types(&self) -> Result<SharedValues, AllocError>
         ensures types { IfOk result (λ shared. types_of shared ≡ types) }
         ensures command { IfOk result (λ shared. command_of shared ≡ command_of self.now) }
@@ -72,7 +71,7 @@ impl SharedValues {
         })
     }
 
-    /// The same values.
+    /// Returns a copy of the values.
     fn try_clone(&self) -> Result<SharedValues, AllocError>
         ensures { IfOk result (λ copy. copy ≡ self.now) }
     {
@@ -93,7 +92,7 @@ impl SharedValues {
         })
     }
 
-    /// Whether the names of types have what a frame begins with.
+    /// Returns whether the names of types have the values that a frame begins with.
     #[inline(always)]
     pub(crate) fn has_types(&self) -> bool
         ensures { IsTrue result → types_of self.now ≡ types }
@@ -107,7 +106,7 @@ impl SharedValues {
             && is_number(&self.float, 9)
     }
 
-    // Sets one that is shared.
+    // Sets a shared value.
     fn set(&mut self, given: Given, value: Value)
         ensures { self.new ≡ with_shared self.old given value }
     {
@@ -149,7 +148,7 @@ pub(crate) fn set_shared(
     Ok(())
 }
 
-// Whether a value is this integer.
+// Returns whether a value is this integer.
 #[inline(always)]
 fn is_number(value: &Value, number: i32) -> bool
     ensures { IsTrue result → value.now ≡ Value.Int number }

@@ -22,8 +22,8 @@ use moo_value::Value;
 use std::alloc::{AllocError, Global};
 use std::marker::Model;
 
-/// A slot: the value, if one is set, and the numbers of its name, by which it is known without a look at the name. They are 0 and 1, which
-/// are those of no name, where no value is set, or the name has no numbers.
+/// A slot: the value, if one is set, and the numbers that identify its name without a comparison of names. The
+/// numbers are 0 and 1, which identify no name, if no value is set or the name has no numbers.
 #[derive(Drop)]
 struct Slot {
     number: u64,
@@ -32,7 +32,7 @@ struct Slot {
     value: Value,
 }
 
-/// The slots of the names of a program. There are none where every frame has all of them.
+/// Holds the slots of the names of a program. There are none if every frame has all of the names.
 #[derive(Drop)]
 pub(crate) struct Slots {
     program: Program,
@@ -55,7 +55,7 @@ impl Model for Slots {
 }
 
 impl Slots {
-    /// The slots of the names of a program, none set.
+    /// Returns the slots of the names of a program, none set.
     #[inline(always)]
     pub(crate) fn unset(alloc: Global, program: Program) -> Result<Slots, AllocError>
         ensures { IfOk result (λ own. slot_value own.names own.values (value_of_name []) ≡ value_of_name []) }
@@ -64,7 +64,8 @@ impl Slots {
         Ok(Slots { program, slots })
     }
 
-    /// The hint at the slot of a name, where the numbers there are the name's. A value is set in it, and not every frame has the name.
+    /// Returns the hint at the slot of a name, if the numbers there are the name's. A value is set in it, and not
+    /// every frame has the name.
     #[inline(always)]
     pub(crate) fn known_slot(&self, name: &Name) -> Option<usize>
         ensures there { IfSome result (λ i. position (λ own. bytes_eq (folded own) (folded name.now)) self.now.names ≡ Some i) }
@@ -82,7 +83,7 @@ impl Slots {
         None
     }
 
-    /// The slot of a name, if a value may stand there.
+    /// Returns the slot of a name, if it may hold a value.
     #[inline(always)]
     pub(crate) fn slot_of(&self, name: &Name) -> Option<usize>
         ensures some { IfSome result (λ i. (position (λ own. bytes_eq (folded own) (folded name.now)) self.now.names ≡ Some i) × (i < length self.now.values)) }
@@ -96,7 +97,7 @@ impl Slots {
         }
     }
 
-    /// The value in a slot where one is set.
+    /// Returns the value in a slot that is set.
     #[inline(always)]
     pub(crate) fn held(&self, slot: usize) -> &Value
         requires { IsHeld self.now slot }
@@ -106,7 +107,7 @@ impl Slots {
         &held.value
     }
 
-    /// The value in a slot, if one is set.
+    /// Returns the value in a slot, if one is set.
     #[inline(always)]
     pub(crate) fn get(&self, slot: usize) -> Option<&Value>
         requires { slot < length self.now.values }
@@ -116,7 +117,7 @@ impl Slots {
         if held.is_set { Some(&held.value) } else { None }
     }
 
-    /// Sets a slot where a value is set already.
+    /// Overwrites a slot that is set.
     #[inline(always)]
     pub(crate) fn set_held(&mut self, slot: usize, value: Value)
         requires { IsHeld self.old slot }
@@ -125,7 +126,7 @@ impl Slots {
         put_value(&mut self.slots, slot, value);
     }
 
-    /// Sets such a slot to an integer. One that holds an integer is changed where it stands.
+    /// Overwrites a slot that is set with an integer. A slot that holds an integer is changed in place.
     #[inline(always)]
     pub(crate) fn set_held_integer(&mut self, slot: usize, number: i32)
         requires { IsHeld self.old slot }
@@ -134,8 +135,8 @@ impl Slots {
         put_integer(&mut self.slots, slot, number);
     }
 
-    /// Puts an integer at a place of the list in such a slot, in the place of another integer, where nothing else shares the list, and tells
-    /// whether it did. No memory is asked for.
+    /// Replaces an integer at a place of the list in a set slot by another, if nothing else shares the list, and
+    /// returns whether it did. Allocates nothing.
     #[inline(always)]
     pub(crate) fn put_held_element(&mut self, slot: usize, index: usize, number: i32) -> bool
         requires { IsHeld self.old slot }
@@ -145,8 +146,8 @@ impl Slots {
         put_element(&mut self.slots, slot, index, number)
     }
 
-    /// Puts a value behind the list in such a slot, where nothing else shares the list, the list with it is within the limits and there is
-    /// memory for it, and tells whether it did. Else the value is let go.
+    /// Appends a value to the list in a set slot, and returns whether it did. Nothing else may share the list, the
+    /// longer list has to be within the limits, and memory has to be available; else the value is dropped.
     #[inline(always)]
     pub(crate) fn push_held(&mut self, slot: usize, value: Value) -> bool
         requires { IsHeld self.old slot }
@@ -156,7 +157,7 @@ impl Slots {
         push_value(&mut self.slots, slot, value)
     }
 
-    /// Sets a slot, which has the numbers of its name from then on.
+    /// Sets a slot, and with it the numbers of its name.
     pub(crate) fn set(&mut self, slot: usize, value: Value)
         requires { slot < length self.old.values }
         ensures { self.new ≡ with_held self.old slot value }
@@ -171,7 +172,7 @@ impl Slots {
     }
 }
 
-// Whether a slot has the numbers of a name.
+// Returns whether a slot has the numbers of a name.
 #[inline(always)]
 fn has_numbers_of(slot: &Slot, name: &Name) -> bool
     ensures text { IsText name.now }
@@ -185,7 +186,8 @@ fn has_numbers_of(slot: &Slot, name: &Name) -> bool
     slot.further == further
 }
 
-// The numbers of a name. That it is text, so that no other name has both, is told where its bytes are lent.
+// Returns the numbers of a name. The borrowed bytes prove that the name is text, so that no other name has both
+// numbers.
 #[inline(always)]
 fn text_numbers(name: &Name) -> (u64, u64)
     ensures text { IsText name.now }
@@ -196,7 +198,7 @@ fn text_numbers(name: &Name) -> (u64, u64)
     name.numbers()
 }
 
-// What a slot where a value is set has of its name.
+// Returns the numbers that a slot that is set has of its name.
 fn held_numbers(name: &Name) -> (u64, u64)
     ensures known { result.0 ≢ 0 → IsText name.now × AreNumbersOf result.0 result.1 name.now }
     ensures unknown { result.0 ≡ 0 → result.1 ≡ 1 }
@@ -208,7 +210,7 @@ fn held_numbers(name: &Name) -> (u64, u64)
     (number, further)
 }
 
-// Puts a value in a slot, in the place of another.
+// Overwrites the value in a slot.
 #[inline(always)]
 fn put_value(all: &mut Vec<Slot>, slot: usize, value: Value)
     requires { slot < length all.old.items }
@@ -217,7 +219,7 @@ fn put_value(all: &mut Vec<Slot>, slot: usize, value: Value)
     all[slot].value = value;
 }
 
-// The same of an integer.
+// Overwrites the value in a slot with an integer.
 #[inline(always)]
 fn put_integer(all: &mut Vec<Slot>, slot: usize, number: i32)
     requires { slot < length all.old.items }
@@ -226,7 +228,7 @@ fn put_integer(all: &mut Vec<Slot>, slot: usize, number: i32)
     set_integer(&mut all[slot].value, number);
 }
 
-// Puts an integer at a place of the list in a slot, in the place of another integer, and tells whether it did.
+// Replaces an integer at a place of the list in a slot by another, and returns whether it did.
 #[inline(always)]
 fn put_element(all: &mut Vec<Slot>, slot: usize, index: usize, number: i32) -> bool
     requires { slot < length all.old.items }
@@ -237,7 +239,7 @@ fn put_element(all: &mut Vec<Slot>, slot: usize, index: usize, number: i32) -> b
     put_element_in(&mut all[slot].value, index, number)
 }
 
-// Puts a value behind the list in a slot, and tells whether it did.
+// Appends a value to the list in a slot, and returns whether it did.
 #[inline(always)]
 fn push_value(all: &mut Vec<Slot>, slot: usize, value: Value) -> bool
     requires { slot < length all.old.items }
@@ -248,7 +250,7 @@ fn push_value(all: &mut Vec<Slot>, slot: usize, value: Value) -> bool
     push_in(&mut all[slot].value, value)
 }
 
-// The slots of these names, none set. Where every frame has all of them, none has a slot.
+// Returns the slots of these names, none set. If every frame has all of the names, there are no slots.
 #[inline(always)]
 fn unset_slots(alloc: Global, names: &[Name]) -> Result<Vec<Slot>, AllocError>
     ensures values { IfOk result (λ all. slot_value names.now (values_in all.items) (value_of_name []) ≡ value_of_name []) }
@@ -262,7 +264,7 @@ fn unset_slots(alloc: Global, names: &[Name]) -> Result<Vec<Slot>, AllocError>
     Ok(all)
 }
 
-// Whether not every frame has all of these names.
+// Returns whether not every frame has all of these names.
 #[inline(always)]
 fn has_own(names: &[Name]) -> bool {
     for name in names {
@@ -273,7 +275,7 @@ fn has_own(names: &[Name]) -> bool {
     false
 }
 
-// A slot without a value for each of these names.
+// Appends a slot without a value for each of these names.
 #[inline(always)]
 fn push_unset(all: &mut Vec<Slot>, names: &[Name])
     requires room { vec_len all.old + length names.now ≤ vec_capacity all.old }
@@ -289,7 +291,8 @@ fn push_unset(all: &mut Vec<Slot>, names: &[Name])
     }
 }
 
-// The slot of a name among those of a program: the hint, if the name there is spelled so, and else what a search finds.
+// Returns the slot of a name among those of a program: the hint, if the name there has the same spelling, else what a
+// search finds.
 #[inline(always)]
 fn own_slot(program: &Program, name: &Name) -> Option<usize>
     ensures { result ≡ position (λ own. bytes_eq (folded own) (folded name.now)) (slots program.now) }
@@ -302,7 +305,7 @@ fn own_slot(program: &Program, name: &Name) -> Option<usize>
     }
 }
 
-// The same by a search: a function of its own, so that what is found without one pays nothing for it.
+// Returns the slot of a name by a linear search. It is a separate function, so that the common case stays short.
 #[cold]
 #[inline(never)]
 fn searched_slot(program: &Program, name: &Name) -> Option<usize>
@@ -313,7 +316,7 @@ fn searched_slot(program: &Program, name: &Name) -> Option<usize>
     Some(slot)
 }
 
-// Whether the program's name in this slot is spelled so.
+// Returns whether the program's name in this slot has the same spelling.
 #[inline(always)]
 fn is_spelled(program: &Program, slot: usize, name: &Name) -> bool
     ensures { IsTrue result → (slot < length (slots program.now)) × (get_or (slots program.now) slot [] ≡ name.now) }

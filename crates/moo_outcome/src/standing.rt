@@ -1,4 +1,4 @@
-//! Variables by the slots in which they stand.
+//! Variables by their slots.
 ghost use Rattle.std.specs.Prelude.{◌≡◌, ◌<◌, ◌++◌, ◌∷◌, [], ℕ, List, Some, length, slice_set, IsTrue, IsFalse, IfSome};
 ghost use Rattle.moo_value.specs.Tree.{Tree, integer, list_of};
 ghost use Rattle.moo_value.specs.Size.{IsWithinLimits};
@@ -14,14 +14,15 @@ use moo_program::Name;
 use moo_value::Value;
 
 impl Variables {
-    /// The slot of a variable that is set, where it is known without a search. It keeps its slot as long as the frame runs.
+    /// Returns the slot of a variable that is set, if it is found without a search. The variable keeps its slot as
+    /// long as the frame runs.
     pub fn standing(&self, name: &Name) -> Option<usize>
         ensures { IfSome result (λ slot. StandsIn self.now name.now slot) }
     {
         self.own.known_slot(name)
     }
 
-    /// The value in a slot.
+    /// Returns the value in a slot.
     #[inline(always)]
     pub fn standing_value(&self, slot: usize) -> &Value
         requires { IsHeld self.now.own slot }
@@ -40,7 +41,7 @@ impl Variables {
         self.own.set_held(slot, value);
     }
 
-    /// The same to an integer. One that holds an integer is changed where it stands.
+    /// Sets the variable in a slot to an integer. A variable that holds an integer is changed in place.
     #[inline(always)]
     pub fn put_standing_integer(&mut self, slot: usize, number: i32)
         requires { IsHeld self.old.own slot }
@@ -50,8 +51,8 @@ impl Variables {
         self.own.set_held_integer(slot, number);
     }
 
-    /// Puts an integer at a place of the list in a slot, in the place of another integer, where nothing else shares the list, and tells
-    /// whether it did. `index` is counted from 0. No memory is asked for.
+    /// Replaces an integer at a place of the list in a slot by another, if nothing else shares the list, and returns
+    /// whether it did. `index` counts from 0. Allocates nothing.
     #[inline(always)]
     pub fn put_standing_element(&mut self, slot: usize, index: usize, number: i32) -> bool
         requires { IsHeld self.old.own slot }
@@ -62,8 +63,8 @@ impl Variables {
         self.own.put_held_element(slot, index, number)
     }
 
-    /// Puts a value behind the list in a slot, where nothing else shares the list, the list with it is within the limits and there is memory
-    /// for it, and tells whether it did. Else the value is let go.
+    /// Appends a value to the list in a slot, and returns whether it did. Nothing else may share the list, the longer
+    /// list has to be within the limits, and memory has to be available; else the value is dropped.
     #[inline(always)]
     pub fn push_standing(&mut self, slot: usize, value: Value) -> bool
         requires { IsHeld self.old.own slot }

@@ -1,4 +1,4 @@
-//! The lines that tell of an error and of where it came from.
+//! The lines of a traceback: the error and its frames.
 ghost use Rattle.std.specs.Prelude.{◌≡◌, ◌++◌, codes, map, IfOk, OnOk};
 ghost use Rattle.moo_value.specs.Tree.{object};
 ghost use Rattle.moo_value.specs.Text.{literal};
@@ -8,7 +8,7 @@ use crate::frame::{TraceEntry, TraceFrame};
 use moo_value::Value;
 use std::alloc::{AllocError, Global};
 
-/// The lines of a traceback with this text, the first entry of `trace` first.
+/// Returns the lines of a traceback with this text, the first entry of `trace` first.
 pub fn traceback_lines(
     alloc: Global,
     text: &[u8],

@@ -19,13 +19,14 @@ use moo_program::{Given, Name};
 use moo_value::{MooStr, Value};
 use std::alloc::{AllocError, Global};
 
-/// The variables of a frame: the values of the names that every frame has, a value or none for each other name of its program by its
-/// slot, and those of further names. What every frame has needs no search, nor does what was set and is spelled as in the program.
+/// Holds the variables of a frame: the values of the names that every frame has, a slot with a value or none for each
+/// other name of its program, and a list of further names. Names that every frame has need no search, nor do names
+/// that are set and spelled as in the program.
 #[derive(Drop)]
 pub struct Variables {
     given: GivenValues,
     pub(crate) own: Slots,
-    /// The newest last, which hides older ones of its name.
+    /// The newest last; it hides older ones of its name.
     others: Vec<Variable>,
 }
 
@@ -37,7 +38,7 @@ struct Variable {
 }
 
 impl Variables {
-    /// The variables that a frame begins with.
+    /// Returns the variables that the first frame of a task begins with.
     pub fn first(alloc: Global, frame: &Frame) -> Result<Variables, AllocError>
         ensures { IfOk result (λ v. variables_of v ≡ value_of_name (first_bindings frame.now)) }
     {
@@ -46,8 +47,9 @@ impl Variables {
         Variables::with_given(alloc, program, given)
     }
 
-    /// The variables that the frame of a called verb begins with, with a slot for each name of its program: what tells of the command
-    /// stands as with the caller, if it is set there. The program is shared before the frame is made, so that the frame isn't moved.
+    /// Returns the variables that the frame of a called verb begins with, with a slot for each name of its program.
+    /// The variables of the command have the values that they have in the caller. The program is shared before the
+    /// frame is made, so that the frame isn't moved.
     #[inline(always)]
     pub fn handed(
         alloc: Global,
@@ -61,7 +63,7 @@ impl Variables {
         Variables::with_given(alloc, program, given)
     }
 
-    // The variables of a frame that has these values, with a slot for each name of a program.
+    // Returns the variables of a frame that has these values, with a slot for each name of a program.
     #[inline(always)]
     fn with_given(
         alloc: Global,
@@ -103,7 +105,7 @@ impl Variables {
         Ok(())
     }
 
-    /// Sets a variable that has a slot, and tells whether it has one. No memory is asked for.
+    /// Sets a variable that has a slot, and returns whether it has one. Allocates nothing.
     #[inline(always)]
     pub fn put(&mut self, name: &Name, value: Value) -> bool
         ensures put { IsTrue result → variables_of self.new ≡ with_variable (variables_of self.old) (bind name.now (tree value)) }
@@ -115,7 +117,7 @@ impl Variables {
         }
     }
 
-    // The same of a variable that not every frame has.
+    // Sets a variable that has a slot and that not every frame has, and returns whether it has a slot.
     #[inline(always)]
     fn put_own(&mut self, name: &Name, value: Value) -> bool
         ensures own { IsTrue result → own_variables self.new ≡ with_variable (own_variables self.old) (bind name.now (tree value)) }
@@ -131,7 +133,8 @@ impl Variables {
         }
     }
 
-    // The same by a search: a function of its own, so that what is known without one pays nothing for it.
+    // Sets a variable whose slot a search finds, and returns whether it has one. It is a separate function, so that
+    // the common case stays short.
     #[cold]
     #[inline(never)]
     fn put_searched(&mut self, name: &Name, value: Value) -> bool
@@ -148,7 +151,8 @@ impl Variables {
         }
     }
 
-    /// Sets a variable that has a slot to an integer, likewise. One that holds an integer is changed where it stands.
+    /// Sets a variable that has a slot to an integer, and returns whether it has one. A variable that holds an
+    /// integer is changed in place.
     #[inline(always)]
     pub fn put_integer(&mut self, name: &Name, number: i32) -> bool
         ensures put { IsTrue result → variables_of self.new ≡ with_variable (variables_of self.old) (bind name.now (integer number)) }
@@ -160,7 +164,7 @@ impl Variables {
         self.put_anywhere(name, number)
     }
 
-    // The same, where the slot is known without a search.
+    // Sets a variable to an integer if its slot is found without a search, and returns whether it did.
     #[inline(always)]
     fn puts_known(&mut self, name: &Name, number: i32) -> bool
         ensures put { IsTrue result → variables_of self.new ≡ with_variable (variables_of self.old) (bind name.now (integer number)) }
@@ -175,7 +179,8 @@ impl Variables {
         }
     }
 
-    // The same, wherever the name stands: a function of its own, for what is set seldom.
+    // Sets a variable to an integer wherever its name is, and returns whether it did. It is a separate function,
+    // since it is seldom called.
     #[cold]
     #[inline(never)]
     fn put_anywhere(&mut self, name: &Name, number: i32) -> bool
@@ -185,8 +190,9 @@ impl Variables {
         self.put(name, Value::Int(number))
     }
 
-    /// Puts an integer at a place of the list in a variable, in the place of another integer, where the variable is known without a search
-    /// and nothing else shares the list, and tells whether it did. `index` is counted from 0. No memory is asked for.
+    /// Replaces an integer at a place of the list in a variable by another, and returns whether it did. The variable
+    /// has to be found without a search, and nothing else may share the list. `index` counts from 0. Allocates
+    /// nothing.
     #[inline(always)]
     pub fn put_element(&mut self, name: &Name, index: usize, number: i32) -> bool
         ensures put { IsTrue result → (ts : List Tree) × (variables_of self.old (folded name.now) ≡ Some (list_of ts)) × (index < length ts) × IsWithinLimits (list_of (slice_set ts index (integer number))) × (variables_of self.new ≡ with_variable (variables_of self.old) (bind name.now (list_of (slice_set ts index (integer number))))) }
@@ -198,14 +204,14 @@ impl Variables {
         }
     }
 
-    /// The value of a variable that every frame has.
+    /// Returns the value of a variable that every frame has.
     pub fn get_given(&self, given: Given) -> Option<&Value>
         ensures { option_map (λ v. tree v.now) result ≡ variables_of self.now (folded (given_name given)) }
     {
         Some(self.given.get(given))
     }
 
-    /// The value of a variable, or `None` where it isn't set.
+    /// Returns the value of a variable, or `None` if it isn't set.
     pub fn get(&self, name: &Name) -> Option<&Value>
         ensures { option_map (λ v. tree v.now) result ≡ variables_of self.now (folded name.now) }
     {
@@ -215,7 +221,7 @@ impl Variables {
         }
     }
 
-    // The value of a variable that not every frame has.
+    // Returns the value of a variable that not every frame has.
     #[inline(always)]
     fn own(&self, name: &Name) -> Option<&Value>
         ensures { option_map (λ v. tree v.now) result ≡ own_variables self.now (folded name.now) }
@@ -237,8 +243,8 @@ impl Variables {
         }
     }
 
-    /// The integer that a variable holds whose slot is known without a search, or `None` where it holds another value or a search may
-    /// find it.
+    /// Returns the integer in a variable whose slot is found without a search. `None` if it holds another value or
+    /// only a search may find it.
     #[inline(always)]
     pub fn known_integer(&self, name: &Name) -> Option<i32>
         ensures { IfSome result (λ n. variables_of self.now (folded name.now) ≡ Some (integer n)) }
@@ -247,7 +253,8 @@ impl Variables {
         integer_of(self.own.held(slot))
     }
 
-    /// The integer that a variable with a slot holds, or `None` where it holds another value, or isn't known to have a slot.
+    /// Returns the integer in a variable with a slot. `None` if it holds another value, or isn't known to have a
+    /// slot.
     #[inline(always)]
     pub fn get_integer(&self, name: &Name) -> Option<i32>
         ensures { IfSome result (λ n. variables_of self.now (folded name.now) ≡ Some (integer n)) }
@@ -258,7 +265,7 @@ impl Variables {
         }
     }
 
-    // The same of a variable that every frame has.
+    // Returns the integer in a variable that every frame has, if it holds one.
     #[inline(never)]
     fn given_integer(&self, given: Given) -> Option<i32>
         ensures { IfSome result (λ n. variables_of self.now (folded (given_name given)) ≡ Some (integer n)) }
@@ -266,7 +273,7 @@ impl Variables {
         integer_in(self.get_given(given))
     }
 
-    // The same of a variable that not every frame has.
+    // Returns the integer in a variable that not every frame has, if it holds one.
     #[inline(always)]
     fn own_integer(&self, name: &Name) -> Option<i32>
         ensures { IfSome result (λ n. own_variables self.now (folded name.now) ≡ Some (integer n)) }
@@ -288,7 +295,7 @@ impl Variables {
         }
     }
 
-    // The value of a name that the program doesn't have.
+    // Returns the value of a name that the program doesn't have.
     fn other(&self, name: &[u8]) -> Option<&Value>
         ensures { option_map (λ v. tree v.now) result ≡ value_among self.now.others.items (folded name.now) }
     {

@@ -1,4 +1,4 @@
--- By two ways to tell that agree, a call of a function comes to the same.
+-- By two ways to report faults that agree, a call of a function has the same result.
 use Rattle.std.proofs.Common.{◌≡◌, ℕ, List, [], ◌∷◌, Option, None, Some, Result, Ok, Err, refl, sym, ap, ◌∙◌, subst}
 use Rattle.std.specs.Prelude.{ℤ}
 use Rattle.moo_value.specs.declared.error_code.ErrorCode.{ErrorCode}
@@ -27,7 +27,7 @@ use Rattle.moo_builtin.specs.Calls.{Field, values, objects, code, field, raising
 use Rattle.moo_call.specs.Tasks.{replied}
 use Rattle.moo_call.specs.Calls.{task_function, caller, CallsAs, CallsFunction}
 
--- where both tell a fault of a text it is the same, and neither tells one of a program
+-- if both report a fault of a text it is the same, and neither reports one of a program
 pub record Agree (T U : Telling) : Type 0 where
   pub same : (lines : List (List ℕ)) (f g : SyntaxFault) → T lines f → U lines g → f ≡ g
   pub none : (lines : List (List ℕ)) (b : Block) (f : SyntaxFault) → IsParsed Known lines b → T lines f → ⊥

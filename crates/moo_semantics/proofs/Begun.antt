@@ -1,4 +1,4 @@
--- For one input a call that calls verbs has at most one first step, by two ways to tell that agree.
+-- For one input a call that calls verbs has at most one first step, by two ways to report faults that agree.
 use Rattle.std.proofs.Common.{◌≡◌, ℕ, List, [], ◌∷◌, refl, sym, ap, ◌∙◌}
 use Rattle.moo_value.specs.Tree.{Tree, string}
 use Rattle.moo_function.specs.declared.function.Function.{Function}

@@ -17,7 +17,7 @@ use Rattle.moo_semantics.proofs.Wider.{wider_block}
 pub wider_end : {T U : Telling} → Wider T U → {around : Surroundings} {start : Frame} {before after : World} {end : End} {notices : List Notice} → TaskEnds T around start before end after notices → TaskEnds U around start before end after notices
 wider_end w d = record { outcome = d.outcome; last = d.last; runs = wider_block w d.runs; ends = d.ends; leaves = d.leaves; asks = d.asks }
 
--- of texts of which each has one fault the program tells no other
+-- for texts of which each has one fault the program reports no other
 pub one_fault_told : (texts : Texts) → HaveOneFault texts → Agree (faults_of texts) Faults
 one_fault_told texts have = record {
   same = λ lines f g p q. have lines f g p.0 p.1 q;

@@ -46,7 +46,7 @@ abbrev RoomIn : {E : Type 0} → Result Entered E → Type 0
 RoomIn (Ok e) = HasRoom e
 RoomIn (Err x) = Unit {0}
 
--- where a step enters one
+-- if a step enters a verb, there is a frame for it
 abbrev pub RoomNext : Progress → Type 0
 RoomNext (done r) = Unit {0}
 RoomNext (verb_next e at) = HasRoom e
@@ -56,7 +56,7 @@ either : {A : Type 0} (P : A → Type 0) (b : Bool) (x y : A) → P x → P y �
 either P true x y p q = p
 either P false x y p q = q
 
--- one more frame than those where one is left
+-- one more frame, if one is left, is within the limit
 one_more : (f : TraceFrame) (callers : List TraceEntry) → has_frame_left callers ≡ true → frames (entry.Verb f ∷ callers) ≤ most_frames
 one_more f callers h =
     let less : frames callers < most_frames = grind (arith, nat_tests) in

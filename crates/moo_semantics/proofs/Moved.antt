@@ -26,6 +26,6 @@ at_state P q h = subst P (sym q) h
 pub one_code : (c : Context) (s t : State) {o p : Result (List Tree) Failure} {r q : Result (List Tree) Stop} → coded c.frame.d (trace c s) o ≡ r → coded c.frame.d (trace c t) p ≡ q → Same o s p t → r ≡ q
 one_code c s t {o = o} f g h = sym f ∙ ap (λ x. coded c.frame.d (trace c x) o) h.1 ∙ ap (coded c.frame.d (trace c t)) h.0 ∙ g
 
--- where a `for` has nothing to go through
+-- a `for` with nothing to visit
 pub one_refusal : (c : Context) (s t : State) {code code' : ErrorCode} {r q : Result Flow Stop} → no_turn c.frame.d (trace c s) code ≡ r → no_turn c.frame.d (trace c t) code' ≡ q → code ≡ code' → s ≡ t → r ≡ q
 one_refusal c s t {code = code} f g p q = sym f ∙ ap (λ x. no_turn c.frame.d (trace c x) code) q ∙ ap (no_turn c.frame.d (trace c t)) p ∙ g

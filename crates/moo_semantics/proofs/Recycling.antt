@@ -44,7 +44,7 @@ nothing_there objects n h = over (object_of objects n) h
     over None e = refl
     over (Some y) e = cc
 
--- at its number stands nothing
+-- at its number there is nothing
 taken_out : (w : World) (x : ℕ) → x < length w.objects → object_of (after_recycle w x).objects x ≡ None
 taken_out w x within =
     let long = length-set w.objects x None in
@@ -59,7 +59,7 @@ gone w (pos n) e = over (object_of w.objects n) refl e
     over None is h = cc
     over (Some y) is h = numbers_nothing (after_recycle w n).objects n (taken_out w n (valid_within w.objects n (ap is_some is)))
 
--- where nothing stands, nothing comes by a change of one object
+-- if there is nothing at a number, a change of one object puts nothing there
 still_nothing : (objects : List (Option Object)) (x n : ℕ) (f : Object → Object) → object_of objects n ≡ None → object_of (set objects x (option_map f (object_of objects x))) n ≡ None
 still_nothing [] x n f e = refl
 still_nothing (y ∷ ys) zero zero f e = ap (option_map f) e

@@ -1,4 +1,4 @@
--- For one input an expression and a statement have at most one result, by two ways to tell that agree.
+-- For one input an expression and a statement have at most one result, by two ways to report faults that agree.
 use Rattle.std.proofs.Common.{◌≡◌, ℕ, ℤ, pos, ◌+ℤ◌, List, [], ◌∷◌, Option, Some, None, Result, Ok, Err, refl, sym, ap, ◌∙◌, subst, arith}
 use Rattle.moo_value.specs.Tree.{Tree}
 use Rattle.moo_program.specs.Tree.{Expr, Items, Stmt, Arms, Handlers, Block}

@@ -1,4 +1,4 @@
--- A task has at most one end, and leaves one world and the same notices, by two ways to tell that agree.
+-- A task has at most one end, and leaves one world and the same notices, by two ways to report faults that agree.
 use Rattle.std.proofs.Common.{◌≡◌, List, sym, ap, ◌∙◌}
 use Rattle.moo_table.specs.World.{World}
 use Rattle.moo_outcome.specs.declared.frame.Frame.{Frame}

@@ -1,4 +1,4 @@
--- What evaluates to an outcome does so where more may be told of texts, too.
+-- An outcome of evaluation stays possible if more faults may be reported for texts.
 use Rattle.std.proofs.Common.{ℕ, ℤ, List, Option, Result}
 use Rattle.moo_value.specs.Tree.{Tree}
 use Rattle.moo_program.specs.Tree.{Expr, Items, Stmt, Arms, Handlers, Block}

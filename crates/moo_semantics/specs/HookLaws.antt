@@ -12,18 +12,19 @@ use Rattle.moo_hook.specs.Progressing.{Progress}
 use Rattle.moo_hook.specs.Calls.{Starts}
 use Rattle.moo_semantics.specs.Meaning.{Proceeds}
 
--- where it answers, `create` answers the object that it has made, whatever its `initialize` answers or does
+-- if it returns, `create` returns the object that it has made, whatever its `initialize` returns or does
 abbrev pub CreateAnswersItsObject : Type 0
 CreateAnswersItsObject = (c : Context) (args : List Tree) (p : Progress) (s s' s'' : State) (v : Tree) → Starts Faults c function.Create args s p s' → Proceeds Faults c p s' (Ok v) s'' → v ≡ object (pos (length s.world.objects))
 
--- where it answers, `move` answers 0, whatever the verbs that it calls answer or do
+-- if it returns, `move` returns 0, whatever the verbs that it calls return or do
 abbrev pub MoveAnswersZero : Type 0
 MoveAnswersZero = (c : Context) (args : List Tree) (p : Progress) (s s' s'' : State) (v : Tree) → Starts Faults c function.Move args s p s' → Proceeds Faults c p s' (Ok v) s'' → v ≡ integer (pos 0)
 
--- a notice stands behind those of before, and behind whatever came between
+-- a notice comes after the earlier ones, and after those that were left in between
 abbrev pub IsToldLast : Notice → List Notice → List Notice → Type 0
 IsToldLast n old new = (between : List Notice) × (new ≡ old ++ between ++ n ∷ [])
 
--- where it answers, `recycle` answers 0, whatever the verbs that it calls answer or do: the object is gone, and the last notice says so
+-- if it returns, `recycle` returns 0, whatever the verbs that it calls return or do: the object is gone, and the last
+-- notice says so
 abbrev pub RecycledIsGone : Type 0
 RecycledIsGone = (c : Context) (o : ℤ) (p : Progress) (s s' s'' : State) (v : Tree) → Starts Faults c function.Recycle (object o ∷ []) s p s' → Proceeds Faults c p s' (Ok v) s'' → (v ≡ integer (pos 0)) × (number_of s''.world.objects o ≡ None) × IsToldLast (Recycle o) s.notices s''.notices

@@ -1,4 +1,4 @@
--- Laws of what the program may come to.
+-- Laws of the results that the program may have.
 use Rattle.std.specs.Prelude.{◌≡◌, ◌≤◌, ◌<◌, ℕ, List, Bool, IsTrue, Option, Some, Result, Err, All}
 use Rattle.moo_value.specs.Tree.{Tree}
 use Rattle.moo_program.specs.Tree.{Expr, Stmt, Block}
@@ -42,7 +42,8 @@ LaterAfterHooks = (c : Context) (f : Function) (args : List Tree) (p : Progress)
 abbrev pub TasksEndInTime : Type 0
 TasksEndInTime = (around : Surroundings) (start : Frame) (before after : World) (end : End) (notices : List Notice) (d : TaskEnds Faults around start before end after notices) → d.last.ticks ≤ most_ticks
 
--- Each expression, each statement and each turn of a loop takes a tick; where none is left it is out of ticks, and nothing changes.
+-- Each expression, each statement and each turn of a loop takes a tick; if none is left the task is out of ticks, and
+-- nothing changes.
 abbrev pub TicksOfExpressions : Type 0
 TicksOfExpressions = (c : Context) (e : Expr) (s s' : State) (o : Result Tree Stop) → Evaluates Faults c e s o s' → (0 < s.ticks → s'.ticks < s.ticks) × (s.ticks ≡ 0 → (o ≡ Err (out_of_ticks (trace c s))) × (s' ≡ s))
 
@@ -52,7 +53,7 @@ TicksOfStatements = (c : Context) (t : Stmt) (s s' : State) (o : Result Flow Sto
 abbrev pub TicksOfTurns : Type 0
 TicksOfTurns = (c : Context) (own : Option (List ℕ)) (bindings : List Binding) (b : Block) (s s' : State) (o : Option (Result Flow Stop)) → Turns Faults c own bindings b s o s' → (0 < s.ticks → s'.ticks < s.ticks) × (s.ticks ≡ 0 → (o ≡ Some (Err (out_of_ticks (trace c s)))) × (s' ≡ s))
 
--- Each verb that runs has a frame: at most 50 stand while it runs.
+-- Each verb that runs has a frame: at most 50 exist while it runs.
 abbrev pub FramesInExpressions : Type 0
 FramesInExpressions = (c : Context) (e : Expr) (s s' : State) (o : Result Tree Stop) (d : Evaluates Faults c e s o s') → All HasRoom (verbs_of_expression d)
 
@@ -66,15 +67,15 @@ FramesInHooks = (c : Context) (f : Function) (args : List Tree) (p : Progress) (
 abbrev pub FramesInTasks : Type 0
 FramesInTasks = (around : Surroundings) (start : Frame) (before after : World) (end : End) (notices : List Notice) (d : TaskEnds Faults around start before end after notices) → (frames (first_context around start).callers ≡ 1) × All HasRoom (verbs_of_block d.runs)
 
--- what is chosen to be told of a text, if anything is, is a fault that the text has
+-- the fault chosen for a text, if any, is one that the text has
 abbrev pub ChoosesFaults : Choice → Type 0
 ChoosesFaults choice = (lines : List (List ℕ)) (f : SyntaxFault) → choice lines ≡ Some f → Faults lines f
 
--- such a choice tells nothing of programs
+-- such a choice has no fault for a program
 abbrev pub ProgramsAreNotChosen : Type 0
 ProgramsAreNotChosen = (choice : Choice) → ChoosesFaults choice → PassesPrograms choice
 
--- What comes about by such a choice is among what the program may come to.
+-- A result by such a choice is one that the program may have.
 abbrev pub ExpressionsByChoice : Type 0
 ExpressionsByChoice = (choice : Choice) → ChoosesFaults choice → (c : Context) (e : Expr) (s s' : State) (o : Result Tree Stop) → Evaluates (chosen_by choice) c e s o s' → Evaluates Faults c e s o s'
 
@@ -87,7 +88,7 @@ TasksByChoice = (choice : Choice) → ChoosesFaults choice → (around : Surroun
 abbrev pub TextsByChoice : Type 0
 TextsByChoice = (choice : Choice) → ChoosesFaults choice → (text : List ℕ) (end : End) → RunsTo (chosen_by choice) text end → RunsTo Faults text end
 
--- Some texts, by a test, and what the program may tell where these alone are told a fault.
+-- Some texts, by a test, and the faults that the program may report if it reports them for these texts alone.
 abbrev pub Texts : Type 0
 Texts = List (List ℕ) → Bool
 
@@ -98,7 +99,8 @@ faults_of texts lines f = IsTrue (texts lines) × Faults lines f
 abbrev pub HaveOneFault : Texts → Type 0
 HaveOneFault texts = (lines : List (List ℕ)) (f g : SyntaxFault) → IsTrue (texts lines) → Faults lines f → Faults lines g → f ≡ g
 
--- What comes about where these texts alone are told a fault, none of which has two, is all that the program may come to.
+-- If faults are reported for these texts alone, none of which has two, the result is the only one that the program
+-- may have.
 abbrev pub OneResultOfExpressionsBy : Type 0
 OneResultOfExpressionsBy = (texts : Texts) → HaveOneFault texts → (c : Context) (e : Expr) (s s' t : State) (o p : Result Tree Stop) → Evaluates (faults_of texts) c e s o s' → Evaluates Faults c e s p t → (o ≡ p) × (s' ≡ t)
 

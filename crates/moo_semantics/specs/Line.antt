@@ -32,19 +32,20 @@ pub record RunsTo (T : Telling) (text : List ℕ) (end : End) : Type 0 where
   pub parsed : IsParsed Known (text ∷ []) program
   pub ends : TaskEnds T nowhere (typed_frame program (negsuc 0) (negsuc 0) (negsuc 0)) no_world end after notices
 
--- the text has this fault, which is not want of memory
+-- the text has this fault, which is not lack of memory
 pub record HasFault (text : List ℕ) (fault : SyntaxFault) : Type 0 where
   pub blames : Blames Known (text ∷ []) fault.line fault.kind
   pub told : fault.kind ≢ Memory
 
--- A line is answered with these lines and this status: with what is shown of its program's end, or where it is refused,
--- for a byte that no string holds, as too long for a string, or for a fault of its program, with the line that tells so.
+-- A line has these lines and this status as its result: what is shown of its program's end. A line that is refused
+-- has the line that gives the reason: a byte that no string holds, a length past that of a string, or a fault of its
+-- program.
 pub data AnswersLine (line : List ℕ) (lines : List (List ℕ)) (status : ℕ) : Type 0 where
   bad_byte : (¬ IsText line) → lines ≡ codes "Line 1:  Bad token" ∷ [] → status ≡ 5 → AnswersLine line lines status
   too_long : IsText line → (¬ IsString (program_text line)) → lines ≡ codes "Line 1:  Too deeply nested" ∷ [] → status ≡ 5 → AnswersLine line lines status
   refused : IsString (program_text line) → (fault : SyntaxFault) → HasFault (program_text line) fault → lines ≡ fault_text fault ∷ [] → status ≡ 5 → AnswersLine line lines status
   runs : IsString (program_text line) → (end : End) → RunsTo Faults (program_text line) end → lines ≡ shown end → status ≡ 0 → AnswersLine line lines status
 
--- a text has at most one end, whatever is chosen to be told of texts that are no programs
+-- a text has at most one end, whichever faults are chosen for texts that are no programs
 abbrev pub OneEndOfText : Type 0
 OneEndOfText = (choice : Choice) → PassesPrograms choice → (text : List ℕ) (end other : End) → RunsTo (chosen_by choice) text end → RunsTo (chosen_by choice) text other → end ≡ other

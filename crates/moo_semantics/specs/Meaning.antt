@@ -1,5 +1,6 @@
 -- What expressions and statements do: a big-step relation between a state, an outcome and the state after it. A verb
--- call runs statements, so all rules are one block. T says what may be told of a text that is no program.
+-- call runs statements, so all rules are one block. T says which faults may be reported for a text that is no
+-- program.
 use Rattle.std.specs.Prelude.{◌≡◌, ◌<◌, ◌+ℤ◌, ℕ, ℤ, pos, true, false, List, [], ◌∷◌, Option, Some, None, Result, Ok, Err, int_le}
 use Rattle.moo_value.specs.declared.error_code.ErrorCode.TheVariants.{VariableNotFound, TypeMismatch}
 use Rattle.moo_value.specs.declared.error_code.ErrorCode.{ErrorCode}
@@ -47,7 +48,7 @@ mutual
         0 < s.ticks → Computes T c e (ticked s) o s' → settled c.frame.d (trace c s') o ≡ r →
         Evaluates T c e s r s'
 
-  -- Its operands come first, then the places in them; where one of these stops, so does the expression.
+  -- Its operands come first, then the places in them; if one of these stops, so does the expression.
   pub data Computes (T : Telling) : Context → Expr → State → Result Tree Failure → State → Type 0 where
     operands_end : {c : Context} {e : Expr} {s s' : State} {failure : Failure} →
         EvaluatesAll T c (operands e) s (Err failure) s' →
@@ -152,8 +153,8 @@ mutual
         Evaluates T c a s o s' → caught codes vs o ≡ Some code → Evaluates T c b s' p s'' → passes p ≡ r →
         Applies T c (catch_or a codes b) vs [] s r s''
 
-  -- A function that calls verbs goes on: what a verb answers goes to the next stage, and where the verb stops so does the
-  -- function.
+  -- A function that calls verbs goes on: the value of a verb goes to the next stage, and if the verb stops so does
+  -- the function.
   pub data Proceeds (T : Telling) : Context → Progress → State → Result Tree Failure → State → Type 0 where
     is_done : {c : Context} {s : State} {r : Result Tree Failure} →
         Proceeds T c (done r) s r s
@@ -206,7 +207,7 @@ mutual
         Steps T c root steps spot s (Ok step) s' → Enters T c root (step ∷ steps) rest s' o s'' →
         Enters T c root steps (spot ∷ rest) s o s''
 
-  -- A container is read before the places in it are evaluated, where `$` measures it.
+  -- A container is read before the places in it are evaluated; in them `$` is the container's length.
   pub data Steps (T : Telling) : Context → Root → List Step → Items → State → Result Step Failure → State → Type 0 where
     unread : {c : Context} {root : Root} {steps : List Step} {spot : Items} {s : State} {failure : Failure} →
         answers (held s.world s.programmer root steps s.variables) ≡ Err failure →
@@ -218,7 +219,7 @@ mutual
         answers (held s.world s.programmer root steps s.variables) ≡ Ok x → EvaluatesAll T (within c (x ∷ [])) spot s (Ok ys) s' →
         Steps T c root steps spot s (Ok (record { container = x; places = ys })) s'
 
-  -- Where a container can't be rebuilt nothing is stored.
+  -- If a container can't be rebuilt, nothing is stored.
   pub data Stores (T : Telling) : Context → Root → List Step → Tree → State → Result (Unit {0}) Failure → State → Type 0 where
     no_store : {c : Context} {root : Root} {steps : List Step} {v : Tree} {s : State} {failure : Failure} →
         answers (rebuilt steps (Ok v)) ≡ Err failure →
@@ -400,8 +401,8 @@ mutual
         int_le n span.high ≡ true → Turns T c (Some x) (bind x (numbered span.are_objects n) ∷ []) b s None s' → Counts T c x span (n +ℤ pos 1) b s' o s'' →
         Counts T c x span n b s o s''
 
-  -- An error that a handler names is handled. What it is told comes before its statements; past the limits E_QUOTA is
-  -- raised out of the `try`, whatever the d bit.
+  -- An error that a handler names is handled. Its variable is set before its statements run; past the limits E_QUOTA
+  -- is raised out of the `try`, whatever the d bit.
   pub data Handles (T : Telling) : Context → List Guarded → Result Flow Stop → State → Result Flow Stop → State → Type 0 where
     nothing_raised : {c : Context} {all : List Guarded} {flow : Flow} {s : State} →
         Handles T c all (Ok flow) s (Ok flow) s

@@ -27,7 +27,7 @@ operands (assign t e) = no_items
 operands (catch a codes) = guards codes
 operands (catch_or a codes b) = guards codes
 
--- the parts that are evaluated next, where `$` measures the first operand
+-- the parts that are evaluated next; in them `$` is the length of the first operand
 abbrev pub places : Expr → Items
 places (literal l) = no_items
 places (variable name) = no_items
@@ -51,12 +51,13 @@ abbrev pub before : List Tree → Result (List Tree) Failure → Result (List Tr
 before vs (Ok ws) = Ok (vs ++ ws)
 before vs (Err failure) = Err failure
 
--- the assigned value, where nothing failed
+-- the assigned value, if nothing failed
 abbrev pub with_value : Tree → Result (Unit {0}) Failure → Result Tree Failure
 with_value v (Ok done) = Ok v
 with_value v (Err failure) = Err failure
 
--- what a called verb answers: the value that it returns, and 0 where it comes to its end; no jump leaves a program of the grammar
+-- what a called verb returns: the value that it returns, and 0 if it comes to its end; no jump leaves a program of
+-- the grammar
 abbrev pub answered : Result Flow Stop → Result Tree Failure
 answered (Ok next) = Ok (integer (pos 0))
 answered (Ok (returned v)) = Ok v

@@ -53,8 +53,8 @@ pub record TaskEnds (T : Telling) (around : Surroundings) (start : Frame) (befor
   pub leaves : last.world ≡ after
   pub asks : last.notices ≡ notices
 
--- For one input an expression, statements and a task have at most one result, whatever is chosen to be told of texts that are no
--- programs.
+-- For one input an expression, statements and a task have at most one result, whichever faults are chosen for texts
+-- that are no programs.
 abbrev pub OneResultOfExpressions : Type 0
 OneResultOfExpressions = (choice : Choice) → PassesPrograms choice → (c : Context) (e : Expr) (s s' t : State) (o p : Result Tree Stop) → Evaluates (chosen_by choice) c e s o s' → Evaluates (chosen_by choice) c e s p t → (o ≡ p) × (s' ≡ t)
 

@@ -4,7 +4,7 @@ use Rattle.moo_value.specs.Text.{literal}
 use Rattle.moo_outcome.specs.Surroundings.{Surroundings}
 use Rattle.moo_semantics.specs.Task.{End, value, uncaught, out_of_ticks}
 
--- nothing is round a program that is typed in by nobody: it is the moment 0, and there are no connections
+-- the surroundings of a program that is typed in by nobody: the moment 0, and no connections
 abbrev pub nowhere : Surroundings
 nowhere = record { moment = 0; connections = [] }
 

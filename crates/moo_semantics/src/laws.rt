@@ -21,8 +21,8 @@ pub fn one_end_of_text()
     ensures { OneEndOfText }
 {}
 
-/// Ticks never rise, and notices only grow: what runs has no more ticks after it than before, and keeps the notices so far as they
-/// are. So a task ends with at most the ticks that it began with.
+/// Ticks never rise, and notices only grow. No step leaves more ticks than it began with, and every step keeps the
+/// earlier notices. So a task ends with at most the ticks that it began with.
 pub fn ticks_never_rise()
     ensures expressions { LaterAfterExpressions }
     ensures statements { LaterAfterStatements }
@@ -31,14 +31,15 @@ pub fn ticks_never_rise()
     ensures tasks { TasksEndInTime }
 {}
 
-/// Each expression, each statement and each turn of a loop takes a tick. Where none is left it is out of ticks, and changes nothing.
+/// Each expression, each statement and each turn of a loop takes a tick. If none is left, the task is out of ticks
+/// and nothing changes.
 pub fn ticks_are_taken()
     ensures expressions { TicksOfExpressions }
     ensures statements { TicksOfStatements }
     ensures turns { TicksOfTurns }
 {}
 
-/// At most 50 frames stand while a verb runs, or a program of `eval`: its own, and those that wait for it.
+/// At most 50 frames exist while a verb, or a program of `eval`, runs: its own, and those that wait for it.
 pub fn at_most_fifty_frames()
     ensures expressions { FramesInExpressions }
     ensures statements { FramesInStatements }
@@ -46,8 +47,8 @@ pub fn at_most_fifty_frames()
     ensures tasks { FramesInTasks }
 {}
 
-/// Where each text that is no program is told one of its faults, chosen once for all, what comes about is among what the program may
-/// come to.
+/// If each text that is no program has one of its faults chosen as the reported one, the result is among those that
+/// the program may have.
 pub fn chosen_faults_may_be_told()
     ensures programs { ProgramsAreNotChosen }
     ensures expressions { ExpressionsByChoice }
@@ -56,7 +57,7 @@ pub fn chosen_faults_may_be_told()
     ensures texts { TextsByChoice }
 {}
 
-/// What comes about where some texts alone are told a fault, none of which has two, is the one result that the program may come to, with
+/// If only texts with exactly one fault are reported, the result is the only one that the program may have, with
 /// nothing chosen.
 pub fn one_result_of_single_faults()
     ensures expressions { OneResultOfExpressionsBy }
@@ -64,16 +65,16 @@ pub fn one_result_of_single_faults()
     ensures tasks { OneResultOfTasksBy }
 {}
 
-/// What these functions answer, where they answer, is their own, whatever the verbs that they call answer or do: `create` the object that
-/// it has made, `move` and `recycle` 0. What was recycled is no object then, and the last notice says so.
+/// A function that calls verbs returns its own value, whatever the verbs return or do: `create` the object that it
+/// has made, `move` and `recycle` 0. A recycled object is then no object, and the last notice says so.
 pub fn functions_answer_their_own()
     ensures creation { CreateAnswersItsObject }
     ensures moves { MoveAnswersZero }
     ensures recycling { RecycledIsGone }
 {}
 
-/// No function of the table is without a group: each is of the task, calls verbs, is over the objects of the world or on code, or gives or
-/// raises something of values.
+/// Every function of the table has a group: it is of the task, calls verbs, is over the objects of the world or on
+/// code, or returns or raises something from values.
 pub fn every_function_has_a_group()
     ensures { EachFunctionHasAGroup }
 {}

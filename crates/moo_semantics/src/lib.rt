@@ -1,5 +1,4 @@
-//! What programs mean: the big-step relation of evaluation, and its laws.
-//! A room behind `moo_eval`.
+//! The meaning of programs: the big-step relation of evaluation, and its laws. An internal crate of `moo_eval`.
 #![tactic(auto)]
 
 pub mod laws;

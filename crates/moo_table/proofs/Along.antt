@@ -15,7 +15,7 @@ use Rattle.moo_table.specs.Steps.{changed_along}
 use Rattle.moo_table.proofs.Joining.{walk_low}
 use Rattle.moo_table.proofs.Rowing.{walk_lists}
 
--- none of them stands twice
+-- none of them occurs twice
 abbrev pub IsOnce : List ℕ → Type 0
 IsOnce [] = Unit {0}
 IsOnce (y ∷ ys) = (list_any (eqb y) ys ≡ false) × IsOnce ys
@@ -48,7 +48,7 @@ module _ (f : Option Object → Option Object) where
   length_changed objects [] = refl
   length_changed objects (y ∷ ys) = length_changed (set objects y (f (object_of objects y))) ys ∙ length-set objects y (f (object_of objects y))
 
-  -- what stands at each number after one change of each
+  -- the object at each number after one change of each
   pub changed_at_each : (objects : List (Option Object)) (ys : List ℕ) → IsOnce ys → All (λ y. y < length objects) ys → (y : ℕ) →
       object_of (changed_along f objects ys) y ≡ cond (list_any (eqb y) ys) (f (object_of objects y)) (object_of objects y)
   changed_at_each objects [] once all y = refl
@@ -67,7 +67,7 @@ module _ (f : Option Object → Option Object) where
       (λ e. rw e (ap (λ o. cond (list_any (eqb y) ys) (f o) o) (get_or-set_other objects z y (f (object_of objects z)) None (eqb-false y z e))))
       (cases_Bool (eqb y z))
 
-  -- a change of all that stand within x is one of all, where it leaves the others as they are
+  -- a change of all objects within x is one of all objects, if it leaves the others as they are
   pub all_along : (objects : List (Option Object)) (tree : List Links) (x : ℕ) (walk : List Step) → IsWalkDown tree x walk → All (λ y. y < length objects) (met walk) →
       ((y : ℕ) → is_within tree y x ≡ false → f (object_of objects y) ≡ object_of objects y) → changed_along f objects (met walk) ≡ map f objects
   all_along objects tree x walk d members elsewhere =

@@ -54,7 +54,7 @@ module _ (objects : List (Option Object)) (tree : List Links) (f : IsJoined obje
   pub place_of_nodes : (p : Option ℕ) → IsValidPlace objects p → IsPlace tree p
   place_of_nodes p valid up is = let h = valid_within objects up (valid up is) in omega (arith, f.many)
 
-  -- what stands below something, or has something below it, is an object
+  -- what is below something, or has something below it, is an object
   pub joined_valid : (x up : ℕ) → above_of tree x ≡ Some up → IsSome (object_of objects x)
   joined_valid x up is = over (object_of objects x) refl
     where

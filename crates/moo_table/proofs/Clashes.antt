@@ -32,7 +32,7 @@ any_alike s t same (x ∷ xs) = ap (λ b. b || list_any s xs) (same x) ∙ ap (�
 abbrev names : List Key → List (List ℕ)
 names ks = map (λ (k : Key). k.1) ks
 
--- of two lists without a name twice, one behind the other
+-- of two lists without a name twice, one after the other
 twice_across : (ns ms : List (List ℕ)) → has_twice ns ≡ false → has_twice ms ≡ false → has_twice (ns ++ ms) ≡ list_any (λ a. list_any (same_name a) ms) ns
 twice_across [] ms one two = two
 twice_across (a ∷ ns) ms one two =
@@ -104,7 +104,7 @@ module _ (objects : List (Option Object)) (tree other : List Links) (x : ℕ) (f
   stands_within : (y : ℕ) (ys : List ℕ) → IsWayUp tree y ys → list_any (eqb x) (y ∷ ys) ≡ true → (z : ℕ) → z ≡ y → is_within tree z x ≡ true
   stands_within y ys way on z same = ap (λ k. is_within tree k x) same ∙ ap (λ ks. list_any (eqb x) (y ∷ ks)) (way_up_is_ancestors tree f.exact y ys way) ∙ on
 
-  -- and what it meets stands within x
+  -- and what it meets is within x
   all_within : (y : ℕ) (ys : List ℕ) → IsWayUp tree y ys → list_any (eqb x) (y ∷ ys) ≡ true → (z : ℕ) → list_any (eqb z) (up_to x (y ∷ ys)) ≡ true → is_within tree z x ≡ true
   all_within y [] way on z here =
       let alone : list_any (eqb z) (y ∷ []) ≡ true = ⊎_elim (λ e. (rw e at here)) (λ e. (rw e at here)) (cases_Bool (eqb x y)) in

@@ -17,7 +17,7 @@ use Rattle.moo_table.specs.Recycling.{without_cells_of}
 use Rattle.moo_table.specs.Verbs.{has_program, one_for}
 use Rattle.moo_table.proofs.Refitting.{object_refitted, length_refitted}
 
--- the programs of what stands at a number
+-- the programs of the object at a number
 abbrev pub programs_on : Option Object → ℕ
 programs_on o = programs_of (unwrap_or o nothing).verbs
 

@@ -261,7 +261,7 @@ module _ (w : World) (x : ℕ) (name : List ℕ) (cell : Cell) (f : IsWellFormed
         few_programs = omega (arith, programs_defined w.objects w.inheritance x name cell (valid_within w.objects x valid), f.few_programs);
       }
 
-  -- what does not stand within x has the cells that fitting gives it
+  -- what is not within x has the cells that fitting gives it
   pub fitted_outside : (y : ℕ) → is_within w.inheritance y x ≡ false → fitted_along (with_definition_on w.objects x name cell) (y ∷ ancestors w.inheritance y) ≡ (thing_of (with_definition_on w.objects x name cell) y).cells
   fitted_outside y off =
       fitted_apart (y ∷ ancestors w.inheritance y) off ∙ already_fitted w f y (ancestors w.inheritance y) (f.parents.forest.rooted y) ∙

@@ -36,7 +36,7 @@ key_here name (d ∷ ds) c h =
     other false b e = refl
 
 module _ (w : World) (x : ℕ) (name : List ℕ) (c : Cell) (f : IsWellFormed w) (found : cell_named (thing_of w.objects x).cells name ≡ Some c) where
-  -- and tells which definition has the name
+  -- and determines which definition has the name
   pub named_definition : Some (let k : Key = (c.definer, name) in k) ≡ definition_named w x name
   named_definition =
       ap (λ r. option_map (λ d. (let k : Key = (d, name) in k)) (option_map (λ (c : Cell). c.definer) r)) (sym found) ∙

@@ -19,7 +19,7 @@ use Rattle.moo_table.proofs.Clashes.{clash_tested}
 use Rattle.moo_table.proofs.Changing.{IsValidPlace, valid_within, joined_valid, outside_well_formed, rejoined, parent_cells, top_row}
 
 module _ (objects : List (Option Object)) (tree : List Links) (f : IsJoined objects tree) (x : ℕ) (valid : IsSome (object_of objects x)) where
-  -- what stands within an object is one
+  -- what is within an object is one
   pub within_valid : (y : ℕ) → is_within tree y x ≡ true → IsSome (object_of objects y)
   within_valid y h = ⊎_elim
       (λ e. subst (λ n. IsSome (object_of objects n)) (eqb-true x y e) valid)

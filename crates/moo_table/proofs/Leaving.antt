@@ -101,7 +101,7 @@ module _ (w : World) (x : ℕ) (f : IsWellFormed w) (valid : IsSome (object_of w
   place_node : x < length w.containment
   place_node = node_of w.objects w.containment f.places x valid
 
-  -- what stands at each number afterwards
+  -- the object at each number afterwards
   at : (y : ℕ) → object_of (after_recycle w x).objects y ≡ without_cells_of x (object_of (set w.objects x None) y)
   at y =
       let before = set w.objects x None in

@@ -59,7 +59,7 @@ clash_named objects cells (y ∷ ys) =
     ∙ ap (λ b. b || list_any p (own_names objects ys)) (all_named cells (thing_of objects y).defined)
     ∙ ap (λ b. own_clash objects cells y || b) (clash_named objects cells ys)
 
--- where they define none, none clashes
+-- if they define none, none clashes
 pub none_named : (objects : List (Option Object)) (cells : List Cell) (ys : List ℕ) (own : List (List ℕ)) → own ≡ own_names objects ys → length own ≡ 0 → false ≡ list_any (own_clash objects cells) ys
 none_named objects cells ys [] is empty = ap (list_any (λ n. list_any (λ m. same_name m n) (map (λ (c : Cell). c.name) cells))) is ∙ clash_named objects cells ys
 none_named objects cells ys (n ∷ own) is empty = absurd (omega arith)

@@ -20,7 +20,7 @@ use Rattle.moo_table.proofs.Counting.{programs_added}
 use Rattle.moo_table.proofs.Changing.{valid_within, not_valid, IsValidPlace}
 use Rattle.moo_table.proofs.Refitting.{definer_elsewhere, key_within, IsStoredCell, IsOwnedCell, owned_cleared}
 
--- what stands at the other numbers stays
+-- the object at the other numbers stays
 pub object_before : (objects : List (Option Object)) (o : Object) (y : ℕ) → (y ≡ length objects → ⊥) → object_of (objects ++ Some o ∷ []) y ≡ object_of objects y
 object_before objects o y other =
     ⊎_elim

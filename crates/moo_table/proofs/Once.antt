@@ -1,4 +1,4 @@
--- Where no name stands twice, what has a name is what is found for it.
+-- Where no name occurs twice, what has a name is what is found for it.
 use Rattle.std.proofs.Common.{◌≡◌, ℕ, zero, suc, ◌+◌, ◌<◌, List, [], ◌∷◌, Some, true, false, refl, sym, ◌∙◌, ap, ⊎_elim, IfSome, map, get_or, slice_get, length, arith}
 use Rattle.std.specs.List.{position, position_or_len, list_any}
 use Rattle.std.proofs.lemmas.Bool.{cases_Bool, false≢true, lt-ltb, or_parts}
@@ -11,7 +11,7 @@ use Rattle.moo_table.specs.World.{has_twice}
 abbrev names : List Cell → List (List ℕ)
 names cells = map (λ (k : Key). k.1) (map key_of cells)
 
--- a name that stands at a place is one of the names
+-- a name at a place is one of the names
 stands : (n : List ℕ) (cells : List Cell) (i : ℕ) (c : Cell) → slice_get cells i ≡ Some c → same_name n c.name ≡ true → list_any (same_name n) (names cells) ≡ true
 stands n [] i c at same = let past = slice_get_within [] i c at in absurd (omega (arith, past))
 stands n (d ∷ ds) zero c at same =

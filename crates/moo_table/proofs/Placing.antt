@@ -153,7 +153,7 @@ own_placed x (Some o) name cell above valid own apart = record {
     mine : own_cells x (cell ∷ []) ≡ cell ∷ []
     mine = let e = eq-eqb cell.definer x own in rw e refl
 
--- the row of an object below: a clear cell where its parent has one more
+-- the row of an object below: a clear cell if its parent has one more
 below_placed : (z : ℕ) (o : Object) (k : ℕ) (c : Cell) (above above' : List Cell) → cell_at o.cells (key_of c) ≡ None → Placed k c above above' → Placed k (cleared o.owner c) (fitted_row z o above) (fitted_row z o above')
 below_placed z o k c above above' none p = record {
   front = own_cells z o.cells ++ map (fitted_cell o) p.front;
@@ -179,7 +179,7 @@ module _ (w : World) (x : ℕ) (name : List ℕ) (cell : Cell) (f : IsWellFormed
   abbrev cell_for : ℕ → Cell
   cell_for z = cond (eqb z x) cell (cleared (thing_of w.objects z).owner cell)
 
-  -- how many cells it stands before
+  -- how many cells it comes before
   abbrev cells_behind : ℕ
   cells_behind = length (fitted_along w.objects (ancestors w.inheritance x))
 

@@ -15,7 +15,7 @@ use Rattle.moo_object.specs.Objects.{Object, fitted_cell}
 use Rattle.moo_object.specs.Cells.{Cell, Key, key_of, cleared, cell_at, is_key}
 use Rattle.moo_table.proofs.FittedRows.{fitted_key, own_cells, IsOwnExact, keys_fitted}
 
--- what stands at each number once refitted
+-- the object at each number once refitted
 pub object_refitted : (objects : List (Option Object)) (tree : List Links) (x : ℕ) → object_of (refitted objects tree) x ≡ refitted_object objects tree x
 object_refitted objects tree x =
     ⊎_elim
@@ -198,7 +198,7 @@ owned_along : (objects : List (Option Object)) → ((x : ℕ) → HasNumbers (th
 owned_along objects n [] = All-nil IsOwnedCell
 owned_along objects n (x ∷ way) = owned_over x (object_of objects x) (fitted_along objects way) (n x) (owned_along objects n way)
 
--- an object with other cells keeps the limits where these do
+-- an object with other cells keeps the limits if these do
 pub fine_with_cells : (o : Option Object) (cells : List Cell) → IsFine (unwrap_or o nothing) → All IsStoredCell (unwrap_or (with_cells o cells) nothing).cells → All IsOwnedCell (unwrap_or (with_cells o cells) nothing).cells → length (unwrap_or (with_cells o cells) nothing).cells ≤ most →
     IsFine (unwrap_or (with_cells o cells) nothing)
 fine_with_cells None cells f stored owned few = f
@@ -223,7 +223,7 @@ was_none objects tree x h = kept_none (object_of objects x) (fitted_along object
 pub joined_kept : (old new : List (Option Object)) (tree : List Links) → length new ≡ length old → ((x : ℕ) → object_of new x ≡ None → object_of old x ≡ None) → IsJoined old tree → IsJoined new tree
 joined_kept old new tree many none f = record { forest = f.forest; many = f.many ∙ sym many; free = λ x h. f.free x (none x h) }
 
--- objects fitted to a tree have what they should, where no object has two definitions of one name or too many properties
+-- objects fitted to a tree have what they should, if no object has two definitions of one name or too many properties
 pub fitted_stocked : (objects : List (Option Object)) (tree : List Links) → IsJoined objects tree → IsOwnExact objects → ((x : ℕ) → All (IsFilled x) (thing_of objects x).cells) →
     ((x : ℕ) → IsFine (thing_of objects x)) → clashes objects tree ≡ false → crowds objects tree ≡ false → IsStocked (refitted objects tree) tree
 fitted_stocked objects tree f own filled fine none room = record {

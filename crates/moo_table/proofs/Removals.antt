@@ -124,7 +124,7 @@ kept_whole k None all = refl
 kept_whole k (Some o) all = ap (λ cs. Some (let r : Object = record o { cells = cs } in r)) (kept_cells k o.cells all)
 
 module _ (w : World) (x : ℕ) (name : List ℕ) (f : IsWellFormed w) (valid : IsSome (object_of w.objects x)) where
-  -- what stands at each number afterwards
+  -- the object at each number afterwards
   at : (y : ℕ) → object_of (after_undefine w x name).objects y ≡ without_cell (x, name) (object_of (set w.objects x (without_name name (object_of w.objects x))) y)
   at y =
       let before = set w.objects x (without_name name (object_of w.objects x)) in

@@ -67,7 +67,7 @@ same_renamed k n (j ∷ ks) same = ⊎_elim
     right_true true b h = h
     right_true false b h = absurd (false≢true h)
 
--- no name stands twice afterwards, where the new one is free
+-- no name occurs twice afterwards, if the new one is free
 apart_after : (k : Key) (n m : List ℕ) (ks : List Key) → same_name m n ≡ false → list_any (same_name m) (names_in ks) ≡ false → list_any (same_name m) (names_in (map (renamed_key k n) ks)) ≡ false
 apart_after k n m [] ne h = refl
 apart_after k n m (j ∷ ks) ne h =
@@ -206,7 +206,7 @@ object_untouched : (k : Key) (n : List ℕ) (o : Option Object) → All (λ c. i
 object_untouched k n None all = refl
 object_untouched k n (Some o) all = ap (λ cs. Some (let r : Object = record o { cells = cs } in r)) (cells_untouched k n o.cells all)
 
--- where no name stands twice, the first cell for a definition is the only one
+-- if no name occurs twice, the first cell for a definition is the only one
 first_is_only : (k : Key) (n : List ℕ) (cells : List Cell) → has_twice (names_in (map key_of cells)) ≡ false → with_new_name k n cells ≡ map (at_key k (renamed n)) cells
 first_is_only k n [] once = refl
 first_is_only k n (c ∷ cs) once =
@@ -236,7 +236,7 @@ module _ (w : World) (x : ℕ) (name n : List ℕ) (f : IsWellFormed w) (valid :
   abbrev key : Key
   key = (x, name)
 
-  -- what stands at each number afterwards
+  -- the object at each number afterwards
   at : (y : ℕ) → object_of after y ≡ option_map (with_renamed_cell key (folded n)) (object_of before y)
   at y = ⊎_elim
       (λ h. get_or-map (option_map (with_renamed_cell key (folded n))) before y None None h)

@@ -32,7 +32,7 @@ none_respelled name n (d ∷ ds) h = ⊎_elim
     rw e (ap (λ es. d ∷ es) (none_respelled name n ds (omega (arith, rest)))))
     (cases_Bool (same_name name (folded d)))
 
--- a name that nobody has is not spelled otherwise
+-- a name that no object has is not respelled
 pub unspelled : (name n : List ℕ) (ds : List (List ℕ)) → None ≡ position (λ d. same_name name (folded d)) ds → ds ≡ respelled name n ds
 unspelled name n ds is = none_respelled name n ds (ltb-false (position_or_len (λ d. same_name name (folded d)) ds) (length ds) (not_there _ _ is))
   where

@@ -19,7 +19,7 @@ use Rattle.moo_table.specs.World.{object_of, thing_of, fitted_over, fitted_along
 use Rattle.moo_table.specs.Steps.{AreFitted, with_rows, is_crowded_by}
 use Rattle.moo_table.proofs.Refitting.{all_fail, passes, fails, cells_stay}
 
--- what a walk meets stands within the node that it begins with
+-- what a walk meets is within the node that it begins with
 pub walked_within : (tree : List Links) (x : ℕ) (walk : List Step) → IsWalkDown tree x walk → (k : ℕ) → k < length walk → is_within tree (step_at walk k).node x ≡ true
 walked_within tree x walk w k h =
     let many = length-map walk (λ (s : Step). s.node) in
@@ -61,7 +61,7 @@ length_rows objects [] rows = refl
 length_rows objects (y ∷ ys) [] = refl
 length_rows objects (y ∷ ys) (row ∷ rows) = length-set (with_rows objects ys rows) y (with_cells (object_of (with_rows objects ys rows) y) row) ∙ length_rows objects ys rows
 
--- what stands at each number once the rows are put in place
+-- the object at each number once the rows are put in place
 pub rows_put : (objects : List (Option Object)) (f : ℕ → List Cell) (ys : List ℕ) → All (λ y. y < length objects) ys → (y : ℕ) →
     object_of (with_rows objects ys (map f ys)) y ≡ cond (list_any (eqb y) ys) (with_cells (object_of objects y) (f y)) (object_of objects y)
 rows_put objects f [] all y = refl
@@ -81,13 +81,13 @@ rows_put objects f (z ∷ ys) all y =
     (λ e. rw e (get_or-set_other rest z y (with_cells (object_of rest z) (f z)) None (eqb-false y z e) ∙ rows_put objects f ys tail y))
     (cases_Bool (eqb y z))
 
--- what does not stand within x has the cells that fitting gives it, and no two of one name, nor too many
+-- what is not within x has the cells that fitting gives it, and no two of one name, nor too many
 pub record IsFittedOutside (objects : List (Option Object)) (tree : List Links) (x : ℕ) : Type 0 where
   pub fitted : (y : ℕ) → is_within tree y x ≡ false → fitted_along objects (y ∷ ancestors tree y) ≡ (thing_of objects y).cells
   pub once : (y : ℕ) → is_within tree y x ≡ false → has_clash objects tree y ≡ false
   pub roomy : (y : ℕ) → is_within tree y x ≡ false → is_crowded objects tree y ≡ false
 
--- another tree, in which only what stands above x may differ
+-- another tree, in which only what is above x may differ
 pub record IsRejoined (tree other : List Links) (x : ℕ) : Type 0 where
   pub forest : IsForest other
   pub above : (y : ℕ) → y ≢ x → above_of other y ≡ above_of tree y
@@ -148,7 +148,7 @@ module _ (objects : List (Option Object)) (tree other : List Links) (x : ℕ) (w
           let at = get_or_default (met walk) k d 0 h ∙ node_met walk k low in
           subst (λ y. y < length objects) (sym at) (inside (step_at walk k).node (walked_within tree x walk w k low))
 
-  -- a test along the walk is one of all objects, where those outside fail it
+  -- a test along the walk is one of all objects, if those outside fail it
   walk_tested : (g u : ℕ → Bool) → ((y : ℕ) → is_within tree y x ≡ true → y < length objects) → ((y : ℕ) → is_within tree y x ≡ true → g y ≡ u y) → ((y : ℕ) → is_within tree y x ≡ false → u y ≡ false) →
       list_any g (met walk) ≡ list_any u (range_with_len 0 (length objects))
   walk_tested g u inside same none = ⊎_elim

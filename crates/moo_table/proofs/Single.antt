@@ -87,7 +87,7 @@ module _ (w : World) (x : ℕ) (f : Object → Object) (wf : IsWellFormed w) (va
         few_programs = programs;
       }
 
--- the same with a count of the programs
+-- a world with one object changed, with a count of the programs
 module _ (w : World) (x : ℕ) (f : Object → Object) (n : ℕ) (c : IsCounted w n) (valid : IsSome (object_of w.objects x)) (keeps : KeepsShape x f (thing_of w.objects x)) where
   -- a change that leaves as many
   pub object_kept : programs_of (f (thing_of w.objects x)).verbs ≡ programs_of (thing_of w.objects x).verbs → IsCounted (with_object w x f) n

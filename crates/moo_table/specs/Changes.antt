@@ -56,7 +56,7 @@ abbrev pub without_name : List ℕ → Option Object → Option Object
 without_name name None = None
 without_name name (Some o) = Some (record o { defined = filter (λ n. not (same_name name (folded n))) o.defined })
 
--- the world once x no longer defines a name: nobody has a cell for it
+-- the world once x no longer defines a name: no object has a cell for it
 abbrev pub after_undefine : World → ℕ → List ℕ → World
 after_undefine w x name = record w { objects = map (without_cell (x, name)) (slice_set w.objects x (without_name name (object_of w.objects x))) }
 
@@ -86,7 +86,7 @@ with_value_of name v o = record o { cells = with_value name v o.cells }
 abbrev pub with_value_at : ℕ → Tree → Object → Object
 with_value_at place v o = record o { cells = changed_at place (valued v) o.cells }
 
--- x is the new place, or stands above it
+-- x is the new place, or is above it
 abbrev pub would_loop : List Links → ℕ → Option ℕ → Bool
 would_loop tree x None = false
 would_loop tree x (Some up) = is_within tree up x

@@ -12,7 +12,7 @@ use Rattle.moo_object.specs.declared.built_in_property.BuiltInProperty.TheVarian
 use Rattle.moo_operation.specs.Truth.{is_true}
 use Rattle.moo_table.specs.Changes.{with_value_of}
 
--- an object with a name, where the value is a string
+-- an object with a name, if the value is a string
 abbrev pub with_name : Tree → Object → Object
 with_name (integer i) o = o
 with_name (object n) o = o
@@ -20,7 +20,7 @@ with_name (error e) o = o
 with_name (string s) o = record o { name = s }
 with_name (list es) o = o
 
--- an object with an owner, where the value is an object's number
+-- an object with an owner, if the value is an object's number
 abbrev pub with_owner : Tree → Object → Object
 with_owner (integer i) o = o
 with_owner (object n) o = record o { owner = n }

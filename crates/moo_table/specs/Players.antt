@@ -7,7 +7,7 @@ use Rattle.moo_object.specs.declared.flags.Flags.{Flags}
 use Rattle.moo_table.specs.World.{World}
 use Rattle.moo_table.specs.Changes.{changed_on}
 
--- a list of players with one more, last, where it is not there yet, or without every entry of one
+-- a list of players with one more at its end, if it is not in it yet, or without every entry of one
 abbrev pub players_with : List ℤ → ℤ → Bool → List ℤ
 players_with ps p true = if list_any (int_eq p) ps then ps else ps ++ p ∷ []
 players_with ps p false = filter (λ q. not (int_eq p q)) ps

@@ -9,7 +9,7 @@ use Rattle.moo_object.specs.Cells.{Key, cell_at}
 use Rattle.moo_object.specs.Objects.{Object}
 use Rattle.moo_table.specs.World.{World, nothing, object_of, definitions, most}
 
--- what is found at an object for a definition: the value of its cell, where that is not clear
+-- what is found at an object for a definition: the value of its cell, if that is not clear
 abbrev pub value_in : Option Object → Key → Option Tree
 value_in o k = option_and_then (λ c. c.value) (cell_at (unwrap_or o nothing).cells k)
 

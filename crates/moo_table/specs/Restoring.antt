@@ -1,4 +1,4 @@
--- A world from what a database says: the cells of an object stand in the order of definitions, without their names.
+-- A world from what a database says: the cells of an object are in the order of definitions, without their names.
 use Rattle.std.specs.Prelude.{◌≡◌, ℕ, ◌≤◌, ℤ, List, [], ◌∷◌, Option, true, false, length, map, take, is_some, FitsSigned}
 use Rattle.std.specs.Int.{w32}
 use Rattle.std.specs.List.{range_with_len, All}

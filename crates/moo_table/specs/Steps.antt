@@ -1,4 +1,5 @@
--- The steps of changes, for the functions that changes are made of: the meaning of a change needs none of these words.
+-- The steps of changes, for the functions that changes are made of: the meaning of a change needs none of these
+-- definitions.
 use Rattle.std.specs.Prelude.{◌≡◌, ◌⊎◌, ℕ, ◌<◌, ◌+◌, List, [], ◌∷◌, ◌++◌, Option, Some, None, Bool, true, false, length, slice_index_or, slice_set, map, nat_lt, is_some, FitsSigned}
 use Rattle.std.specs.Int.{w32}
 use Rattle.std.specs.List.{list_any}
@@ -54,7 +55,7 @@ abbrev pub with_clear_cell : ℕ → Cell → Option Object → Option Object
 with_clear_cell k cell None = None
 with_clear_cell k cell (Some o) = Some (record o { cells = put_before k (cleared o.owner cell) o.cells })
 
--- an object with one more definition of its own, whose cell stands before the last k of its cells
+-- an object with one more definition of its own, whose cell comes before the last k of its cells
 abbrev pub with_own_cell : ℕ → List ℕ → Cell → Option Object → Option Object
 with_own_cell k name cell None = None
 with_own_cell k name cell (Some o) = Some (record o { defined = o.defined ++ name ∷ []; cells = put_before k cell o.cells })
@@ -86,7 +87,7 @@ defined_along k name cell objects (x ∷ ys) =
     let below = changed_along (with_clear_cell k cell) objects ys in
     slice_set below x (with_own_cell k name cell (object_of below x))
 
--- a definition that keeps a world well formed: of a name that is free, with a cell of its own, where there is room
+-- a definition that keeps a world well formed: of a name that is free, with a cell of its own, if the limits allow it
 pub record IsDefinable (w : World) (x : ℕ) (name : List ℕ) (cell : Cell) : Type 0 where
   pub free : is_taken w.objects w.inheritance x (folded name) ≡ false
   pub roomy : is_full w.objects w.inheritance x ≡ false
@@ -96,7 +97,7 @@ pub record IsDefinable (w : World) (x : ℕ) (name : List ℕ) (cell : Cell) : T
   pub owner : FitsSigned w32 cell.owner
   pub string : IsString name
 
--- another name that keeps a world well formed: the same in other letters, or one that is free
+-- a new name that keeps a world well formed: the old one in other letters, or one that is free
 pub record IsRenamable (w : World) (x : ℕ) (name spelling : List ℕ) : Type 0 where
   pub free : (folded spelling ≡ name) ⊎ (is_taken w.objects w.inheritance x (folded spelling) ≡ false)
   pub string : IsString spelling

@@ -1,4 +1,4 @@
--- Verbs that fit a name, on an object and its ancestors, and verbs that have a program.
+-- Verbs that match a name, on an object and its ancestors, and verbs that have a program.
 use Rattle.std.specs.Prelude.{ℕ, List, ◌∷◌, Option, Bool, slice_get, is_some, if◌then◌else◌, ◌+◌, ◌-◌}
 use Rattle.std.specs.Option.{option_map, option_and_then}
 use Rattle.std.specs.List.{filter_map, position}
@@ -9,7 +9,7 @@ use Rattle.moo_object.specs.declared.verb.Need.{Need}
 use Rattle.moo_object.specs.declared.verb.Verb.{Verb}
 use Rattle.moo_table.specs.World.{World, thing_of, programs_in}
 
--- an object's first verb that fits, as the object's number and the verb's place
+-- an object's first verb that matches, as the object's number and the verb's place
 abbrev pub verb_at : List (Option Object) → Need → List ℕ → ℕ → Option (ℕ × ℕ)
 verb_at objects need name y = option_map (λ i. (y, i)) (position (fits_verb need name) (thing_of objects y).verbs)
 

@@ -26,7 +26,7 @@ object_of objects x = slice_index_or objects x None
 abbrev pub nothing : Object
 nothing = record { name = []; owner = pos 0; flags = no_flags; verbs = []; defined = []; cells = [] }
 
--- what stands at a number, as an object that has nothing where it is not valid
+-- what is at a number, as an object that has nothing if it is not valid
 abbrev pub thing_of : List (Option Object) → ℕ → Object
 thing_of objects x = unwrap_or (object_of objects x) nothing
 
@@ -42,7 +42,7 @@ keys_along objects (x ∷ way) = keys_defined_on objects x ++ keys_along objects
 abbrev pub definitions : List (Option Object) → List Links → ℕ → List Key
 definitions objects tree x = keys_along objects (x ∷ ancestors tree x)
 
--- whether a name stands twice
+-- whether a name occurs twice
 abbrev pub has_twice : List (List ℕ) → Bool
 has_twice [] = false
 has_twice (x ∷ xs) = list_any (same_name x) xs || has_twice xs
@@ -74,7 +74,7 @@ is_crowded objects tree x = nat_lt most (length (definitions objects tree x))
 abbrev pub crowds : List (Option Object) → List Links → Bool
 crowds objects tree = list_any (is_crowded objects tree) (range_with_len 0 (length objects))
 
--- the same of what stands at a number: nothing more where it is not valid
+-- the fitted cells of the object at a number; the given cells alone if it is not valid
 abbrev pub fitted_over : ℕ → Option Object → List Cell → List Cell
 fitted_over x None above = above
 fitted_over x (Some o) above = fitted_row x o above

@@ -1,4 +1,4 @@
-//! Names of properties that would clash under another parent.
+//! Tests whether names of properties would clash under another parent.
 
 ghost use Rattle.std.specs.Prelude.{◌≡◌, ◌<◌, ◌++◌, IfOk, OnOk, length, map, ℕ};
 ghost use Rattle.std.specs.Option.{unwrap_or};
@@ -16,8 +16,8 @@ use moo_value::MooStr;
 use std::alloc::{AllocError, Global};
 use std::collections::BTreeMap;
 
-/// Whether some object on a walk defines a name that one of these cells has. The cells' names are put
-/// in order once, and each name that is defined is looked for in them.
+/// Returns whether some object on a walk defines a name that one of these cells has; Err is lack of memory. It sorts
+/// the cells' names once, and searches them for each defined name.
 pub fn names_clash(
     objects: &[Option<Object>],
     alloc: Global,
@@ -35,7 +35,7 @@ pub fn names_clash(
     some_stands_in(alloc, &gained, &own)
 }
 
-// The names that the objects on a walk define, letters folded.
+// Returns the names that the objects on a walk define, letters folded.
 fn names_below(
     objects: &[Option<Object>],
     alloc: Global,
@@ -79,7 +79,7 @@ fn cell_names(alloc: Global, cells: &[PropCell]) -> Result<Vec<MooStr>, AllocErr
     Ok(names)
 }
 
-// Whether one of the second names is among the first ones.
+// Returns whether one of the second names is among the first ones.
 fn some_stands_in<'a>(
     alloc: Global,
     names: &'a [MooStr],

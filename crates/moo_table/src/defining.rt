@@ -1,4 +1,4 @@
-//! New definitions of one object and the cells for them, and what is tested of those that inherit from it.
+//! New definitions on an object, the cells for them, and the tests of the objects that inherit from it.
 
 ghost use Rattle.std.specs.Prelude.{◌≡◌, ◌<◌, length, vec_len, List, OnOk, OnErr, Option, Some, ℕ, nat_le, None};
 ghost use Rattle.std.specs.Option.{unwrap_or};
@@ -16,7 +16,7 @@ use moo_object::{Object, PropCell};
 use moo_value::MooStr;
 use std::alloc::AllocError;
 
-/// Whether some object on a walk has a property of this name.
+/// Returns whether some object on a walk has a property of this name.
 pub fn some_named(objects: &[Option<Object>], walk: &[Step], name: &[u8]) -> bool
     requires { (k : ℕ) → k < length walk.now → (step_at walk.now k).node < length objects.now }
     ensures { result ≡ list_any (λ y. list_any (is_named (folded name.now)) (thing_of objects.now y).cells) (met walk.now) }
@@ -29,7 +29,7 @@ pub fn some_named(objects: &[Option<Object>], walk: &[Step], name: &[u8]) -> boo
     false
 }
 
-/// Whether an object has a property of this name, its own or an inherited one.
+/// Returns whether an object has a property of this name, its own or an inherited one.
 pub fn named_in(slot: &Option<Object>, name: &[u8]) -> bool
     ensures { result ≡ list_any (is_named (folded name.now)) (unwrap_or slot.now nothing).cells }
 {
@@ -39,7 +39,7 @@ pub fn named_in(slot: &Option<Object>, name: &[u8]) -> bool
     }
 }
 
-/// Whether some object on a walk has as many properties as it may have.
+/// Returns whether some object on a walk has as many properties as it may have.
 pub fn some_full(objects: &[Option<Object>], walk: &[Step]) -> bool
     requires { (k : ℕ) → k < length walk.now → (step_at walk.now k).node < length objects.now }
     ensures { result ≡ list_any (λ y. nat_le most (length (thing_of objects.now y).cells)) (met walk.now) }
@@ -52,7 +52,7 @@ pub fn some_full(objects: &[Option<Object>], walk: &[Step]) -> bool
     false
 }
 
-/// Whether an object has as many properties as it may have, inherited ones too.
+/// Returns whether an object has as many properties as it may have, inherited ones too.
 pub fn full_in(slot: &Option<Object>) -> bool
     ensures { result ≡ nat_le most (length (unwrap_or slot.now nothing).cells) }
 {
@@ -62,9 +62,8 @@ pub fn full_in(slot: &Option<Object>) -> bool
     }
 }
 
-/// Adds a definition with its cell to the first object of a walk, and a clear cell for it to each other one. In
-/// each row the cell stands before those that the first object inherits, of which there are `behind`. Where memory
-/// is short, nothing changes.
+/// Adds a definition with its cell to the first object of a walk, and a clear cell for it to each other one. In each
+/// row the cell comes before the `behind` cells that the first object inherits. If memory runs out, nothing changes.
 pub fn define_along(
     objects: &mut Vec<Option<Object>>,
     walk: &[Step],
@@ -134,7 +133,7 @@ fn add_clear_in(slot: &mut Option<Object>, cell: &PropCell, behind: usize) -> Re
     }
 }
 
-// Takes the cells away again that were added along a walk.
+// Removes the cells that were added along a walk.
 fn take_along(objects: &mut Vec<Option<Object>>, walk: &[Step], behind: usize)
     requires { (k : ℕ) → k < length walk.now → (step_at walk.now k).node < vec_len objects.old }
     ensures back { (cell : Cell) (before : List (Option Contents)) → objects.old.items ≡ changed_along (with_clear_cell behind cell) before (met walk.now) → objects.new.items ≡ before }

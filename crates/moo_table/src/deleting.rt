@@ -1,4 +1,4 @@
-//! Definitions and cells that are taken away.
+//! Removes definitions and their cells.
 
 ghost use Rattle.std.specs.Prelude.{◌≡◌, ◌<◌, length, vec_len, ℕ};
 ghost use Rattle.std.specs.Option.{unwrap_or};
@@ -13,7 +13,7 @@ ghost use Rattle.moo_table.specs.Steps.{changed_along};
 use moo_forest::Step;
 use moo_object::Object;
 
-/// Whether an object itself defines a property of this name.
+/// Returns whether an object itself defines a property of this name.
 pub fn defines_in(slot: &Option<Object>, name: &[u8]) -> bool
     ensures { result ≡ list_any (λ n. same_name (folded name.now) (folded n)) (unwrap_or slot.now nothing).defined }
 {
@@ -23,7 +23,7 @@ pub fn defines_in(slot: &Option<Object>, name: &[u8]) -> bool
     }
 }
 
-/// Takes a name out of those that an object defines. Its cell stays.
+/// Removes a name from those that an object defines. Its cell stays.
 pub fn forget_in(slot: &mut Option<Object>, name: &[u8])
     ensures { slot.new ≡ without_name (folded name.now) slot.old }
 {
@@ -32,7 +32,7 @@ pub fn forget_in(slot: &mut Option<Object>, name: &[u8])
     }
 }
 
-/// Takes an object's cell for a definition away.
+/// Removes an object's cell for a definition.
 pub fn lose_in(slot: &mut Option<Object>, definer: usize, name: &[u8])
     ensures { slot.new ≡ without_cell (definer, folded name.now) slot.old }
 {
@@ -41,7 +41,7 @@ pub fn lose_in(slot: &mut Option<Object>, definer: usize, name: &[u8])
     }
 }
 
-/// Takes the cell for a definition away from each object on a walk.
+/// Removes the cell for a definition from each object on a walk.
 pub fn lose_along(objects: &mut Vec<Option<Object>>, walk: &[Step], definer: usize, name: &[u8])
     requires { (k : ℕ) → k < length walk.now → (step_at walk.now k).node < vec_len objects.old }
     ensures { objects.new.items ≡ changed_along (without_cell (definer, folded name.now)) objects.old.items (met walk.now) }

@@ -1,4 +1,4 @@
-//! One object with a property set, cleared, or of another owner.
+//! Changes to one object: a property set, cleared, or given another owner.
 
 ghost use Rattle.std.specs.Prelude.{◌≡◌};
 ghost use Rattle.std.specs.Option.{option_map};
@@ -10,7 +10,7 @@ ghost use Rattle.moo_table.specs.Edits.{with_name, with_owner, with_built_in, wi
 use moo_object::{BuiltInProperty, Object, PropPerms};
 use moo_value::Value;
 
-/// Sets a built-in property; a value of a wrong type, a place and contents change nothing.
+/// Sets a built-in property. A value of a wrong type, the location and the contents change nothing.
 pub fn set_built_in_in(slot: &mut Option<Object>, property: BuiltInProperty, value: Value)
     ensures { slot.new ≡ option_map (with_built_in property (tree value)) slot.old }
 {
@@ -19,7 +19,7 @@ pub fn set_built_in_in(slot: &mut Option<Object>, property: BuiltInProperty, val
     }
 }
 
-// Sets a built-in property that the object itself has.
+// Sets a built-in property that is a field of the object itself.
 fn set_own(object: &mut Object, property: BuiltInProperty, value: Value)
     ensures { object.new ≡ with_built_in property (tree value) object.old }
 {

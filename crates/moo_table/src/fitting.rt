@@ -14,7 +14,7 @@ use moo_forest::Step;
 use moo_object::{Object, PropCell, Row};
 use std::alloc::{AllocError, Global};
 
-/// The rows of the objects on a walk, once the first has the parent `p`.
+/// Returns the rows of the objects on a walk, once the first has the parent `p`.
 pub fn rows_below(
     objects: &[Option<Object>],
     alloc: Global,
@@ -45,7 +45,7 @@ pub fn rows_below(
     Ok(rows)
 }
 
-// The cells of a valid object under a parent with these cells.
+// Returns the cells of a valid object under a parent with these cells.
 fn row_over(
     slot: &Option<Object>,
     alloc: Global,
@@ -82,8 +82,7 @@ fn put_row(slot: &mut Option<Object>, row: Row)
     }
 }
 
-/// Whether some object on a walk would have too many properties, once each of them has these cells more and
-/// those fewer.
+/// Returns whether some object on a walk would have too many properties if each of them gained and lost these cells.
 pub fn some_crowded(
     objects: &[Option<Object>],
     walk: &[Step],

@@ -1,6 +1,5 @@
-//! The table of objects by number, and their trees: what a change of one object asks for in the
-//! others, tested and made over slices. The world stands on it.
-//! A room behind `moo_world`.
+//! The table of objects by number, and their trees. A change of one object is tested and made here over slices of the
+//! objects that it affects. An internal crate of `moo_world`.
 #![tactic(auto)]
 
 pub mod clashing;
@@ -17,6 +16,5 @@ pub mod renaming;
 pub mod verbs;
 pub mod written;
 
-/// How many object numbers may be given out, how many properties and verbs an object may have,
-/// and how many players there may be.
+/// The largest count of object numbers given out, of properties or verbs on one object, and of players.
 pub const MOST: usize = 1_000_000;

@@ -1,4 +1,4 @@
-//! Look-up along the ancestors of an object: verbs that fit a name, and values through clear cells.
+//! Look-ups along the ancestors of an object: verbs whose names match, and values through clear cells.
 
 ghost use Rattle.std.specs.Prelude.{◌≡◌, ◌<◌, ◌∷◌, length, slice_get, None, Some, IfSome};
 ghost use Rattle.std.specs.Option.{option_map, option_copied, unwrap_or};
@@ -15,7 +15,7 @@ use moo_forest::Forest;
 use moo_object::{Need, Object, cell_at};
 use moo_value::Value;
 
-/// The nearest verb that fits.
+/// Returns the nearest verb that matches.
 pub fn nearest_verb(
     objects: &[Option<Object>],
     tree: &Forest,
@@ -44,8 +44,8 @@ pub fn nearest_verb(
     None
 }
 
-/// The place of the first verb that a name fits, of what stands at a number. For a call only verbs that
-/// can be executed count.
+/// Returns the place of the first verb that a name matches, of the object at a number. For a call only executable
+/// verbs count.
 pub fn verb_in(slot: &Option<Object>, name: &[u8], need: Need) -> Option<usize>
     ensures { result ≡ position (fits_verb need name.now) (unwrap_or slot.now nothing).verbs }
 {
@@ -55,7 +55,7 @@ pub fn verb_in(slot: &Option<Object>, name: &[u8], need: Need) -> Option<usize>
     }
 }
 
-/// The value for a definition that is nearest to `x` on its way up.
+/// Returns the value for a definition that is nearest to `x` on its way up.
 pub fn nearest_value<'a>(
     objects: &'a [Option<Object>],
     parents: &Forest,
@@ -83,7 +83,7 @@ pub fn nearest_value<'a>(
     None
 }
 
-/// The value of the cell for a definition.
+/// Returns the value of the cell for a definition.
 pub fn value_in<'a>(slot: &'a Option<Object>, definer: usize, name: &[u8]) -> Option<&'a Value>
     ensures { option_map tree (option_copied result) ≡ value_in slot.now (definer, folded name.now) }
 {

@@ -1,4 +1,4 @@
-//! Where an object may be joined.
+//! Where an object may be joined to a tree.
 
 ghost use Rattle.std.specs.Prelude.{◌≡◌, ◌<◌, length, Option};
 ghost use Rattle.std.specs.Option.{ForSome};
@@ -6,7 +6,7 @@ ghost use Rattle.moo_table.specs.Changes.{would_loop};
 
 use moo_forest::Forest;
 
-/// Whether `x` is the new place or stands above it.
+/// Returns whether `x` is the new place or an ancestor of it.
 pub fn would_loop(tree: &Forest, x: usize, to: Option<usize>) -> bool
     requires { ForSome to (λ up. up < length tree.now) }
     ensures { result ≡ would_loop tree.now x to }

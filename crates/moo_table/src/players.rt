@@ -11,7 +11,7 @@ use crate::MOST;
 use moo_object::Object;
 use std::alloc::AllocError;
 
-/// Whether there would be too many players.
+/// Returns whether there would be too many players.
 pub fn too_many(players: &[i32], player: i32, on: bool) -> bool
     requires { length players.now ≤ most }
     ensures { result ≡ nat_lt most (length (players_with players.now player on)) }
@@ -25,15 +25,15 @@ pub fn too_many(players: &[i32], player: i32, on: bool) -> bool
     players.len() >= MOST
 }
 
-/// Whether a number is in the list of players.
+/// Returns whether a number is in the list of players.
 pub fn contains(players: &[i32], player: i32) -> bool
     ensures { result ≡ list_any (int_eq player) players.now }
 {
     players.iter().any(|other| player == *other)
 }
 
-/// Puts a number last in the list of players, where it is not in it yet, or takes every entry of it
-/// out. Where memory is short, nothing changes.
+/// Appends a number to the list of players, if it is not in it yet, or removes every entry of it. If memory runs out,
+/// nothing changes.
 pub fn list_player(players: &mut Vec<i32>, player: i32, on: bool) -> Result<(), AllocError>
     ensures ok { OnOk result (players.new.items ≡ players_with players.old.items player on) }
     ensures err { OnErr result (players.new.items ≡ players.old.items) }
@@ -49,14 +49,14 @@ pub fn list_player(players: &mut Vec<i32>, player: i32, on: bool) -> Result<(), 
     Ok(())
 }
 
-/// Takes every entry of a number out of the list of players.
+/// Removes every entry of a number from the list of players.
 pub fn take_player_out(players: &mut Vec<i32>, player: i32)
     ensures { players.new.items ≡ filter (λ other. not (int_eq player other)) players.old.items }
 {
     players.retain(|other| player != *other);
 }
 
-/// Sets or clears an object's flag of players.
+/// Sets or clears an object's player flag.
 pub fn mark_in(slot: &mut Option<Object>, on: bool)
     ensures { slot.new ≡ option_map (as_player on) slot.old }
 {

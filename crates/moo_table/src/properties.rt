@@ -11,7 +11,7 @@ ghost use Rattle.moo_table.specs.Changes.{with_value_of, with_value_at};
 use moo_object::{Object, PropCell, cell_named};
 use moo_value::Value;
 
-/// An object's cell of a name.
+/// Returns an object's cell of a name.
 #[inline(always)]
 pub fn cell_in<'a>(slot: &'a Option<Object>, name: &[u8]) -> Option<&'a PropCell>
     ensures { option_copied result ≡ cell_named (unwrap_or slot.now nothing).cells (folded name.now) }
@@ -22,7 +22,7 @@ pub fn cell_in<'a>(slot: &'a Option<Object>, name: &[u8]) -> Option<&'a PropCell
     }
 }
 
-/// The object whose definition an object's cell of a name is for.
+/// Returns the object whose definition an object's cell of a name is for.
 pub fn definer_in(slot: &Option<Object>, name: &[u8]) -> Option<usize>
     ensures { result ≡ option_map (λ (c : Cell). c.definer) (cell_named (unwrap_or slot.now nothing).cells (folded name.now)) }
 {
@@ -31,7 +31,7 @@ pub fn definer_in(slot: &Option<Object>, name: &[u8]) -> Option<usize>
     Some(cell.definer())
 }
 
-/// The cells of what stands at a number, in the order of definitions.
+/// Returns the cells of the object at a number, in the order of definitions.
 #[inline(always)]
 pub fn cells_in(slot: &Option<Object>) -> &[PropCell]
     ensures { result.now ≡ (unwrap_or slot.now nothing).cells }
@@ -42,7 +42,7 @@ pub fn cells_in(slot: &Option<Object>) -> &[PropCell]
     }
 }
 
-/// Gives an object's own cell of a name a value.
+/// Sets the value of an object's own cell of a name.
 pub fn set_in(slot: &mut Option<Object>, name: &[u8], value: Value)
     ensures { slot.new ≡ option_map (with_value_of (folded name.now) (tree value)) slot.old }
 {
@@ -51,7 +51,7 @@ pub fn set_in(slot: &mut Option<Object>, name: &[u8], value: Value)
     }
 }
 
-/// Gives an object's own cell at a place a value.
+/// Sets the value of an object's own cell at a place.
 #[inline(always)]
 pub fn set_at_in(slot: &mut Option<Object>, place: usize, value: Value)
     requires { place < length (unwrap_or slot.old nothing).cells }
@@ -62,7 +62,7 @@ pub fn set_at_in(slot: &mut Option<Object>, place: usize, value: Value)
     }
 }
 
-/// The cells of an object, and none for no object.
+/// Returns the cells of an object, none for no object.
 pub fn cells_of(objects: &[Option<Object>], p: Option<usize>) -> &[PropCell]
     requires { ForSome p (λ up. up < length objects.now) }
     ensures { result.now ≡ cells_of objects.now p }

@@ -1,4 +1,4 @@
-//! What a recycled object leaves behind.
+//! Changes to the objects that remain when one is recycled.
 
 ghost use Rattle.std.specs.Prelude.{◌≡◌, ◌<◌, None, length, vec_len, ℕ};
 ghost use Rattle.moo_forest.specs.Walk.{met, step_at};
@@ -8,14 +8,14 @@ ghost use Rattle.moo_table.specs.Recycling.{without_cells_of};
 use moo_forest::Step;
 use moo_object::Object;
 
-/// Leaves nothing at a number.
+/// Removes the object at a number.
 pub fn empty(slot: &mut Option<Object>)
     ensures { slot.new ≡ None }
 {
     *slot = None;
 }
 
-/// Takes the cells for all that an object defines away from each object on a walk.
+/// Removes the cells for all that an object defines from each object on a walk.
 pub fn lose_all_along(objects: &mut Vec<Option<Object>>, walk: &[Step], definer: usize)
     requires { (k : ℕ) → k < length walk.now → (step_at walk.now k).node < vec_len objects.old }
     ensures { objects.new.items ≡ changed_along (without_cells_of definer) objects.old.items (met walk.now) }

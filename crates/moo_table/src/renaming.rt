@@ -1,4 +1,4 @@
-//! A definition of another name: on the object that has it, and in the cells for it.
+//! Renames a definition: on the object that has it, and in the cells for it.
 
 ghost use Rattle.std.specs.Prelude.{◌≡◌, ◌<◌, ℕ, List, length, vec_len, map, IfOk};
 ghost use Rattle.std.specs.Option.{option_map};
@@ -13,7 +13,7 @@ use moo_object::Object;
 use moo_value::MooStr;
 use std::alloc::{AllocError, Global};
 
-/// A name once for each object on a walk. The copies share their bytes.
+/// Returns one copy of a name for each object on a walk. The copies share their bytes.
 pub fn names_along(alloc: Global, walk: &[Step], name: &MooStr) -> Result<Vec<MooStr>, AllocError>
     ensures { IfOk result (λ names. names.items ≡ map (λ (s : WalkStep). name.now) walk.now) }
 {
@@ -24,7 +24,7 @@ pub fn names_along(alloc: Global, walk: &[Step], name: &MooStr) -> Result<Vec<Mo
     Ok(names)
 }
 
-/// Gives the cell for a definition another name in each object on a walk, which takes one of these names.
+/// Renames the cell for a definition in each object on a walk; each takes one of these names.
 pub fn rename_along(
     objects: &mut Vec<Option<Object>>,
     walk: &[Step],
@@ -52,7 +52,7 @@ fn rename_in(slot: &mut Option<Object>, definer: usize, name: &[u8], new_name: M
     }
 }
 
-/// Spells one of the names that an object defines otherwise.
+/// Respells one of the names that an object defines.
 pub fn respell_in(slot: &mut Option<Object>, name: &[u8], new_name: MooStr)
     ensures { slot.new ≡ option_map (with_respelled (folded name.now) new_name) slot.old }
 {

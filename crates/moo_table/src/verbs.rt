@@ -12,7 +12,7 @@ use moo_object::{Object, Verb, VerbArgs, VerbPerms};
 use moo_value::MooStr;
 use std::alloc::AllocError;
 
-/// The verbs of what stands at a number.
+/// Returns the verbs of the object at a number.
 pub fn verbs_of(slot: &Option<Object>) -> &[Verb]
     ensures { result.now ≡ (unwrap_or slot.now nothing).verbs }
 {
@@ -22,7 +22,7 @@ pub fn verbs_of(slot: &Option<Object>) -> &[Verb]
     }
 }
 
-/// The verb at a place, which counts from 0, of what stands at a number.
+/// Returns the verb at a place of the object at a number. Places count from 0.
 pub fn verb_in(slot: &Option<Object>, index: usize) -> Option<&Verb>
     ensures { option_copied result ≡ slice_get (unwrap_or slot.now nothing).verbs index }
 {
@@ -32,7 +32,7 @@ pub fn verb_in(slot: &Option<Object>, index: usize) -> Option<&Verb>
     }
 }
 
-/// Adds a verb behind the others of an object. Where memory is short, nothing changes.
+/// Appends a verb to those of an object. If memory runs out, nothing changes.
 pub fn add_verb_in(slot: &mut Option<Object>, verb: Verb) -> Result<(), AllocError>
     ensures ok { OnOk result (slot.new ≡ option_map (with_verb verb) slot.old) }
     ensures err { OnErr result (slot.new ≡ slot.old) }
@@ -43,7 +43,7 @@ pub fn add_verb_in(slot: &mut Option<Object>, verb: Verb) -> Result<(), AllocErr
     }
 }
 
-/// Takes the verb at a place of an object away. Those behind it move up.
+/// Removes the verb at a place of an object. Later verbs move up.
 pub fn remove_verb_in(slot: &mut Option<Object>, index: usize)
     requires { index < length (unwrap_or slot.old nothing).verbs }
     ensures { slot.new ≡ option_map (without_verb index) slot.old }
@@ -89,7 +89,7 @@ pub fn set_program_in(slot: &mut Option<Object>, index: usize, program: Option<P
     }
 }
 
-/// Whether the verb at a place has a program; an empty one is one.
+/// Returns whether the verb at a place has a program; an empty program counts.
 pub fn has_program(slot: &Option<Object>, index: usize) -> bool
     ensures { result ≡ has_program (unwrap_or slot.now nothing).verbs index }
 {
@@ -99,7 +99,7 @@ pub fn has_program(slot: &Option<Object>, index: usize) -> bool
     }
 }
 
-/// How many programs the verbs of what stands at a number have.
+/// Returns how many programs the verbs of the object at a number have.
 pub fn programs_on(slot: &Option<Object>) -> usize
     ensures { result ≡ programs_of (unwrap_or slot.now nothing).verbs }
 {
@@ -116,7 +116,7 @@ fn count_programs(verbs: &[Verb]) -> usize
     programs
 }
 
-/// How many programs the verbs of all objects have together.
+/// Returns how many programs the verbs of all objects have together.
 pub fn all_programs(objects: &[Option<Object>]) -> usize
     requires { programs_in objects.now ≤ most }
     ensures { result ≡ programs_in objects.now }

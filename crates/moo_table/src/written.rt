@@ -1,5 +1,5 @@
-//! Cells by names that are written out in a program: they are looked for first as far from the last cell as the last one was found, which is
-//! as far on all objects that have the property from one definition.
+//! Cells by names that are literals in a program. The search first tries the distance from the last cell at which the
+//! name was last found. That distance is the same on all objects that have the property from one definition.
 
 ghost use Rattle.std.specs.Prelude.{◌≡◌, ◌<◌, ◌∷◌, ℕ, Some, IfSome, false, length, map, slice_get};
 ghost use Rattle.std.specs.Option.{option_map, option_copied, unwrap_or};
@@ -16,7 +16,7 @@ use moo_object::{Object, PropCell, cell_at, note_place, place_known, place_named
 use moo_program::Text;
 use moo_value::Value;
 
-/// The place of the cell of a name, where no two cells have one name.
+/// Returns the place of the cell of a name. No two cells may have one name.
 #[inline(always)]
 pub fn place_written(cells: &[PropCell], name: &Text) -> Option<usize>
     requires once { has_twice (map (λ (k : Key). k.1) (map key_of cells.now)) ≡ false }
@@ -28,7 +28,8 @@ pub fn place_written(cells: &[PropCell], name: &Text) -> Option<usize>
     }
 }
 
-// The same by a search: a function of its own, so that what is found without one pays nothing for it.
+// Returns the place of the cell of a name by a linear search. It is a separate function, so that a look-up that needs
+// no search stays short.
 #[inline(never)]
 fn place_searched(cells: &[PropCell], name: &Text) -> Option<usize>
     ensures { result ≡ position (is_named (folded name.now)) cells.now }
@@ -38,7 +39,7 @@ fn place_searched(cells: &[PropCell], name: &Text) -> Option<usize>
     Some(place)
 }
 
-/// The value for a definition that is nearest to `x` on its way up.
+/// Returns the value for a definition that is nearest to `x` on its way up.
 pub fn nearest_written<'a>(
     objects: &'a [Option<Object>],
     parents: &Forest,
@@ -67,7 +68,7 @@ pub fn nearest_written<'a>(
     None
 }
 
-// The value of the cell for a definition.
+// Returns the value of the cell for a definition.
 #[inline(always)]
 fn value_written<'a>(slot: &'a Option<Object>, definer: usize, name: &Text) -> Option<&'a Value>
     requires { AreDistinct (unwrap_or slot.now nothing).cells }
@@ -79,7 +80,7 @@ fn value_written<'a>(slot: &'a Option<Object>, definer: usize, name: &Text) -> O
     }
 }
 
-// The cell for a definition.
+// Returns the cell for a definition.
 #[inline(always)]
 fn cell_written<'a>(cells: &'a [PropCell], definer: usize, name: &Text) -> Option<&'a PropCell>
     requires { AreDistinct cells.now }
@@ -91,7 +92,7 @@ fn cell_written<'a>(cells: &'a [PropCell], definer: usize, name: &Text) -> Optio
     }
 }
 
-// The same, where the number of its name tells that it is the one.
+// Returns the cell for a definition, if the hint at its name leads to it.
 #[inline(always)]
 fn cell_known<'a>(cells: &'a [PropCell], definer: usize, name: &Text) -> Option<&'a PropCell>
     requires { AreDistinct cells.now }

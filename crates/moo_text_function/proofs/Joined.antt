@@ -1,4 +1,4 @@
--- Texts one behind the other are no shorter than the first of them.
+-- Texts one after the other are no shorter than the first of them.
 use Rattle.std.proofs.Common.{ℕ, zero, suc, ◌≤◌, ◌≡◌, List, [], ◌∷◌, length, length-append, take, ap, arith}
 use Rattle.std.specs.List.{flat_map}
 use Rattle.moo_value.specs.declared.value.Value.{Value}
@@ -12,6 +12,6 @@ first_short (v ∷ vs) zero = omega arith
 first_short (v ∷ vs) (suc i) =
     omega (arith, first_short vs i, length-append (plain (tree v)) (flat_map plain (trees (take i vs))), length-append (plain (tree v)) (flat_map plain (trees vs)))
 
--- where the first of them pass a limit, all do
+-- if the first of them pass a limit, all do
 pub all_past : (limit : ℕ) (vs : List Value) (i : ℕ) (text : List ℕ) → text ≡ flat_map plain (trees (take i vs)) → limit ≤ length text → limit ≤ length (flat_map plain (trees vs))
 all_past limit vs i text is past = omega (arith, past, ap length is, first_short vs i)

@@ -1,4 +1,4 @@
--- When memory may be wanting for what a function makes.
+-- When memory may run out for what a function makes.
 use Rattle.std.proofs.Common.{Bool, true, false, refl, cond}
 use Rattle.std.specs.Prelude.{Result, Ok, Err, nat_le, ◌&&◌}
 use Rattle.moo_value.specs.declared.error_code.ErrorCode.{ErrorCode}

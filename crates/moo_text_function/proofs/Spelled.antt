@@ -1,4 +1,4 @@
--- A string gives the number that it spells, and 0 where it spells none.
+-- A string gives the number that it spells, and 0 if it spells none.
 use Rattle.std.proofs.Common.{◌≡◌, ℕ, suc, ◌+◌, ℤ, pos, Bool, true, false, cond, List, [], ◌∷◌, ◌++◌, length, take, drop, refl, sym, ap, subst, ◌∙◌, arith, append-nil}
 use Rattle.std.specs.Prelude.{◌≢◌, ◌==◌, ◌&&◌, ◌||◌}
 use Rattle.std.specs.List.{AllByRecursion, prefix_len}
@@ -79,7 +79,7 @@ chosen_false : (point test : Bool) (s t : List ℕ) → test ≡ false → cond 
 chosen_false true test s t h = ap (λ r. cond r s t) h
 chosen_false false test s t h = refl
 
--- what may stand behind the digits
+-- what may come after the digits
 ends_well : (point : Bool) (part after : List ℕ) → IsFraction point part → AreBlanks after → may_end point (part ++ after) ≡ true
 ends_well point _ after no_fraction blank =
     ap is_blank_text (chosen_false point (begins 46 after) (past is_digit (drop 1 after)) after (no_point_in_blanks after blank)) ∙ all_blank after blank
@@ -104,7 +104,7 @@ at_digits point is_minus d ds tail are stop ends =
     some : (length (d ∷ ds) == 0) ≡ false
     some = grind (arith, nat_tests)
 
--- behind the sign
+-- after the sign
 no_sign_here : (between tail : List ℕ) (d : ℕ) → AreBlanks between → is_digit d ≡ true → (begins 45 (between ++ d ∷ tail) ≡ false) × (begins 43 (between ++ d ∷ tail) ≡ false) × (begins 35 (between ++ d ∷ tail) ≡ false)
 no_sign_here [] tail d h k = (digit_no_minus d k, digit_no_plus d k, digit_no_mark d k)
 no_sign_here (b ∷ s) tail d h k = (blank_no_minus b h.0, blank_no_plus b h.0, blank_no_mark b h.0)

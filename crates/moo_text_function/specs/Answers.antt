@@ -1,4 +1,4 @@
--- How an answer of the program stands to the value or the error that a function gives.
+-- How a result of the program relates to the value or the error that a function gives.
 use Rattle.std.specs.Prelude.{◌≡◌, Bool, false, Result, Ok, Err}
 use Rattle.moo_value.specs.declared.error_code.ErrorCode.{ErrorCode}
 use Rattle.moo_value.specs.declared.error_code.ErrorCode.TheVariants.{Quota}
@@ -9,7 +9,7 @@ use Rattle.moo_value.specs.View.{tree}
 use Rattle.moo_operation.specs.declared.fault.OperationFault.{OperationFault}
 use Rattle.moo_operation.specs.declared.fault.OperationFault.TheVariants.{Raise, Memory}
 
--- the answer is what the function gives, or memory is wanting, which comes only where it may
+-- the result is what the function gives, or memory runs out, which happens only where it may
 abbrev pub GivesUnless : Type 0 → Result Value OperationFault → Result Tree ErrorCode → Type 0
 GivesUnless Lacks (Ok v) r = r ≡ Ok (tree v)
 GivesUnless Lacks (Err (Raise e)) r = r ≡ Err e
@@ -20,10 +20,10 @@ abbrev pub IsMade : Result Tree ErrorCode → Type 0
 IsMade (Ok t) = TakesMemory t
 IsMade (Err e) = e ≡ Quota
 
--- memory is wanting only for a string or a list
+-- memory is needed only for a string or a list
 abbrev pub Gives : Result Value OperationFault → Result Tree ErrorCode → Type 0
 Gives answer r = GivesUnless (IsMade r) answer r
 
--- memory is wanting only where letters are folded, which is done in copies
+-- memory runs out only if letters are folded, which is done in copies
 abbrev pub Finds : Bool → Result Value OperationFault → Result Tree ErrorCode → Type 0
 Finds exact answer r = GivesUnless (exact ≡ false) answer r

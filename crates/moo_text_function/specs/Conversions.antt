@@ -1,4 +1,4 @@
--- What the functions answer that make a value of one type of one of another.
+-- The results of the functions that convert a value of one type to another.
 use Rattle.std.specs.Prelude.{pos, List, [], ◌∷◌, Result, Ok, Err}
 use Rattle.std.specs.List.{flat_map}
 use Rattle.moo_value.specs.declared.error_code.ErrorCode.{ErrorCode}
@@ -9,7 +9,7 @@ use Rattle.moo_value.specs.Tree.{Tree, integer, object, error, string}
 use Rattle.moo_operation.specs.Answer.{limited}
 use Rattle.moo_text_function.specs.Numerals.{integer_number, object_number}
 
--- the plain texts of the arguments, one behind the other
+-- the plain texts of the arguments, one after the other
 abbrev pub to_text : List Tree → Result Tree ErrorCode
 to_text ts = limited (string (flat_map plain ts))
 

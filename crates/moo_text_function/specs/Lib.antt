@@ -1,4 +1,4 @@
--- What the functions on strings, and those from and to strings, answer.
+-- The results of the functions on strings, and those from and to strings,.
 pub mod Answers
 pub mod Numerals
 pub mod Spelling

@@ -34,18 +34,18 @@ wrapped digits = cast_signed w32 (number digits % 2 ^ 32)
 abbrev pub is_blank_text : List ℕ → Bool
 is_blank_text s = prefix_len is_blank s == length s
 
--- What may stand behind the digits: blanks, and before them, where a point is allowed, a point and perhaps digits.
+-- What may follow the digits: blanks, and before them, if a point is allowed, a point and perhaps digits.
 abbrev pub may_end : Bool → List ℕ → Bool
 may_end point s = is_blank_text (if point && begins 46 s then past is_digit (drop 1 s) else s)
 
--- a plus or a minus, or none, is taken away
+-- the text after a plus, a minus or neither
 abbrev pub past_sign : List ℕ → List ℕ
 past_sign s = if begins 45 s || begins 43 s then drop 1 s else s
 
 abbrev pub with_sign : Bool → ℤ → ℤ
 with_sign minus i = if minus then int_wrapping_neg w32 i else i
 
--- The number of digits with this text behind them, if there are digits and it may end them
+-- The number of digits with this text after them, if there are digits and it may end them
 abbrev pub number_at : Bool → Bool → List ℕ → ℤ
 number_at point minus s =
     if prefix_len is_digit s == 0 then pos 0

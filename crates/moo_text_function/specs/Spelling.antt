@@ -15,7 +15,7 @@ pub data IsSign : Bool → List ℕ → Type 0 where
   plus : IsSign false (43 ∷ [])
   no_sign : IsSign false []
 
--- none, or where a point is allowed, a point and digits or none
+-- none, or if a point is allowed, a point and digits or none
 pub data IsFraction : Bool → List ℕ → Type 0 where
   no_fraction : {point : Bool} → IsFraction point []
   fraction : {digits : List ℕ} → AreDigits digits → IsFraction true (46 ∷ digits)

@@ -1,4 +1,4 @@
--- What the functions on strings answer.
+-- The results of the functions on strings.
 use Rattle.std.specs.Prelude.{ℕ, ℤ, pos, negsuc, Bool, false, List, [], ◌∷◌, Result, Ok, Err, if◌then◌else◌, length}
 use Rattle.std.specs.Ordering.{nat_cmp}
 use Rattle.std.specs.Cmp.Lexicographic.{slice_cmp}
@@ -28,11 +28,11 @@ compare _ = Err TypeMismatch
 abbrev pub as_searched : Bool → List ℕ → List ℕ
 as_searched exact s = if exact then s else folded s
 
--- the first place in s where t stands, or 0
+-- the first place in s at which t occurs, or 0
 abbrev pub first_place : Bool → List ℕ → List ℕ → Tree
 first_place exact s t = place_value (first_of (matches (as_searched exact s) (as_searched exact t) 0))
 
--- the last place in s where t stands, or 0
+-- the last place in s at which t occurs, or 0
 abbrev pub last_place : Bool → List ℕ → List ℕ → Tree
 last_place exact s t = place_value (first_of (rmatches (as_searched exact s) (as_searched exact t) (length (as_searched exact s))))
 

@@ -1,4 +1,4 @@
-//! Functions that make a value of one type of one of another.
+//! Functions that convert a value of one type to another.
 ghost use Rattle.std.specs.Prelude.{◌≡◌, ◌∷◌, [], ◌++◌, IfOk, IfSome, OnOk};
 ghost use Rattle.std.specs.List.{flat_map};
 ghost use Rattle.moo_value.specs.Text.{plain, literal};
@@ -14,7 +14,7 @@ use moo_operation::OperationFault;
 use moo_value::{ErrorCode, Value, WEIGHT_LIMIT};
 use std::alloc::{AllocError, Global};
 
-/// `tostr`: the texts of its arguments as a player sees them, one behind the other.
+/// Computes `tostr`: the texts of its arguments as a player sees them, joined.
 #[tactic(auto, using(crate::proofs::Making::limited_made))]
 pub fn to_text(alloc: Global, args: &[Value]) -> Result<Value, OperationFault>
     ensures { Gives result (to_text (trees args.now)) }
@@ -26,7 +26,7 @@ pub fn to_text(alloc: Global, args: &[Value]) -> Result<Value, OperationFault>
     }
 }
 
-// `None` past the limit of weight, at which it stops.
+// Returns the joined texts, or `None` as soon as they are past the limit of weight.
 fn plain_texts(alloc: Global, args: &[Value]) -> Result<Option<Vec<u8>>, AllocError>
     ensures value { IfOk result (λ made. IsWritten made (flat_map plain (trees args.now))) }
     ensures text { IfOk result (λ made. IfSome made (λ v. IsText v.items)) }
@@ -47,12 +47,12 @@ fn write_plain(alloc: Global, value: &Value, text: &mut Vec<u8>) -> Result<(), A
 {
     let plain = value.to_plain(alloc)?;
     text.extend_from_slice(&plain)?;
-    // Read, so that the proof knows that it is a value.
+    // Read so that the proof knows that it is a value.
     let _weight = value.weight();
     Ok(())
 }
 
-/// `toliteral`: the text that reads as its argument.
+/// Computes `toliteral`: the text that the parser reads as its argument.
 pub fn to_literal(alloc: Global, args: &[Value]) -> Result<Value, OperationFault>
     ensures { Gives result (to_literal (trees args.now)) }
 {
@@ -74,7 +74,7 @@ fn literal_of(alloc: Global, value: &Value) -> Result<Value, OperationFault>
     }
 }
 
-/// `toint` and `tonum`: the number of an integer, an object or an error, or the one that a string spells.
+/// Computes `toint` and `tonum`: the number of an integer, an object or an error, or the one that a string spells.
 pub fn to_integer(args: &[Value]) -> Result<Value, OperationFault>
     ensures { Gives result (to_integer (trees args.now)) }
 {
@@ -95,7 +95,8 @@ fn integer_of(value: &Value) -> Result<Value, OperationFault>
     }
 }
 
-/// `toobj`: the object of the number of an integer, an object or an error, or of the one that a string spells.
+/// Computes `toobj`: the object whose number is that of an integer, an object or an error, or the one that a string
+/// spells.
 pub fn to_object(args: &[Value]) -> Result<Value, OperationFault>
     ensures { Gives result (to_object (trees args.now)) }
 {

@@ -1,4 +1,4 @@
-//! What the readings of numbers keep to.
+//! Laws of reading numbers from strings.
 ghost use Rattle.moo_text_function.specs.Spelling.{ReadsIntegers, ReadsObjects};
 
 /// A string that spells an integer gives it, and one that spells none gives 0.

@@ -1,5 +1,4 @@
-//! The built-in functions on strings, and those from and to strings.
-//! A room behind `moo_builtin`.
+//! The built-in functions on strings, and those from and to strings. An internal crate of `moo_builtin`.
 #![tactic(auto)]
 
 mod conversion;

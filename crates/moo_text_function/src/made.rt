@@ -1,4 +1,4 @@
-//! Strings that are made, within the limit of weight.
+//! Makes strings, within the limit of weight.
 ghost use Rattle.moo_value.specs.Tree.{string, IsText};
 ghost use Rattle.moo_operation.specs.Answer.{limited};
 ghost use Rattle.moo_text_function.specs.Answers.{Gives};
@@ -7,9 +7,10 @@ use moo_operation::OperationFault;
 use moo_value::{ErrorCode, MooStr, Value, ValueFault};
 use std::alloc::Global;
 
+/// The fault that raises E_TYPE.
 pub const TYPE_MISMATCH: OperationFault = OperationFault::Raise(ErrorCode::TypeMismatch);
 
-/// The string of these bytes.
+/// Returns the string of these bytes; E_QUOTA past the limit.
 #[tactic(auto, using(crate::proofs::Making::limited_made))]
 pub fn string_answer(alloc: Global, bytes: Vec<u8>) -> Result<Value, OperationFault>
     requires { IsText bytes.items }

@@ -3,14 +3,14 @@ ghost use Rattle.std.specs.Prelude.{◌≡◌, ◌≤◌, length, IsTrue};
 ghost use Rattle.std.specs.List.{prefix_len};
 ghost use Rattle.moo_text_function.specs.Numerals.{is_blank, is_digit, past, begins, past_byte, wrapped, is_blank_text, may_end, past_sign, with_sign, number_at, signed_number, integer_number, object_number};
 
-/// The integer that a text spells, modulo 2^32, or 0. A fraction is dropped.
+/// Returns the integer that a text spells, modulo 2^32, or 0. A fraction is dropped.
 pub fn integer_number(text: &[u8]) -> i32
     ensures { result ≡ integer_number text.now }
 {
     signed_number(past_blanks(text), true)
 }
 
-/// The number of an object that a text spells, with or without `#`, modulo 2^32, or 0.
+/// Returns the number of an object that a text spells, with or without `#`, modulo 2^32, or 0.
 pub fn object_number(text: &[u8]) -> i32
     ensures { result ≡ object_number text.now }
 {
@@ -21,7 +21,7 @@ pub fn object_number(text: &[u8]) -> i32
     signed_number(text, false)
 }
 
-// From the sign on; `point` tells whether a fraction may follow.
+// Reads a number from the sign on; `point` is true if a fraction may follow.
 fn signed_number(text: &[u8], point: bool) -> i32
     ensures { result ≡ signed_number point text.now }
 {
@@ -102,7 +102,7 @@ fn digits_count(text: &[u8]) -> usize
     text.iter().take_while(|byte| byte.is_ascii_digit()).count()
 }
 
-// The number that digits write, modulo 2^32 with a sign.
+// Returns the number that digits write, modulo 2^32 with a sign.
 fn wrapped(digits: &[u8]) -> i32
     ensures { result ≡ wrapped digits.now }
 {

@@ -1,4 +1,4 @@
-//! How strings compare, and where one stands in another.
+//! Compares strings, and searches one in another.
 ghost use Rattle.std.specs.Prelude.{◌≡◌, ◌<◌, Ok, IfOk, IfSome};
 ghost use Rattle.moo_value.specs.Compare.{folded};
 ghost use Rattle.moo_value.specs.Size.{weight_limit};
@@ -14,7 +14,7 @@ use moo_value::{MooStr, Value};
 use std::alloc::{AllocError, Global};
 use std::cmp::Ordering;
 
-/// `strcmp`: -1, 0 or 1 by the bytes of two strings.
+/// Computes `strcmp`: -1, 0 or 1 by the bytes of two strings.
 pub fn compare(args: &[Value]) -> Result<Value, OperationFault>
     ensures { Gives result (compare (trees args.now)) }
 {
@@ -34,7 +34,8 @@ fn sign(ordering: Ordering) -> i32
     }
 }
 
-/// `index`: the first place of a string in another, or 0. Letters are folded unless the third argument is true.
+/// Computes `index`: the first place of a string in another, or 0. Letters are folded unless the third argument is
+/// true.
 pub fn index(alloc: Global, args: &[Value]) -> Result<Value, OperationFault>
     ensures { Finds (is_exact (trees args.now)) result (index (trees args.now)) }
 {
@@ -66,7 +67,8 @@ fn first_place(
     }
 }
 
-/// `rindex`: the last place of a string in another, or 0. Letters are folded unless the third argument is true.
+/// Computes `rindex`: the last place of a string in another, or 0. Letters are folded unless the third argument is
+/// true.
 pub fn last_index(alloc: Global, args: &[Value]) -> Result<Value, OperationFault>
     ensures { Finds (is_exact (trees args.now)) result (last_index (trees args.now)) }
 {
@@ -98,7 +100,7 @@ fn last_place(
     }
 }
 
-/// A copy of a text with its letters folded.
+/// Returns a copy of a text with its letters folded.
 pub fn folded(alloc: Global, bytes: &[u8]) -> Result<Vec<u8>, AllocError>
     ensures { IfOk result (λ v. v.items ≡ folded bytes.now) }
 {

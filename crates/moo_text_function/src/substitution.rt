@@ -1,4 +1,4 @@
-//! Occurrences of a string replaced.
+//! Replaces occurrences of a string.
 ghost use Rattle.std.specs.Prelude.{◌≡◌, ◌<◌, length, IfOk};
 ghost use Rattle.memchr.specs.Find.{matches};
 ghost use Rattle.bstr.specs.Text.{replaced_at};
@@ -14,8 +14,8 @@ use moo_operation::{OperationFault, is_true};
 use moo_value::{ErrorCode, MooStr, Value, WEIGHT_LIMIT};
 use std::alloc::{AllocError, Global};
 
-/// `strsub`: a string with each occurrence of a second replaced by a third, from the left. What was put in is not looked
-/// at again. Letters are folded unless the fourth argument is true; an empty second string raises E_INVARG.
+/// Computes `strsub`: a string with each occurrence of a second replaced by a third, from the left. Replacements are
+/// not searched again. Letters are folded unless the fourth argument is true; an empty second string raises E_INVARG.
 pub fn substitute(alloc: Global, args: &[Value]) -> Result<Value, OperationFault>
     ensures { Gives result (substitute (trees args.now)) }
 {
@@ -59,7 +59,7 @@ fn substitution(
     }
 }
 
-// `None` past the limit of weight.
+// Returns the text with the occurrences replaced, or `None` past the limit of weight.
 fn substituted(
     alloc: Global,
     text: &[u8],
@@ -77,8 +77,8 @@ fn substituted(
     replaced(alloc, text, &searched, &wanted, other)
 }
 
-// The text with `other` in each place where `wanted` stands in `searched`, which is as long. `None` past the limit of
-// weight.
+// Returns the text with `other` at each place at which `wanted` occurs in `searched`, a text of the same length.
+// `None` past the limit of weight.
 fn replaced(
     alloc: Global,
     text: &[u8],

@@ -1,4 +1,4 @@
--- For private clauses: how an answer of the program stands to a list that was made.
+-- For private clauses: how a result of the program relates to a list that was made.
 use Rattle.std.specs.Prelude.{◌≡◌, List, Result, Ok, Err}
 use Rattle.moo_value.specs.declared.error_code.ErrorCode.TheVariants.{Quota}
 use Rattle.moo_value.specs.declared.list.ListFault.{ListFault}
@@ -9,7 +9,7 @@ use Rattle.moo_value.specs.Tree.{Tree}
 use Rattle.moo_operation.specs.declared.fault.OperationFault.{OperationFault}
 use Rattle.moo_operation.specs.declared.fault.OperationFault.TheVariants.{Raise, Memory}
 
--- making a list has this answer
+-- making a list has this result
 abbrev pub Follows : Result (List Tree) ListFault → Result Value OperationFault → Type 0
 Follows (Ok ts) a = a ≡ Ok (ListOf ts)
 Follows (Err TooLarge) a = a ≡ Err (Raise Quota)

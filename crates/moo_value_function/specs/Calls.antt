@@ -1,4 +1,4 @@
--- What the functions over values alone answer.
+-- The results of the functions over values alone.
 use Rattle.std.specs.Prelude.{◌≡◌, ℕ, pos, false, List, [], ◌∷◌, Option, None, Some, Result, Ok, Err}
 use Rattle.moo_value.specs.declared.error_code.ErrorCode.{ErrorCode}
 use Rattle.moo_value.specs.declared.error_code.ErrorCode.TheVariants.{TypeMismatch}
@@ -29,8 +29,8 @@ pub record Raised : Type 0 where
 abbrev pub plainly : ErrorCode → Raised
 plainly e = record { code = e; message = error_message e; value = integer (pos 0) }
 
--- what each function over values alone gives for arguments that fit its row, where an error has its own message; the
--- others are not of this crate
+-- the result of each function over values alone for arguments that fit its row, if an error has its default message;
+-- the other functions are not of this crate
 abbrev pub plain_answer : Function → ℕ → List Tree → Option (Result Tree ErrorCode)
 plain_answer function.TypeOf moment args = Some (type_of args)
 plain_answer function.Length moment args = Some (length_of args)
@@ -58,13 +58,13 @@ plain_answer function.Time moment args = Some (time moment args)
 plain_answer function.ServerVersion moment args = Some (server_version args)
 plain_answer _ moment args = None
 
--- such an answer, with the errors as they are raised
+-- such a result, with the errors as they are raised
 abbrev pub simply : Option (Result Tree ErrorCode) → Option (Result Tree Raised)
 simply None = None
 simply (Some (Ok t)) = Some (Ok t)
 simply (Some (Err e)) = Some (Err (plainly e))
 
--- the error that `raise` raises, with a message and a value of its own where they are given
+-- the error that `raise` raises, with a message and a value of its own if they are given
 abbrev pub raised_by : List Tree → Raised
 raised_by (error e ∷ []) = plainly e
 raised_by (error e ∷ string s ∷ []) = record { code = e; message = s; value = integer (pos 0) }
@@ -76,24 +76,24 @@ abbrev pub answer : Function → ℕ → List Tree → Option (Result Tree Raise
 answer function.Raise moment args = Some (Err (raised_by args))
 answer f moment args = simply (plain_answer f moment args)
 
--- Memory may be wanting for a string or a list that is made, and where a search folds letters, which is done in copies.
+-- Memory may run out for a string or a list that is made, and if a search folds letters, which is done in copies.
 abbrev pub MayLack : Function → List Tree → Result Tree ErrorCode → Type 0
 MayLack function.Index args r = is_exact args ≡ false
 MayLack function.LastIndex args r = is_exact args ≡ false
 MayLack f args r = IsMade r
 
--- the same of an answer as it is given, and for the message of an error that is raised
+-- memory may run out for a result as it is returned, and for the message of an error that is raised
 abbrev pub CallMayLack : Function → List Tree → Result Tree Raised → Type 0
 CallMayLack f args (Ok t) = MayLack f args (Ok t)
 CallMayLack f args (Err r) = Unit {0}
 
--- the outcome is this, or memory is wanting where it may
+-- the outcome is this, or memory runs out where it may
 abbrev pub Shows : Function → List Tree → Outcome → Result Tree Raised → Type 0
 Shows f args (outcome.Value v) r = r ≡ Ok (tree v)
 Shows f args (outcome.Raise e message v) r = r ≡ Err (record { code = e; message = message; value = tree v })
 Shows f args outcome.Memory r = CallMayLack f args r
 
--- the same of a function that may be another crate's: it has no outcome here
+-- the outcome of a function that may be another crate's: it has no outcome here
 abbrev pub ShowsSome : Function → List Tree → Option Outcome → Option (Result Tree Raised) → Type 0
 ShowsSome f args None r = r ≡ None
 ShowsSome f args (Some o) None = ⊥
@@ -111,7 +111,7 @@ Raises (outcome.Value v) r = ⊥
 Raises (outcome.Raise e message v) r = r ≡ record { code = e; message = message; value = tree v }
 Raises outcome.Memory r = Unit {0}
 
--- an outcome is an answer of the program
+-- an outcome is a result of the program
 abbrev pub Tells : Outcome → Result Value OperationFault → Type 0
 Tells o (Ok v) = o ≡ outcome.Value v
 Tells o (Err (fault.Raise e)) = Raises o (plainly e)

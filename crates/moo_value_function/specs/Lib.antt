@@ -1,4 +1,4 @@
--- What the functions over values alone answer.
+-- The results of the functions over values alone.
 pub mod Answers
 pub mod Looks
 pub mod Numbers

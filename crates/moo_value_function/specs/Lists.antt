@@ -1,4 +1,4 @@
--- What the functions on lists answer. Places are counted from 1.
+-- The results of the functions on lists. Places are counted from 1.
 use Rattle.std.specs.Prelude.{ℕ, ◌+◌, ◌-◌, ℤ, min, List, [], ◌∷◌, length, slice_set, insert, remove, position, is_some, Option, Some, None, Result, Ok, Err, if◌then◌else◌}
 use Rattle.moo_value.specs.declared.error_code.ErrorCode.{ErrorCode}
 use Rattle.moo_value.specs.declared.error_code.ErrorCode.TheVariants.{TypeMismatch}
@@ -13,15 +13,15 @@ use Rattle.moo_operation.specs.Assignment.{before_place, at_least_zero}
 abbrev pub brought_to : ℤ → ℕ → ℕ
 brought_to i n = min (at_least_zero i) n
 
--- the list with a value behind its first k elements
+-- the list with a value after its first k elements
 abbrev pub put_in : List Tree → ℕ → Tree → Result Tree ErrorCode
 put_in ts k t = limited (list_of (insert ts k t))
 
--- the list without the element behind its first k
+-- the list without the element after its first k
 abbrev pub taken_out : List Tree → ℕ → Result Tree ErrorCode
 taken_out ts k = limited (list_of (remove ts k))
 
--- behind the last element, or behind a place
+-- after the last element, or after a place
 abbrev pub list_append : List Tree → Result Tree ErrorCode
 list_append (list es ∷ t ∷ []) = put_in (trees_of es) (length (trees_of es)) t
 list_append (list es ∷ t ∷ integer i ∷ []) = put_in (trees_of es) (brought_to i (length (trees_of es))) t
@@ -49,7 +49,7 @@ abbrev pub list_delete : List Tree → Result Tree ErrorCode
 list_delete (list es ∷ integer i ∷ []) = delete_at (trees_of es) i
 list_delete _ = Err TypeMismatch
 
--- the list with a value at its end, where it has none that is equal
+-- the list with a value at its end, if it has no equal element
 abbrev pub with_member : List Tree → Tree → Result Tree ErrorCode
 with_member ts t = if is_some (position (equal t) ts) then Ok (list_of ts) else put_in ts (length ts) t
 

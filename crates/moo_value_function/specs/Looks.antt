@@ -1,4 +1,4 @@
--- What the functions that look at any value answer.
+-- The results of the functions that inspect any value.
 use Rattle.std.specs.Prelude.{ℕ, ℤ, pos, List, [], ◌∷◌, Result, Ok, Err, codes}
 use Rattle.std.specs.Int.{w32, cast_signed}
 use Rattle.moo_value.specs.declared.error_code.ErrorCode.{ErrorCode}
@@ -23,7 +23,7 @@ abbrev pub length_of : List Tree → Result Tree ErrorCode
 length_of (t ∷ []) = places.length_of t
 length_of _ = Err TypeMismatch
 
--- 1 where the two are one value, letters not folded, else 0
+-- 1 if the two are one value, letters not folded, else 0
 abbrev pub equal : List Tree → Result Tree ErrorCode
 equal (a ∷ b ∷ []) = Ok (truth_value (same_tree a b))
 equal _ = Err TypeMismatch

@@ -1,4 +1,4 @@
--- What the functions on integers answer.
+-- The results of the functions on integers.
 use Rattle.std.specs.Prelude.{ℤ, pos, List, [], ◌∷◌, Result, Ok, Err, if◌then◌else◌, int_lt}
 use Rattle.std.specs.Int.{w32, int_wrapping_neg}
 use Rattle.moo_value.specs.declared.error_code.ErrorCode.{ErrorCode}

@@ -1,4 +1,4 @@
-//! What the functions over values alone give, and how an error is raised.
+//! Calls the functions over values alone, and raises their errors.
 ghost use Rattle.std.specs.Prelude.{◌≡◌, IfNone};
 ghost use Rattle.moo_value.specs.View.{tree, trees};
 ghost use Rattle.moo_value_function.specs.Calls.{plainly, plain_answer, raised_by, answer, ShowsSome, GivesSome, Raises, Tells};
@@ -16,19 +16,19 @@ use moo_text_function::{
 use moo_value::{ErrorCode, MooStr, Value};
 use std::alloc::Global;
 
-/// What a call comes to.
+/// The outcome of a call.
 #[derive(Drop)]
 pub enum Outcome {
-    /// It answers a value.
+    /// The call returns a value.
     Value(Value),
-    /// It raises an error, with a message and a value.
+    /// The call raises an error, with a message and a value.
     Raise(ErrorCode, MooStr, Value),
-    /// Memory was refused.
+    /// Memory ran out.
     Memory,
 }
 
-/// What a function over values alone gives, or raises, for arguments that fit its row of the table, at a moment in seconds
-/// since 1970. `None` where the function is another one; the arguments then stay as they are.
+/// Returns what a function over values alone returns or raises. The arguments fit its row of the table; `moment` is
+/// in seconds since 1970. `None` for any other function; the arguments then stay as they are.
 pub fn answer(alloc: Global, function: Function, args: &mut [Value], moment: u32) -> Option<Outcome>
     ensures value { ShowsSome function (trees args.old) result (answer function moment (trees args.old)) }
     ensures unchanged { IfNone result (args.new ≡ args.old) }
@@ -42,8 +42,8 @@ pub fn answer(alloc: Global, function: Function, args: &mut [Value], moment: u32
     }
 }
 
-/// What a function over values alone gives for arguments that fit its row of the table, where each error has its own
-/// message. `None` where the function is another one; the arguments then stay as they are.
+/// Returns what a function over values alone returns, for functions whose errors all have their own message. The
+/// arguments fit its row of the table. `None` for any other function; the arguments then stay as they are.
 pub fn plain_answer(
     alloc: Global,
     function: Function,
@@ -81,7 +81,7 @@ pub fn plain_answer(
     })
 }
 
-/// The outcome of this answer, an error with its own message and 0.
+/// Returns the outcome of a result: its value, or its error with the error's own message and the value 0.
 pub fn settled(alloc: Global, answer: Result<Value, OperationFault>) -> Outcome
     ensures { Tells result answer }
 {
@@ -92,7 +92,7 @@ pub fn settled(alloc: Global, answer: Result<Value, OperationFault>) -> Outcome
     }
 }
 
-// `raise`: an error with its own message and 0, or with those that are given.
+// Computes `raise`: an error with its own message and 0, or with those that are given.
 fn raise(alloc: Global, args: &[Value]) -> Outcome
     ensures { Raises result (raised_by (trees args.now)) }
 {
@@ -113,7 +113,7 @@ fn raised_with(error: ErrorCode, message: &MooStr, value: &Value) -> Outcome
     }
 }
 
-/// An error with its own message and 0, or want of memory for the message.
+/// Returns an error with its own message and 0, or lack of memory for the message.
 pub fn raised(alloc: Global, error: ErrorCode) -> Outcome
     ensures { Raises result (plainly error) }
 {

@@ -1,5 +1,4 @@
-//! The built-in functions over values alone.
-//! A room behind `moo_builtin`.
+//! The built-in functions over values alone. An internal crate of `moo_builtin`.
 #![tactic(auto)]
 
 mod call;

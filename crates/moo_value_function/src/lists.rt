@@ -15,7 +15,7 @@ use moo_value::{MooList, Value};
 use std::alloc::{AllocError, Global};
 use std::mem;
 
-/// `listappend`: the list with a value behind its last element, or behind a place.
+/// Computes `listappend`: the list with a value after its last element, or after a place.
 pub fn list_append(alloc: Global, args: &mut [Value]) -> Result<Value, OperationFault>
     ensures { Gives result (list_append (trees args.old)) }
 {
@@ -55,7 +55,7 @@ fn appended_at(
     }
 }
 
-/// `listinsert`: the list with a value before its first element, or before a place.
+/// Computes `listinsert`: the list with a value before its first element, or before a place.
 pub fn list_insert(alloc: Global, args: &mut [Value]) -> Result<Value, OperationFault>
     ensures { Gives result (list_insert (trees args.old)) }
 {
@@ -92,7 +92,7 @@ fn inserted_at(
     }
 }
 
-/// `listset`: the list with a value at a place of it.
+/// Computes `listset`: the list with the element at a place replaced by a value.
 pub fn list_set(alloc: Global, args: &mut [Value]) -> Result<Value, OperationFault>
     ensures { Gives result (list_set (trees args.old)) }
 {
@@ -120,7 +120,7 @@ fn set_at(alloc: Global, list: MooList, value: Value, place: i32) -> Result<Valu
     }
 }
 
-/// `listdelete`: the list without the element at a place.
+/// Computes `listdelete`: the list without the element at a place.
 pub fn list_delete(alloc: Global, args: &mut [Value]) -> Result<Value, OperationFault>
     ensures { Gives result (list_delete (trees args.old)) }
 {
@@ -151,7 +151,7 @@ fn delete_at(alloc: Global, list: MooList, place: i32) -> Result<Value, Operatio
     }
 }
 
-/// `setadd`: the list with a value at its end, where it has none that is equal.
+/// Computes `setadd`: the list with a value at its end, if it has no equal element yet.
 pub fn set_add(alloc: Global, args: &mut [Value]) -> Result<Value, OperationFault>
     ensures { Gives result (set_add (trees args.old)) }
 {
@@ -180,7 +180,7 @@ fn with_member(alloc: Global, list: MooList, value: Value) -> Result<Value, Oper
     put_in(alloc, list, end, value)
 }
 
-/// `setremove`: the list without the first element that is equal to a value.
+/// Computes `setremove`: the list without the first element that is equal to a value.
 pub fn set_remove(alloc: Global, args: &mut [Value]) -> Result<Value, OperationFault>
     ensures { Gives result (set_remove (trees args.old)) }
 {
@@ -208,7 +208,7 @@ fn without_member(alloc: Global, list: MooList, value: Value) -> Result<Value, O
     }
 }
 
-/// `is_member`: the first place of a value in a list, letters not folded, or 0.
+/// Computes `is_member`: the first place of a value in a list, letters not folded, or 0.
 pub fn is_member(args: &[Value]) -> Result<Value, OperationFault>
     ensures { Gives result (is_member (trees args.now)) }
 {
@@ -266,7 +266,7 @@ fn position_of_equal(value: &Value, elements: &[Value]) -> Option<usize>
     elements.iter().position(|element| is_equal(value, element))
 }
 
-// Takes an argument out of its place, so that a list that nothing else holds is changed and not copied.
+// Takes an argument out of its place, so that a list that nothing else holds is changed in place.
 fn take(argument: &mut Value) -> Value
     ensures { result ≡ argument.old }
 {
@@ -282,7 +282,7 @@ fn brought_to(place: i32, count: usize) -> usize
     (place as usize).min(count)
 }
 
-// How many elements stand before the place, where it is one of `count` places.
+// Returns how many elements come before the place, if it is one of `count` places.
 fn before_place(place: i32, count: usize) -> Option<usize>
     ensures value { result ≡ before_place place count }
     ensures bound { IfSome result (λ k. k < count) }

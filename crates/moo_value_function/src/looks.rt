@@ -1,4 +1,4 @@
-//! Functions that look at any value, the time and the server's version.
+//! Functions that inspect any value, the time and the server's version.
 ghost use Rattle.std.specs.Prelude.{◌≡◌};
 ghost use Rattle.moo_value.specs.View.{tree, trees};
 ghost use Rattle.moo_operation.specs.Truth.{same_tree, truth_value};
@@ -10,7 +10,7 @@ use moo_operation::OperationFault;
 use moo_value::{MooStr, Value, same};
 use std::alloc::Global;
 
-/// `typeof`: the number of the type.
+/// Computes `typeof`: the number of the type.
 pub fn type_of(args: &[Value]) -> Result<Value, OperationFault>
     ensures { Gives result (type_of (trees args.now)) }
 {
@@ -32,7 +32,7 @@ fn type_number(value: &Value) -> i32
     }
 }
 
-/// `length` of a string or a list.
+/// Computes `length` of a string or a list.
 #[tactic(auto, using(moo_text_function::proofs::Making::weaker))]
 pub fn length_of(args: &[Value]) -> Result<Value, OperationFault>
     ensures { Gives result (length_of (trees args.now)) }
@@ -43,7 +43,7 @@ pub fn length_of(args: &[Value]) -> Result<Value, OperationFault>
     }
 }
 
-/// `equal`: whether two values are the same, letters not folded.
+/// Computes `equal`: whether two values are the same, letters not folded.
 pub fn equal(args: &[Value]) -> Result<Value, OperationFault>
     ensures { Gives result (equal (trees args.now)) }
 {
@@ -53,7 +53,7 @@ pub fn equal(args: &[Value]) -> Result<Value, OperationFault>
     }
 }
 
-/// Whether two values are the same.
+/// Returns whether two values are the same, letters not folded.
 pub fn is_same(a: &Value, b: &Value) -> bool
     ensures { result ≡ same_tree (tree a.now) (tree b.now) }
 {
@@ -66,7 +66,7 @@ fn truth_value(test: bool) -> Value
     Value::Int(i32::from(test))
 }
 
-/// `time`: the moment, in seconds since the beginning of 1970, in 32 bits with a sign.
+/// Computes `time`: the moment, in seconds since the beginning of 1970, as a signed 32-bit integer.
 pub fn time(args: &[Value], moment: u32) -> Result<Value, OperationFault>
     ensures { Gives result (time moment (trees args.now)) }
 {
@@ -76,7 +76,7 @@ pub fn time(args: &[Value], moment: u32) -> Result<Value, OperationFault>
     }
 }
 
-/// `server_version`: the version of the server that this one follows, and its profile.
+/// Computes `server_version`: the LambdaMOO version that this server follows, and its profile.
 pub fn server_version(alloc: Global, args: &[Value]) -> Result<Value, OperationFault>
     ensures { Gives result (server_version (trees args.now)) }
 {

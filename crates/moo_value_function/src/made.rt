@@ -1,14 +1,16 @@
-//! Answers of functions.
+//! Results of functions that make lists.
 ghost use Rattle.moo_value_function.specs.Answers.{Follows};
 
 use moo_operation::OperationFault;
 use moo_value::{ErrorCode, ListFault, MooList, Value};
 
+/// The fault that raises E_TYPE.
 pub const TYPE_MISMATCH: OperationFault = OperationFault::Raise(ErrorCode::TypeMismatch);
 
+/// The fault that raises E_RANGE.
 pub const RANGE: OperationFault = OperationFault::Raise(ErrorCode::Range);
 
-/// What comes of making a list.
+/// Returns the list that was made, or the error of a fault in making it.
 pub fn list_answer(made: Result<MooList, ListFault>) -> Result<Value, OperationFault>
     ensures { Follows made result }
 {

@@ -8,7 +8,7 @@ use crate::made::TYPE_MISMATCH;
 use moo_operation::OperationFault;
 use moo_value::Value;
 
-/// `abs`, modulo 2^32: the least integer stays as it is.
+/// Computes `abs`, modulo 2^32: the least integer stays as it is.
 pub fn absolute(args: &[Value]) -> Result<Value, OperationFault>
     ensures { Gives result (absolute (trees args.now)) }
 {
@@ -19,7 +19,7 @@ pub fn absolute(args: &[Value]) -> Result<Value, OperationFault>
     }
 }
 
-/// `min` of one integer or more.
+/// Computes `min` of one integer or more.
 pub fn least(args: &[Value]) -> Result<Value, OperationFault>
     ensures { Gives result (least (trees args.now)) }
 {
@@ -38,7 +38,7 @@ pub fn least(args: &[Value]) -> Result<Value, OperationFault>
     Ok(Value::Int(best))
 }
 
-/// `max` of one integer or more.
+/// Computes `max` of one integer or more.
 pub fn greatest(args: &[Value]) -> Result<Value, OperationFault>
     ensures { Gives result (greatest (trees args.now)) }
 {

@@ -44,7 +44,7 @@ pub not_some : {A : Type 0} (o : Option A) → is_some o ≡ false → o ≡ Non
 not_some None h = refl
 not_some (Some a) h = absurd (false≢true (sym h))
 
--- nobody may read what isn't there
+-- no one may read what isn't there
 pub unreadable : (w : World) (p : ℤ) (x : ℕ) (name : List ℕ) → cell_named (thing_of w.objects x).cells name ≡ None → None ≡ readable_cell w p x name
 unreadable w p x name none = over (built_in_of name) refl
   where
@@ -91,7 +91,7 @@ pub placed_cell : (name : List ℕ) (cells : List Cell) (place : ℕ) (c : Cell)
 placed_cell name cells place c is here =
     sym (placed_found (is_named name) cells place is) ∙ slice_get-get_or cells place c (placed (is_named name) cells place is).1 ∙ ap (λ d. Some d) (sym here)
 
--- and no cell where none is found
+-- and no cell if none is found
 pub unplaced : {X : Type 0} (t : X → Bool) (xs : List X) → position t xs ≡ None → find t xs ≡ None
 unplaced t xs is =
     ⊎_elim

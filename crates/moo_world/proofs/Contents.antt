@@ -20,7 +20,7 @@ absent x (y ∷ ys) none =
     (λ e. (e, absent x ys (omega (arith, more))))
     (cases_Bool (eqb x y))
 
--- a list in which no number stands twice
+-- a list in which no number occurs twice
 once_distinct : (ys : List ℕ) → ((y : ℕ) → count_by (eqb y) ys ≤ 1) → IsDistinct eqb ys
 unfolding IsDistinct
 once_distinct [] few = tt
@@ -36,7 +36,7 @@ at_most_once None x = omega arith
 at_most_once (Some up) x = ⊎_elim (λ e. rw e (omega arith)) (λ e. rw e (omega arith)) (cases_Bool (eqb x up))
 
 module _ (nodes : List Links) (f : IsForest nodes) (x : ℕ) where
-  -- nothing stands right below itself
+  -- nothing is right below itself
   not_own : count_by (eqb x) (below_of nodes x) ≡ 0
   not_own = f.exact x x ∙ over (above_of nodes x) refl
     where

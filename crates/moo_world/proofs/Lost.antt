@@ -14,7 +14,7 @@ use Rattle.moo_table.specs.Recycling.{without_cells_of, after_recycle}
 use Rattle.moo_table.proofs.Changing.{valid_within}
 use Rattle.moo_world.specs.Lookups.{IsWithout, IsUndefined}
 
--- what stands at a number once each object was changed
+-- what is at a number once each object was changed
 mapped_at : (g : Option Object → Option Object) → g None ≡ None → (objects : List (Option Object)) (y : ℕ) → object_of (map g objects) y ≡ g (object_of objects y)
 mapped_at g none [] y = sym none
 mapped_at g none (o ∷ os) zero = refl

@@ -24,7 +24,7 @@ pub plain_refused : (w : World) (x : ℕ) (name : List ℕ) (d : Option ℕ) →
 plain_refused w x name None is none = rw (← is) refl
 plain_refused w x name (Some d) is none = cc
 
--- no value is read just where the property is not defined
+-- no value is read exactly if the property is not defined
 pub unread_raises : (w : World) (x : ℕ) (name : List ℕ) → IsWellFormed w → None ≡ read w x name → plain_raises w x name ≡ Some PropertyNotFound
 unread_raises w x name f none = let off : is_some (definition_named w x name) ≡ false = sym (read_defined w x name f) ∙ ap is_some (sym none) in rw off refl
 
@@ -43,7 +43,7 @@ name_allowed w x name none = over (is_some (built_in_of name)) none
     over true h = absurd (cc)
     over false h = refl
 
--- where nothing is to be raised, nothing is to be raised first
+-- if nothing is to be raised, nothing is to be raised first
 pub nothing_first : {T : Type 0} (result : Result T WorldFault) (raises : Option ErrorCode) → raises ≡ None → RaisesFirst result raises
 nothing_first (Ok v) raises none = tt
 nothing_first (Err (Raise e)) raises none = tt

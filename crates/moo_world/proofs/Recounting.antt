@@ -35,7 +35,7 @@ module _ (w : World) (x i m n : ℕ) (c : IsCounted w n) (here : x < length w.ob
       let all = c.counted in
       omega (arith, is, given, with_it, below, all)
 
--- what is raised for a program where nothing is for the verb
+-- the error for a program if there is none for the verb
 pub program_allowed : (n m k : ℕ) → n < m → k ≤ most → ◌≡◌ {A = Option ErrorCode} (cond (ltb n m) (cond (ltb most k) (Some Quota) None) (Some VerbNotFound)) None
 program_allowed n m k low few = let on = lt-ltb n m low in let off = le-ltb most k few in rw (on, off) refl
 

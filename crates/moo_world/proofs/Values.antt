@@ -82,13 +82,13 @@ value_kept name v (d ∷ ds) k j h ne =
     (cases_Bool (is_key j d)))
     (cases_Bool (same_name d.name name))
 
--- definitions, where each object defines what it did
+-- definitions, if each object defines what it did
 pub keys_alike : (old new : List (Option Object)) → ((z : ℕ) → (thing_of new z).defined ≡ (thing_of old z).defined) → (way : List ℕ) → keys_along new way ≡ keys_along old way
 keys_alike old new same [] = refl
 keys_alike old new same (z ∷ way) =
     ap (λ ns. map (λ n. (let k : Key = (z, folded n) in k)) ns ++ keys_along new way) (same z) ∙ ap (λ ks. keys_defined_on old z ++ ks) (keys_alike old new same way)
 
--- what is found along a way, where each object gives what another does
+-- what is found along a way, if each object gives what another does
 pub gives_alike : (f g : ℕ → Option Tree) → ((z : ℕ) → f z ≡ g z) → (way : List ℕ) → filter_map f way ≡ filter_map g way
 gives_alike f g same [] = refl
 gives_alike f g same (z ∷ way) = ap (λ r. cons_option r (filter_map f way)) (same z) ∙ ap (cons_option (g z)) (gives_alike f g same way)

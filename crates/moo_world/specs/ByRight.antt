@@ -15,14 +15,14 @@ use Rattle.moo_world.specs.EditCalls.{set_raises}
 use Rattle.moo_world.specs.NamedProperties.{get_raises, value_got}
 use Rattle.moo_world.specs.Rights.{may_read_cell, may_write_cell, may_read_property, may_write_property}
 
--- a valid object's cell of a name, where no built-in property hides it and the programmer may read it
+-- a valid object's cell of a name, if no built-in property hides it and the programmer may read it
 abbrev pub readable_cell : World → ℤ → ℕ → List ℕ → Option Cell
 readable_cell w p x name =
     if is_some (built_in_of name) then None
     else if may_read_cell w p (cell_named (thing_of w.objects x).cells name) then cell_named (thing_of w.objects x).cells name
     else None
 
--- the value of a property that is not built in, where the programmer may read it
+-- the value of a property that is not built in, if the programmer may read it
 abbrev pub readable_at : World → ℤ → ℕ → List ℕ → Option Tree
 readable_at w p x name = option_and_then (λ c. read w x name) (readable_cell w p x name)
 
@@ -36,13 +36,14 @@ pub record IsReadable (w : World) (p o : ℤ) (name : List ℕ) (v : Tree) : Typ
   pub right : may_read_property w p o name ≡ true
   pub value : value_got w (number_of w.objects o) (folded name) ≡ Some v
 
--- the cell of a name stands at this place, no built-in property hides it, and the programmer may set it
+-- the cell of a name is at this place, no built-in property hides it, and the programmer may set it
 pub record IsWritable (w : World) (p : ℤ) (x : ℕ) (name : List ℕ) (place : ℕ) : Type 0 where
   pub at : position (is_named name) (thing_of w.objects x).cells ≡ Some place
   pub plain : built_in_of name ≡ None
   pub right : may_write_cell w p (cell_named (thing_of w.objects x).cells name) ≡ true
 
--- what setting a property with the rights of a programmer raises: what setting it raises, and then want of the right
+-- the error of setting a property with the rights of a programmer: that of setting it, and then that of a missing
+-- right
 abbrev pub set_by_raises : World → ℤ → ℤ → List ℕ → Tree → Option ErrorCode
 set_by_raises w p o name v =
     option_or (set_raises w (number_of w.objects o) (folded name) v) (if may_write_property w p o name then None else Some Permission)

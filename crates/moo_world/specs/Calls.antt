@@ -10,29 +10,29 @@ use Rattle.moo_world.specs.declared.fault.WorldFault.TheVariants.{Raise, Memory}
 use Rattle.moo_table.specs.World.{World, object_of, clashes, crowds, most}
 use Rattle.moo_table.specs.Changes.{after_create, after_chparent, after_move, would_loop}
 
--- a call raises where it must, and else comes to `after`; where it raises, or memory is short, the world stays as it was
+-- a call raises if it must, and else leads to `after`; if it raises or memory runs out, the world stays as it was
 abbrev pub Changes : {T : Type 0} → Result T WorldFault → World → World → Option ErrorCode → World → Type 0
 Changes (Ok _) old new raises after = (raises ≡ None) × (new ≡ after)
 Changes (Err (Raise e)) old new raises after = (raises ≡ Some e) × (new ≡ old)
 Changes (Err Memory) old new raises after = new ≡ old
 
--- a call raises where it must, and else its answer is right
+-- a call raises if it must, and else its result is right
 abbrev pub Answers : {T : Type 0} → Result T WorldFault → Option ErrorCode → (T → Type 0) → Type 0
 Answers (Ok v) raises Right = (raises ≡ None) × Right v
 Answers (Err (Raise e)) raises Right = raises ≡ Some e
 Answers (Err Memory) raises Right = ⊤
 
--- a call tells what another would raise
+-- a call returns the error that another would raise
 abbrev pub Tests : {T : Type 0} → Result T WorldFault → Option ErrorCode → Type 0
 Tests result raises = Answers result raises (λ v. ⊤)
 
--- a call that takes no memory: it never answers that memory is short
+-- a call that allocates nothing: it never runs out of memory
 abbrev pub TakesNoMemory : {T : Type 0} → Result T WorldFault → Type 0
 TakesNoMemory (Ok v) = ⊤
 TakesNoMemory (Err (Raise e)) = ⊤
 TakesNoMemory (Err Memory) = ⊥
 
--- a call that looks at these raises before it takes memory: where memory is short, none of them was due
+-- a call that looks at these raises before it allocates: if memory runs out, none of them was due
 abbrev pub RaisesFirst : {T : Type 0} → Result T WorldFault → Option ErrorCode → Type 0
 RaisesFirst (Ok v) raises = ⊤
 RaisesFirst (Err (Raise e)) raises = ⊤

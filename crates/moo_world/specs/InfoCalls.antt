@@ -27,7 +27,7 @@ rename_raises w x k name =
     else taken_raises w x name)
     else Some InvalidArgument
 
--- what other info for a definition that a name stands for raises, with another name for it, if one is given
+-- the error of changing the info of a definition of this name, and its name if a new one is given
 abbrev pub info_change_raises : World → ℕ → Option (List ℕ) → Option Key → Option ErrorCode
 info_change_raises w x spelling None = Some PropertyNotFound
 info_change_raises w x None (Some k) = None

@@ -35,7 +35,7 @@ own_value o property.Read = truth o.flags.read
 own_value o property.Write = truth o.flags.write
 own_value o property.Fertile = truth o.flags.fertile
 
--- the value of a built-in property: the place and the contents stand in the tree of places
+-- the value of a built-in property: the location and the contents are in the tree of places
 abbrev pub built_in_value : World → ℕ → BuiltInProperty → Tree
 built_in_value w x property.Location = object (number_of_place (above_of w.containment x))
 built_in_value w x property.Contents = objects_list (below_of w.containment x)
@@ -47,7 +47,7 @@ built_in_value w x property.Read = own_value (thing_of w.objects x) property.Rea
 built_in_value w x property.Write = own_value (thing_of w.objects x) property.Write
 built_in_value w x property.Fertile = own_value (thing_of w.objects x) property.Fertile
 
--- a built-in property is always there, any other one where it is defined
+-- a built-in property always exists, any other one if it is defined
 abbrev pub named_raises : World → ℕ → List ℕ → Option BuiltInProperty → Option ErrorCode
 named_raises w x name None = plain_raises w x name
 named_raises w x name (Some property) = None

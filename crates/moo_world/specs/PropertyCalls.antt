@@ -13,7 +13,7 @@ use Rattle.moo_table.specs.World.{World, thing_of}
 use Rattle.moo_table.specs.Changes.{after_define, after_undefine}
 use Rattle.moo_table.specs.Properties.{definition_named, is_taken, is_full}
 
--- what looking a property up raises, where no built-in one has the name
+-- the error of looking a property up, if no built-in one has the name
 abbrev pub plain_raises : World → ℕ → List ℕ → Option ErrorCode
 plain_raises w x name = if is_some (definition_named w x name) then None else Some PropertyNotFound
 

@@ -53,8 +53,8 @@ abbrev pub may_write_cell : World → ℤ → Option Cell → Bool
 may_write_cell w p None = false
 may_write_cell w p (Some c) = c.perms.write || controls w p c.owner
 
--- all may read a built-in property; wizards may set them but for the place and the contents, which are moved; the object's
--- owner may set the name, where it is no player, and the flags r, w and f
+-- Everyone may read a built-in property. Wizards may set them, except the location and the contents, which are moved.
+-- The object's owner may set the name, if the object is no player, and the flags r, w and f.
 abbrev pub may_set_built_in : World → ℤ → Object → BuiltInProperty → Bool
 may_set_built_in w p o property.Name = is_wizard w p || (int_eq o.owner p && not o.flags.player)
 may_set_built_in w p o property.Owner = is_wizard w p

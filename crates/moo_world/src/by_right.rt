@@ -1,5 +1,5 @@
-//! Properties read and set with the rights of a programmer. The cell that tells of the right is the one that is read
-//! or set, so that it is looked for once.
+//! Properties read and set with the rights of a programmer. The cell that decides the right is the cell that is read
+//! or set, so it is looked up once.
 
 ghost use Rattle.std.specs.Prelude.{◌≡◌, IsSome, IfSome, IsTrue, Some, is_some, true};
 ghost use Rattle.std.specs.Option.{option_map, option_copied};
@@ -25,7 +25,7 @@ use moo_table::written::{nearest_written, place_written};
 use moo_value::{ErrorCode, Value};
 
 impl World {
-    /// The value of a property that is not built in, where the programmer may read it.
+    /// Returns the value of a property that is not built in, if the programmer may read it.
     #[inline(always)]
     pub fn readable_value(&self, programmer: i32, o: i32, name: &[u8]) -> Option<&Value>
         ensures value { option_map tree (option_copied result) ≡ readable_value self.now programmer (number_of self.now.objects o) (folded name.now) }
@@ -37,7 +37,8 @@ impl World {
         }
     }
 
-    /// The same, where the name is written out.
+    /// Returns the value of a property that is not built in and whose name is a literal, if the programmer may read
+    /// it.
     #[inline(always)]
     pub fn readable_written(&self, programmer: i32, o: i32, name: &Text) -> Option<&Value>
         ensures value { option_map tree (option_copied result) ≡ readable_value self.now programmer (number_of self.now.objects o) (folded name.now) }
@@ -76,7 +77,7 @@ impl World {
         }
     }
 
-    // A valid object's cell of a name.
+    // Returns a valid object's cell of a name.
     #[inline(always)]
     fn cell_found(&self, x: usize, name: &[u8]) -> Option<&PropCell>
         requires { IsSome (object_of self.now.objects x) }
@@ -85,7 +86,7 @@ impl World {
         cell_in(&self.objects[x], name)
     }
 
-    // The same, where the name is written out.
+    // Returns a valid object's cell of a name that is a literal.
     #[inline(always)]
     fn cell_written(&self, x: usize, name: &Text) -> Option<&PropCell>
         requires { IsSome (object_of self.now.objects x) }
@@ -99,7 +100,7 @@ impl World {
         }
     }
 
-    // A valid object's cell of a name, where no built-in property hides it and the programmer may read it.
+    // Returns a valid object's cell of a name, if no built-in property hides it and the programmer may read it.
     #[inline(always)]
     fn readable_cell<'a>(
         &'a self,
@@ -124,7 +125,7 @@ impl World {
         }
     }
 
-    /// The value for a valid object's cell of a name: its own, or where it is clear the nearest one above.
+    /// Returns the value for a valid object's cell of a name: its own, or if it is clear the nearest one above.
     #[inline(always)]
     pub(crate) fn value_of_cell<'a>(
         &'a self,
@@ -143,7 +144,7 @@ impl World {
         }
     }
 
-    // The same, where the name is written out.
+    // Returns the value for a valid object's cell of a name that is a literal.
     #[inline(always)]
     fn value_written<'a>(&'a self, x: usize, cell: &'a PropCell, name: &Text) -> Option<&'a Value>
         requires valid { IsSome (object_of self.now.objects x) }
@@ -157,7 +158,7 @@ impl World {
         }
     }
 
-    /// Sets a property by its name with the rights of a programmer: what setting it raises comes before want of the
+    /// Sets a property by its name with the rights of a programmer. An error of setting it comes before a missing
     /// right.
     #[inline(always)]
     pub fn set_by(
@@ -176,7 +177,7 @@ impl World {
         }
     }
 
-    /// The same, where the name is written out.
+    /// Sets a property whose name is a literal with the rights of a programmer.
     #[inline(always)]
     pub fn set_written_by(
         &mut self,
@@ -194,7 +195,7 @@ impl World {
         }
     }
 
-    // The same, of a valid object.
+    // Sets a property of a valid object with the rights of a programmer.
     #[inline(always)]
     fn set_valid_by(
         &mut self,
@@ -231,7 +232,8 @@ impl World {
         self.set_found_by(programmer, o, x, name.string().as_bytes(), place, value)
     }
 
-    // The same, where the place is known at which it may be set.
+    // Sets a property with the rights of a programmer: in the cell at a place where it may be set, if one is given,
+    // else after the tests in order.
     #[inline(always)]
     fn set_found_by(
         &mut self,
@@ -258,7 +260,8 @@ impl World {
         }
     }
 
-    // The place of a valid object's cell of a name, where no built-in property hides it and the programmer may set it.
+    // Returns the place of a valid object's cell of a name, if no built-in property hides it and the programmer may
+    // set it.
     #[inline(always)]
     fn writable_place(&self, programmer: i32, x: usize, name: &[u8]) -> Option<usize>
         requires { IsSome (object_of self.now.objects x) }
@@ -280,7 +283,7 @@ impl World {
         self.writable_at(programmer, x, name.string().as_bytes(), place)
     }
 
-    // The place where the cell of a name stands, on the same terms.
+    // Returns the place of the cell of a name, if no built-in property hides it and the programmer may set it.
     #[inline(always)]
     fn writable_at(&self, programmer: i32, x: usize, name: &[u8], place: usize) -> Option<usize>
         requires valid { IsSome (object_of self.now.objects x) }
@@ -302,7 +305,8 @@ impl World {
         }
     }
 
-    // Sets any property so, the built-in ones among them: one thing is looked at after the other.
+    // Sets any property with the rights of a programmer, the built-in ones too, testing one condition after the
+    // other.
     #[inline(never)]
     fn set_in_order(
         &mut self,
@@ -324,7 +328,8 @@ impl World {
     }
 }
 
-// Whether a built-in property has the name that is written out. It is asked where no cell of that name was ever found, and else not told.
+// Returns whether a built-in property has this literal name; false without a test if a cell of that name was found
+// before.
 #[inline(always)]
 fn is_built_in(name: &Text) -> bool
     ensures { IsTrue result → is_some (built_in_of (folded name.now)) ≡ true }

@@ -1,4 +1,4 @@
-//! Inherited properties made clear.
+//! Clears inherited properties.
 
 ghost use Rattle.std.specs.Prelude.{◌≡◌, IsSome, Some};
 ghost use Rattle.moo_value.specs.Compare.{folded};
@@ -15,7 +15,7 @@ use moo_table::properties::definer_in;
 use moo_value::ErrorCode;
 
 impl World {
-    /// What clearing a property raises.
+    /// Returns Ok if clearing a property raises nothing, else the fault that it raises.
     pub fn try_clear_property(&self, o: i32, name: &[u8]) -> Result<(), WorldFault>
         ensures raises { Tests result (clear_property_raises self.now (number_of self.now.objects o) (folded name.now)) }
         ensures memory { TakesNoMemory result }
@@ -32,7 +32,7 @@ impl World {
         }
     }
 
-    /// Takes away the value that an object has for a property that it inherits.
+    /// Removes the value that an object has for a property that it inherits. Err is what `try_clear_property` raises.
     pub fn clear_property(&mut self, o: i32, name: &[u8]) -> Result<(), WorldFault>
         ensures world { let x = number_of self.old.objects o in
             Changes result self.old self.new (clear_property_raises self.old x (folded name.now)) (world_clear self.old x (folded name.now)) }
@@ -47,7 +47,7 @@ impl World {
         }
     }
 
-    // The object that defines a property which a valid one inherits.
+    // Returns the object that defines a property which a valid object inherits.
     fn test_inherited(&self, x: usize, name: &[u8]) -> Result<usize, WorldFault>
         requires { IsSome (object_of self.now.objects x) }
         ensures raises { Answers result (clear_definition_raises x (definition_named self.now x (folded name.now)))
@@ -63,7 +63,7 @@ impl World {
         Ok(definer)
     }
 
-    // The same, of a valid object.
+    // Removes the value that a valid object has for a property that it inherits.
     fn clear_value(&mut self, x: usize, name: &[u8]) -> Result<(), WorldFault>
         requires { IsSome (object_of self.old.objects x) }
         ensures world { let k = definition_named self.old x (folded name.now) in

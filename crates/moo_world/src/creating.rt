@@ -1,4 +1,4 @@
-//! New objects.
+//! Creates objects.
 
 ghost use Rattle.std.specs.Prelude.{◌≡◌, take, ◌-◌, ◌<◌, Option, Some, length, IfOk, OnOk, IsSome, pos};
 ghost use Rattle.std.specs.Option.{ForSome};
@@ -15,7 +15,7 @@ use moo_value::ErrorCode;
 use std::alloc::Global;
 
 impl World {
-    /// What making an object under a parent raises.
+    /// Returns Ok if making an object under a parent raises nothing, else the fault that it raises.
     pub fn try_create(&self, parent: i32) -> Result<(), WorldFault>
         ensures raises { Tests result (create_raises self.now (place_of self.now.objects parent)) }
         ensures memory { TakesNoMemory result }
@@ -29,8 +29,8 @@ impl World {
         Ok(())
     }
 
-    /// Makes an object under a parent, and answers its number, the highest one. Where the owner is
-    /// to be the new object, hand in this number.
+    /// Makes an object under a parent, and returns its number, the highest one. Pass this number as the owner to make
+    /// the object its own owner.
     pub fn create(&mut self, alloc: Global, parent: i32, owner: i32) -> Result<i32, WorldFault>
         ensures world { let p = place_of self.old.objects parent in
             Changes result self.old self.new (create_raises self.old p) (world_create self.old p owner) }
@@ -45,7 +45,7 @@ impl World {
         Ok(number as i32)
     }
 
-    // The same, under a valid parent or none.
+    // Makes an object under a valid parent or none.
     fn add_object(&mut self, alloc: Global, p: Option<usize>, owner: i32) -> Result<(), WorldFault>
         requires { ForSome p (λ up. IsSome (object_of self.old.objects up)) }
         ensures world { Changes result self.old self.new (create_raises self.old (Some p)) (after_create self.old p owner) }
@@ -70,7 +70,7 @@ impl World {
     }
 }
 
-// Takes the last object away.
+// Removes the last object.
 fn pop_object(objects: &mut Vec<Option<Object>>)
     ensures { objects.new.items ≡ take (length objects.old.items - 1) objects.old.items }
 {

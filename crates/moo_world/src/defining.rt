@@ -1,4 +1,4 @@
-//! New properties.
+//! Defines properties.
 
 ghost use Rattle.std.specs.Prelude.{IsSome, Some, None};
 ghost use Rattle.moo_value.specs.Compare.{folded};
@@ -21,7 +21,7 @@ use moo_value::{ErrorCode, MooStr, Value};
 use std::alloc::Global;
 
 impl World {
-    /// What defining a property of this name on an object raises.
+    /// Returns Ok if defining a property of this name on an object raises nothing, else the fault that it raises.
     pub fn try_add_property(&self, alloc: Global, o: i32, name: &[u8]) -> Result<(), WorldFault>
         ensures raises { Tests result (add_property_raises self.now (number_of self.now.objects o) (folded name.now)) }
         ensures memory { RaisesFirst result (name_raises (number_of self.now.objects o) (folded name.now)) }
@@ -74,7 +74,7 @@ impl World {
         self.put_definition(x, name, cell, &walk)
     }
 
-    // Whether a valid object may define a property of this name, and what inherits from it.
+    // Returns the walk over what inherits from a valid object, if it may define a property of this name.
     fn test_property(&self, alloc: Global, x: usize, name: &[u8]) -> Result<Vec<Step>, WorldFault>
         requires { IsSome (object_of self.now.objects x) }
         ensures walk { Answers result (add_property_raises self.now (Some x) (folded name.now)) (λ walk. IsWalkDown self.now.inheritance x walk.items) }

@@ -1,4 +1,4 @@
-//! Properties taken away.
+//! Deletes properties.
 
 ghost use Rattle.std.specs.Prelude.{◌<◌, IsSome};
 ghost use Rattle.moo_value.specs.Compare.{folded};
@@ -15,7 +15,8 @@ use moo_value::ErrorCode;
 use std::alloc::Global;
 
 impl World {
-    /// What taking a property away raises: none of a built-in name is there.
+    /// Returns Ok if deleting a property raises nothing, else the fault that it raises. Built-in properties are not
+    /// found.
     pub fn try_delete_property(&self, o: i32, name: &[u8]) -> Result<(), WorldFault>
         ensures raises { Tests result (delete_property_raises self.now (number_of self.now.objects o) (folded name.now)) }
         ensures memory { TakesNoMemory result }
@@ -29,7 +30,7 @@ impl World {
         }
     }
 
-    /// Takes away a property that an object defines, with the cells for it on its descendants.
+    /// Deletes a property that an object defines, with the cells for it on its descendants.
     pub fn delete_property(&mut self, alloc: Global, o: i32, name: &[u8]) -> Result<(), WorldFault>
         ensures world { let x = number_of self.old.objects o in
             Changes result self.old self.new (delete_property_raises self.old x (folded name.now)) (world_undefine self.old x (folded name.now)) }
@@ -55,7 +56,7 @@ impl World {
         Ok(())
     }
 
-    // The same, of a valid object.
+    // Deletes a property that a valid object defines.
     fn undefine(&mut self, alloc: Global, x: usize, name: &[u8]) -> Result<(), WorldFault>
         requires { IsSome (object_of self.old.objects x) }
         ensures world { Changes result self.old self.new (undefine_raises self.old x (folded name.now)) (after_undefine self.old x (folded name.now)) }

@@ -9,7 +9,7 @@ use std::alloc::{AllocError, AllocFailed};
 pub enum WorldFault {
     /// The error that the call raises.
     Raise(ErrorCode),
-    /// Memory was short.
+    /// Memory ran out.
     Memory,
 }
 

@@ -16,7 +16,7 @@ use moo_table::properties::cell_in;
 use moo_value::ErrorCode;
 
 impl World {
-    /// The owner and the permissions of a property that is not built in, as the object has it.
+    /// Returns the owner and the permissions of a property that is not built in, as the object has it.
     pub fn property_info(&self, o: i32, name: &[u8]) -> Result<(i32, PropPerms), WorldFault>
         ensures info { Answers result (info_raises self.now (number_of self.now.objects o) (folded name.now))
             (λ info. option_map (λ (c : Cell). (c.owner, c.perms)) (cell_numbered self.now o name.now) ≡ Some info) }
@@ -26,7 +26,7 @@ impl World {
         Ok((cell.owner(), cell.perms()))
     }
 
-    /// Whether a property that is not built in has no value of its own on the object.
+    /// Returns whether a property that is not built in has no value of its own on the object.
     pub fn is_clear(&self, o: i32, name: &[u8]) -> Result<bool, WorldFault>
         ensures clear { Answers result (info_raises self.now (number_of self.now.objects o) (folded name.now))
             (λ clear. option_map (λ (c : Cell). not (is_some c.value)) (cell_numbered self.now o name.now) ≡ Some clear) }
@@ -49,7 +49,7 @@ impl World {
         }
     }
 
-    // The same, of a valid object.
+    // Returns a valid object's cell of a property that is not built in.
     fn cell_of(&self, x: usize, name: &[u8]) -> Result<&PropCell, WorldFault>
         requires { IsSome (object_of self.now.objects x) }
         ensures cell { Answers result (plain_raises self.now x (folded name.now)) (λ cell. cell_named (thing_of self.now.objects x).cells (folded name.now) ≡ Some cell.now) }

@@ -48,9 +48,9 @@ pub fn the_same_place_changes_nothing(world: &World, x: usize, to: Option<usize>
     world.is_well_formed();
 }
 
-/// Under another parent an object and its descendants keep the cells of definers that are still
-/// above them, have clear ones for what is new above them and lose the others. Nothing else changes,
-/// and no look-up of anything else.
+/// Under another parent an object and its descendants keep the cells of definers that are still above them. They have
+/// clear cells for new definitions above them, and lose the others. All else in the world and all other look-ups
+/// stay.
 pub fn another_parent_keeps_what_is_still_above(world: &World, x: usize, p: Option<usize>)
     requires object { IsSome (object_of world.now.objects x) }
     requires parent { ForSome p (λ up. IsSome (object_of world.now.objects up)) }
@@ -60,8 +60,8 @@ pub fn another_parent_keeps_what_is_still_above(world: &World, x: usize, p: Opti
     world.is_well_formed();
 }
 
-/// A new property has its cell on the object that defines it, and a clear one on each descendant,
-/// where it reads as on the object; their other cells stay. Nothing else changes, and no look-up of anything else.
+/// A new property has its cell on the object that defines it, and a clear one on each descendant. It reads on a
+/// descendant as on the object. Other cells, all else in the world and all other look-ups stay.
 pub fn a_new_property_is_seen_below(
     world: &World,
     x: usize,
@@ -80,8 +80,8 @@ pub fn a_new_property_is_seen_below(
     let _weight = value.weight();
 }
 
-/// What is set is read on the object, and on what inherits it. Every other cell stays, and no other
-/// property reads otherwise.
+/// A value that is set is read on the object and on what inherits it. Every other cell stays, and no other property
+/// reads otherwise.
 pub fn a_set_value_is_read(world: &World, x: usize, name: &[u8], value: &Value)
     requires object { IsSome (object_of world.now.objects x) }
     requires defined { is_some (definition_named world.now x (folded name.now)) ≡ true }
@@ -90,8 +90,8 @@ pub fn a_set_value_is_read(world: &World, x: usize, name: &[u8], value: &Value)
     world.is_well_formed();
 }
 
-/// Under its new name a property reads as it did under its old one, wherever it was found. Its cells
-/// are else as they were, and every other cell stays.
+/// Under its new name a property reads as it did under its old one, wherever it was found. Its cells are otherwise as
+/// they were, and every other cell stays.
 pub fn a_renamed_property_reads_as_before(world: &World, x: usize, name: &[u8], new_name: &MooStr)
     requires object { IsSome (object_of world.now.objects x) }
     requires allowed { rename_raises world.now x (x, folded name.now) (folded new_name.now) ≡ None }
@@ -110,7 +110,7 @@ pub fn a_new_object_reads_as_its_parent(world: &World, parent: Option<usize>, ow
     world.is_well_formed();
 }
 
-/// Once an object is recycled nobody has a cell for what it defined. Every other cell stays.
+/// Once an object is recycled, no object has a cell for what it defined. Every other cell stays.
 pub fn a_recycled_object_takes_its_properties_along(world: &World, x: usize)
     requires { IsSome (object_of world.now.objects x) }
     ensures { IsWithout world.now (after_recycle world.now x) x }
@@ -118,7 +118,7 @@ pub fn a_recycled_object_takes_its_properties_along(world: &World, x: usize)
     world.is_well_formed();
 }
 
-/// Once a property is taken away nobody has a cell for it. Every other cell stays.
+/// Once a property is deleted, no object has a cell for it. Every other cell stays.
 pub fn a_deleted_property_is_gone_below(world: &World, x: usize, name: &[u8])
     requires { IsSome (object_of world.now.objects x) }
     ensures { IsUndefined world.now (after_undefine world.now x (folded name.now)) (x, folded name.now) }
@@ -126,24 +126,22 @@ pub fn a_deleted_property_is_gone_below(world: &World, x: usize, name: &[u8])
     world.is_well_formed();
 }
 
-/// What is in an object is within the limits of a list: the objects are distinct, and none is in
-/// itself.
+/// The contents of an object are within the limits of a list: the objects are distinct, and none is in itself.
 pub fn contents_are_within_the_limits(world: &World, x: usize)
     ensures { length (below_of world.now.containment x) < weight_limit }
 {
     world.is_well_formed();
 }
 
-/// A world is restored from its own objects, trees and players as it is: the cells of an object
-/// stand in the order of definitions, so that their names need not be told.
+/// A world is restored from its own objects, trees and players as it is. The cells of an object are in the order of
+/// definitions, so their names need not be given.
 pub fn a_world_is_restored_as_it_was(world: &World)
     ensures { restored_world world.now.objects world.now.inheritance world.now.containment world.now.players ≡ world.now }
 {
     world.is_well_formed();
 }
 
-/// What has as many cells as definitions, and keeps the other rules, is restored to what a world
-/// keeps.
+/// Parts with as many cells as definitions that keep the other rules are restored to a well-formed world.
 pub fn what_is_restored_is_well_formed(
     objects: &[Option<Object>],
     parents: &Forest,

@@ -1,4 +1,4 @@
-//! What a world lends: its objects, and what each is joined to. Nothing here takes memory.
+//! Borrowed views of a world: its objects, and the trees that join them. Nothing here allocates.
 
 ghost use Rattle.std.specs.Prelude.{◌≡◌, ◌<◌, List, ℕ, IsSome, IfSome};
 ghost use Rattle.std.specs.Option.{option_copied, option_map};
@@ -16,29 +16,29 @@ use moo_forest::{Below, Forest};
 use moo_object::Object;
 
 impl World {
-    /// The objects by their numbers, none where a number is not valid.
+    /// Returns the objects by their numbers, `None` for a number that is not valid.
     pub fn objects(&self) -> &[Option<Object>]
         ensures { result.now ≡ self.now.objects }
     {
         &self.objects
     }
 
-    /// The tree of parents.
+    /// Returns the tree of parents.
     pub fn inheritance(&self) -> &Forest
         ensures { result.now ≡ self.now.inheritance }
     {
         &self.inheritance
     }
 
-    /// The tree of places.
+    /// Returns the tree of places.
     pub fn containment(&self) -> &Forest
         ensures { result.now ≡ self.now.containment }
     {
         &self.containment
     }
 
-    /// A valid object by its number: its name, owner, flags, verbs and cells, and the names of the
-    /// properties that it defines itself, as they are spelled.
+    /// Returns a valid object by its number: its name, owner, flags, verbs and cells, and the names of the properties
+    /// that it defines itself, as spelled.
     pub fn object(&self, o: i32) -> Option<&Object>
         ensures { option_copied result ≡ object_numbered self.now o }
     {
@@ -46,7 +46,7 @@ impl World {
         self.objects[x].as_ref()
     }
 
-    /// The number of a valid object's parent, -1 for none.
+    /// Returns the number of a valid object's parent, -1 for none.
     pub fn parent(&self, o: i32) -> Option<i32>
         ensures { result ≡ option_map (λ x. number_of_place (above_of self.now.inheritance x)) (number_of self.now.objects o) }
     {
@@ -61,7 +61,7 @@ impl World {
         place_number(self.inheritance.above(x))
     }
 
-    /// The number of the object that a valid object is in, -1 for none.
+    /// Returns the number of the object that a valid object is in, -1 for none.
     pub fn location(&self, o: i32) -> Option<i32>
         ensures { result ≡ option_map (λ x. number_of_place (above_of self.now.containment x)) (number_of self.now.objects o) }
     {
@@ -76,7 +76,7 @@ impl World {
         place_number(self.containment.above(x))
     }
 
-    /// The numbers of a valid object's children, the newest last; each is below `MOST`.
+    /// Returns the numbers of a valid object's children, the newest last; each is below `MOST`.
     pub fn children(&self, o: i32) -> Option<Below<'_>>
         ensures list { result ≡ option_map (λ x. below_of self.now.inheritance x) (number_of self.now.objects o) }
         ensures low { IfSome result (λ r. All (λ y. y < most) r) }
@@ -93,7 +93,7 @@ impl World {
         self.inheritance.below(x)
     }
 
-    /// The numbers of what is in a valid object, the newest last; each is below `MOST`.
+    /// Returns the numbers of the objects in a valid object, the newest last; each is below `MOST`.
     pub fn contents(&self, o: i32) -> Option<Below<'_>>
         ensures list { result ≡ option_map (λ x. below_of self.now.containment x) (number_of self.now.objects o) }
         ensures low { IfSome result (λ r. All (λ y. y < most) r) }

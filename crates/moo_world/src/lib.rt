@@ -37,7 +37,7 @@ pub use moo_table::MOST;
 pub use rights::{Action, Rights};
 use std::marker::Model;
 
-/// The objects by their numbers, which count from 0, and the players.
+/// Holds the objects by their numbers, which count from 0, and the players.
 #[derive(Drop)]
 pub struct World {
     objects: Vec<Option<Object>>,

@@ -1,4 +1,4 @@
-//! Look-up along the ancestors of an object: verbs that fit a name, and values through clear cells.
+//! Look-ups along the ancestors of an object: verbs whose names match, and values through clear cells.
 
 ghost use Rattle.std.specs.Prelude.{◌≡◌, ◌<◌, Some, IsSome, IfSome};
 ghost use Rattle.std.specs.Option.{option_map, option_and_then};
@@ -12,7 +12,7 @@ use crate::World;
 use moo_object::Need;
 use moo_table::looking::nearest_verb;
 
-/// Where a verb is: on which object, and at which place among its verbs.
+/// The place of a verb: its object, and its index among the verbs of that object.
 #[derive(Clone, Copy, Debug, PartialEq, Eq)]
 pub struct VerbAt {
     pub definer: i32,
@@ -20,8 +20,8 @@ pub struct VerbAt {
 }
 
 impl World {
-    /// The first verb that fits a name, on the nearest of the object and its ancestors that has
-    /// one. For a call only verbs that can be executed count.
+    /// Returns the first verb that a name matches, on the nearest of the object and its ancestors that has one. For a
+    /// call only executable verbs count.
     pub fn find_verb(&self, o: i32, name: &[u8], need: Need) -> Option<VerbAt>
         ensures { result ≡ option_map verb_place (option_and_then (verb_found self.now need name.now) (number_of self.now.objects o)) }
     {

@@ -1,4 +1,4 @@
-//! Properties by their names, the built-in ones among them.
+//! Reads properties by their names, the built-in ones too.
 
 ghost use Rattle.std.specs.Prelude.{◌≡◌, ◌<◌, IsSome, Some, IfOk, None};
 ghost use Rattle.std.specs.List.{All};
@@ -20,7 +20,7 @@ use moo_value::{ErrorCode, MooList, Value};
 use std::alloc::{AllocError, Global};
 
 impl World {
-    /// The value of a property by its name, the built-in ones first.
+    /// Returns the value of a property by its name; built-in properties come first.
     pub fn get(&self, alloc: Global, o: i32, name: &[u8]) -> Result<Value, WorldFault>
         ensures value { Answers result (get_raises self.now (number_of self.now.objects o) (folded name.now))
             (λ v. value_got self.now (number_of self.now.objects o) (folded name.now) ≡ Some (tree v)) }
@@ -80,7 +80,7 @@ fn place_value(place: Option<usize>) -> Value
     Value::Obj(place_number(place))
 }
 
-// The number of a place, -1 for none.
+// Returns the number of a place, -1 for none.
 pub(crate) fn place_number(place: Option<usize>) -> i32
     requires { ForSome place (λ up. up < most) }
     ensures { result ≡ number_of_place place }
@@ -91,7 +91,7 @@ pub(crate) fn place_number(place: Option<usize>) -> i32
     }
 }
 
-// The objects in a place, as a list of their numbers.
+// Returns the objects in a place, as a list of their numbers.
 fn contents_value(alloc: Global, below: Below<'_>) -> Result<Value, AllocError>
     requires { All (λ y. y < most) below }
     ensures { IfOk result (λ v. tree v ≡ objects_list below.entry) }
@@ -107,7 +107,7 @@ fn contents_value(alloc: Global, below: Below<'_>) -> Result<Value, AllocError>
     }
 }
 
-// What the object itself has.
+// Returns the value of a built-in property that is a field of the object itself.
 fn own_value(slot: &Option<Object>, property: BuiltInProperty) -> Result<Value, AllocError>
     requires { IsSome slot.now }
     ensures { IfOk result (λ v. tree v ≡ own_value (unwrap_or slot.now nothing) property) }

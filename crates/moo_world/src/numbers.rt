@@ -1,4 +1,4 @@
-//! Object numbers: which are valid, and the highest.
+//! Object numbers: which are valid, and the highest one.
 
 ghost use Rattle.std.specs.Prelude.{◌≡◌, [], Option, length, IsSome, is_some};
 ghost use Rattle.std.specs.Option.{ForSome};
@@ -10,7 +10,7 @@ use moo_forest::Forest;
 use std::alloc::Global;
 
 impl World {
-    /// A world without objects and players.
+    /// Returns a world without objects and players.
     pub fn empty(alloc: Global) -> Self
         ensures { result ≡ record { objects = []; inheritance = []; containment = []; players = [] } }
     {
@@ -23,21 +23,21 @@ impl World {
         }
     }
 
-    /// What every world keeps.
+    /// Provides to the proof the invariant that every world keeps.
     pub fn is_well_formed(&self)
         ensures { IsWellFormed self.now }
     {
         let _objects = &self.objects;
     }
 
-    /// Whether a number is that of an object.
+    /// Returns whether a number is that of an object.
     pub fn valid(&self, o: i32) -> bool
         ensures { result ≡ is_some (number_of self.now.objects o) }
     {
         self.number(o).is_some()
     }
 
-    /// The highest number that was given out, -1 for none.
+    /// Returns the highest number that was given out, -1 for none.
     pub fn max_object(&self) -> i32
         ensures { result ≡ highest (length self.now.objects) }
     {
@@ -45,7 +45,7 @@ impl World {
         self.objects.len() as i32 - 1
     }
 
-    /// The number of a valid object.
+    /// Returns the number of a valid object, as an index.
     pub(crate) fn number(&self, o: i32) -> Option<usize>
         ensures value { result ≡ number_of self.now.objects o }
         ensures valid { ForSome result (λ x. IsSome (object_of self.now.objects x)) }
@@ -57,7 +57,7 @@ impl World {
         }
     }
 
-    /// A place: a valid object, or none for #-1.
+    /// Returns a place: a valid object, or none for #-1.
     pub(crate) fn place(&self, o: i32) -> Option<Option<usize>>
         ensures value { result ≡ place_of self.now.objects o }
         ensures valid { ForSome result (λ to. ForSome to (λ up. IsSome (object_of self.now.objects up))) }

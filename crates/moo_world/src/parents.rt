@@ -1,4 +1,4 @@
-//! What objects inherit from.
+//! The parents of objects.
 
 ghost use Rattle.std.specs.Prelude.{◌≡◌, IsSome, Some};
 ghost use Rattle.std.specs.Option.{ForSome};
@@ -19,7 +19,7 @@ use moo_value::ErrorCode;
 use std::alloc::Global;
 
 impl World {
-    /// What changing the parent of an object raises.
+    /// Returns Ok if changing the parent of an object raises nothing, else the fault that it raises.
     pub fn try_chparent(&self, alloc: Global, o: i32, p: i32) -> Result<(), WorldFault>
         ensures raises { Tests result (chparent_raises self.now (number_of self.now.objects o) (place_of self.now.objects p)) }
         ensures memory { IsThere self.now.objects self.now.inheritance o p → TakesNoMemory result }
@@ -31,8 +31,8 @@ impl World {
         }
     }
 
-    /// Changes the parent of an object. Its cells and those of its descendants stay where their
-    /// definer is still above; new ones are clear. To the parent that is there no memory is taken.
+    /// Changes the parent of an object. Its cells and those of its descendants stay if their definer is still above;
+    /// new ones are clear. If the parent stays the same, nothing is allocated.
     pub fn chparent(&mut self, alloc: Global, o: i32, p: i32) -> Result<(), WorldFault>
         ensures world { let x = number_of self.old.objects o in let to = place_of self.old.objects p in
             Changes result self.old self.new (chparent_raises self.old x to) (world_chparent self.old x to) }
@@ -45,7 +45,7 @@ impl World {
         }
     }
 
-    // What changing the parent of a valid object raises.
+    // Returns Ok if changing the parent of a valid object raises nothing, else the fault that it raises.
     fn test_parent(&self, alloc: Global, x: usize, p: Option<usize>) -> Result<(), WorldFault>
         requires object { IsSome (object_of self.now.objects x) }
         requires parent { ForSome p (λ up. IsSome (object_of self.now.objects up)) }
@@ -60,8 +60,8 @@ impl World {
         Ok(())
     }
 
-    // An object whose parent may become `p`, and what inherits from it. No row of cells is made for the
-    // tests: they ask for names, and for how many cells each would have.
+    // Returns the walk over an object and what inherits from it, if its parent may become `p`. The tests need names
+    // and counts of cells only, so no row of cells is made.
     fn walk_to_join(
         &self,
         alloc: Global,

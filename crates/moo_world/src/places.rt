@@ -1,4 +1,4 @@
-//! Where objects are.
+//! The locations of objects.
 
 ghost use Rattle.std.specs.Prelude.{◌≡◌, ◌<◌, IsSome, Option};
 ghost use Rattle.std.specs.Option.{ForSome};
@@ -13,7 +13,7 @@ use moo_table::places::would_loop;
 use moo_value::ErrorCode;
 
 impl World {
-    /// What moving an object raises.
+    /// Returns Ok if moving an object raises nothing, else the fault that it raises.
     pub fn try_move(&self, o: i32, to: i32) -> Result<(), WorldFault>
         ensures raises { Tests result (move_raises self.now (number_of self.now.objects o) (place_of self.now.objects to)) }
         ensures memory { TakesNoMemory result }
@@ -24,8 +24,8 @@ impl World {
         }
     }
 
-    /// Moves an object into another, or to no place, without asking anybody. It becomes the newest
-    /// there; where it is there already nothing changes, and no memory is taken.
+    /// Moves an object into another, or to no place, without calling a verb. It becomes the newest there. If it is
+    /// there already, nothing changes and nothing is allocated.
     pub fn move_bare(&mut self, o: i32, to: i32) -> Result<(), WorldFault>
         ensures world { let x = number_of self.old.objects o in let place = place_of self.old.objects to in
             Changes result self.old self.new (move_raises self.old x place) (world_move self.old x place) }

@@ -12,14 +12,14 @@ use moo_table::players::{list_player, mark_in, too_many};
 use moo_value::ErrorCode;
 
 impl World {
-    /// The numbers of the players, in order.
+    /// Returns the numbers of the players, in order.
     pub fn players(&self) -> &[i32]
         ensures { result.now ≡ self.now.players }
     {
         &self.players
     }
 
-    /// What making an object a player, or no player, raises.
+    /// Returns Ok if setting or clearing an object's player flag raises nothing, else the fault that it raises.
     pub fn try_set_player(&self, o: i32, on: bool) -> Result<(), WorldFault>
         ensures raises { Tests result (set_player_raises self.now (number_of self.now.objects o) on) }
         ensures memory { TakesNoMemory result }
@@ -30,8 +30,8 @@ impl World {
         }
     }
 
-    /// Makes an object a player, last in the list where it is not in it yet, or no player, which
-    /// takes every entry of its number out. Its flag is set or cleared.
+    /// Makes an object a player, or no player. A new player comes last in the list; one who is no longer a player is
+    /// removed from it. The object's flag is set or cleared.
     pub fn set_player(&mut self, o: i32, on: bool) -> Result<(), WorldFault>
         ensures world { let x = number_of self.old.objects o in
             Changes result self.old self.new (set_player_raises self.old x on) (world_set_player self.old x on) }
@@ -56,7 +56,7 @@ impl World {
         Ok(())
     }
 
-    // The same, of a valid object.
+    // Makes a valid object a player, or no player.
     fn mark_player(&mut self, x: usize, on: bool) -> Result<(), WorldFault>
         requires { IsSome (object_of self.old.objects x) }
         ensures world { Changes result self.old self.new (set_player_raises self.old (Some x) on) (after_set_player self.old x on) }

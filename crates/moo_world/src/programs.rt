@@ -16,7 +16,8 @@ use moo_table::verbs::{has_program, set_program_in};
 use moo_value::ErrorCode;
 
 impl World {
-    /// What giving a verb another program raises, or taking its program away.
+    /// Returns Ok if giving a verb another program, or removing its program, raises nothing, else the fault that it
+    /// raises.
     pub fn try_set_program(&self, o: i32, index: usize, has_program: bool) -> Result<(), WorldFault>
         ensures raises { Tests result (program_raises self.now (number_of self.now.objects o) index has_program) }
         ensures memory { TakesNoMemory result }
@@ -47,7 +48,7 @@ impl World {
         }
     }
 
-    // How many programs there would be, once a verb has one, or none.
+    // Returns how many programs there would be if a verb had one, or none.
     pub(crate) fn programs_with(&self, x: usize, index: usize, has_program_then: bool) -> usize
         requires { IsSome (object_of self.now.objects x) }
         ensures { result ≡ programs_with self.now x index has_program_then }
@@ -56,7 +57,7 @@ impl World {
             + usize::from(has_program_then)
     }
 
-    // The same, where nothing is raised.
+    // Returns how many programs there would be if a verb had one, or none. Err is the fault that the change raises.
     fn test_program(&self, x: usize, index: usize, has_program: bool) -> Result<usize, WorldFault>
         requires { IsSome (object_of self.now.objects x) }
         ensures programs { Answers result (program_raises self.now (Some x) index has_program) (λ n. n ≡ programs_with self.now x index has_program) }

@@ -19,8 +19,8 @@ use moo_table::properties::{cell_in, cells_in, definer_in, set_in};
 use moo_value::{ErrorCode, Value};
 
 impl World {
-    /// The value of a property that is not built in: that of the nearest of the object and its
-    /// ancestors whose cell is not clear.
+    /// Returns the value of a property that is not built in: that of the nearest of the object and its ancestors
+    /// whose cell is not clear.
     pub fn property_value(&self, o: i32, name: &[u8]) -> Option<&Value>
         ensures { option_map tree (option_copied result) ≡ option_and_then (λ x. read self.now x (folded name.now)) (number_of self.now.objects o) }
     {
@@ -38,7 +38,7 @@ impl World {
         }
     }
 
-    /// The cells of an object, in the order of definitions: its own, then its parent's, and so on.
+    /// Returns the cells of an object, in the order of definitions: its own, then its parent's, and so on.
     pub fn row(&self, o: i32) -> Option<&[PropCell]>
         ensures { option_map (λ (r : Bor (List Cell)). r.now) result ≡ option_map (λ x. (thing_of self.now.objects x).cells) (number_of self.now.objects o) }
     {

@@ -1,4 +1,4 @@
-//! The owners, permissions and names of properties, changed.
+//! Changes the owners, permissions and names of properties.
 
 ghost use Rattle.std.specs.Prelude.{◌≡◌, IsSome, Some, None, OnOk, OnErr};
 ghost use Rattle.std.specs.Option.{option_copied};
@@ -23,8 +23,8 @@ use moo_value::{ErrorCode, MooStr};
 use std::alloc::{AllocError, Global};
 
 impl World {
-    /// What giving a property that is not built in other info raises, with another name, if one is
-    /// given.
+    /// Returns Ok if changing the info of a property that is not built in, and its name if a new one is given, raises
+    /// nothing. Else returns the fault that it raises.
     pub fn try_set_property_info(
         &self,
         alloc: Global,
@@ -47,8 +47,8 @@ impl World {
         }
     }
 
-    /// Gives the object's cell of a property that is not built in another owner and other
-    /// permissions; a new name is for its definition, and so for the descendants too.
+    /// Changes the owner and the permissions of the object's cell of a property that is not built in. A new name
+    /// renames its definition, and so the property on the descendants too.
     pub fn set_property_info(
         &mut self,
         alloc: Global,
@@ -71,7 +71,7 @@ impl World {
         }
     }
 
-    // The object that defines a valid object's property, which may have this other name.
+    // Returns the object that defines a valid object's property, if the property may have this other name.
     fn test_info(
         &self,
         alloc: Global,
@@ -93,7 +93,7 @@ impl World {
         Ok(definer)
     }
 
-    // Whether a definition may have another name.
+    // Returns Ok if a definition may have another name, else the fault.
     fn test_rename(
         &self,
         alloc: Global,
@@ -117,7 +117,7 @@ impl World {
         self.test_free(alloc, x, new_name)
     }
 
-    // Whether a name is free on an object, its ancestors and its descendants.
+    // Returns Ok if a name is free on an object, its ancestors and its descendants, else the fault.
     fn test_free(&self, alloc: Global, x: usize, name: &[u8]) -> Result<(), WorldFault>
         requires { IsSome (object_of self.now.objects x) }
         ensures { Tests result (taken_raises self.now x (folded name.now)) }
@@ -129,7 +129,7 @@ impl World {
         Ok(())
     }
 
-    // The same, of a valid object.
+    // Changes the info of a property of a valid object.
     fn change_info(
         &mut self,
         alloc: Global,
@@ -156,7 +156,7 @@ impl World {
         Ok(())
     }
 
-    // Gives the definition of a name on an object another name.
+    // Renames a definition on an object.
     fn rename(
         &mut self,
         alloc: Global,

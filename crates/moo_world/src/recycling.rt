@@ -1,4 +1,4 @@
-//! Objects taken away.
+//! Recycles objects.
 
 ghost use Rattle.std.specs.Prelude.{◌≡◌, IsSome, None};
 ghost use Rattle.moo_table.specs.World.{object_of};
@@ -15,7 +15,7 @@ use moo_value::ErrorCode;
 use std::alloc::Global;
 
 impl World {
-    /// What recycling an object raises.
+    /// Returns Ok if recycling an object raises nothing, else the fault that it raises.
     pub fn try_recycle(&self, o: i32) -> Result<(), WorldFault>
         ensures raises { Tests result (recycle_raises (number_of self.now.objects o)) }
         ensures memory { TakesNoMemory result }
@@ -26,9 +26,9 @@ impl World {
         }
     }
 
-    /// Takes an object away, without asking anybody. Its children go to its parent, last and in
-    /// their order, and they and their descendants lose the properties that it defined. What is in
-    /// it is moved to no place. Its number is no player's, and isn't given out again.
+    /// Removes an object, without calling a verb. Its children become its parent's last children, in their order.
+    /// They and their descendants lose the properties that it defined. Its contents move to no place. Its number is
+    /// no player's, and isn't given out again.
     pub fn recycle_bare(&mut self, alloc: Global, o: i32) -> Result<(), WorldFault>
         ensures world { let x = number_of self.old.objects o in
             Changes result self.old self.new (recycle_raises x) (world_recycle self.old x) }
@@ -40,7 +40,7 @@ impl World {
         }
     }
 
-    // The same, of a valid object. What takes memory comes first.
+    // Removes a valid object. The steps that allocate come first.
     fn remove_object(&mut self, alloc: Global, x: usize) -> Result<(), WorldFault>
         requires { IsSome (object_of self.old.objects x) }
         ensures { Changes result self.old self.new None (after_recycle self.old x) }

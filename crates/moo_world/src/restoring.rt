@@ -1,4 +1,4 @@
-//! A world of given parts.
+//! A world from given parts.
 
 ghost use Rattle.std.specs.Prelude.{◌≡◌};
 ghost use Rattle.moo_table.specs.World.{World as Contents, IsWellFormed};
@@ -9,7 +9,7 @@ use moo_object::Object;
 use moo_table::verbs::all_programs;
 
 impl World {
-    /// The world of these objects, trees and players, as a database gives them.
+    /// Returns the world of these objects, trees and players, as a database gives them.
     pub fn from_parts(
         objects: Vec<Option<Object>>,
         inheritance: Forest,

@@ -1,4 +1,4 @@
-//! Who may do what: to wizards all is allowed, to others what is theirs or open to all.
+//! The rights of programmers: wizards may do everything, others may act on what they own or what is open to all.
 
 ghost use Rattle.std.specs.Prelude.{◌≡◌, is_some, not, Some};
 ghost use Rattle.std.specs.Option.{option_copied, option_map};
@@ -9,8 +9,8 @@ ghost use Rattle.moo_world.specs.Rights.{is_wizard, controls, may_own, may_read_
 use crate::World;
 use moo_object::{BuiltInProperty, Object, PropCell, Verb, built_in, cell_named};
 
-/// What somebody may do, and with what: read or set a property and its info, read or write an
-/// object, make one inherit from it, own it, read or write a verb by its place.
+/// What a programmer may do, and with what: read or set a property and its info, read or write an object, make one
+/// inherit from it, own it, read or write a verb by its place.
 #[derive(Clone, Copy)]
 pub enum Action<'a> {
     ReadProperty(i32, &'a [u8]),
@@ -27,7 +27,8 @@ pub enum Action<'a> {
 pub struct Rights;
 
 impl Rights {
-    /// Whether somebody may do something. Nobody may do anything with what isn't there.
+    /// Returns whether a programmer may do something. No one may act on an object, property or verb that doesn't
+    /// exist.
     pub fn may(world: &World, programmer: i32, action: Action<'_>) -> bool
         ensures { result ≡ may world.now programmer action.entry }
     {
@@ -43,7 +44,7 @@ impl Rights {
         }
     }
 
-    /// Whether the programmer is a wizard.
+    /// Returns whether the programmer is a wizard.
     pub fn is_wizard(world: &World, programmer: i32) -> bool
         ensures { result ≡ is_wizard world.now programmer }
     {
@@ -53,14 +54,14 @@ impl Rights {
         }
     }
 
-    /// Whether something with this owner is the programmer's, or the programmer a wizard.
+    /// Returns whether something with this owner is the programmer's, or the programmer is a wizard.
     pub fn controls(world: &World, programmer: i32, owner: i32) -> bool
         ensures { result ≡ controls world.now programmer owner }
     {
         owner == programmer || Self::is_wizard(world, programmer)
     }
 
-    /// Whether the programmer owns an object, or is a wizard.
+    /// Returns whether the programmer owns an object, or is a wizard.
     pub fn may_own(world: &World, programmer: i32, o: i32) -> bool
         ensures { result ≡ may_own world.now programmer o }
     {
@@ -70,8 +71,8 @@ impl Rights {
         }
     }
 
-    /// Whether the programmer may read an object: it is readable, the programmer's own, or the
-    /// programmer a wizard.
+    /// Returns whether the programmer may read an object: it is readable, the programmer owns it, or the programmer
+    /// is a wizard.
     pub fn may_read_object(world: &World, programmer: i32, o: i32) -> bool
         ensures { result ≡ may_read_object world.now programmer o }
     {
@@ -81,8 +82,8 @@ impl Rights {
         }
     }
 
-    /// Whether the programmer may write an object: it is writable, the programmer's own, or the
-    /// programmer a wizard.
+    /// Returns whether the programmer may write an object: it is writable, the programmer owns it, or the programmer
+    /// is a wizard.
     pub fn may_write_object(world: &World, programmer: i32, o: i32) -> bool
         ensures { result ≡ may_write_object world.now programmer o }
     {
@@ -92,7 +93,7 @@ impl Rights {
         }
     }
 
-    /// Whether the programmer may make an object inherit from this one.
+    /// Returns whether the programmer may make an object inherit from this one.
     pub fn may_inherit_from(world: &World, programmer: i32, o: i32) -> bool
         ensures { result ≡ may_inherit_from world.now programmer o }
     {
@@ -102,7 +103,7 @@ impl Rights {
         }
     }
 
-    /// Whether the programmer may read the verb at a place of an object.
+    /// Returns whether the programmer may read the verb at a place of an object.
     pub fn may_read_verb(world: &World, programmer: i32, o: i32, index: usize) -> bool
         ensures { result ≡ may_read_this_verb world.now programmer (verb_numbered world.now o index) }
     {
@@ -112,7 +113,7 @@ impl Rights {
         }
     }
 
-    /// Whether the programmer may write the verb at a place of an object.
+    /// Returns whether the programmer may write the verb at a place of an object.
     pub fn may_write_verb(world: &World, programmer: i32, o: i32, index: usize) -> bool
         ensures { result ≡ may_write_this_verb world.now programmer (verb_numbered world.now o index) }
     {
@@ -131,8 +132,8 @@ impl Rights {
         }
     }
 
-    /// Whether the programmer may read a property of an object by its name. All may read the
-    /// built-in ones.
+    /// Returns whether the programmer may read a property of an object by its name. Everyone may read the built-in
+    /// ones.
     pub fn may_read_property(world: &World, programmer: i32, o: i32, name: &[u8]) -> bool
         ensures { result ≡ may_read_property world.now programmer o name.now }
     {
@@ -145,8 +146,8 @@ impl Rights {
         }
     }
 
-    /// Whether the programmer may set a property of an object by its name. A built-in one is set
-    /// by whom its own rule names, and the place and the contents by nobody.
+    /// Returns whether the programmer may set a property of an object by its name. Each built-in property has its own
+    /// rule; no one may set the location and the contents.
     pub fn may_write_property(world: &World, programmer: i32, o: i32, name: &[u8]) -> bool
         ensures { result ≡ may_write_property world.now programmer o name.now }
     {

@@ -1,4 +1,4 @@
-//! Properties set by their names, the built-in ones among them.
+//! Sets properties by their names, the built-in ones too.
 
 ghost use Rattle.std.specs.Prelude.{◌≡◌, IsSome};
 ghost use Rattle.moo_value.specs.Compare.{folded};
@@ -17,7 +17,7 @@ use moo_table::editing::set_built_in_in;
 use moo_value::{ErrorCode, Value};
 
 impl World {
-    /// What setting a property raises.
+    /// Returns Ok if setting a property raises nothing, else the fault that it raises.
     pub fn try_set(&self, o: i32, name: &[u8], value: &Value) -> Result<(), WorldFault>
         ensures raises { Tests result (set_raises self.now (number_of self.now.objects o) (folded name.now) (tree value.now)) }
         ensures memory { TakesNoMemory result }
@@ -51,7 +51,7 @@ impl World {
         }
     }
 
-    // The same, of a valid object.
+    // Sets a property of a valid object by its name.
     fn set_named(&mut self, x: usize, name: &[u8], value: Value) -> Result<(), WorldFault>
         requires { IsSome (object_of self.old.objects x) }
         ensures world { Changes result self.old self.new (set_named_raises self.old x (folded name.now) (tree value) (built_in_of (folded name.now)))
@@ -81,7 +81,7 @@ impl World {
     }
 }
 
-// Whether a built-in property takes a value.
+// Returns Ok if a built-in property takes a value, else the fault.
 fn test_built_in(property: BuiltInProperty, value: &Value) -> Result<(), WorldFault>
     ensures raises { Tests result (set_built_in_raises property (tree value.now)) }
     ensures memory { TakesNoMemory result }

@@ -20,7 +20,7 @@ use moo_table::verbs::{
 use moo_value::{ErrorCode, MooStr};
 
 impl World {
-    /// A verb of a valid object, by its place.
+    /// Returns a verb of a valid object, by its place.
     pub fn verb(&self, o: i32, index: usize) -> Option<&Verb>
         ensures { option_copied result ≡ option_and_then (λ x. slice_get (thing_of self.now.objects x).verbs index) (number_of self.now.objects o) }
     {
@@ -35,7 +35,7 @@ impl World {
         verb_in(&self.objects[x], index)
     }
 
-    /// What adding a verb with these names raises.
+    /// Returns Ok if adding a verb with these names raises nothing, else the fault that it raises.
     pub fn try_add_verb(&self, o: i32, names: &MooStr) -> Result<(), WorldFault>
         ensures raises { Tests result (add_verb_raises self.now (number_of self.now.objects o) names.now) }
         ensures memory { TakesNoMemory result }
@@ -46,7 +46,7 @@ impl World {
         }
     }
 
-    /// Adds a verb without a program behind the others, and answers its place.
+    /// Adds a verb without a program after the others, and returns its place, which counts from 0.
     pub fn add_verb(
         &mut self,
         o: i32,
@@ -76,7 +76,7 @@ impl World {
         }
     }
 
-    // The same, of a valid object.
+    // Adds a verb to a valid object, and returns its place.
     fn put_verb(&mut self, x: usize, verb: Verb) -> Result<usize, WorldFault>
         requires object { IsSome (object_of self.old.objects x) }
         requires bare { verb.program ≡ None }
@@ -106,8 +106,8 @@ impl World {
         Ok(())
     }
 
-    /// What looking at a verb of an object raises; so do taking it away and changing its
-    /// specifiers.
+    /// Returns Ok if an object has a verb at this place, else the fault. Deleting the verb and changing its
+    /// specifiers raise the same faults.
     pub fn try_verb(&self, o: i32, index: usize) -> Result<(), WorldFault>
         ensures raises { Tests result (verb_raises self.now (number_of self.now.objects o) index) }
         ensures memory { TakesNoMemory result }
@@ -129,7 +129,7 @@ impl World {
         Ok(())
     }
 
-    /// Takes a verb away. Those behind it move up.
+    /// Deletes a verb. Later verbs move up.
     pub fn delete_verb(&mut self, o: i32, index: usize) -> Result<(), WorldFault>
         ensures world { let x = number_of self.old.objects o in
             Changes result self.old self.new (verb_raises self.old x index) (world_with_object self.old x (without_verb index)) }
@@ -153,7 +153,7 @@ impl World {
         Ok(())
     }
 
-    /// What giving a verb other names raises.
+    /// Returns Ok if giving a verb other names raises nothing, else the fault that it raises.
     pub fn try_set_verb_info(&self, o: i32, index: usize, names: &MooStr) -> Result<(), WorldFault>
         ensures raises { Tests result (verb_info_raises self.now (number_of self.now.objects o) index names.now) }
         ensures memory { TakesNoMemory result }
@@ -177,7 +177,7 @@ impl World {
         Ok(())
     }
 
-    /// Gives a verb other names, another owner and other permissions.
+    /// Changes a verb's names, owner and permissions.
     pub fn set_verb_info(
         &mut self,
         o: i32,
@@ -213,7 +213,7 @@ impl World {
         Ok(())
     }
 
-    /// Gives a verb other specifiers.
+    /// Changes a verb's specifiers.
     pub fn set_verb_args(&mut self, o: i32, index: usize, args: VerbArgs) -> Result<(), WorldFault>
         ensures world { let x = number_of self.old.objects o in
             Changes result self.old self.new (verb_raises self.old x index) (world_with_object self.old x (with_changed_verb index (with_args args))) }

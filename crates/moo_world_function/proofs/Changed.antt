@@ -50,14 +50,14 @@ pub done : {S T : Type 0} (tested : Result T WorldFault) (u : T) (raises : Optio
 done tested u raises is_allowed allowed made old new after tests right is changes =
     done_as tested u raises allowed made old new after tests (ap (permitted tested) (sym right) ∙ sym is) changes
 
--- who has no right to a change is told what its test raises, and else of the right
+-- a programmer without the right to a change gets the error of its test, and else that of the right
 pub untried : {T : Type 0} (tested : Result T WorldFault) (raises : Option ErrorCode) (allowed : Bool) (a : Result Value OperationFault) (w after : World)
     → Tests tested raises → allowed ≡ false → a ≡ refused_by tested → Does a w w (changes raises allowed after)
 untried (Ok v) raises allowed a w after tests right is = rw (is, right, tests.0) (refl, refl)
 untried (Err (world.Raise e)) raises allowed a w after tests right is = rw (is, tests) (refl, refl)
 untried (Err world.Memory) raises allowed a w after tests right is = rw is refl
 
--- who has the right makes the change, which tells what it raises itself
+-- a programmer with the right makes the change, which returns its own error
 pub tried : {T : Type 0} (made : Result T WorldFault) (raises : Option ErrorCode) (allowed : Bool) (a : Result Value OperationFault) (old new after : World)
     → Changes made old new raises after → allowed ≡ true → a ≡ changed made → Does a old new (changes raises allowed after)
 tried (Ok v) raises allowed a old new after made right is = rw (is, right, made.0, made.1) refl
@@ -89,7 +89,7 @@ refused_never (Ok v) false e a takes is same = raised_never Permission a (cc)
 refused_never (Err (world.Raise c)) allowed e a takes is same = raised_never c a (cc)
 refused_never (Err world.Memory) allowed e a takes is same = absurd takes
 
--- nor what a change tells that takes none
+-- nor does a change that allocates nothing
 pub changed_never : {T : Type 0} (made : Result T WorldFault) (a : Result Value OperationFault) → TakesNoMemory made → a ≡ changed made → IsNeverLacking a
 changed_never (Ok v) a takes is = rw is tt
 changed_never (Err (world.Raise e)) a takes is = rw is tt
@@ -111,7 +111,7 @@ is_due None true after none is = refl
 is_due None false after none is = absurd (cc)
 is_due (Some e) allowed after none is = absurd (cc)
 
--- a change that takes memory once nothing is to be raised is short of it only where it is due
+-- a change that allocates once nothing is to be raised runs out of memory only if it is due
 pub lacks_due : {S T : Type 0} (tested : Result T WorldFault) (u : T) (raises : Option ErrorCode) (is_allowed allowed : Bool) (made : Result S WorldFault) (a : Result Value OperationFault) (after : World)
     → is_allowed ≡ allowed → Ok u ≡ permitted tested is_allowed → RaisesFirst made raises → a ≡ changed made → LacksOnly a (IsOk (changes raises allowed after))
 lacks_due tested u raises is_allowed allowed (Ok s) a after right is first made = rw made tt

@@ -11,7 +11,7 @@ use Rattle.moo_world_function.specs.Objects.{valid, parent, children, max_object
 use Rattle.moo_world_function.specs.Properties.{properties, property_info, is_clear_property, add_property, set_property_info, clear_property, delete_property}
 use Rattle.moo_world_function.specs.Verbs.{listed_verbs, verb_info, verb_args, add_verb, set_verb_info, set_verb_args, delete_verb}
 
--- the functions that look at the world or change it, call no verb and look at no connection, frame or clock
+-- the functions that read or change the world, call no verb and read no connection, frame or clock
 abbrev pub is_of_world : Function → Bool
 is_of_world function.Valid = true
 is_of_world function.Parent = true
@@ -65,7 +65,7 @@ changing function.SetVerbArguments w p args = set_verb_args w p args
 changing function.DeleteVerb w p args = delete_verb w p args
 changing _ w p args = Err TypeMismatch
 
--- Where memory may be wanting for a change: never for one that takes none, and for a deletion only once it is due
+-- Where memory may run out for a change: never for one that allocates nothing, and for a deletion only once it is due
 abbrev pub ChangeMayLack : Function → World → ℤ → List Tree → Type 0
 ChangeMayLack function.ClearProperty w p args = ⊥
 ChangeMayLack function.SetVerbArguments w p args = ⊥
@@ -77,7 +77,7 @@ abbrev pub LookMayLack : Option (Result Tree ErrorCode) → Type 0 → Type 0
 LookMayLack None Change = Change
 LookMayLack (Some r) Change = IsMade r
 
--- where memory may be wanting for arguments that fit: a function that looks takes it only for a list or a string
+-- where memory may run out for arguments that fit: a function that reads allocates only a list or a string
 abbrev pub MayLack : Function → World → ℤ → List Tree → Type 0
 MayLack f w p args = LookMayLack (looking f w p args) (ChangeMayLack f w p args)
 
@@ -91,6 +91,6 @@ looked_or w (Some (Err e)) changed = Err e
 abbrev pub answer : Function → World → ℤ → List Tree → Result (Tree × World) ErrorCode
 answer f w p args = looked_or w (looking f w p args) (changing f w p args)
 
--- the same, and none for a function of another kind
+-- the result of a function over the world, and none for a function of another kind
 abbrev pub world_answer : Function → World → ℤ → List Tree → Option (Result (Tree × World) ErrorCode)
 world_answer f w p args = if is_of_world f then Some (answer f w p args) else None

@@ -1,4 +1,4 @@
--- What the functions over the world answer, and what a call of one is.
+-- The results of the functions over the world, and what a call of one is.
 pub mod Answers
 pub mod Order
 pub mod Objects

@@ -1,4 +1,4 @@
--- What the functions on objects and their parents answer.
+-- The results of the functions on objects and their parents.
 use Rattle.std.specs.Prelude.{ℤ, negsuc, List, [], ◌∷◌, length, map, Bool, ◌&&◌, ◌||◌, is_some, Option, Some, None, Result, Ok, Err}
 use Rattle.std.specs.Ordering.{int_eq}
 use Rattle.moo_value.specs.declared.error_code.ErrorCode.{ErrorCode}
@@ -17,7 +17,7 @@ use Rattle.moo_world.specs.NamedProperties.{truth, number_of_place, objects_list
 abbrev pub is_valid : World → ℤ → Bool
 is_valid w o = is_some (number_of w.objects o)
 
--- what is told of a valid object
+-- what is returned for a valid object; else E_INVARG
 abbrev pub of_valid : {X : Type 0} → Option X → (X → Result Tree ErrorCode) → Result Tree ErrorCode
 of_valid None f = Err InvalidArgument
 of_valid (Some x) f = f x

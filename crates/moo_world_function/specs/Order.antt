@@ -5,12 +5,12 @@ use Rattle.moo_value.specs.declared.error_code.ErrorCode.TheVariants.{Permission
 use Rattle.moo_value.specs.Tree.{Tree, integer}
 use Rattle.moo_table.specs.World.{World}
 
--- what the function's own rule raises, then the right, then the answer
+-- what the function's own rule raises, then the right, then the result
 abbrev pub asked : {X : Type 0} → Option ErrorCode → Bool → Result X ErrorCode → Result X ErrorCode
 asked (Some e) allowed r = Err e
 asked None allowed r = if allowed then r else Err Permission
 
--- a function that changes the world comes to this one, and answers 0
+-- a function changes the world to this one, and returns 0
 abbrev pub changes : Option ErrorCode → Bool → World → Result (Tree × World) ErrorCode
 changes raises allowed after = asked raises allowed (Ok (integer (pos 0), after))
 

@@ -1,4 +1,4 @@
--- What the functions on properties answer.
+-- The results of the functions on properties.
 use Rattle.std.specs.Prelude.{ℕ, ℤ, List, [], ◌∷◌, map, Bool, ◌&&◌, ◌||◌, not, is_some, Option, Some, None, Result, Ok, Err}
 use Rattle.std.specs.Ordering.{int_eq}
 use Rattle.moo_value.specs.declared.error_code.ErrorCode.{ErrorCode}

@@ -1,4 +1,4 @@
--- What the functions on verbs answer.
+-- The results of the functions on verbs.
 use Rattle.std.specs.Prelude.{ℕ, ℤ, List, [], ◌∷◌, map, length, position, Bool, ◌&&◌, ◌||◌, Option, Some, None, Result, Err}
 use Rattle.std.specs.Option.{option_and_then}
 use Rattle.std.specs.Ordering.{int_eq}
@@ -35,11 +35,11 @@ verb_place vs (string name) = position (fits_verb need.Any name) vs
 verb_place vs (integer i) = before_place i (length vs)
 verb_place vs _ = None
 
--- the same among an object's own verbs
+-- the place of the chosen verb among an object's own verbs
 abbrev pub chosen : World → ℤ → Tree → Option ℕ
 chosen w o t = option_and_then (λ thing. verb_place thing.verbs t) (object_numbered w o)
 
--- what is told of a verb, E_VERBNF where there is none
+-- what is returned for a verb, E_VERBNF if there is none
 abbrev pub on_verb : {X : Type 0} → Option ℕ → (ℕ → Result X ErrorCode) → Result X ErrorCode
 on_verb None f = Err VerbNotFound
 on_verb (Some i) f = f i

@@ -1,4 +1,4 @@
-//! Rights that functions ask for together, and what they are about.
+//! Combined rights that functions require, and the verbs that they are about.
 ghost use Rattle.std.specs.Prelude.{◌≡◌, ◌&&◌};
 ghost use Rattle.std.specs.Option.{option_copied};
 ghost use Rattle.moo_world.specs.Numbered.{cell_numbered, verb_numbered};
@@ -10,7 +10,7 @@ ghost use Rattle.moo_world_function.specs.Verbs.{may_give_verb};
 use moo_object::{PropCell, Verb, cell_named};
 use moo_world::{Rights, World};
 
-/// Whether the programmer owns an object and may make it inherit from another, or from none.
+/// Returns whether the programmer owns an object and may make it inherit from another, or from none.
 pub fn may_reparent(o: i32, to: i32, world: &World, programmer: i32) -> bool
     ensures { result ≡ (may_own world.now programmer o && may_be_parent world.now programmer to) }
 {
@@ -23,14 +23,14 @@ fn may_be_parent(to: i32, world: &World, programmer: i32) -> bool
     to == -1 || Rights::may_inherit_from(world, programmer, to)
 }
 
-/// Whether the programmer may write an object and make something with this owner on it.
+/// Returns whether the programmer may write an object and make something with this owner on it.
 pub fn may_add(o: i32, owner: i32, world: &World, programmer: i32) -> bool
     ensures { result ≡ (may_write_object world.now programmer o && controls world.now programmer owner) }
 {
     Rights::may_write_object(world, programmer, o) && Rights::controls(world, programmer, owner)
 }
 
-/// Whether the programmer may write a property and give it this owner.
+/// Returns whether the programmer may write a property and give it this owner.
 pub fn may_change_info(o: i32, name: &[u8], owner: i32, world: &World, programmer: i32) -> bool
     ensures { result ≡ (may_write_property world.now programmer o name.now && may_give_cell world.now programmer (cell_numbered world.now o name.now) owner) }
 {
@@ -38,7 +38,7 @@ pub fn may_change_info(o: i32, name: &[u8], owner: i32, world: &World, programme
         && may_give_cell(o, name, owner, world, programmer)
 }
 
-// A wizard gives a cell any owner, others the one that it has.
+// Returns whether the programmer may give a cell this owner: a wizard any, others the one that it has.
 fn may_give_cell(o: i32, name: &[u8], owner: i32, world: &World, programmer: i32) -> bool
     ensures { result ≡ may_give_cell world.now programmer (cell_numbered world.now o name.now) owner }
 {
@@ -57,7 +57,7 @@ fn numbered_cell<'a>(o: i32, name: &[u8], world: &'a World) -> Option<&'a PropCe
     }
 }
 
-/// Whether the programmer may write a verb and give it this owner.
+/// Returns whether the programmer may write a verb and give it this owner.
 pub fn may_change_verb(o: i32, index: usize, owner: i32, world: &World, programmer: i32) -> bool
     ensures { result ≡ (may_write_this_verb world.now programmer (verb_numbered world.now o index) && may_give_verb world.now programmer (verb_numbered world.now o index) owner) }
 {
@@ -65,7 +65,7 @@ pub fn may_change_verb(o: i32, index: usize, owner: i32, world: &World, programm
         && may_give_verb(o, index, owner, world, programmer)
 }
 
-// A wizard gives a verb any owner, others the one that it has.
+// Returns whether the programmer may give a verb this owner: a wizard any, others the one that it has.
 fn may_give_verb(o: i32, index: usize, owner: i32, world: &World, programmer: i32) -> bool
     ensures { result ≡ may_give_verb world.now programmer (verb_numbered world.now o index) owner }
 {
@@ -75,7 +75,7 @@ fn may_give_verb(o: i32, index: usize, owner: i32, world: &World, programmer: i3
     }
 }
 
-/// An object's verb at a place, which counts from 0.
+/// Returns an object's verb at a place, which counts from 0.
 pub fn numbered_verb(o: i32, index: usize, world: &World) -> Option<&Verb>
     ensures { option_copied result ≡ verb_numbered world.now o index }
 {

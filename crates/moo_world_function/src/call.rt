@@ -18,9 +18,9 @@ use moo_value::Value;
 use moo_world::World;
 use std::alloc::Global;
 
-/// What a function that looks at the world or changes it gives a programmer, for arguments that fit its row of the table
-/// (`refusal`): what the function itself looks at comes first, and the programmer's right last. A raise and want of memory
-/// leave the world as it was. `None`, with nothing changed, where the function is another one.
+/// Calls a function that reads or changes the world, for a programmer. The arguments fit its row of the table
+/// (`refusal`). The function's own tests come first, and the programmer's right last. After an error or lack of
+/// memory the world is as it was. `None`, with nothing changed, for any other function.
 pub fn call_world(
     alloc: Global,
     function: Function,

@@ -1,4 +1,4 @@
-//! Lists that give the info of a property or a verb, or the specifiers of a verb.
+//! Parses the lists that give the info of a property or a verb, or the specifiers of a verb.
 ghost use Rattle.std.specs.Prelude.{◌≡◌};
 ghost use Rattle.moo_value.specs.View.{tree, trees};
 ghost use Rattle.moo_world_function.specs.Answers.{Reads, IsNeverLacking};
@@ -15,7 +15,7 @@ use moo_world_text::{
 };
 use std::alloc::AllocError;
 
-/// What a property is given; it keeps its name where there is none.
+/// The new info of a property; without a name it keeps its own.
 #[derive(Drop)]
 pub struct GivenProperty {
     pub owner: i32,
@@ -23,7 +23,7 @@ pub struct GivenProperty {
     pub name: Option<MooStr>,
 }
 
-/// What a verb is given.
+/// The new info of a verb.
 #[derive(Drop)]
 pub struct GivenVerb {
     pub owner: i32,
@@ -31,7 +31,7 @@ pub struct GivenVerb {
     pub names: MooStr,
 }
 
-/// `{owner, perms}` or `{owner, perms, name}`; E_TYPE for another value, E_INVARG for a text that is none of
+/// Parses `{owner, perms}` or `{owner, perms, name}`. E_TYPE for another value, E_INVARG for a text that isn't
 /// permissions.
 pub fn given_property(value: &Value) -> Result<GivenProperty, OperationFault>
     ensures { Reads result (given_property (tree value.now)) }
@@ -73,7 +73,7 @@ fn property_in(elements: &[Value]) -> Result<GivenProperty, OperationFault>
     }
 }
 
-/// `{owner, perms, names}`; E_TYPE for another value, E_INVARG for a text that is none of permissions.
+/// Parses `{owner, perms, names}`. E_TYPE for another value, E_INVARG for a text that isn't permissions.
 #[tactic(auto, unfolding(crate::specs::Forms::given_verb))]
 pub fn given_verb(value: &Value) -> Result<GivenVerb, OperationFault>
     ensures { Reads result (given_verb (tree value.now)) }
@@ -105,7 +105,7 @@ fn verb_in(elements: &[Value]) -> Result<GivenVerb, OperationFault>
     }
 }
 
-/// `{dobj, prep, iobj}`; E_TYPE for another value, E_INVARG for a text that is no specifier.
+/// Parses `{dobj, prep, iobj}`. E_TYPE for another value, E_INVARG for a text that is no specifier.
 #[tactic(auto, unfolding(crate::specs::Forms::given_args))]
 pub fn given_args(value: &Value) -> Result<VerbArgs, OperationFault>
     ensures answer { Reads result (given_args (tree value.now)) }

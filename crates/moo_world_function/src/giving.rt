@@ -1,6 +1,6 @@
-//! Functions that make properties, and that give them other info: 'Operations on Properties' of the LambdaMOO
-//! Programmer's Manual, 'Functions over the world' of docs/LANGUAGE.md. Arguments that don't fit the function's row,
-//! with which no call comes here, raise E_TYPE.
+//! Functions that define properties, and that change their info: 'Operations on Properties' of the LambdaMOO
+//! Programmer's Manual, 'Functions over the world' of docs/LANGUAGE.md. Arguments that don't fit the function's row
+//! raise E_TYPE; no call has such arguments.
 ghost use Rattle.std.specs.Prelude.{◌≡◌, ◌∷◌, []};
 ghost use Rattle.moo_value.specs.Compare.{folded};
 ghost use Rattle.moo_value.specs.Tree.{object, string};
@@ -20,10 +20,11 @@ use moo_value::{MooStr, Value};
 use moo_world::{World, WorldFault};
 use std::alloc::Global;
 
-/// `set_property_info(o, name, {owner, perms[, new]})`: gives a property an owner, permissions and perhaps another
-/// name, and answers 0. Raises E_TYPE or E_INVARG for the list, E_INVARG where o is no object, E_PROPNF where it has no
-/// such property or the name is a built-in one, E_INVARG for a new name that is taken or on an object that inherits the
-/// property, and E_PERM for who may not write the property or, no wizard, gives it another owner.
+/// Runs `set_property_info(o, name, {owner, perms[, new]})`: gives a property an owner, permissions and perhaps
+/// another name, and returns 0. Raises E_TYPE or E_INVARG for the list. Raises E_INVARG if o is no object, and
+/// E_PROPNF if it has no such property or the name is a built-in one. Raises E_INVARG for a new name that is taken or
+/// on an object that inherits the property. Last raises E_PERM for a programmer who may not write the property or
+/// who, not being a wizard, gives it another owner.
 pub fn set_property_info(
     alloc: Global,
     args: &[Value],
@@ -70,9 +71,10 @@ fn test_info(
     world.try_set_property_info(alloc, o, name, given.name.as_ref())
 }
 
-/// `add_property(o, name, value, {owner, perms})`: defines a property on an object, and answers 0. Raises E_TYPE or
-/// E_INVARG for the list, E_INVARG where o is no object or the name is taken above it, on it or below it, E_QUOTA where
-/// an object would have too many properties, and E_PERM for who may not write o or, no wizard, names another owner.
+/// Runs `add_property(o, name, value, {owner, perms})`: defines a property on an object, and returns 0. Raises E_TYPE
+/// or E_INVARG for the list. Raises E_INVARG if o is no object or the name is taken above it, on it or below it, and
+/// E_QUOTA if an object would have too many properties. Last raises E_PERM for a programmer who may not write o or
+/// who, not being a wizard, names another owner.
 pub fn add_property(
     alloc: Global,
     args: &[Value],

@@ -1,5 +1,4 @@
-//! The built-in functions that look at the world or change it, but call no verb.
-//! A room behind `moo_builtin`.
+//! The built-in functions that read or change the world, but call no verb. An internal crate of `moo_builtin`.
 #![tactic(auto)]
 
 mod allowed;

@@ -1,4 +1,4 @@
-//! Answers of functions.
+//! Results of functions over the world.
 ghost use Rattle.std.specs.Prelude.{◌≡◌};
 ghost use Rattle.moo_value.specs.Tree.{list_of};
 ghost use Rattle.moo_value.specs.View.{tree, trees};
@@ -12,29 +12,33 @@ use moo_value::{ErrorCode, Value};
 use moo_world::WorldFault;
 use std::alloc::Global;
 
+/// The fault that raises E_TYPE.
 pub const TYPE_MISMATCH: OperationFault = OperationFault::Raise(ErrorCode::TypeMismatch);
 
+/// The fault that raises E_INVARG.
 pub const INVALID_ARGUMENT: OperationFault = OperationFault::Raise(ErrorCode::InvalidArgument);
 
+/// The fault that raises E_PERM.
 pub const PERMISSION: OperationFault = OperationFault::Raise(ErrorCode::Permission);
 
+/// The fault that raises E_VERBNF.
 pub const VERB_NOT_FOUND: OperationFault = OperationFault::Raise(ErrorCode::VerbNotFound);
 
-/// The list of these values, or E_QUOTA past its limits.
+/// Returns the list of these values, or E_QUOTA past its limits.
 pub fn listed(alloc: Global, values: Vec<Value>) -> Result<Value, OperationFault>
     ensures { Gives result (limited (list_of (trees values.items))) }
 {
     list(alloc, values)
 }
 
-/// 1 or 0.
+/// Returns the integer 1 for true, 0 for false.
 pub fn truth(test: bool) -> Value
     ensures { tree result ≡ truth test }
 {
     Value::Int(i32::from(test))
 }
 
-/// An answer of the world, as one of a function.
+/// Converts a result of the world to one of a function.
 pub fn told<T: Drop>(answer: Result<T, WorldFault>) -> Result<T, OperationFault>
     ensures { result ≡ told answer }
 {
@@ -45,7 +49,7 @@ pub fn told<T: Drop>(answer: Result<T, WorldFault>) -> Result<T, OperationFault>
     }
 }
 
-/// What a test of a change came to, then the right to it.
+/// Returns the fault of a test of a change, if any, else E_PERM if the change is not allowed.
 pub fn permitted(tested: Result<(), WorldFault>, is_allowed: bool) -> Result<(), OperationFault>
     ensures { result ≡ permitted tested is_allowed }
 {
@@ -53,7 +57,7 @@ pub fn permitted(tested: Result<(), WorldFault>, is_allowed: bool) -> Result<(),
     if is_allowed { Ok(()) } else { Err(PERMISSION) }
 }
 
-/// What a test of a change came to, for who has no right to it.
+/// Returns the fault of a test of a change, if any, else E_PERM, for a programmer who may not make it.
 pub fn refused(tested: Result<(), WorldFault>) -> Result<Value, OperationFault>
     ensures { result ≡ refused tested }
 {
@@ -64,7 +68,7 @@ pub fn refused(tested: Result<(), WorldFault>) -> Result<Value, OperationFault>
     }
 }
 
-/// 0 once the world was changed.
+/// Returns 0 once the world was changed, or the fault.
 pub fn changed<T: Drop>(made: Result<T, WorldFault>) -> Result<Value, OperationFault>
     ensures { result ≡ changed made }
 {

@@ -1,6 +1,6 @@
 //! Functions on objects and their parents: 'Fundamental Operations on Objects' and 'Operations on Player Objects' of
 //! the LambdaMOO Programmer's Manual, 'Functions over the world' of docs/LANGUAGE.md. Arguments that don't fit the
-//! function's row, with which no call comes here, raise E_TYPE.
+//! function's row raise E_TYPE; no call has such arguments.
 ghost use Rattle.std.specs.Prelude.{◌≡◌, ◌<◌, ◌∷◌, [], IfOk, map, pos, All};
 ghost use Rattle.moo_value.specs.Tree.{object};
 ghost use Rattle.moo_value.specs.View.{tree, trees};
@@ -17,7 +17,7 @@ use moo_value::Value;
 use moo_world::World;
 use std::alloc::{AllocError, Global};
 
-/// `valid(o)`: 1 where o is an object of the world, else 0.
+/// Computes `valid(o)`: 1 if o is an object of the world, else 0.
 pub fn valid(args: &[Value], world: &World) -> Result<Value, OperationFault>
     ensures { Gives result (valid world.now (trees args.now)) }
 {
@@ -27,7 +27,7 @@ pub fn valid(args: &[Value], world: &World) -> Result<Value, OperationFault>
     }
 }
 
-/// `parent(o)`: the parent of an object, #-1 for none. E_INVARG where o is no object.
+/// Computes `parent(o)`: the parent of an object, #-1 for none. E_INVARG if o is no object.
 pub fn parent(args: &[Value], world: &World) -> Result<Value, OperationFault>
     ensures { Gives result (parent world.now (trees args.now)) }
 {
@@ -40,8 +40,8 @@ pub fn parent(args: &[Value], world: &World) -> Result<Value, OperationFault>
     }
 }
 
-/// `children(o)`: the list of an object's children, the newest last. E_INVARG where o is no object, E_QUOTA for a list
-/// past its limits.
+/// Computes `children(o)`: the list of an object's children, the newest last. E_INVARG if o is no object, E_QUOTA for
+/// a list past its limits.
 pub fn children(alloc: Global, args: &[Value], world: &World) -> Result<Value, OperationFault>
     ensures { Gives result (children world.now (trees args.now)) }
 {
@@ -74,7 +74,8 @@ fn numbered(alloc: Global, numbers: Below<'_>) -> Result<Vec<Value>, AllocError>
     Ok(values)
 }
 
-/// `max_object()`: the highest number that was given out, of an object that was taken away too; #-1 for none.
+/// Computes `max_object()`: the highest number that was given out, also to an object that was recycled since; #-1 for
+/// none.
 pub fn max_object(args: &[Value], world: &World) -> Result<Value, OperationFault>
     ensures { Gives result (max_object world.now (trees args.now)) }
 {
@@ -84,7 +85,7 @@ pub fn max_object(args: &[Value], world: &World) -> Result<Value, OperationFault
     }
 }
 
-/// `players()`: the list of all players, the newest last. E_QUOTA for a list past its limits.
+/// Computes `players()`: the list of all players, the newest last. E_QUOTA for a list past its limits.
 pub fn players(alloc: Global, args: &[Value], world: &World) -> Result<Value, OperationFault>
     ensures { Gives result (listed_players world.now (trees args.now)) }
 {
@@ -113,7 +114,7 @@ fn objects(alloc: Global, numbers: &[i32]) -> Result<Vec<Value>, AllocError>
     Ok(values)
 }
 
-/// `is_player(o)`: 1 where an object is a player, else 0. E_INVARG where o is no object.
+/// Computes `is_player(o)`: 1 if an object is a player, else 0. E_INVARG if o is no object.
 pub fn is_player(args: &[Value], world: &World) -> Result<Value, OperationFault>
     ensures { Gives result (is_player world.now (trees args.now)) }
 {
@@ -126,9 +127,10 @@ pub fn is_player(args: &[Value], world: &World) -> Result<Value, OperationFault>
     }
 }
 
-/// `chparent(o, to)`: gives an object another parent, or none for #-1, and answers 0. Raises E_INVARG where one of the
-/// two is no object, E_RECMOVE where `to` is o or below it, E_INVARG where names of properties would clash, E_QUOTA
-/// where an object would have too many properties, and E_PERM for who doesn't own o or may not inherit from `to`.
+/// Runs `chparent(o, to)`: gives an object another parent, or none for #-1, and returns 0. Raises E_INVARG if one of
+/// the two is no object, and E_RECMOVE if `to` is o or below it. Raises E_INVARG if names of properties would clash,
+/// and E_QUOTA if an object would have too many properties. Last raises E_PERM for a programmer who doesn't own o or
+/// may not inherit from `to`.
 pub fn change_parent(
     alloc: Global,
     args: &[Value],

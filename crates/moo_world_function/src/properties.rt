@@ -1,6 +1,6 @@
-//! Functions that look at properties or take them away: 'Operations on Properties' of the LambdaMOO Programmer's
-//! Manual, 'Functions over the world' of docs/LANGUAGE.md. Arguments that don't fit the function's row, with which no
-//! call comes here, raise E_TYPE.
+//! Functions that inspect, clear or delete properties: 'Operations on Properties' of the LambdaMOO Programmer's
+//! Manual, 'Functions over the world' of docs/LANGUAGE.md. Arguments that don't fit the function's row raise E_TYPE;
+//! no call has such arguments.
 ghost use Rattle.std.specs.Prelude.{◌≡◌, ◌∷◌, [], IfOk, IsOk, None, Some, map};
 ghost use Rattle.moo_world_function.specs.Order.{asked};
 ghost use Rattle.moo_value.specs.Tree.{object, string, list_of};
@@ -20,8 +20,8 @@ use moo_world::{PropPerms, Rights, World, WorldFault};
 use moo_world_text::prop_perms_text;
 use std::alloc::{AllocError, Global};
 
-/// `properties(o)`: the list of the names that an object itself defines, as they are spelled. Raises E_INVARG where o
-/// is no object, E_PERM for who may not read it, and E_QUOTA for a list past its limits.
+/// Computes `properties(o)`: the list of the names that an object itself defines, as they are spelled. Raises
+/// E_INVARG if o is no object, E_PERM for a programmer who may not read it, and E_QUOTA for a list past its limits.
 pub fn properties(
     alloc: Global,
     args: &[Value],
@@ -66,9 +66,9 @@ fn strings(alloc: Global, names: &[MooStr]) -> Result<Vec<Value>, AllocError>
     Ok(values)
 }
 
-/// `property_info(o, name)`: `{owner, perms}`, where perms has the letters of `rwc` that are set. Raises E_INVARG where
-/// o is no object, E_PROPNF where it has no such property or the name is a built-in one, and E_PERM for who may not
-/// read the property.
+/// Computes `property_info(o, name)`: `{owner, perms}`, where perms has the letters of `rwc` that are set. Raises
+/// E_INVARG if o is no object, E_PROPNF if it has no such property or the name is a built-in one, and E_PERM for a
+/// programmer who may not read the property.
 pub fn property_info(
     alloc: Global,
     args: &[Value],
@@ -127,7 +127,7 @@ fn info_value(alloc: Global, owner: i32, perms: PropPerms) -> Result<Value, Oper
     }
 }
 
-/// `is_clear_property(o, name)`: 1 where an object has no value of its own for a property, else 0. Raises what
+/// Computes `is_clear_property(o, name)`: 1 if an object has no value of its own for a property, else 0. Raises what
 /// `property_info` raises.
 pub fn is_clear_property(
     args: &[Value],
@@ -154,9 +154,9 @@ fn is_clear(o: i32, name: &MooStr, world: &World, programmer: i32) -> Result<Val
     Ok(truth(clear))
 }
 
-/// `clear_property(o, name)`: takes away the value that an object has for a property that it inherits, and answers 0.
-/// Raises E_INVARG where o is no object, E_PROPNF as `property_info` does, E_INVARG where o itself defines the
-/// property, and E_PERM for who may not write the property. Takes no memory.
+/// Runs `clear_property(o, name)`: removes the value that an object has for a property that it inherits, and returns
+/// 0. Raises E_INVARG if o is no object, E_PROPNF as `property_info` does, E_INVARG if o itself defines the property,
+/// and E_PERM for a programmer who may not write the property. Allocates nothing.
 pub fn clear_property(
     args: &[Value],
     world: &mut World,
@@ -181,9 +181,9 @@ fn clear(o: i32, name: &MooStr, world: &mut World, programmer: i32) -> Result<Va
     changed(world.clear_property(o, name))
 }
 
-/// `delete_property(o, name)`: takes away a property that an object defines, from what is below it too, and answers 0.
-/// Raises E_INVARG where o is no object, E_PROPNF where it doesn't define the property itself, and E_PERM for who may
-/// not write o.
+/// Runs `delete_property(o, name)`: deletes a property that an object defines, from what is below it too, and returns
+/// 0. Raises E_INVARG if o is no object, E_PROPNF if it doesn't define the property itself, and E_PERM for a
+/// programmer who may not write o.
 pub fn delete_property(
     alloc: Global,
     args: &[Value],

@@ -1,4 +1,4 @@
-//! What a call is refused for before the function looks at its arguments.
+//! Tests the arguments of a call before the function itself looks at them.
 ghost use Rattle.std.specs.Prelude.{◌≡◌};
 ghost use Rattle.moo_value.specs.View.{tree, trees};
 ghost use Rattle.moo_function.specs.Table.{row};
@@ -9,8 +9,8 @@ use moo_function::{Function, Kind};
 use moo_value::{ErrorCode, Value};
 use moo_world::World;
 
-/// Why a call with these arguments is refused: E_ARGS for their number, else E_TYPE for one of a wrong type, else
-/// E_INVARG for an object that has to be valid and isn't.
+/// Returns why a call with these arguments is refused: E_ARGS for their number, else E_TYPE for one of a wrong type,
+/// else E_INVARG for an object that has to be valid and isn't.
 pub fn refusal(function: Function, args: &[Value], world: &World) -> Option<ErrorCode>
     ensures { result ≡ refusal (is_valid world.now) (row function) (trees args.now) }
 {

@@ -1,6 +1,6 @@
-//! Functions that add, change and take away verbs: 'Operations on Verbs' of the LambdaMOO Programmer's Manual,
-//! 'Functions over the world' of docs/LANGUAGE.md. Arguments that don't fit the function's row, with which no call
-//! comes here, raise E_TYPE.
+//! Functions that add, change and delete verbs: 'Operations on Verbs' of the LambdaMOO Programmer's Manual,
+//! 'Functions over the world' of docs/LANGUAGE.md. Arguments that don't fit the function's row raise E_TYPE; no call
+//! has such arguments.
 ghost use Rattle.std.specs.Prelude.{◌≡◌, ◌∷◌, []};
 ghost use Rattle.moo_value.specs.Tree.{object};
 ghost use Rattle.moo_value.specs.View.{tree, trees};
@@ -17,8 +17,8 @@ use moo_operation::OperationFault;
 use moo_value::Value;
 use moo_world::{Rights, VerbArgs, World};
 
-/// `delete_verb(o, v)`: takes a verb away, and answers 0. Raises E_VERBNF where v is none of o's verbs, and E_PERM for
-/// who may not write o. Takes no memory.
+/// Runs `delete_verb(o, v)`: deletes a verb, and returns 0. Raises E_VERBNF if v is none of o's verbs, and E_PERM for
+/// a programmer who may not write o. Allocates nothing.
 pub fn delete_verb(
     args: &[Value],
     world: &mut World,
@@ -63,9 +63,9 @@ fn delete_at(
     changed(world.delete_verb(o, index))
 }
 
-/// `set_verb_info(o, v, {owner, perms, names})`: gives a verb an owner, permissions and names, and answers 0. Raises
-/// E_TYPE or E_INVARG for the list, E_VERBNF where v is none of o's verbs, E_INVARG for names without a word, and
-/// E_PERM for who may not write the verb or, no wizard, gives it another owner.
+/// Runs `set_verb_info(o, v, {owner, perms, names})`: gives a verb an owner, permissions and names, and returns 0.
+/// Raises E_TYPE or E_INVARG for the list, E_VERBNF if v is none of o's verbs, and E_INVARG for names without a word.
+/// Last raises E_PERM for a programmer who may not write the verb or who, not being a wizard, gives it another owner.
 pub fn set_verb_info(
     args: &[Value],
     world: &mut World,
@@ -112,8 +112,9 @@ fn set_info_at(
     changed(world.set_verb_info(o, index, given.names, given.owner, given.perms))
 }
 
-/// `set_verb_args(o, v, {dobj, prep, iobj})`: gives a verb other specifiers, and answers 0. Raises E_TYPE or E_INVARG
-/// for the list, E_VERBNF where v is none of o's verbs, and E_PERM for who may not write the verb. Takes no memory.
+/// Runs `set_verb_args(o, v, {dobj, prep, iobj})`: gives a verb other specifiers, and returns 0. Raises E_TYPE or
+/// E_INVARG for the list, E_VERBNF if v is none of o's verbs, and E_PERM for a programmer who may not write the verb.
+/// Allocates nothing.
 pub fn set_verb_args(
     args: &[Value],
     world: &mut World,
@@ -163,10 +164,10 @@ fn set_args_at(
     changed(world.set_verb_args(o, index, given))
 }
 
-/// `add_verb(o, {owner, perms, names}, {dobj, prep, iobj})`: adds a verb without a program behind the others, and
-/// answers 0. Raises E_TYPE or E_INVARG for the first list, then for the second, E_INVARG where o is no object or the
-/// names are without a word, E_QUOTA for too many verbs, and E_PERM for who may not write o or, no wizard, names
-/// another owner.
+/// Runs `add_verb(o, {owner, perms, names}, {dobj, prep, iobj})`: adds a verb without a program after the others, and
+/// returns 0. Raises E_TYPE or E_INVARG for the first list, then for the second. Raises E_INVARG if o is no object or
+/// the names are without a word, and E_QUOTA for too many verbs. Last raises E_PERM for a programmer who may not
+/// write o or who, not being a wizard, names another owner.
 pub fn add_verb(args: &[Value], world: &mut World, programmer: i32) -> Result<Value, OperationFault>
     ensures { Does result world.old world.new (add_verb world.old programmer (trees args.now)) }
 {

@@ -1,5 +1,5 @@
-//! Functions that look at verbs: 'Operations on Verbs' of the LambdaMOO Programmer's Manual, 'Functions over the world'
-//! of docs/LANGUAGE.md. Arguments that don't fit the function's row, with which no call comes here, raise E_TYPE.
+//! Functions that inspect verbs: 'Operations on Verbs' of the LambdaMOO Programmer's Manual, 'Functions over the
+//! world' of docs/LANGUAGE.md. Arguments that don't fit the function's row raise E_TYPE; no call has such arguments.
 ghost use Rattle.std.specs.Prelude.{◌≡◌, ◌<◌, ◌∷◌, [], IfOk, IfSome, length, map};
 ghost use Rattle.moo_value.specs.Tree.{object, string, list_of};
 ghost use Rattle.moo_value.specs.View.{tree, trees};
@@ -17,8 +17,8 @@ use moo_world::{Rights, World};
 use moo_world_text::{object_specifier_text, preposition_specifier_text, verb_perms_text};
 use std::alloc::{AllocError, Global};
 
-/// `verbs(o)`: the list of the names of an object's own verbs, one string for each, in their order. Raises E_INVARG
-/// where o is no object, E_PERM for who may not read it, and E_QUOTA for a list past its limits.
+/// Computes `verbs(o)`: the list of the names of an object's own verbs, one string for each, in their order. Raises
+/// E_INVARG if o is no object, E_PERM for a programmer who may not read it, and E_QUOTA for a list past its limits.
 pub fn verbs(
     alloc: Global,
     args: &[Value],
@@ -58,8 +58,8 @@ fn names_of(alloc: Global, verbs: &[Verb]) -> Result<Vec<Value>, AllocError>
     Ok(values)
 }
 
-/// The place, counted from 0, of an object's first verb that a string fits, or of the one at a place counted from 1;
-/// `None` where o is no object or has no such verb.
+/// Returns the place, counted from 0, of an object's first verb that a string matches, or of the one at a place
+/// counted from 1. `None` if o is no object or has no such verb.
 pub fn chosen(o: i32, choice: &Value, world: &World) -> Option<usize>
     ensures { result ≡ chosen world.now o (tree choice.now) }
 {
@@ -77,7 +77,7 @@ fn verb_place(object: &Object, choice: &Value) -> Option<usize>
     }
 }
 
-// How many verbs stand before the place, where it is one of `count` places.
+// Returns how many verbs come before the place, if it is one of `count` places.
 fn before_place(place: i32, count: usize) -> Option<usize>
     ensures { result ≡ before_place place count }
 {
@@ -88,8 +88,9 @@ fn before_place(place: i32, count: usize) -> Option<usize>
     if before < count { Some(before) } else { None }
 }
 
-/// `verb_info(o, v)`: `{owner, perms, names}`, where perms has the letters of `rwxd` that are set. Raises E_VERBNF
-/// where v is none of o's verbs, E_PERM for who may not read the verb, and E_QUOTA for a list past its limits.
+/// Computes `verb_info(o, v)`: `{owner, perms, names}`, where perms has the letters of `rwxd` that are set. Raises
+/// E_VERBNF if v is none of o's verbs, E_PERM for a programmer who may not read the verb, and E_QUOTA for a list past
+/// its limits.
 pub fn verb_info(
     alloc: Global,
     args: &[Value],
@@ -156,8 +157,8 @@ fn info_elements(alloc: Global, verb: &Verb) -> Result<Vec<Value>, AllocError>
     Ok(Vec::from_array(alloc, elements)?)
 }
 
-/// `verb_args(o, v)`: `{dobj, prep, iobj}`, the preposition with all its forms. Raises E_VERBNF where v is none of o's
-/// verbs, and E_PERM for who may not read the verb.
+/// Computes `verb_args(o, v)`: `{dobj, prep, iobj}`, the preposition with all its forms. Raises E_VERBNF if v is none
+/// of o's verbs, and E_PERM for a programmer who may not read the verb.
 pub fn verb_args(
     alloc: Global,
     args: &[Value],

@@ -3,7 +3,7 @@ use Rattle.moo_value.specs.Size.{list_weight, weight_limit}
 use Rattle.moo_outcome.specs.Gathered.{in_a_row}
 use Rattle.moo_outcome.proofs.gathered.are_too_heavy.Given as goal
 
--- the lists so far weigh no more than all that stands so far
+-- the lists so far weigh no more than all the stretches so far
 abbrev pub invariant-loop-stretch : goal.invariant-loop-stretch
 invariant-loop-stretch l = record {
   fits : l.weight ≤ weight_limit;

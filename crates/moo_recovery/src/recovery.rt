@@ -113,7 +113,8 @@ pub fn recover<D: Disk>(alloc: Global, disk: &mut D) -> Result<Saved, OpenFault>
         → Refuses (D.view disk.old).main_text f × (f.kind ≢ kind.Memory)) }
     // The answer is that of the reader for these bytes.
     ensures exact { D.honest disk.old → Recovers (D.view disk.old).main_text result }
-    // A fault of the device is reported exactly if the device failed in this call.
+    // If `Device` is returned for an honest disk, its device failed in this call. If anything else is, the device did
+    // not fail.
     ensures device { CountsDevice (D.honest disk.old) (D.failures disk.old) (D.failures disk.new) result }
     // Nothing is written.
     ensures main { D.honest disk.old → KeepsMain (D.view disk.old) (D.view disk.new) }

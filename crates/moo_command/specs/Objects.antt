@@ -13,7 +13,7 @@ use Rattle.moo_world.specs.Calls.{number_of}
 use Rattle.moo_table.specs.Properties.{read}
 use Rattle.moo_world.specs.NamedProperties.{number_of_place}
 
--- what a text names: #-1 nothing, #-2 several objects, #-3 no object
+-- the number that a text names: #-1 nothing, #-2 several objects, #-3 no object
 abbrev pub nothing_named : ℤ
 nothing_named = negsuc 0
 
@@ -27,7 +27,7 @@ none_named = negsuc 2
 abbrev pub room_of : World → ℤ → ℤ
 room_of w player = option_map_or (λ x. number_of_place (above_of w.containment x)) (number_of w.objects player) (negsuc 0)
 
--- what is in an object, nothing in none
+-- the contents of an object, none if there is no object
 abbrev pub contents_of : World → ℤ → List ℕ
 contents_of w o = option_map_or (λ x. below_of w.containment x) (number_of w.objects o) []
 
@@ -106,7 +106,7 @@ named w player text =
     else if is_whole text (codes "here") then room_of w player
     else named_near w text (near w player)
 
--- what a text names to a player
+-- the object that a text names to a player
 abbrev pub matched : World → ℤ → List ℕ → ℤ
 matched w player text =
     if length text == 0 then nothing_named

@@ -148,7 +148,7 @@ pub record AreNumbers (b : Body) : Type 0 where
   pub child : FitsSigned w32 b.child
   pub sibling : FitsSigned w32 b.sibling
 
--- what has lines as an object: with size limits, or without
+-- an object that has lines: with size limits, or without
 pub record IsObject (s : Sizes) (o : Object) : Type 0 where
   pub name : IsStringOf s o.name
   pub numbers : AreNumbers o.body

@@ -13,7 +13,7 @@ use Rattle.moo_disk.specs.declared.stop_at.StopAt.{StopAt}
 abbrev pub inner_of : StopAt → MemoryDisk
 inner_of stopping = stopping.disk
 
--- what a reader, a rename and a crash find
+-- the state that a reader, a rename and a crash find
 abbrev pub view_of : StopAt → DiskView
 view_of stopping = memory_view (inner_of stopping)
 

@@ -87,7 +87,7 @@ pub record Happens {S Sessions Saved : Type 0} (l : Layer S Sessions Saved) (hap
   pub asks : asked.checkpoint ≡ told.asks
   pub shuts : asked.shutdown ≡ told.shuts
 
--- what waited for a number is taken, and nothing of it is left
+-- the bytes that waited for a number are taken, and none of them is left
 pub record HandsOut {S Sessions Saved : Type 0} (l : Layer S Sessions Saved) (c : ℕ) (bytes : List ℕ) (old new : S) : Type 0 where
   pub all : bytes ≡ (l.waiting old).sent c
   pub nothing : (l.waiting new).sent c ≡ []
@@ -96,7 +96,7 @@ pub record HandsOut {S Sessions Saved : Type 0} (l : Layer S Sessions Saved) (c 
   pub state : l.state new ≡ l.state old
   pub under_way : l.under_way old ≡ silence → l.under_way new ≡ silence
 
--- what waited for the log is taken, and nothing of it is left
+-- the lines that waited for the log are taken, and none of them is left
 pub record HandsOutLog {S Sessions Saved : Type 0} (l : Layer S Sessions Saved) (lines : List (List ℕ)) (old new : S) : Type 0 where
   pub all : lines ≡ (l.waiting old).logged
   pub nothing : (l.waiting new).logged ≡ []

@@ -22,11 +22,11 @@ empty = record { bytes = []; log = []; log_under_way = [] }
 abbrev pub bytes_of : Outbox → ℕ → Bytes
 bytes_of o c = slice_index_or o.bytes c no_bytes
 
--- what waits for a number
+-- the bytes that wait for a number
 abbrev pub sent_waiting : Outbox → ℕ → List ℕ
 sent_waiting o c = (bytes_of o c).waiting
 
--- what the event that is under way has sent for it
+-- the bytes that the event under way has sent for it
 abbrev pub sent_under_way : Outbox → ℕ → List ℕ
 sent_under_way o c = (bytes_of o c).under_way
 

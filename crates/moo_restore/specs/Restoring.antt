@@ -21,7 +21,7 @@ abbrev pub IsEntryWithin : Option recorded.Object → Type 0
 IsEntryWithin None = Unit {0}
 IsEntryWithin (Some o) = recorded.IsObject limited o
 
--- what may be written as a database text within the size limits
+-- the records may be written as a database text within the size limits
 pub record AreWithinLimits (r : Records) : Type 0 where
   pub objects : AllByRecursion IsEntryWithin r.objects
   pub object_count : length r.objects ≤ most

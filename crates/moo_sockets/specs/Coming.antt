@@ -12,7 +12,7 @@ abbrev pub only : Option Event → List Event
 only None = []
 only (Some event) = event ∷ []
 
--- what waits for connection c's socket, if it has one
+-- the bytes that wait for connection c's socket, if it has one
 abbrev pub held : Slab Socket → ℕ → Option (List ℕ)
 held sockets c = option_map (λ (socket : Socket). waits_of socket) (get sockets c)
 

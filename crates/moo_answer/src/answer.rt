@@ -13,7 +13,7 @@ use moo_report::{Refusal, Watch};
 use std::alloc::Global;
 use std::io::{BufRead, Write};
 
-/// Evaluates the first line of the input, up to LF or the end, writes the resulting lines, each with LF, and returns
+/// Evaluates the first line of the input, up to LF or the end, and writes the resulting lines, each with LF. Returns
 /// the exit status 0, or 5 if the line is no program. If the input or the output fails, returns 3; if memory runs
 /// out, returns 4. These are reported in a line if the output still takes it.
 pub fn run_expr<I: BufRead, O: Write>(alloc: Global, input: &mut I, output: &mut O) -> u8

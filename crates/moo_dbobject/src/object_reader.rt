@@ -14,7 +14,7 @@ use moo_value::{MooStr, Value};
 use std::alloc::{AllocError, Global};
 use std::mem;
 
-/// What the next line holds.
+/// The content of the next line.
 #[derive(Clone, Copy)]
 enum Awaited {
     Name,

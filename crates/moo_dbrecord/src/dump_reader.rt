@@ -25,7 +25,7 @@ use std::mem;
 /// The number of lines of a program to reserve memory for at first.
 const SOURCE_ROOM: usize = 16;
 
-/// What the next line holds.
+/// The content of the next line.
 #[derive(Clone, Copy)]
 pub(crate) enum Section {
     Header,

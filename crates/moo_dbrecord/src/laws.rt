@@ -40,8 +40,8 @@ pub fn no_text_goes_on_from_a_fault()
         → (more : List ℕ) (t : Text) (k : Slack) → IsWritten s t k → front_lines e.line bytes ++ more ≢ unlines (text_lines t k) }
 {}
 
-/// A text that has a written form has the canonical one: 0 and empty strings in the fields that are not kept, and the
-/// programs in rising order of object and verb.
+/// A text that has a written form has the canonical one. That has 0 and empty strings in the fields that are not kept,
+/// and the programs in rising order of object and verb.
 pub fn texts_may_be_written_in_order()
     ensures { (s : Sizes) (t : Text) (k : Slack) → IsWritten s t k → IsWritten s t (canonical t.programs) }
 {}

@@ -14,7 +14,7 @@ use crate::met::MetStrings;
 use moo_value::{DEPTH_LIMIT, ErrorCode, ListFault, MooList, Value};
 use std::alloc::Global;
 
-/// What the next line holds.
+/// The content of the next line.
 #[derive(Clone, Copy)]
 enum Expected {
     Type,

@@ -33,8 +33,8 @@ enum Last {
 }
 
 /// Two files of one folder: the database, and the spare, whose name ends in `.new`. No contract says what the files
-/// hold. The contracts say only that each fault is counted, and that bytes go only to a spare that is a file of its
-/// own and was open since it was created.
+/// hold. The contracts say only that each fault is counted, and that bytes go only to a spare of its own. That is a
+/// file which has been open since it was created, and is not main's.
 #[derive(Drop)]
 pub struct FileDisk<R: Files> {
     files: R,

@@ -39,7 +39,7 @@ text-front xs ys h = subst IsText (take-append_seam xs ys) (All-take IsTextByte 
 text-back : (xs ys : List ℕ) → IsText (xs ++ ys) → IsText ys
 text-back xs ys h = subst IsText (drop-append_seam xs ys) (All-drop IsTextByte (length xs) (xs ++ ys) h)
 
--- good bytes were added, or left out behind enough
+-- good bytes were appended, or left out after enough
 same_more : (held read part new : List ℕ) (is_good : Bool) → (held ≡ read) ⊎ ((long_line ≤ length held) × (long_line ≤ length read))
     → Holds held part is_good new → (new ≡ read ++ part) ⊎ ((long_line ≤ length new) × (long_line ≤ length (read ++ part)))
 same_more held read part new is_good same holds = elim same [

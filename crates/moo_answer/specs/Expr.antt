@@ -1,4 +1,4 @@
--- What `moo expr` shows of the input's first line.
+-- The output of `moo expr` for the input's first line.
 use Rattle.std.specs.Prelude.{◌≡◌, ◌⊎◌, ℕ, List, ◌++◌, codes, Option, IfSome}
 use Rattle.std.specs.List.{flat_map}
 use Rattle.std.specs.Io.KnownBytes.{Appends}

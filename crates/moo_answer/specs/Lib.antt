@@ -1,6 +1,6 @@
 -- The first line of an input.
 pub mod FirstLine
--- What `moo expr` shows.
+-- The output of `moo expr`.
 pub mod Expr
--- What private clauses alone cite.
+-- Definitions that only private clauses use.
 pub mod Held

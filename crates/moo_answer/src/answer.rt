@@ -1,4 +1,4 @@
-//! `moo expr`: the first line of the input, evaluated.
+//! `moo expr`: evaluates the first line of the input.
 ghost use Rattle.std.specs.Prelude.{◌⊎◌, ◌++◌, codes, IfErr, IfOk, OnOk};
 ghost use Rattle.std.specs.Io.KnownBytes.{Appends, Keeps};
 ghost use Rattle.moo_eval.specs.Ends.{texts};
@@ -13,16 +13,16 @@ use moo_report::{Refusal, Watch};
 use std::alloc::Global;
 use std::io::{BufRead, Write};
 
-/// Evaluates the first line of the input, up to LF or the end, writes the lines that it gives, each with
-/// LF, and answers the exit status: 0, or 5 where the line is no program; 3 where the input or the output
-/// failed and 4 where memory was wanting, each told in a line of its own where the output still takes it.
+/// Evaluates the first line of the input, up to LF or the end, and writes the resulting lines, each with LF. Returns
+/// the exit status 0, or 5 if the line is no program. If the input or the output fails, returns 3; if memory runs
+/// out, returns 4. These are reported in a line if the output still takes it.
 pub fn run_expr<I: BufRead, O: Write>(alloc: Global, input: &mut I, output: &mut O) -> u8
     ensures { ShowsAnswer (I.remaining input.old) (O.contents output.old) (O.contents output.new) result }
 {
     expr_watched(alloc, input, output, &mut Watch::new())
 }
 
-/// The same, with what was seen of the input and the output.
+/// Evaluates a line as `run_expr` does, and records failures of the input, the output and memory in `watch`.
 pub fn expr_watched<I: BufRead, O: Write>(
     alloc: Global,
     input: &mut I,

@@ -9,11 +9,11 @@ use moo_value::is_text;
 use std::alloc::{AllocError, Global};
 use std::io::BufRead;
 
-/// A line of so many bytes is too long for a program.
+/// The number of bytes at which a line is too long for a program.
 const LONG: usize = 1_000_000;
 
-/// The first line of the input, without its LF. A line that is too long is held in part, and so is one
-/// with a byte that no string holds.
+/// Returns the first line of the input, without its LF. Returns only a part of a line that is too long, or that has a
+/// byte which no string can hold. Returns a refusal if the input fails or memory runs out.
 pub fn read_first_line<I: BufRead>(
     alloc: Global,
     input: &mut I,
@@ -38,7 +38,7 @@ pub fn read_first_line<I: BufRead>(
     }
 }
 
-// Adds bytes of the line to those held, where they can still decide what it gives.
+// Appends bytes of the line to those held, if they can still change the result.
 fn hold(held: &mut Vec<u8>, bytes: &[u8], is_good: bool) -> Result<(), AllocError>
     ensures { OnOk result (Holds held.old.items bytes.now is_good held.new.items) }
 {

@@ -1,5 +1,5 @@
-//! What `moo expr` does, over a reader and a writer.
-//! A room behind `moo`.
+//! The command `moo expr`, over a reader and a writer.
+//! An internal crate of `moo`.
 #![tactic(auto)]
 
 mod answer;

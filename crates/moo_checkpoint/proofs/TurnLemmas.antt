@@ -21,7 +21,7 @@ fresh_turns checkpoint fresh =
     let all = ap (λ (stage : Stage). turns_from stage (length checkpoint.text.items) checkpoint.written) fresh in
     omega (arith, all)
 
--- a disk that shows what the one within shows goes on exactly where that one does
+-- a disk with the view of the wrapped one continues exactly if that one does
 pub continues_within : {D E : Type 0} (view : D → DiskView) (honest stands : D → Type 0) (inner : E → D) (checkpoint : Checkpoint) (disk : E)
     → Continues view honest stands checkpoint (inner disk)
     ↔ Continues (λ e. view (inner e)) (λ e. honest (inner e)) (λ e. stands (inner e)) checkpoint disk
@@ -58,7 +58,7 @@ more_turns view old new before after (taken ∷ turns) all =
       left = let one = first.more refl in omega (arith, one, rest.left);
     }
 
--- where a turn is left before them, one is left after turns that all answer `More`
+-- if a turn is left before them, one is left after turns that all return `More`
 pub more_turns_left : {D : Type 0} (view : D → DiskView) (old new : Checkpoint) (before after : D) (turns : List (Taken D))
     → MoreTurns view old before turns new after → 0 < turns_left old → 0 < turns_left new
 more_turns_left view old new before after [] same more = let left = ap turns_left same.0 in omega (arith, left, more)

@@ -6,7 +6,7 @@ use Rattle.moo_checkpoint.specs.declared.checkpoint.Turn.{Turn}
 use Rattle.moo_checkpoint.specs.declared.checkpoint.Turn.TheVariants.{More, Done}
 use Rattle.moo_checkpoint.specs.Checkpoint.{text_of, turns_left}
 
--- what a turn ensures of the checkpoint and of an honest disk
+-- the contract of a turn for the checkpoint and an honest disk
 pub record Turned {D : Type 0} (view : D → DiskView) (answer : Turn) (old new : Checkpoint) (before after : D) : Type 0 where
   pub text : text_of new ≡ text_of old
   pub crash : Gains (λ c. c ≡ text_of old) (view before) (view after)
@@ -15,12 +15,12 @@ pub record Turned {D : Type 0} (view : D → DiskView) (answer : Turn) (old new 
   pub not_last : answer ≡ More → 0 < turns_left new
   pub last : answer ≡ Done → turns_left old ≡ 1
 
--- what a turn left
+-- the state that a turn left
 pub record Taken (D : Type 0) : Type 0 where
   pub checkpoint : Checkpoint
   pub disk : D
 
--- turns that all answer `More`, from an old checkpoint and its disk to a new state of both
+-- turns that all return `More`, from an old checkpoint and its disk to a new state of both
 abbrev pub MoreTurns : {D : Type 0} → (D → DiskView) → Checkpoint → D → List (Taken D) → Checkpoint → D → Type 0
 MoreTurns view old before [] new after = (new ≡ old) × (after ≡ before)
 MoreTurns view old before (taken ∷ turns) new after =

@@ -1,4 +1,4 @@
-//! What turns one after another come to, whatever the disk is.
+//! Laws on sequences of turns, for any disk.
 ghost use Rattle.std.specs.Prelude.{◌≡◌, ◌↔◌, ◌+◌, ◌<◌, List, length};
 ghost use Rattle.moo_disk.specs.Disk.{Gains, LeavesOnly};
 ghost use Rattle.moo_disk.specs.FailAt.{inner_of};
@@ -12,35 +12,35 @@ ghost use Rattle.moo_checkpoint.specs.declared.checkpoint.Checkpoint.{Checkpoint
 use crate::Turn;
 use moo_disk::{Disk, FailAt, MemoryDisk, StopAt};
 
-/// Before its first turn, and after one that ended it, a checkpoint may be given any disk.
+/// Before its first turn, and after one that ended it, a checkpoint takes any disk.
 pub fn a_fresh_checkpoint_takes_any_disk<D: Disk>()
     ensures { (checkpoint : Checkpoint) (disk : D) → IsFresh checkpoint
         → Continues D.view D.honest D.stands checkpoint disk }
 {}
 
-/// It then has a turn for each piece, and four.
+/// A fresh checkpoint has one turn for each piece, and four more.
 pub fn a_fresh_checkpoint_has_all_turns()
     ensures { (checkpoint : Checkpoint) → IsFresh checkpoint
         → turns_left checkpoint ≡ pieces (length (text_of checkpoint)) + 4 }
 {}
 
-/// Between two turns a disk may be made to fail, and such a disk may be changed for the one within.
+/// Between two turns a disk may be wrapped so that it fails, or such a wrapper may be removed.
 pub fn a_failing_disk_goes_on<D: Disk>()
     ensures { (checkpoint : Checkpoint) (disk : FailAt D)
         → Continues D.view D.honest D.stands checkpoint (inner_of disk)
         ↔ Continues ⟦<FailAt<D> as Disk>⟧.view ⟦<FailAt<D> as Disk>⟧.honest ⟦<FailAt<D> as Disk>⟧.stands checkpoint disk }
 {}
 
-/// A disk in memory may be made to stop, and such a disk may be changed for the one within.
+/// A disk in memory may be wrapped so that it stops, or such a wrapper may be removed.
 pub fn a_stopping_disk_goes_on()
     ensures { (checkpoint : Checkpoint) (disk : StopAt)
         → Continues ⟦<MemoryDisk as Disk>⟧.view ⟦<MemoryDisk as Disk>⟧.honest ⟦<MemoryDisk as Disk>⟧.stands checkpoint (memory_within disk)
         ↔ Continues ⟦<StopAt as Disk>⟧.view ⟦<StopAt as Disk>⟧.honest ⟦<StopAt as Disk>⟧.stands checkpoint disk }
 {}
 
-/// Each turn that answers `More` takes one of the turns left; from the beginning on there are fewer of them
-/// than pieces + 4, so that the turn with that number ends the checkpoint at the latest. At every moment a crash may leave what it
-/// might have left before, or the checkpoint's text.
+/// Each turn that returns `More` takes one of the turns left. From the start there are fewer of them than pieces + 4,
+/// so the turn with that number is the last at the latest. At every moment a crash may leave the checkpoint's text,
+/// or what it might have left before.
 pub fn more_turns_come<D: Disk>()
     ensures left { (old new : Checkpoint) (before after : D) (turns : List (Taken D))
         → MoreTurns D.view old before turns new after
@@ -53,9 +53,8 @@ pub fn more_turns_come<D: Disk>()
         → Gains (λ c. c ≡ text_of old) (D.view before) (D.view after) }
 {}
 
-/// A checkpoint is done in the last of its turns: in the one numbered pieces + 4 from its beginning on. Then a
-/// crash leaves its text alone. However the last turn ends, a crash since the beginning leaves what it
-/// left before, or that text.
+/// A checkpoint is done in the last of its turns, which is number pieces + 4 from its start. Then a crash leaves only
+/// its text. However the last turn ends, a crash since the start leaves that text, or what it might have left before.
 pub fn a_checkpoint_is_done_in_its_last_turn<D: Disk>()
     ensures number { (old mid new : Checkpoint) (before disk after : D) (turns : List (Taken D))
         → IsFresh old

@@ -7,7 +7,7 @@ use Rattle.moo_value.specs.Tree.{string, elements_of, IsTextByte, IsText}
 use Rattle.moo_value.specs.Size.{total_weight, list_weight, weight_limit, IsString}
 use Rattle.moo_command.specs.Prepositions.{joined}
 
--- words, each behind a blank
+-- words, each after a blank
 abbrev pub behind_blanks : List (List ℕ) → List ℕ
 behind_blanks [] = []
 behind_blanks (w ∷ ws) = 32 ∷ (w ++ behind_blanks ws)

@@ -1,4 +1,4 @@
--- What is typed behind a sign that stands for a verb, and where none leads.
+-- The split of a line with a leading sign that is short for a verb, and of a line without one.
 use Rattle.std.proofs.Common.{◌≡◌, ◌≢◌, ℕ, ◌≤◌, ◌<◌, ◌+◌, Bool, true, false, cond, eqb, List, [], ◌∷◌, ◌++◌, length, map, drop, get_or, codes, Option, Some, None, is_some, refl, sym, ap, ◌∙◌, arith, inl, inr, subst}
 use Rattle.std.specs.Prelude.{IfNone, IfSome}
 use Rattle.std.specs.Option.{option_map_or}
@@ -9,7 +9,7 @@ use Rattle.moo_words.specs.Typed.{IsTyped, unindented}
 use Rattle.moo_command.specs.Typed.{verb_of_sign, with_verb, expanded}
 use Rattle.moo_command.specs.Inner.{verb_leading}
 
--- the verb of a sign, with a blank behind it, is a first word
+-- the verb of a sign, with a blank after it, is a first word
 record IsVerb (verb : List ℕ) : Type 0 where
   reads : (bs : List ℕ) → Word false (verb ++ blank ∷ bs) verb (blank ∷ bs)
   leads : (bs : List ℕ) → unindented (verb ++ blank ∷ bs) ≡ verb ++ blank ∷ bs
@@ -72,7 +72,7 @@ verb_is b verb is =
       ]
     ]
 
--- what is typed where a sign leads
+-- the split of a line with a leading sign
 typed_at_sign : (b : ℕ) (bs verb rest : List ℕ) (args : List (List ℕ)) → verb_of_sign b ≡ Some verb → rest ≡ unindented bs → Words bs args
     → IsTyped (with_verb (b ∷ bs)) verb rest args
 typed_at_sign b bs verb rest args is kept others =
@@ -96,7 +96,7 @@ signed_typed line at verb rest args passed inside leads kept others =
     typed_at_sign (get_or line at 0) (drop (at + 1) line) verb rest args (sym (ap verb_leading cut) ∙ leads) kept others
     )
 
--- where no sign leads, blanks alone are taken away
+-- without a leading sign, only blanks are taken away
 unsigned : (ts : List ℕ) → verb_leading ts ≡ None → with_verb ts ≡ ts
 unsigned [] none = refl
 unsigned (b ∷ bs) none = ap (λ o. option_map_or (λ v. v ++ blank ∷ bs) o (b ∷ bs)) none

@@ -1,4 +1,4 @@
--- The table of forms: it has each form of each preposition, and no form behind a shorter one.
+-- The table of forms: it has each form of each preposition, and no form after one with fewer words.
 use Rattle.std.proofs.Common.{◌≡◌, ℕ, suc, zero, ◌≤◌, ◌<◌, Bool, true, false, cond, ◌&&◌, List, [], ◌∷◌, ◌++◌, length, map, take, Option, Some, None, is_some, refl, sym, ap, ◌∙◌, inl, inr, arith, subst, slice_get}
 use Rattle.std.specs.Prelude.{Contains, nat_le}
 use Rattle.std.specs.Bool.{⊤}
@@ -50,7 +50,7 @@ table_owned : Owned form_table
 unfolding form_table
 table_owned = ((0, omega arith, refl), ((0, omega arith, refl), ((0, omega arith, refl), ((1, omega arith, refl), ((1, omega arith, refl), ((0, omega arith, refl), ((1, omega arith, refl), ((0, omega arith, refl), ((1, omega arith, refl), ((0, omega arith, refl), ((1, omega arith, refl), ((2, omega arith, refl), ((1, omega arith, refl), ((2, omega arith, refl), ((3, omega arith, refl), ((2, omega arith, refl), ((0, omega arith, refl), ((0, omega arith, refl), ((0, omega arith, refl), ((1, omega arith, refl), ((2, omega arith, refl), ((0, omega arith, refl), ((0, omega arith, refl), ((0, omega arith, refl), ((1, omega arith, refl), ((0, omega arith, refl), ((0, omega arith, refl), ((0, omega arith, refl), (tt)))))))))))))))))))))))))))))
 
--- whether no form stands behind a shorter one
+-- whether no form comes after one with fewer words
 abbrev falls : List (Preposition × List (List ℕ)) → Bool
 falls [] = true
 falls (e ∷ es) = list_all (λ f. nat_le (length f.1) (length e.1)) es && falls es
@@ -59,7 +59,7 @@ table_falls : falls form_table ≡ true
 unfolding form_table
 table_falls = refl
 
--- words begin with a form exactly where the test says so
+-- words begin with a form exactly if the test says so
 pub begins_tested : (form words : List (List ℕ)) → begins_with form words ≡ true → BeginsWith form words
 begins_tested [] words h = (map folded words, refl)
 begins_tested (f ∷ fs) [] h = absurd (false≢true h)

@@ -1,4 +1,4 @@
--- What a typed line commands.
+-- The command of a typed line.
 use Rattle.std.specs.Prelude.{◌≡◌, ℕ, ℤ, List, []}
 use Rattle.moo_table.specs.World.{World}
 use Rattle.moo_words.specs.Words.{Words}
@@ -45,10 +45,10 @@ pub data Commands (w : World) (player : ℤ) (line : List ℕ) (c : Command) : T
   says : {verb rest : List ℕ} {args : List (List ℕ)} → IsTyped (expanded line) verb rest args → IsCommandOf w player verb rest args c → Commands w player line c
   says_nothing : Words (expanded line) [] → IsCommandOf w player [] [] [] c → Commands w player line c
 
--- a line commands one thing
+-- a line is at most one command
 abbrev pub OneCommand : Type 0
 OneCommand = (w : World) (player : ℤ) (line : List ℕ) (c d : Command) → Commands w player line c → Commands w player line d → c ≡ d
 
--- words have one split
+-- words are split in at most one way
 abbrev pub OneSplit : Type 0
 OneSplit = (words : List (List ℕ)) (parts others : Parts) → Splits words parts → Splits words others → parts ≡ others

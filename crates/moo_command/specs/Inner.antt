@@ -1,4 +1,4 @@
--- Words that private clauses alone cite.
+-- Definitions that only private clauses use.
 use Rattle.std.specs.Prelude.{ℕ, ◌+◌, ◌*◌, ◌-◌, ℤ, pos, Bool, true, false, ◌==◌, ◌&&◌, List, [], ◌∷◌, Option, Some, None, codes, length, map, take, drop, slice_range, if◌then◌else◌}
 use Rattle.std.specs.Ordering.{int_eq}
 use Rattle.moo_value.specs.Tree.{Tree, integer, object, error, string, list}
@@ -21,7 +21,7 @@ use Rattle.moo_command.specs.Typed.{verb_of_sign}
 abbrev pub form_of : Form → Preposition × List (List ℕ)
 form_of f = (f.preposition, map (λ w. w.now) f.words.now)
 
--- the forms, no longer one behind a shorter one
+-- the forms, none after one with fewer words
 unfoldable pub form_table : List (Preposition × List (List ℕ))
 form_table =
     (InFrontOf, codes "in" ∷ codes "front" ∷ codes "of" ∷ []) ∷ (OnTopOf, codes "on" ∷ codes "top" ∷ codes "of" ∷ [])
@@ -33,7 +33,7 @@ form_table =
     ∷ (Under, codes "beneath" ∷ []) ∷ (Behind, codes "behind" ∷ []) ∷ (Beside, codes "beside" ∷ []) ∷ (About, codes "for" ∷ [])
     ∷ (About, codes "about" ∷ []) ∷ (Being, codes "is" ∷ []) ∷ (Like, codes "as" ∷ []) ∷ (Off, codes "off" ∷ []) ∷ []
 
--- whether words begin with those of a form, letters folded
+-- whether words begin with those of a form, with letters folded
 abbrev pub begins_with : List (List ℕ) → List (List ℕ) → Bool
 begins_with [] words = true
 begins_with (f ∷ fs) [] = false
@@ -44,7 +44,7 @@ abbrev pub form_among : List (Preposition × List (List ℕ)) → List (List ℕ
 form_among [] words = None
 form_among (e ∷ es) words = if begins_with e.1 words then Some (e.0, length e.1) else form_among es words
 
--- words that are cut at places
+-- words, cut at two places
 abbrev pub parts_of : List (List ℕ) → Division → Parts
 parts_of words s = record {
   direct = take s.at words;
@@ -53,17 +53,17 @@ parts_of words s = record {
   indirect = drop s.behind words;
 }
 
--- the verb that a sign at a text's front stands for
+-- the verb that a leading sign is short for
 abbrev pub verb_leading : List ℕ → Option (List ℕ)
 verb_leading [] = None
 verb_leading (b ∷ bs) = verb_of_sign b
 
--- a text covers a name, or the beginning of one
+-- a text matches a name, or the beginning of one
 abbrev pub covers : Extent → List ℕ → List ℕ → Bool
 covers extent.Whole text name = is_whole text name
 covers extent.Beginning text name = begins text name
 
--- a value is a string that the text covers
+-- a value is a string that the text matches
 abbrev pub is_covered : Extent → List ℕ → Tree → Bool
 is_covered e text (string s) = covers e text s
 is_covered e text (integer i) = false
@@ -71,7 +71,7 @@ is_covered e text (object o) = false
 is_covered e text (error x) = false
 is_covered e text (list es) = false
 
--- what is found with one object more
+-- the matches with one object more
 abbrev pub with_found : Found → ℤ → Found
 with_found found.Nothing o = found.One o
 with_found (found.One p) o = if int_eq p o then found.One p else found.Several
@@ -81,7 +81,7 @@ abbrev pub with_all_found : Found → List ℕ → Found
 with_all_found f [] = f
 with_all_found f (x ∷ xs) = with_all_found (with_found f (pos x)) xs
 
--- what is found among objects
+-- the matches among objects
 abbrev pub found_among : List ℕ → Found
 found_among xs = with_all_found found.Nothing xs
 

@@ -1,4 +1,4 @@
--- Which object a text names to a player.
+-- The object that a text names to a player.
 use Rattle.std.specs.Prelude.{ℕ, ℤ, pos, negsuc, neg_ℤ, Bool, true, false, ◌==◌, ◌&&◌, not, List, [], ◌∷◌, ◌++◌, Option, Some, None, codes, length, is_some, filter, if◌then◌else◌}
 use Rattle.std.specs.Option.{option_map, option_map_or}
 use Rattle.std.specs.List.{list_any, list_all, filter_map}
@@ -13,7 +13,7 @@ use Rattle.moo_world.specs.Calls.{number_of}
 use Rattle.moo_table.specs.Properties.{read}
 use Rattle.moo_world.specs.NamedProperties.{number_of_place}
 
--- what a text names: #-1 nothing, #-2 several objects, #-3 no object
+-- the number that a text names: #-1 nothing, #-2 several objects, #-3 no object
 abbrev pub nothing_named : ℤ
 nothing_named = negsuc 0
 
@@ -23,19 +23,19 @@ several_named = negsuc 1
 abbrev pub none_named : ℤ
 none_named = negsuc 2
 
--- the place of a player, #-1 for none
+-- the location of a player, #-1 for none
 abbrev pub room_of : World → ℤ → ℤ
 room_of w player = option_map_or (λ x. number_of_place (above_of w.containment x)) (number_of w.objects player) (negsuc 0)
 
--- what is in an object, nothing in none
+-- the contents of an object, none if there is no object
 abbrev pub contents_of : World → ℤ → List ℕ
 contents_of w o = option_map_or (λ x. below_of w.containment x) (number_of w.objects o) []
 
--- what is by a player: in the player, and in the room
+-- the objects near a player: those in the player, and in the room
 abbrev pub near : World → ℤ → List ℕ
 near w player = contents_of w player ++ contents_of w (room_of w player)
 
--- the strings of a list, and none of what is no list
+-- the strings of a list, and none if there is no list
 abbrev pub string_in : Tree → Option (List ℕ)
 string_in (string s) = Some s
 string_in (integer i) = None
@@ -51,11 +51,11 @@ strings_in (Some (error e)) = []
 strings_in (Some (string s)) = []
 strings_in None = []
 
--- the names that an object goes by: its own, and those in its property `aliases`
+-- the names of an object: its own, and those in its property `aliases`
 abbrev pub names_of : World → ℕ → List (List ℕ)
 names_of w x = (thing_of w.objects x).name ∷ strings_in (read w x (codes "aliases"))
 
--- letters folded, a name is the text, or begins with it
+-- with letters folded, a name is the text, or begins with it
 abbrev pub is_whole : List ℕ → List ℕ → Bool
 is_whole text name = same_name (folded text) (folded name)
 
@@ -68,7 +68,7 @@ abbrev pub sole : List ℕ → ℤ
 sole [] = none_named
 sole (x ∷ xs) = if list_all (λ y. x == y) xs then pos x else several_named
 
--- a whole match beats a beginning
+-- a whole match wins over a prefix
 abbrev pub best : List ℕ → List ℕ → ℤ
 best [] begun = sole begun
 best (x ∷ xs) begun = sole (x ∷ xs)
@@ -80,7 +80,7 @@ named_near w text xs = best (named_by w (is_whole text) xs) (named_by w (begins 
 abbrev pub are_digits : List ℕ → Bool
 are_digits s = not (length s == 0) && list_all is_digit s
 
--- the number below zero that digits behind a minus write
+-- the number below zero that digits after a minus write
 abbrev pub negative : List ℕ → Option ℤ
 negative bs = if are_digits bs then Some (neg_ℤ (pos (number bs))) else None
 
@@ -89,7 +89,7 @@ abbrev pub signed : List ℕ → Option ℤ
 signed [] = None
 signed (b ∷ bs) = if b == 45 then negative bs else (if are_digits (b ∷ bs) then Some (pos (number (b ∷ bs))) else None)
 
--- a `#`, and the number behind it
+-- a `#`, and the number after it
 
 abbrev pub typed_number : List ℕ → Option ℤ
 typed_number [] = None
@@ -106,7 +106,7 @@ named w player text =
     else if is_whole text (codes "here") then room_of w player
     else named_near w text (near w player)
 
--- what a text names to a player
+-- the object that a text names to a player
 abbrev pub matched : World → ℤ → List ℕ → ℤ
 matched w player text =
     if length text == 0 then nothing_named

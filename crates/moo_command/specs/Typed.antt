@@ -1,10 +1,10 @@
--- What a line of a player says once the sign that leads it is written out.
+-- A line of a player, with its leading sign written out.
 use Rattle.std.specs.Prelude.{◌==◌, ℕ, List, [], ◌∷◌, ◌++◌, Option, Some, None, codes, if◌then◌else◌}
 use Rattle.std.specs.Option.{option_map_or}
 use Rattle.moo_words.specs.Words.{blank}
 use Rattle.moo_words.specs.Typed.{unindented}
 
--- the verb that a quote, a colon or a semicolon stands for
+-- the verb that a quote, a colon or a semicolon is short for
 abbrev pub verb_of_sign : ℕ → Option (List ℕ)
 verb_of_sign b = if b == 34 then Some (codes "say") else if b == 58 then Some (codes "emote") else if b == 59 then Some (codes "eval") else None
 

@@ -1,4 +1,4 @@
-//! Which verb a command runs (docs/COMMANDS.md, "Choosing a verb"). Nothing here takes memory.
+//! The choice of the verb that a command runs (docs/COMMANDS.md, "Choosing a verb"). Nothing here allocates memory.
 ghost use Rattle.std.specs.Prelude.{◌≡◌, ◌<◌, ◌∷◌, length, slice_get, IfSome};
 ghost use Rattle.std.specs.Option.{option_and_then, unwrap_or};
 ghost use Rattle.std.specs.List.{filter_map, position};
@@ -14,15 +14,15 @@ use moo_forest::Forest;
 use moo_object::{Object, ObjectSpecifier, PrepositionSpecifier, Verb, fits_names};
 use moo_world::{VerbAt, World};
 
-/// The verb that a command runs, and the object that was looked on.
+/// The verb that a command runs, and the object on which it was found.
 #[derive(Clone, Copy)]
 pub struct Chosen {
     pub this: i32,
     pub found: VerbAt,
 }
 
-/// The verb that a player's command runs: the player, the room, the direct and the indirect object are looked on in turn,
-/// each with its ancestors, for a verb whose name fits and whose specifiers agree.
+/// Returns the verb that a player's command runs. Searches the player, the room, and the direct and indirect objects
+/// in this order, each with its ancestors. A verb is chosen if its names match and its specifiers agree.
 pub fn choose_verb(world: &World, player: i32, command: &Command) -> Option<Chosen>
     ensures { result ≡ chosen world.now player (command_of command.now) }
 {
@@ -30,14 +30,14 @@ pub fn choose_verb(world: &World, player: i32, command: &Command) -> Option<Chos
     first_chosen(world, command, &[player, room, command.dobj, command.iobj])
 }
 
-/// What is looked for on an object and its ancestors: a verb for a command.
+/// A search on an object and its ancestors for the verb of a command.
 #[derive(Clone, Copy)]
 struct Wanted<'a> {
     command: &'a Command,
     looked_on: i32,
 }
 
-/// The verb on the first of these objects that has one.
+/// Returns the verb on the first of these objects that has one.
 fn first_chosen(world: &World, command: &Command, places: &[i32]) -> Option<Chosen>
     ensures { result ≡ slice_get (filter_map (chosen_on world.now (command_of command.now)) places.now) 0 }
 {
@@ -49,7 +49,7 @@ fn first_chosen(world: &World, command: &Command, places: &[i32]) -> Option<Chos
     None
 }
 
-/// The verb on one object, or on the nearest of its ancestors that has one.
+/// Returns the verb on one object, or on the nearest of its ancestors that has one.
 fn chosen_on(world: &World, command: &Command, looked_on: i32) -> Option<Chosen>
     ensures { result ≡ chosen_on world.now (command_of command.now) looked_on }
 {
@@ -74,7 +74,7 @@ fn meant_on(world: &World, command: &Command, looked_on: i32) -> Option<(usize, 
     nearest_meant(world.objects(), world.inheritance(), x, &wanted)
 }
 
-/// The number of a valid object.
+/// Returns the number of a valid object.
 fn valid_number(world: &World, o: i32) -> Option<usize>
     ensures value { result ≡ number_of world.now.objects o }
     ensures inside { IfSome result (λ x. x < length world.now.objects) }
@@ -86,7 +86,7 @@ fn valid_number(world: &World, o: i32) -> Option<usize>
     }
 }
 
-/// The nearest verb that is meant, as its object's number and its place.
+/// Returns the nearest verb that agrees, as the number of its object and its index.
 fn nearest_meant(
     objects: &[Option<Object>],
     tree: &Forest,
@@ -114,7 +114,7 @@ fn nearest_meant(
     None
 }
 
-/// The place of the first verb that is meant, of what stands at a number.
+/// Returns the index of the first verb of an object that agrees.
 fn meant_in(slot: &Option<Object>, wanted: &Wanted<'_>) -> Option<usize>
     ensures { result ≡ position (is_meant (command_of wanted.now.command.now) wanted.now.looked_on) (unwrap_or slot.now nothing).verbs }
 {
@@ -130,7 +130,7 @@ fn position_meant(verbs: &[Verb], wanted: &Wanted<'_>) -> Option<usize>
     verbs.iter().position(|verb| is_meant(wanted, verb))
 }
 
-/// Whether the name fits a verb, and its specifiers agree.
+/// Returns whether the name matches a verb, and its specifiers agree.
 fn is_meant(wanted: &Wanted<'_>, verb: &Verb) -> bool
     ensures { result ≡ is_meant (command_of wanted.now.command.now) wanted.now.looked_on verb.now }
 {

@@ -1,14 +1,14 @@
-//! Laws of commands.
+//! Laws on commands.
 ghost use Rattle.moo_command.specs.Commands.{OneCommand, OneSplit};
 
 use moo_words::laws::one_typed;
 
-/// Words have at most one split at a preposition.
+/// Words are split at a preposition in at most one way.
 pub fn one_split()
     ensures { OneSplit }
 {}
 
-/// A player's line has at most one command in a world.
+/// A player's line is at most one command in a world.
 pub fn one_command()
     ensures { OneCommand }
 {

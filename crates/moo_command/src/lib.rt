@@ -1,4 +1,5 @@
-//! What a typed line commands: its words, its verb and its objects, and which verb it runs (docs/COMMANDS.md).
+//! Parses a typed line into a command: its words, its verb and its objects. Chooses the verb that it runs
+//! (docs/COMMANDS.md).
 #![tactic(auto)]
 
 mod choice;

@@ -1,4 +1,4 @@
-//! Which object a text names to a player (docs/COMMANDS.md, "Objects"). Nothing here takes memory.
+//! The object that a text names to a player (docs/COMMANDS.md, "Objects"). Nothing here allocates memory.
 ghost use Rattle.std.specs.Prelude.{◌≡◌};
 ghost use Rattle.moo_command.specs.Objects.{matched, room_of, named, named_near, near};
 
@@ -7,7 +7,8 @@ use crate::numbered::numbered;
 use moo_object::same_name;
 use moo_world::World;
 
-/// The object that a text names to a player: -1 for an empty text, -2 where it names several objects, -3 where it names none.
+/// Returns the object that a text names to a player. Returns -1 for an empty text, -2 if it names several objects, -3
+/// if it names none.
 pub fn match_object(world: &World, player: i32, text: &[u8]) -> i32
     ensures { result ≡ matched world.now player text.now }
 {
@@ -20,14 +21,14 @@ pub fn match_object(world: &World, player: i32, text: &[u8]) -> i32
     }
 }
 
-/// The place of a player, -1 for none.
+/// Returns the location of a player, or -1.
 pub fn room_of(world: &World, player: i32) -> i32
     ensures { result ≡ room_of world.now player }
 {
     world.location(player).unwrap_or(-1)
 }
 
-/// What a text names that is no number: the player, its place, or what is by the player.
+/// Returns the object that a text without a number names: the player, its location, or an object near the player.
 fn named(world: &World, player: i32, text: &[u8]) -> i32
     ensures { result ≡ named world.now player text.now }
 {
@@ -40,7 +41,7 @@ fn named(world: &World, player: i32, text: &[u8]) -> i32
     named_near(world, player, text)
 }
 
-/// The object of this name by the player: a whole match beats a beginning.
+/// Returns the object of this name near the player. A whole match wins over a prefix.
 fn named_near(world: &World, player: i32, text: &[u8]) -> i32
     ensures { result ≡ named_near world.now text.now (near world.now player) }
 {

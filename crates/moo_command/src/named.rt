@@ -1,4 +1,4 @@
-//! What is by a player, by its names.
+//! Objects near a player, by their names.
 ghost use Rattle.std.specs.Prelude.{◌≡◌, ◌<◌, All, Some, codes, ◌++◌};
 ghost use Rattle.std.specs.List.{list_any};
 ghost use Rattle.moo_value.specs.View.{tree};
@@ -12,14 +12,14 @@ use moo_object::same_name;
 use moo_value::Value;
 use moo_world::{Below, World};
 
-/// How much of a name a text covers.
+/// Whether a text must match a whole name or only its beginning.
 #[derive(Clone, Copy)]
 pub(crate) enum Extent {
     Whole,
     Beginning,
 }
 
-/// What was found so far.
+/// The matches so far.
 #[derive(Clone, Copy)]
 pub(crate) enum Found {
     Nothing,
@@ -28,7 +28,7 @@ pub(crate) enum Found {
 }
 
 impl Found {
-    /// The number that a match answers.
+    /// Returns the object number that a match returns, or -2 for several objects, -3 for none.
     pub(crate) fn number(self) -> i32
         ensures { result ≡ number_found self }
     {
@@ -39,7 +39,7 @@ impl Found {
         }
     }
 
-    /// What is found with one object more, which may be the one that was found.
+    /// Returns the matches with one more object, which may be the one that was found before.
     fn with(self, o: i32) -> Found
         ensures { result ≡ with_found self o }
     {
@@ -51,7 +51,7 @@ impl Found {
     }
 }
 
-/// What is found in the player and in the room.
+/// Returns the matches in the contents of the player and of the room.
 pub(crate) fn found_near(
     world: &World,
     player: i32,
@@ -65,7 +65,7 @@ pub(crate) fn found_near(
     found_in(world, room, text, extent, found)
 }
 
-/// What is found with what is in a place too.
+/// Returns the matches with those in the contents of `place`.
 fn found_in(world: &World, place: i32, text: &[u8], extent: Extent, before: Found) -> Found
     ensures { result ≡ with_all_found before (named_by world.now (covers extent text.now) (contents_of world.now place)) }
 {
@@ -75,7 +75,7 @@ fn found_in(world: &World, place: i32, text: &[u8], extent: Extent, before: Foun
     }
 }
 
-/// What is found with these objects too.
+/// Returns the matches with those among these objects.
 fn found_among(
     world: &World,
     contents: Below<'_>,
@@ -95,7 +95,7 @@ fn found_among(
     found
 }
 
-/// Whether the text covers one of the names that an object goes by.
+/// Returns whether the text matches the name or an alias of an object.
 fn is_named(world: &World, x: usize, text: &[u8], extent: Extent) -> bool
     requires { x < most }
     ensures { result ≡ list_any (covers extent text.now) (names_of world.now x) }
@@ -103,7 +103,7 @@ fn is_named(world: &World, x: usize, text: &[u8], extent: Extent) -> bool
     covers(extent, text, name_of(world, x)) || is_alias(world, x, text, extent)
 }
 
-/// The name of an object.
+/// Returns the name of an object.
 fn name_of(world: &World, x: usize) -> &[u8]
     requires { x < most }
     ensures { result.now ≡ (thing_of world.now.objects x).name }
@@ -114,7 +114,7 @@ fn name_of(world: &World, x: usize) -> &[u8]
     }
 }
 
-/// Whether the text covers a string of the list that is an object's property `aliases`.
+/// Returns whether the text matches a string in the list of an object's property `aliases`.
 fn is_alias(world: &World, x: usize, text: &[u8], extent: Extent) -> bool
     requires { x < most }
     ensures { result ≡ list_any (covers extent text.now) (strings_in (read world.now x (codes "aliases"))) }
@@ -126,7 +126,7 @@ fn is_alias(world: &World, x: usize, text: &[u8], extent: Extent) -> bool
     }
 }
 
-/// Whether a value is a list with a string that the text covers.
+/// Returns whether a value is a list with a string that the text matches.
 fn is_covered_in(value: &Value, text: &[u8], extent: Extent) -> bool
     ensures { result ≡ list_any (covers extent text.now) (strings_in (Some (tree value.now))) }
 {
@@ -136,14 +136,14 @@ fn is_covered_in(value: &Value, text: &[u8], extent: Extent) -> bool
     }
 }
 
-/// Whether the text covers one of the strings among values.
+/// Returns whether the text matches one of the strings among values.
 fn has_covered(values: &[Value], text: &[u8], extent: Extent) -> bool
     ensures { result ≡ list_any (λ value. is_covered extent text.now (tree value)) values.now }
 {
     values.iter().any(|value| is_covered(value, text, extent))
 }
 
-/// Whether a value is a string that the text covers.
+/// Returns whether a value is a string that the text matches.
 fn is_covered(value: &Value, text: &[u8], extent: Extent) -> bool
     ensures { result ≡ is_covered extent text.now (tree value.now) }
 {
@@ -153,7 +153,7 @@ fn is_covered(value: &Value, text: &[u8], extent: Extent) -> bool
     }
 }
 
-/// Whether a text covers a name, or the beginning of one, letters folded.
+/// Returns whether a text is a name, or the beginning of one, with letters folded.
 fn covers(extent: Extent, text: &[u8], name: &[u8]) -> bool
     ensures { result ≡ covers extent text.now name.now }
 {
@@ -163,7 +163,7 @@ fn covers(extent: Extent, text: &[u8], name: &[u8]) -> bool
     }
 }
 
-/// Whether a text is the beginning of a name, letters folded.
+/// Returns whether a text is the beginning of a name, with letters folded.
 fn begins(text: &[u8], name: &[u8]) -> bool
     ensures { result ≡ begins text.now name.now }
 {

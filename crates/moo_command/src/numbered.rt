@@ -8,8 +8,8 @@ ghost use Rattle.moo_command.specs.Objects.{are_digits, negative, signed, typed_
 
 use moo_world::{MOST, World};
 
-/// What `#`, perhaps a minus, and digits name: the object of this number, or -3 where it is not valid. `None` for any other
-/// text.
+/// Parses `#`, perhaps a minus, and digits. Returns the object of this number, or -3 if it is not valid. Returns
+/// `None` for any other text.
 pub(crate) fn numbered(world: &World, text: &[u8]) -> Option<i32>
     ensures { result ≡ option_map (valid_or_none world.now) (typed_number text.now) }
 {
@@ -20,7 +20,7 @@ pub(crate) fn numbered(world: &World, text: &[u8]) -> Option<i32>
     signed(world, behind)
 }
 
-/// What a minus or none and digits name.
+/// Parses digits, perhaps after a minus, as an object's number.
 fn signed(world: &World, text: &[u8]) -> Option<i32>
     ensures { result ≡ option_map (valid_or_none world.now) (signed text.now) }
 {
@@ -35,7 +35,7 @@ fn signed(world: &World, text: &[u8]) -> Option<i32>
     Some(object_or_none(world, number_of(text)))
 }
 
-/// What digits behind a minus name: 0 is an object's number, and no number below it is.
+/// Parses the digits after a minus. Only 0 is an object's number.
 fn below_zero(world: &World, digits: &[u8]) -> Option<i32>
     ensures { result ≡ option_map (valid_or_none world.now) (negative digits.now) }
 {
@@ -48,7 +48,7 @@ fn below_zero(world: &World, digits: &[u8]) -> Option<i32>
     Some(-3)
 }
 
-/// The object of a number, or -3 where it is not valid.
+/// Returns the object of a number, or -3 if it is not valid.
 fn object_or_none(world: &World, number: usize) -> i32
     requires { number ≤ most }
     ensures { result ≡ valid_or_none world.now (pos number) }
@@ -57,7 +57,7 @@ fn object_or_none(world: &World, number: usize) -> i32
     if world.valid(o) { o } else { -3 }
 }
 
-/// The number that digits write, or `MOST` where it is greater.
+/// Returns the number that digits write, or `MOST` if it is greater.
 fn number_of(digits: &[u8]) -> usize
     ensures value { result ≡ min (number digits.now) most }
 {

@@ -1,4 +1,4 @@
-//! What a typed line commands.
+//! The parser of typed lines.
 ghost use Rattle.std.specs.Prelude.{◌≡◌, ◌≤◌, ◌<◌, ◌+◌, [], length, map, drop, IfOk, IfSome, IfNone};
 ghost use Rattle.std.specs.Option.{option_map};
 ghost use Rattle.moo_value.specs.Tree.{string};
@@ -21,8 +21,8 @@ use moo_words::{Typed, read_typed, skip_blanks, string_of, typed_behind};
 use moo_world::World;
 use std::alloc::{AllocError, Global};
 
-/// What a player's line of any length commands. A quote, a colon or a semicolon that leads the line stands for `say`,
-/// `emote` or `eval`. A line without words has an empty verb and nothing else. `Err` where memory is wanting.
+/// Parses a player's line of any length. A leading quote, colon or semicolon is short for `say`, `emote` or `eval`. A
+/// line without words gives an empty verb and nothing else. Fails only if memory runs out.
 pub fn parse_command(
     alloc: Global,
     world: &World,
@@ -37,7 +37,7 @@ pub fn parse_command(
     }
 }
 
-/// What is typed in a line, its sign written out, or `None` where it has no word.
+/// Splits a line, with its leading sign written out. Returns `None` if it has no word.
 fn typed_in(alloc: Global, line: &MooStr) -> Result<Option<Typed>, AllocError>
     ensures some { IfOk result (λ typed. IfSome typed (λ t. IsTyped (expanded line.now) t.verb t.rest t.args.items)) }
     ensures none { IfOk result (λ typed. IfNone typed (Words (expanded line.now) [])) }
@@ -54,7 +54,7 @@ fn typed_in(alloc: Global, line: &MooStr) -> Result<Option<Typed>, AllocError>
     Ok(Some(typed))
 }
 
-/// The verb that a sign at a text's front stands for.
+/// Returns the verb that a leading sign is short for.
 fn verb_leading(text: &[u8]) -> Option<&'static [u8]>
     ensures value { option_map (λ verb. verb.now) result ≡ verb_leading text.now }
     ensures string { IfSome result (λ verb. IsString verb.now) }
@@ -75,7 +75,7 @@ fn verb_of_sign(sign: u8) -> Option<&'static [u8]>
     }
 }
 
-/// What is typed in a line without words.
+/// Returns the split of a line without words.
 fn nothing_typed(alloc: Global) -> Result<Typed, AllocError>
     ensures verb { IfOk result (λ t. t.verb ≡ []) }
     ensures rest { IfOk result (λ t. t.rest ≡ []) }
@@ -87,7 +87,7 @@ fn nothing_typed(alloc: Global) -> Result<Typed, AllocError>
     Ok(Typed { verb, rest, args })
 }
 
-/// The command of what is typed.
+/// Returns the command of a split line.
 fn command(alloc: Global, world: &World, player: i32, typed: Typed) -> Result<Command, AllocError>
     requires { list_weight (map (λ w. string w) typed.args.items) ≤ weight_limit + 1 }
     ensures { IfOk result (λ c. IsCommandOf world.now player typed.verb typed.rest typed.args.items (command_of c)) }
@@ -114,7 +114,7 @@ fn command(alloc: Global, world: &World, player: i32, typed: Typed) -> Result<Co
     })
 }
 
-/// The number of a command's preposition, -1 for none.
+/// Returns the number of a preposition, or -1.
 fn number_or_none(preposition: Option<Preposition>) -> i32
     ensures { result ≡ number_or_none preposition }
 {

@@ -1,18 +1,18 @@
-//! The prepositions of commands, by the words that stand for them (docs/COMMANDS.md, "Prepositions").
+//! The prepositions of commands, by the words that spell them (docs/COMMANDS.md, "Prepositions").
 ghost use Rattle.std.specs.Prelude.{◌≡◌, ◌≤◌, length, map, IfSome};
 ghost use Rattle.moo_command.specs.Inner.{form_of, form_table, form_among, begins_with};
 
 use moo_object::{Preposition, same_name};
 use moo_value::MooStr;
 
-/// A form of a preposition.
+/// A spelling of a preposition.
 #[derive(Clone, Copy)]
 struct Form {
     preposition: Preposition,
     words: &'static [&'static [u8]],
 }
 
-// No form stands behind a shorter one.
+// No form comes after one with fewer words.
 const FORMS: [Form; 28] = [
     Form {
         preposition: Preposition::InFrontOf,
@@ -128,8 +128,8 @@ const FORMS: [Form; 28] = [
     },
 ];
 
-/// The preposition that begins these words, and how many of them are its own: the longest form with which they begin,
-/// letters folded.
+/// Returns the preposition at the start of these words, and its number of words. Takes the longest form with which
+/// they begin, with letters folded.
 #[tactic(auto, unfolding(crate::specs::Inner::form_table))]
 pub(crate) fn preposition_at(words: &[MooStr]) -> Option<(Preposition, usize)>
     ensures value { result ≡ form_among form_table words.now }
@@ -138,7 +138,7 @@ pub(crate) fn preposition_at(words: &[MooStr]) -> Option<(Preposition, usize)>
     form_among(&FORMS, words)
 }
 
-/// The first of these forms with which words begin.
+/// Returns the first of these forms with which the words begin.
 fn form_among(forms: &[Form], words: &[MooStr]) -> Option<(Preposition, usize)>
     ensures value { result ≡ form_among (map form_of forms.now) words.now }
     ensures fits { IfSome result (λ found. found.1 ≤ length words.now) }
@@ -151,7 +151,7 @@ fn form_among(forms: &[Form], words: &[MooStr]) -> Option<(Preposition, usize)>
     None
 }
 
-/// Whether words begin with those of a form, letters folded.
+/// Returns whether words begin with those of a form, with letters folded.
 fn begins_with(words: &[MooStr], form: &[&[u8]]) -> bool
     ensures { result ≡ begins_with (map (λ w. w.now) form.now) words.now }
 {

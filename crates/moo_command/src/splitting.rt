@@ -1,4 +1,4 @@
-//! How a preposition splits the words behind a verb.
+//! The split of a command's words at a preposition.
 ghost use Rattle.std.specs.Prelude.{◌≡◌, ◌≤◌, ◌<◌, length, IfOk};
 ghost use Rattle.moo_value.specs.Size.{weight_limit};
 ghost use Rattle.moo_command.specs.Prepositions.{Splits, joined};
@@ -10,7 +10,7 @@ use moo_value::MooStr;
 use moo_words::string_of;
 use std::alloc::{AllocError, Global};
 
-/// Where a preposition stands among words: those before `at` come before it, those from `behind` on behind it.
+/// The position of a preposition among words: the words before `at` precede it, and those from `behind` on follow it.
 #[derive(Clone, Copy)]
 pub(crate) struct Division {
     pub preposition: Option<Preposition>,
@@ -18,7 +18,7 @@ pub(crate) struct Division {
     pub behind: usize,
 }
 
-/// The preposition that splits these words: the longest of those that begin leftmost.
+/// Returns the preposition that splits these words: the longest of those that begin leftmost.
 pub(crate) fn split(words: &[MooStr]) -> Division
     ensures parts { Splits words.now (parts_of words.now result) }
     ensures order { result.at ≤ result.behind }
@@ -40,7 +40,7 @@ pub(crate) fn split(words: &[MooStr]) -> Division
     }
 }
 
-/// Words with one blank between. `Err` where memory is wanting.
+/// Joins words with one blank between them. Fails only if memory runs out.
 pub(crate) fn joined(alloc: Global, words: &[MooStr]) -> Result<MooStr, AllocError>
     requires { length (joined words.now) < weight_limit }
     ensures { IfOk result (λ text. text ≡ joined words.now) }

@@ -1,5 +1,5 @@
-//! What the words of the command line ask for.
-//! A room behind `moo`.
+//! Parses the command line.
+//! An internal crate of `moo`.
 #![tactic(auto)]
 
 use clap::error::ErrorKind;
@@ -7,49 +7,49 @@ use clap::{Arg, ArgAction, ArgMatches, Command, Error, value_parser};
 use std::alloc::{AllocError, Global};
 use std::net::IpAddr;
 
-/// Rounds of `moo serve` where none are given.
+/// The default number of rounds of `moo serve`.
 const ROUNDS: &str = "1000000000";
 
-/// The address that `moo serve` is reached at where none is given.
+/// The default address of `moo serve`.
 const HOST: &str = "127.0.0.1";
 
-/// Bytes that may wait for a connection of `moo serve` where no other number is given.
+/// The default number of bytes that may wait for a connection of `moo serve`.
 const MOST_WAITING: &str = "16777216";
 
-/// What the program is to do.
+/// The command that the program is to run.
 #[derive(Clone, Copy, Debug, PartialEq, Eq)]
 pub enum Work<'a> {
     /// Evaluate the first line of the input.
     Expr,
-    /// Tell what the database of this path holds.
+    /// Report what the database of this path holds.
     Check(&'a str),
-    /// Tell what the database of this path holds, or every program of it that is refused.
+    /// Report what the database of this path holds, or every program of it that is refused.
     CheckAll(&'a str),
     /// Write the database of this path in its canonical form.
     Copy(&'a str),
-    /// Run the events of the input over the database of this path, in memory.
+    /// Run the events of the input on the database of this path, in memory.
     Script(&'a str),
     /// Serve a database to connections.
     Serve(Service<'a>),
 }
 
-/// What is to be served, where, and for how long.
+/// The parameters of a server.
 #[derive(Clone, Copy, Debug, PartialEq, Eq)]
 pub struct Service<'a> {
     /// The path of the database.
     pub database: &'a str,
-    /// The address at which connections are taken.
+    /// The address on which to listen.
     pub host: IpAddr,
     /// The port, or 0 for any that is free.
     pub port: u16,
-    /// The most rounds of reading and writing.
+    /// The greatest number of rounds of reading and writing.
     pub rounds: u64,
-    /// A connection for which more bytes wait is hung up.
+    /// The number of waiting bytes past which a connection is hung up.
     pub most_waiting: usize,
 }
 
-/// Reads the words, the program's own first. `None` where they name no command. Of a help that was asked
-/// for the error's `use_stderr` is false.
+/// Parses the words of the command line, the program's name first. Returns `None` if they name no command. If help
+/// was asked for, returns an error whose `use_stderr` is false.
 pub fn read_words<'a>(alloc: Global, words: &'a [String]) -> Result<Option<Work<'a>>, Error> {
     let matches = command(alloc)?.try_get_matches_from(words)?;
     match matches.subcommand() {

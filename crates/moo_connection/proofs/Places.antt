@@ -1,4 +1,4 @@
--- A connection that is changed or taken away where it is found.
+-- A connection that is changed or removed at its index.
 use Rattle.std.proofs.Common.{◌≡◌, ℕ, suc, zero, ◌+◌, ◌<◌, ◌≤◌, Bool, not, true, false, cond, List, [], ◌∷◌, ◌++◌, length, get_or, Some, None, refl, sym, ◌∙◌, ap, arith}
 use Rattle.std.specs.Prelude.{slice_set, position, find, Result, Ok, Err, OnOk}
 use Rattle.std.specs.declared.alloc.AllocError.{AllocError}
@@ -20,7 +20,7 @@ changed_first test f (d ∷ ds) (suc i) c h t n =
     cond-false (test d) (f d ∷ ds) (d ∷ changed test f ds) (n 0 (omega arith))
     ∙ ap (λ xs. d ∷ xs) (changed_first test f ds i c (omega (arith, h)) t (λ k l. n (suc k) (omega (arith, l))))
 
--- the first that passes is changed where it stands
+-- the first that passes is changed at its index
 pub changed_at : (test : Client → Bool) (f : Client → Client) (cs : List Client) (i : ℕ) (c : Client) → position test cs ≡ Some i → changed test f cs ≡ slice_set cs i (f (get_or cs i c))
 changed_at test f cs i c e = let at = position-Some test cs i c e in changed_first test f cs i c at.0 at.1 at.2
 
@@ -36,7 +36,7 @@ changed_none test f (d ∷ ds) h = none_step (test d) test f d ds (changed_none 
 pub past : {X : Type 0} → (test : X → Bool) (cs : List X) → position test cs ≡ None → length cs ≤ position_or_len test cs
 past test cs e = grind (arith, common_steps)
 
--- where none passes nothing changes
+-- if none passes nothing changes
 pub changed_nowhere : (test : Client → Bool) (f : Client → Client) (cs : List Client) → position test cs ≡ None → changed test f cs ≡ cs
 changed_nowhere test f cs e = changed_none test f cs (past test cs e)
 
@@ -48,7 +48,7 @@ without_first_at test (d ∷ ds) (suc i) c h t n =
     cond-false (test d) ds (d ∷ without_first test ds) (n 0 (omega arith))
     ∙ ap (λ xs. d ∷ xs) (without_first_at test ds i c (omega (arith, h)) t (λ k l. n (suc k) (omega (arith, l))))
 
--- the first that passes is taken away where it stands
+-- the first that passes is removed at its index
 pub without_at : {X : Type 0} → (test : X → Bool) (cs : List X) (i : ℕ) (c : X) → position test cs ≡ Some i → without_first test cs ≡ remove cs i
 without_at test cs i c e = let at = position-Some test cs i c e in without_first_at test cs i c at.0 at.1 at.2
 
@@ -71,7 +71,7 @@ found_first test (d ∷ ds) zero c h t n = cond-true (test d) (Some d) (find tes
 found_first test (d ∷ ds) (suc i) c h t n =
     cond-false (test d) (Some d) (find test ds) (n 0 (omega arith)) ∙ found_first test ds i c (omega (arith, h)) t (λ k l. n (suc k) (omega (arith, l)))
 
--- the first that passes is found where it stands
+-- the first that passes is found at its index
 pub found_at : (test : Client → Bool) (cs : List Client) (i : ℕ) (c : Client) → position test cs ≡ Some i → find test cs ≡ Some (get_or cs i c)
 found_at test cs i c e = let at = position-Some test cs i c e in found_first test cs i c at.0 at.1 at.2
 
@@ -87,7 +87,7 @@ missed test (d ∷ ds) h = missed_step (test d) test d ds (missed test ds) h
 pub found_nowhere : (test : Client → Bool) (cs : List Client) → position test cs ≡ None → find test cs ≡ None
 found_nowhere test cs e = missed test cs (past test cs e)
 
--- the first that passes is leaving, from where it stands
+-- the first that passes is leaving, from its index
 pub left_at : (test : Client → Bool) (s : Connections) (i : ℕ) (c : Client) → position test s.clients ≡ Some i →
     left_where test (find test s.clients) s ≡ record { clients = remove s.clients i; leaving = s.leaving ++ number_of (get_or s.clients i c) ∷ [] }
 left_at test s i c e =

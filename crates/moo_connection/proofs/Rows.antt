@@ -164,7 +164,7 @@ remove-insert [] (suc i) x h = absurd (omega (arith, h))
 remove-insert (y ∷ ys) zero x h = refl
 remove-insert (y ∷ ys) (suc i) x h = ap (λ zs. y ∷ zs) (remove-insert ys i x (omega (arith, h)))
 
--- connections, what tasks see of them, and where their players are
+-- connections, the part of them that tasks see, and the numbers of their players
 abbrev pub AreWhole : List Connection → BTreeMap ℤ ℕ → List Client → Type 0
 AreWhole row players cs = AreInOrder cs × HaveOwnPlayers cs × (row ≡ row_of cs) × LeadsToPlayers players cs
 

@@ -61,7 +61,7 @@ equal a b e = grind (arith, nat_tests, e)
 unequal : (a b : ℕ) → ¬ (a ≡ b) → (a == b) ≡ false
 unequal a b n = grind (arith, nat_tests, n)
 
--- the first that passes is the one at place i, whatever stands behind the end
+-- the first that passes is the one at index i, whatever comes after the end
 pub is_at : (test : Client → Bool) (cs : List Client) (i : ℕ) (d : Client) → i < length cs → test (get_or cs i d) ≡ true → ((k : ℕ) → k < i → test (get_or cs k d) ≡ false) → position test cs ≡ Some i
 is_at test cs i d inside here before = place_of test cs i (position_or_len_is test cs i d (omega (arith, inside)) before (λ l. here)) inside
 
@@ -102,7 +102,7 @@ found_no_place cs n i gap =
 at_most : (a b : ℕ) → a < b → nat_lt b a ≡ false
 at_most a b l = le-ltb b a (omega (arith, l))
 
--- the first of a higher number stands where one of this number would
+-- the first of a higher number is at the index at which one of this number would be
 pub place_above : (cs : List Client) (n i : ℕ) → IsGap (row_of cs) n i → position_or_len (is_above n) cs ≡ i
 place_above cs n i gap =
     let first : Client = newcomer 0 0 in

@@ -1,4 +1,4 @@
--- What becomes of connections.
+-- The changes of connections.
 use Rattle.std.specs.Prelude.{◌≡◌, ℕ, ℤ, Bool, List, [], ◌∷◌, ◌++◌, map, Option, Some, None}
 use Rattle.moo_line.specs.Rest.{Rest}
 use Rattle.moo_line.specs.Reading.{Reads}
@@ -11,20 +11,20 @@ use Rattle.moo_connection.specs.Connections.{Connections, client_here, client_kn
 abbrev pub joined : ℕ → ℕ → Connections → Connections
 joined n moment s = record s { clients = with_client (newcomer n moment) s.clients }
 
--- the number of a connection is free again
+-- the number of a connection is freed
 abbrev pub freed : ℕ → Connections → Connections
 freed n s = record { clients = without_first (has_number n) s.clients; leaving = without_first (is_number n) s.leaving }
 
--- the connection of this number, where it isn't leaving, changed
+-- the connection of this number, if it isn't leaving, changed
 abbrev pub with_changed : ℕ → (Client → Client) → Connections → Connections
 with_changed n f s = record s { clients = changed (has_number n) f s.clients }
 
--- the first connection that passes a test is leaving, where there is one
+-- the first connection that passes a test is leaving, if there is one
 abbrev pub left_where : (Client → Bool) → Option Client → Connections → Connections
 left_where test None s = s
 left_where test (Some c) s = record { clients = without_first test s.clients; leaving = s.leaving ++ number_of c ∷ [] }
 
--- who goes by this number is leaving
+-- the connection that goes by this number is leaving
 abbrev pub left_by : ℤ → Connections → Connections
 left_by who s = left_where (is_known_as who) (client_known_as who s) s
 

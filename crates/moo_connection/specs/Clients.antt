@@ -11,7 +11,7 @@ use Rattle.moo_connection.specs.declared.client.Client.{Client}
 abbrev pub number_of : Client → ℕ
 number_of c = c.connection.number
 
--- who is connected, if anybody is
+-- the player who is connected, if any
 abbrev pub player_on : Client → Option ℤ
 player_on c = option_map (λ login. login.player) c.connection.login
 
@@ -44,7 +44,7 @@ is_played_by player c = option_map_or (int_eq player) (player_on c) false
 abbrev pub is_above : ℕ → Client → Bool
 is_above n c = nat_lt n (number_of c)
 
--- with one connection more, at its place in the order of numbers
+-- with one connection more, at its position in the order of numbers
 abbrev pub with_client : Client → List Client → List Client
 with_client c cs = insert cs (position_or_len (is_above (number_of c)) cs) c
 
@@ -58,10 +58,10 @@ abbrev pub changed : (Client → Bool) → (Client → Client) → List Client �
 changed test f [] = []
 changed test f (c ∷ cs) = if test c then f c ∷ cs else c ∷ changed test f cs
 
--- what tasks see of connections
+-- the part of connections that tasks see
 abbrev pub row_of : List Client → List Connection
 row_of cs = map (λ c. c.connection) cs
 
--- who is connected, in the order of the connections
+-- the connected players, in the order of the connections
 abbrev pub players_on : List Client → List ℤ
 players_on cs = filter_map player_on cs

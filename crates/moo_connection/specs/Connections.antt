@@ -8,14 +8,14 @@ use Rattle.moo_connection.specs.Clients.{number_of, player_on, is_number, has_nu
 pub record Connections : Type 0 where
   -- those that aren't leaving, in the order of their numbers
   pub clients : List Client
-  -- The numbers of those that are leaving, in the order in which they began to. Nothing else is known of a leaving connection: it has
-  -- no player, goes by no number, and gets and says nothing more.
+  -- The numbers of those that are leaving, in the order in which they began to. Nothing else is known of a leaving
+  -- connection: it has no player, goes by no number, and receives and sends nothing more.
   pub leaving : List ℕ
 
 abbrev pub no_connections : Connections
 no_connections = record { clients = []; leaving = [] }
 
--- the connection of this number, where it is open and not leaving
+-- the connection of this number, if it is open and not leaving
 abbrev pub client_here : ℕ → Connections → Option Client
 client_here n s = find (has_number n) s.clients
 
@@ -33,7 +33,7 @@ is_leaving n s = list_any (is_number n) s.leaving
 abbrev pub is_open : ℕ → Connections → Bool
 is_open n s = is_some (client_here n s) || is_leaving n s
 
--- who is connected, in the order of the connections
+-- the connected players, in the order of the connections
 abbrev pub players_of : Connections → List ℤ
 players_of s = players_on s.clients
 
@@ -57,6 +57,6 @@ abbrev pub HaveOwnPlayers : List Client → Type 0
 HaveOwnPlayers [] = Unit {0}
 HaveOwnPlayers (c ∷ cs) = ((player : ℤ) → player_on c ≡ Some player → NonePlayedBy player cs) × HaveOwnPlayers cs
 
--- what is round a task at this moment: a task sees the connections that aren't leaving
+-- the surroundings of a task at this moment: a task sees the connections that aren't leaving
 abbrev pub around : ℕ → Connections → Surroundings
 around moment s = record { moment = moment; connections = row_of s.clients }

@@ -1,4 +1,4 @@
--- Where players are connected, and what goes by a number.
+-- The connections of players, and the connections that go by a number.
 use Rattle.std.specs.Prelude.{◌≡◌, ℕ, ℤ, Bool, false, List, Option, Some, None, find, min}
 use Rattle.std.specs.BTreeMap.{BTreeMap, get}
 use Rattle.std.specs.Option.{option_map, option_map_or}
@@ -18,7 +18,7 @@ LeadsToPlayers players cs = (player : ℤ) → get int_cmp players player ≡ nu
 abbrev pub is_unplayed_as : ℤ → Client → Bool
 is_unplayed_as who c = option_map_or (λ _. false) c.connection.login (int_eq who (own_number (number_of c)))
 
--- the earlier of two places
+-- the earlier of two positions
 abbrev pub earlier : Option ℕ → Option ℕ → Option ℕ
 earlier None b = b
 earlier (Some a) None = Some a

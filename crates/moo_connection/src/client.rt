@@ -11,20 +11,22 @@ use std::alloc::{AllocError, Global};
 /// An open connection that is not leaving.
 #[derive(Drop)]
 pub struct Client {
-    /// What tasks see of it: its number, who is connected on it, when it was opened and when bytes came last.
+    /// The part of it that tasks see: its number, its player, the moment when it was opened, and the moment when it
+    /// last sent bytes.
     pub connection: Connection,
-    /// The lines of what it sends.
+    /// The reader of its lines.
     pub reader: LineReader,
-    /// What goes before the output of a command; empty for nothing.
+    /// The text that goes before the output of a command; empty for none.
     pub prefix: MooStr,
-    /// What goes after it.
+    /// The text that goes after the output of a command; empty for none.
     pub suffix: MooStr,
-    /// What the player's lines are gathered for, while `.program` gathers them.
+    /// The program that `.program` is gathering, if it is.
     pub gathering: Option<Gathering>,
 }
 
 impl Client {
-    /// A connection that was opened at this moment, in seconds, and has sent nothing.
+    /// Returns a connection that was opened at this moment, in seconds, and has sent nothing. Fails only if memory
+    /// runs out.
     pub(crate) fn new(alloc: Global, number: u16, moment: u32) -> Result<Client, AllocError>
         ensures { IfOk result (λ client. client ≡ newcomer number moment) }
     {
@@ -42,7 +44,7 @@ impl Client {
         })
     }
 
-    /// Who is connected on it, if anybody is.
+    /// Returns the player who is connected on it, if any.
     pub fn player(&self) -> Option<i32>
         ensures { result ≡ player_on self.now }
     {
@@ -50,7 +52,7 @@ impl Client {
     }
 }
 
-// The empty string.
+// Returns the empty string.
 fn empty(alloc: Global) -> Result<MooStr, AllocError>
     ensures { IfOk result (λ s. s ≡ []) }
 {

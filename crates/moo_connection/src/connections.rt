@@ -9,15 +9,15 @@ use std::alloc::Global;
 use std::collections::BTreeMap;
 use std::marker::Model;
 
-/// The open connections: those that are leaving, of which nothing but the number is left, and the others, in the order of
-/// their numbers and each with a player of its own, if with any.
+/// The open connections. Of those that are leaving, only the numbers are left. The others are in the order of their
+/// numbers, and each player is connected on at most one of them.
 #[derive(Drop)]
 pub struct Connections {
     pub(crate) alloc: Global,
     pub(crate) clients: Vec<Client>,
-    // What tasks see of them.
+    // The part of them that tasks see.
     pub(crate) row: Vec<Connection>,
-    // The number of the connection that each player is connected on.
+    // The number of the connection of each player.
     pub(crate) players: BTreeMap<i32, u16>,
     pub(crate) leaving: Vec<u16>,
 }
@@ -36,7 +36,7 @@ impl Model for Connections {
 }
 
 impl Connections {
-    /// No connection is open.
+    /// Returns a table without connections.
     pub fn new(alloc: Global) -> Connections
         ensures { result ≡ no_connections }
     {
@@ -49,14 +49,14 @@ impl Connections {
         }
     }
 
-    /// What tasks see of them.
+    /// Returns the part of them that tasks see.
     pub fn row(&self) -> &[Connection]
         ensures { result.now ≡ row_of self.now.clients }
     {
         &self.row
     }
 
-    /// Those that are leaving.
+    /// Returns the numbers of those that are leaving.
     pub fn leaving(&self) -> &[u16]
         ensures { result.now ≡ self.now.leaving }
     {

@@ -1,4 +1,4 @@
-//! Bytes that come.
+//! The bytes that connections send.
 ghost use Rattle.std.specs.Prelude.{◌≡◌, None, Ok, IfOk, OnOk, OnErr, IfSome, IfNone, All};
 ghost use Rattle.moo_line.specs.Reading.{Reads};
 ghost use Rattle.moo_line.specs.Rest.{IsLine};
@@ -11,8 +11,8 @@ use moo_value::MooStr;
 use std::alloc::AllocError;
 
 impl Connections {
-    /// A connection has sent a piece at this moment, in seconds: the lines that it ends, or `None` where the connection
-    /// isn't open or is leaving, which takes no memory. `Err` where memory is wanting.
+    /// Takes a piece that a connection sent at this moment, in seconds, and returns the lines that it ends. Returns
+    /// `None` if the connection isn't open or is leaving; this allocates no memory. Fails only if memory runs out.
     pub fn hear(
         &mut self,
         number: u16,

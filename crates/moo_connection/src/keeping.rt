@@ -1,4 +1,4 @@
-//! What a connection keeps for its player.
+//! The state that a connection keeps for its player.
 ghost use Rattle.std.specs.Prelude.{◌≡◌, None};
 ghost use Rattle.moo_connection.specs.Changes.{with_changed, with_prefix, with_suffix, with_gathering};
 
@@ -7,7 +7,7 @@ use crate::gathering::Gathering;
 use moo_value::MooStr;
 
 impl Connections {
-    /// What goes before the output of commands.
+    /// Sets the text that goes before the output of commands.
     pub fn set_prefix(&mut self, number: u16, text: MooStr)
         ensures { self.new ≡ with_changed number (with_prefix text) self.old }
     {
@@ -17,7 +17,7 @@ impl Connections {
         self.clients[place].prefix = text;
     }
 
-    /// What goes after it.
+    /// Sets the text that goes after the output of commands.
     pub fn set_suffix(&mut self, number: u16, text: MooStr)
         ensures { self.new ≡ with_changed number (with_suffix text) self.old }
     {
@@ -27,7 +27,7 @@ impl Connections {
         self.clients[place].suffix = text;
     }
 
-    /// What the connection gathers lines for, if for anything.
+    /// Sets or clears the program for which the connection gathers lines.
     pub fn gather(&mut self, number: u16, gathering: Option<Gathering>)
         ensures { self.new ≡ with_changed number (with_gathering gathering) self.old }
     {
@@ -37,7 +37,7 @@ impl Connections {
         self.clients[place].gathering = gathering;
     }
 
-    /// What the connection gathers lines for, which it then does no more.
+    /// Removes and returns the program for which the connection gathers lines.
     pub fn take_gathering(&mut self, number: u16) -> Option<Gathering>
         ensures taken { result ≡ option_and_then (λ c. c.gathering) (client_here number self.old) }
         ensures changed { self.new ≡ with_changed number (with_gathering None) self.old }

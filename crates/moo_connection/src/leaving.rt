@@ -12,7 +12,7 @@ use crate::playing::remove_player;
 use std::alloc::AllocError;
 
 impl Connections {
-    /// Who goes by this number, if anybody does, is leaving. `Err` where memory is wanting.
+    /// Marks the connection that goes by this number as leaving, if there is one. Fails only if memory runs out.
     pub fn leave(&mut self, who: i32) -> Result<(), AllocError>
         ensures { OnOk result (self.new ≡ left_by who self.old) }
     {
@@ -22,7 +22,7 @@ impl Connections {
         }
     }
 
-    /// The connection that this player is connected on, if on any, is leaving. `Err` where memory is wanting.
+    /// Marks the connection of this player as leaving, if there is one. Fails only if memory runs out.
     pub(crate) fn displace(&mut self, player: i32) -> Result<(), AllocError>
         ensures left { OnOk result (self.new ≡ displaced player self.old) }
         ensures gone { OnOk result (NonePlayedBy player self.new.clients) }
@@ -44,7 +44,7 @@ impl Connections {
         Ok(())
     }
 
-    /// Every connection is leaving. `Err` where memory is wanting.
+    /// Marks every connection as leaving. Fails only if memory runs out.
     pub fn leave_all(&mut self) -> Result<(), AllocError>
         ensures { OnOk result (self.new ≡ all_left self.old) }
     {

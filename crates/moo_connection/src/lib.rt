@@ -1,5 +1,5 @@
-//! The open connections of a server: who is on them, since when, and what each keeps (docs/SESSIONS.md).
-//! A room behind `moo_session`.
+//! The open connections of a server: their players, since when, and the state that each keeps (docs/SESSIONS.md).
+//! An internal crate of `moo_session`.
 #![tactic(auto)]
 
 mod client;

@@ -11,7 +11,7 @@ use crate::connections::Connections;
 use moo_outcome::Connection;
 
 impl Connections {
-    /// The connection of this number, where it is open and not leaving.
+    /// Returns the connection of this number, if it is open and not leaving.
     pub fn client_here(&self, number: u16) -> Option<&Client>
         ensures { option_copied result ≡ client_here number self.now }
     {
@@ -19,7 +19,7 @@ impl Connections {
         Some(&self.clients[place])
     }
 
-    /// The connection that goes by this number: a player's, or its own while nobody is connected on it.
+    /// Returns the connection that goes by this number: its player's, or its own while nobody is connected on it.
     pub fn client_known_as(&self, who: i32) -> Option<&Client>
         ensures { option_copied result ≡ client_known_as who self.now }
     {
@@ -27,7 +27,7 @@ impl Connections {
         Some(&self.clients[place])
     }
 
-    /// The connection that this player is connected on.
+    /// Returns the connection on which this player is connected.
     pub fn client_playing(&self, player: i32) -> Option<&Client>
         ensures { option_copied result ≡ client_playing player self.now }
     {
@@ -35,14 +35,14 @@ impl Connections {
         Some(&self.clients[place])
     }
 
-    /// Whether the connection of this number is leaving.
+    /// Returns whether the connection of this number is leaving.
     pub fn is_leaving(&self, number: u16) -> bool
         ensures { result ≡ is_leaving number self.now }
     {
         self.leaving.iter().any(|other| *other == number)
     }
 
-    /// Whether a connection of this number is open, leaving or not.
+    /// Returns whether a connection of this number is open, leaving or not.
     pub fn is_open(&self, number: u16) -> bool
         ensures { result ≡ is_open number self.now }
     {
@@ -55,7 +55,8 @@ impl Connections {
         self.place_numbered(u32::from(number))
     }
 
-    // The place of the connection of this number, by a binary search: the row is in the order of the numbers.
+    // Returns the index of the connection of this number. The row is in the order of the numbers, so this is a binary
+    // search.
     fn place_numbered(&self, number: u32) -> Option<usize>
         ensures { result ≡ position (has_number number) self.now.clients }
     {
@@ -65,7 +66,7 @@ impl Connections {
         }
     }
 
-    // Nobody is kept from having a number below -1 as a player, so that two connections may go by it.
+    // A player may have a number below -1, so two connections may go by one number. The earlier one counts.
     pub(crate) fn place_known_as(&self, who: i32) -> Option<usize>
         ensures { result ≡ position (is_known_as who) self.now.clients }
     {
@@ -80,7 +81,7 @@ impl Connections {
         self.place_here(*number)
     }
 
-    // The place of the connection of this own number, while nobody is connected on it.
+    // Returns the index of the connection with this own number, while nobody is connected on it.
     fn place_unplayed(&self, who: i32) -> Option<usize>
         ensures { result ≡ position (is_unplayed_as who) self.now.clients }
     {
@@ -93,7 +94,7 @@ impl Connections {
     }
 }
 
-// Where the connection of this number stands in a row, or would.
+// Returns the index of the connection of this number in a row, or as an error the index at which it would be.
 pub(crate) fn search(row: &[Connection], number: u32) -> Result<usize, usize>
     requires { IsRising row.now }
     ensures found { IfOk result (IsAt row.now number) }
@@ -102,7 +103,7 @@ pub(crate) fn search(row: &[Connection], number: u32) -> Result<usize, usize>
     row.binary_search_by_key(&number, |connection| u32::from(connection.number))
 }
 
-// The number of the connection whose own number this is.
+// Returns the number of the connection that goes by this own number.
 fn number_owning(who: i32) -> Option<u32>
     ensures some { IfSome result (λ number. who ≡ own_number number) }
     ensures none { IfNone result ((number : ℕ) → who ≡ own_number number → ⊥) }

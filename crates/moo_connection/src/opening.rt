@@ -1,4 +1,4 @@
-//! Connections that are opened and freed.
+//! Connections that open and close.
 ghost use Rattle.std.specs.Prelude.{◌≡◌, ◌≤◌, None, length, position, OnOk};
 ghost use Rattle.std.specs.List.{position_or_len, insert};
 ghost use Rattle.moo_connection.specs.Clients.{player_on, is_number, is_above, without_first};
@@ -12,7 +12,7 @@ use crate::playing::remove_player;
 use std::alloc::AllocError;
 
 impl Connections {
-    /// A connection is opened at this moment, in seconds. `Err` where memory is wanting.
+    /// Opens a connection at this moment, in seconds. Fails only if memory runs out.
     pub fn join(&mut self, number: u16, moment: u32) -> Result<(), AllocError>
         requires { client_here number self.old ≡ None }
         ensures { OnOk result (self.new ≡ joined number moment self.old) }
@@ -37,7 +37,7 @@ impl Connections {
         Ok(())
     }
 
-    // The place before the first connection of a higher number.
+    // Returns the index of the first connection of a higher number.
     fn place_for(&self, number: u16) -> usize
         requires { client_here number self.now ≡ None }
         ensures place { result ≡ position_or_len (is_above number) self.now.clients }
@@ -49,7 +49,7 @@ impl Connections {
         }
     }
 
-    /// The number of a connection is free again.
+    /// Frees the number of a connection.
     pub fn free(&mut self, number: u16)
         ensures { self.new ≡ freed number self.old }
     {

@@ -1,4 +1,4 @@
-//! Players who are connected.
+//! The players of connections.
 ghost use Rattle.std.specs.Prelude.{◌≡◌, ℤ, None, OnOk, OnErr, if◌then◌else◌};
 ghost use Rattle.std.specs.BTreeMap.{get};
 ghost use Rattle.std.specs.Ordering.{int_cmp};
@@ -13,8 +13,8 @@ use std::alloc::AllocError;
 use std::collections::BTreeMap;
 
 impl Connections {
-    /// A player is connected on a connection from this moment on, in seconds; another connection of the player's is
-    /// leaving. `Err` where memory is wanting.
+    /// Connects a player on a connection at this moment, in seconds. Another connection of the player is then
+    /// leaving. Fails only if memory runs out.
     pub fn play(&mut self, number: u16, player: i32, moment: u32) -> Result<(), AllocError>
         ensures { OnOk result (self.new ≡ played number player moment self.old) }
     {
@@ -22,7 +22,7 @@ impl Connections {
         self.log_in(number, player, moment)
     }
 
-    // Where memory is wanting nothing changes.
+    // If memory runs out, nothing changes.
     fn log_in(&mut self, number: u16, player: i32, moment: u32) -> Result<(), AllocError>
         requires { NonePlayedBy player self.old.clients }
         ensures ok { OnOk result (self.new ≡ with_changed number (as_playing player moment) self.old) }
@@ -39,7 +39,7 @@ impl Connections {
     }
 }
 
-// Nobody is connected any more as the player of this connection.
+// Removes the player of this connection from the table.
 pub(crate) fn remove_player(players: &mut BTreeMap<i32, u16>, client: &Client)
     ensures { (player : ℤ) → get int_cmp players.new player ≡ (if is_played_by player client.now then None else get int_cmp players.old player) }
 {

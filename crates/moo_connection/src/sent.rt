@@ -1,4 +1,4 @@
-//! Lines that are sent.
+//! Lines to send.
 ghost use Rattle.std.specs.Prelude.{◌≡◌};
 
 use std::marker::Model;
@@ -19,21 +19,21 @@ impl Model for Sent {
 }
 
 impl Sent {
-    /// A line, without its end, for the connection of this number.
+    /// Returns a line, without its end, for the connection of this number.
     pub fn new(number: u16, line: Vec<u8>) -> Sent
         ensures { result ≡ record { to = number; line = line.items } }
     {
         Sent { number, line }
     }
 
-    /// The connection's number.
+    /// Returns the connection's number.
     pub fn number(&self) -> u16
         ensures { result ≡ self.now.to }
     {
         self.number
     }
 
-    /// The line, without its end.
+    /// Returns the line, without its end.
     pub fn line(&self) -> &[u8]
         ensures { result.now ≡ self.now.line }
     {

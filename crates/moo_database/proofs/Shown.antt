@@ -1,4 +1,4 @@
--- What is shown of a database, or told.
+-- The output for a database: its contents, or why it is refused.
 use Rattle.std.proofs.Common.{◌≡◌, ◌≢◌, ℕ, List, [], ◌++◌, ◌⊎◌, Some, None, IfSome, inl, inr, sym, subst, arith}
 use Rattle.std.specs.Prelude.{Option, Err}
 use Rattle.std.specs.Io.KnownBytes.{Appends, Consumes, Keeps}
@@ -21,7 +21,7 @@ keeps_nothing None b h = tt
 keeps_nothing (Some x) None h = absurd h
 keeps_nothing (Some x) (Some y) h = sym h
 
--- whatever comes behind what was read
+-- whatever comes after the bytes that were read
 pub consumed_front : (a b : Option (List ℕ)) (bs : List ℕ) (P : List ℕ → Type 0) → Consumes a b bs → ((more : List ℕ) → P (bs ++ more)) → IfSome a P
 consumed_front None b bs P c h = tt
 consumed_front (Some x) None bs P c h = absurd c

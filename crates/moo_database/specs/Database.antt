@@ -1,4 +1,4 @@
--- What `moo check` and `moo copy` show of a database.
+-- The output of `moo check` and `moo copy` for a database.
 use Rattle.std.specs.Prelude.{◌≡◌, ◌≢◌, ◌⊎◌, ℕ, List, ◌++◌, Err, codes, length, Option, IfSome}
 use Rattle.std.specs.Fmt.{decimal}
 use Rattle.std.specs.Io.KnownBytes.{Appends}
@@ -32,7 +32,8 @@ pub record HasTold (bytes : List ℕ) (old new : Option (List ℕ)) : Type 0 whe
   pub none : (s : Saved) → ¬ (SpellsSavedWithin bytes s)
   pub told : Appends old new (fault_line fault)
 
--- The status is 0, and the input's saved world was shown, or it is 1, and it was told why the input is refused.
+-- The status is 0, and the input's saved world was shown, or it is 1, and the reason was reported why the input is
+-- refused.
 pub record IsAnswered (show : Saved → List ℕ) (input old new : Option (List ℕ)) (status : ℕ) : Type 0 where
   pub known : (status ≡ 0) ⊎ (status ≡ 1)
   pub read : status ≡ 0 → IfSome input (λ bytes. HasShown show bytes old new)

@@ -1,2 +1,2 @@
--- What `moo check` and `moo copy` show.
+-- The output of `moo check` and `moo copy`.
 pub mod Database

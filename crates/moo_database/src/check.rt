@@ -1,4 +1,4 @@
-//! `moo check`: what a database holds.
+//! `moo check`: counts what a database holds.
 ghost use Rattle.std.specs.Prelude.{◌⊎◌, IfErr, IfOk};
 ghost use Rattle.std.specs.Io.KnownBytes.{Keeps};
 ghost use Rattle.moo_database.specs.Database.{counts_line, IsAnswered, ShowsDatabase};
@@ -13,18 +13,18 @@ use std::alloc::Global;
 use std::io::{Read, Write};
 use std::mem::forget;
 
-/// Writes how many objects, programs and connections the database has that the input is, and answers the exit
-/// status: 0, or 1 where the database is refused, which is told in a line; 3 where the input or the output
-/// failed and 4 where memory was wanting, each told in a line of its own where the output still takes it.
+/// Reads a database from the input, writes how many objects, programs and connections it has, and returns the exit
+/// status 0. If the database is refused, writes why in a line, and returns 1. If the input or the output fails,
+/// returns 3; if memory runs out, returns 4. These are reported in a line if the output still takes it.
 ///
-/// The memory of what was read is left to the end of the process, which gives it back at once.
+/// The memory of what was read is leaked, because the process ends soon.
 pub fn run_check<I: Read, O: Write>(alloc: Global, input: &mut I, output: &mut O) -> u8
     ensures { ShowsDatabase counts_line (I.remaining input.old) (O.contents output.old) (O.contents output.new) result }
 {
     check_watched(alloc, input, output, &mut Watch::new())
 }
 
-/// The same, with what was seen of the input and the output.
+/// Checks a database as `run_check` does, and records failures of the input, the output and memory in `watch`.
 pub fn check_watched<I: Read, O: Write>(
     alloc: Global,
     input: &mut I,

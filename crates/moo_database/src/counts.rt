@@ -1,4 +1,4 @@
-//! How much a saved world holds, as `moo check` tells it.
+//! The counts of a saved world that `moo check` writes.
 ghost use Rattle.std.specs.Prelude.{◌≡◌, ◌++◌, IfOk, OnOk};
 ghost use Rattle.std.specs.Fmt.{decimal};
 ghost use Rattle.moo_saved.specs.Saved.{saved_of};
@@ -9,8 +9,8 @@ use moo_saved::Saved;
 use moo_table::verbs::all_programs;
 use std::alloc::{AllocError, Global};
 
-/// The line that says how many objects, programs and connections there are. A recycled object counts. The error is that
-/// there was no memory for the line.
+/// Returns the line with the numbers of objects, programs and connections. Recycled objects count too. Fails only if
+/// memory runs out.
 pub fn counts_line(alloc: Global, saved: &Saved) -> Result<Vec<u8>, AllocError>
     ensures { IfOk result (λ line. line.items ≡ counts_line (saved_of saved.now)) }
 {

@@ -1,5 +1,5 @@
-//! What `moo check` and `moo copy` do, over a reader and a writer.
-//! A room behind `moo`.
+//! The commands `moo check` and `moo copy`, over a reader and a writer.
+//! An internal crate of `moo`.
 #![tactic(auto)]
 
 mod check;

@@ -1,4 +1,4 @@
-//! The saved world of an input of any size.
+//! Loads the saved world of an input of any size.
 ghost use Rattle.std.specs.Prelude.{◌<◌, [], Err, length, IfErr, IfOk, IfSome, MatchResult};
 ghost use Rattle.moo_load.specs.Feeding.{HasFed};
 ghost use Rattle.moo_load.specs.Loading.{LoadAnswers};
@@ -9,11 +9,11 @@ use moo_report::{Refusal, Watch};
 use std::alloc::Global;
 use std::io::Read;
 
-/// How many bytes are read at once.
+/// The number of bytes in one read.
 const PIECE: usize = 65_536;
 
-/// The saved world of all that the input still gives, or why it is none. The memory of the records that
-/// it is made from is left to the end of the process.
+/// Loads the saved world of the rest of the input, or returns the fault of its text. Leaks the memory of the records
+/// that the world is made from. Returns a refusal if the input fails or memory runs out.
 pub fn load<I: Read>(
     alloc: Global,
     input: &mut I,
@@ -32,7 +32,7 @@ pub fn load<I: Read>(
     }
 }
 
-// Feeds the reader all that the input still gives, or up to a fault.
+// Feeds the reader the rest of the input, or the input up to a fault.
 fn feed_all<I: Read>(
     alloc: Global,
     input: &mut I,

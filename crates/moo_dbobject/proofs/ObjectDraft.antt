@@ -20,7 +20,7 @@ use Rattle.moo_dbobject.specs.declared.object_reader.Awaited.TheVariants as awai
 abbrev pub name_of : Draft → Line
 name_of d = unwrap_or d.name []
 
--- the first lines of an object, up to its verbs, its names, and its cells, where n of the kind come
+-- the first lines of an object, up to its verbs, its names, and its cells, if n of the kind come
 abbrev pub headed : Line → Line → Body → List Line → List Line
 headed name note b more = name ∷ note ∷ (number_lines b ++ more)
 
@@ -105,7 +105,7 @@ pub record IsBare (d : Draft) : Type 0 where
   pub cells : d.body.cells ≡ []
   pub value : d.value ≡ begun
 
--- among n verbs, or behind them
+-- among n verbs, or after them
 pub record IsAmongVerbs (n : ℕ) (d : Draft) : Type 0 where
   pub count : n < 2 ^ 31
   pub names : d.body.names ≡ []
@@ -113,7 +113,7 @@ pub record IsAmongVerbs (n : ℕ) (d : Draft) : Type 0 where
   pub value : d.value ≡ begun
   pub name : d.name ≡ Some (name_of d)
 
--- among n names, or behind them
+-- among n names, or after them
 pub record IsAmongNames (n : ℕ) (d : Draft) : Type 0 where
   pub count : n < 2 ^ 31
   pub verbs : length d.body.verbs < 2 ^ 31
@@ -173,7 +173,7 @@ abbrev pub IsObjectRead : Draft × Option Object → Type 0
 IsObjectRead (d, None) = IsDraft d
 IsObjectRead (d, Some o) = IsObject unlimited o × (d ≡ fresh_draft)
 
--- what a line adds, where the note is this one
+-- the effect of a line, if the note is this one
 pub record Adds (lines : List Line) (line note : Line) (r : Draft × Option Object) : Type 0 where
   pub read : object_read r note ≡ lines ++ line ∷ []
   pub is : IsObjectRead r
@@ -292,7 +292,7 @@ after_cell_adds d b (suc n) lines line note parts cells verbs names idle name re
   is = record { parts = renumbered (record d { body = b }) (record d { awaited = awaited.Value; body = b; left = n }) parts refl refl refl refl parts.numbers; keeps = (record { count = cells; verbs = verbs; names = names; name = name }, idle) };
 }
 
--- ---- a line behind others
+-- ---- a line after others
 
 pub verbed_more : (name note : Line) (b : Body) (n : ℕ) (more : List Line) (line : Line) → verbed name note b n (more ++ line ∷ []) ≡ verbed name note b n more ++ line ∷ []
 verbed_more name note b n more line = ap (λ (ls : List Line). headed name note b (count_line n ∷ ls)) (sym (append_assoc (flat_map verb_lines b.verbs) more (line ∷ [])))

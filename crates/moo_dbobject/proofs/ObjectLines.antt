@@ -9,7 +9,7 @@ use Rattle.moo_dbobject.specs.ObjectReading.{Draft, fresh_draft, object_line}
 use Rattle.moo_dbobject.proofs.ObjectDraft.{IsDraft, Adds, draft_read, note_after, fresh_is}
 use Rattle.moo_dbobject.proofs.ObjectFound.{object_found}
 
--- the lines behind those that were taken
+-- the lines after those that were taken
 pub record Ends (taken ls : List Line) (note : Line) (o : Object) (rest : List Line) : Type 0 where
   pub lines : taken ++ ls ≡ object_lines o note ++ rest
   pub is : IsObject unlimited o

@@ -1,4 +1,4 @@
--- Where a size of an object is past its limit, the line can stand but for that limit.
+-- If a size of an object exceeds its limit, the line is right but for that limit.
 use Rattle.std.proofs.Common.{ℕ, ℤ, pos, negsuc, Bool, true, false, cond, leb, [], ◌∷◌, ◌++◌, Option, Some, None, Result, Ok, Err}
 use Rattle.moo_dbvalue.specs.declared.fault.LineFault.{LineFault}
 use Rattle.moo_dbvalue.specs.declared.fault.LineFault.TheVariants.{BadNumber}

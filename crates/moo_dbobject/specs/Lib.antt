@@ -1,4 +1,4 @@
--- What an object says, and its lines.
+-- The contents of an object, and its lines.
 pub mod Objects
 -- Reading objects line by line.
 pub mod ObjectReading

@@ -22,8 +22,8 @@ pub record PartVerb : Type 0 where
   pub owner : ℤ
   pub perms : ℕ
 
--- an object that is being read: what its next line is, what it has so far, how many verbs, names or cells follow the one
--- that is read now, and what was read of that one
+-- an object that is being read: what its next line holds, its parts so far, how many verbs, names or cells follow the
+-- one that is being read, and what was read of that one
 pub record Draft : Type 0 where
   pub awaited : Awaited
   pub name : Option Line
@@ -122,7 +122,7 @@ abbrev pub after_cell : Draft → Body → ℕ → Draft × Option Object
 after_cell d b zero = (fresh_draft, option_map (named_object b) d.name)
 after_cell d b (suc n) = (record d { awaited = awaited.Value; body = b; left = n }, None)
 
--- what a draft gives: the object, where it is whole, and then the next one begins
+-- what a draft gives: the object, if it is whole, and then the next one begins
 abbrev pub given_by : Bool → Draft → Draft × Option Object
 given_by true d = (fresh_draft, option_map (named_object d.body) d.name)
 given_by false d = (d, None)

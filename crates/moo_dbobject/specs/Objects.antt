@@ -1,4 +1,4 @@
--- What an object of a database text says, and its lines.
+-- The contents of an object of a database text, and its lines.
 use Rattle.std.specs.Prelude.{◌≡◌, ◌≢◌, ℕ, ℤ, pos, negsuc, ◌+◌, ◌*◌, ◌/◌, ◌%◌, ◌≤◌, List, [], ◌∷◌, ◌++◌, map, length, codes, FitsSigned, Option, Some, None, option_map}
 use Rattle.std.specs.List.{flat_map, AllByRecursion}
 use Rattle.std.specs.Int.{w32}
@@ -22,7 +22,7 @@ pub record Verb : Type 0 where
   pub perms : ℕ
   pub preposition : ℤ
 
--- what an object has for a property: a value, or none where the cell is clear
+-- an object's cell for a property: a value, or none if the cell is clear
 pub record Cell : Type 0 where
   pub value : Option Tree
   pub owner : ℤ
@@ -86,7 +86,7 @@ object_of o = record {
 abbrev pub verb_lines : Verb → List Line
 verb_lines v = v.names ∷ signed_decimal v.owner ∷ count_line v.perms ∷ signed_decimal v.preposition ∷ []
 
--- the lines of a value, or the type that stands for none
+-- the lines of a value, or the type number that marks a clear cell
 abbrev pub cell_value_lines : Option Tree → List Line
 cell_value_lines None = codes "5" ∷ []
 cell_value_lines (Some t) = value_lines t
@@ -99,7 +99,7 @@ number_lines b =
     count_line b.flags ∷ signed_decimal b.owner ∷ signed_decimal b.location ∷ signed_decimal b.contents ∷ signed_decimal b.next ∷ signed_decimal b.parent
     ∷ signed_decimal b.child ∷ signed_decimal b.sibling ∷ []
 
--- An object's lines below that of its number. The note is a string that is read and not kept.
+-- An object's lines after its header. The note is a string that is read and not kept.
 abbrev pub object_lines : Object → Line → List Line
 object_lines o note =
     o.name ∷ note ∷ (number_lines o.body ++ count_line (length o.body.verbs) ∷ (flat_map verb_lines o.body.verbs
@@ -148,7 +148,7 @@ pub record AreNumbers (b : Body) : Type 0 where
   pub child : FitsSigned w32 b.child
   pub sibling : FitsSigned w32 b.sibling
 
--- what has lines as an object: with limits on sizes, or without
+-- an object that has lines: with size limits, or without
 pub record IsObject (s : Sizes) (o : Object) : Type 0 where
   pub name : IsStringOf s o.name
   pub numbers : AreNumbers o.body

@@ -9,7 +9,7 @@ use moo_dbvalue::{LineFault, Refusal, number, small};
 use moo_object::{Flags, ObjectSpecifier, PrepositionSpecifier, PropPerms, VerbPerms};
 use moo_value::{WEIGHT_LIMIT, is_text};
 
-/// What the number of a verb's permissions holds.
+/// The permissions and the object specifiers that are packed into one number of a verb.
 #[derive(Clone, Copy)]
 pub(crate) struct VerbBits {
     pub(crate) perms: VerbPerms,
@@ -66,7 +66,7 @@ pub(crate) fn property_perms(line: &[u8]) -> Result<PropPerms, Refusal>
     }
 }
 
-/// A string that is read and not kept.
+/// Checks a string that is read and not kept. Returns `BadString` or `TooLarge` if the line is none.
 pub(crate) fn note(line: &[u8]) -> Result<(), Refusal>
     ensures { Gives (λ _. line.now) result (text_of limited line.now) }
 {

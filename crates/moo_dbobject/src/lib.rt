@@ -1,5 +1,5 @@
 //! Objects as lines of a database text.
-//! A room behind `moo_dbtext`.
+//! An internal crate of `moo_dbtext`.
 #![tactic(auto)]
 
 mod field;

@@ -1,4 +1,4 @@
-//! An object, read a line at a time.
+//! A reader of objects, one line at a time.
 ghost use Rattle.std.specs.Prelude.{◌≡◌, ◌++◌, true, map, option_map, None, OnOk};
 ghost use Rattle.moo_value.specs.View.{tree};
 ghost use Rattle.moo_dbvalue.specs.Lines.{Gives, limited};
@@ -14,7 +14,7 @@ use moo_value::{MooStr, Value};
 use std::alloc::{AllocError, Global};
 use std::mem;
 
-/// What the next line is.
+/// The content of the next line.
 #[derive(Clone, Copy)]
 enum Awaited {
     Name,
@@ -50,7 +50,7 @@ struct VerbDraft {
     bits: VerbBits,
 }
 
-/// What an object has so far, without its name.
+/// The parts of an object that were read so far, without its name.
 #[derive(Drop)]
 struct BodyDraft {
     flags: Flags,
@@ -66,19 +66,19 @@ struct BodyDraft {
     cells: Vec<PropertyRecord>,
 }
 
-/// An object that is being read.
+/// Holds an object that is being read.
 #[derive(Drop)]
 pub struct ObjectReader {
     awaited: Awaited,
     name: Option<MooStr>,
     body: BodyDraft,
-    /// How many verbs, names or cells follow the one that is read now.
+    /// The number of verbs, names or cells after the one that is being read.
     left: u32,
     verb: VerbDraft,
     value: ValueReader,
     cell: Option<Value>,
     cell_owner: i32,
-    /// The names of the verbs of this object and those before it.
+    /// The names of the verbs of this object and of those before it.
     met: MetStrings,
 }
 
@@ -100,7 +100,7 @@ fn empty(alloc: Global) -> BodyDraft
     }
 }
 
-// For how many of so many verbs, names or cells there is room at first.
+// Returns for how many of `count` verbs, names or cells to reserve memory at first.
 fn first_room(count: u32) -> usize {
     count.min(64) as usize
 }
@@ -145,7 +145,7 @@ fn named(name: MooStr, body: BodyDraft) -> ObjectRecord
 }
 
 impl ObjectReader {
-    /// A reader of an object, before the line of its name.
+    /// Returns a reader that expects the line of an object's name.
     pub fn new(alloc: Global) -> ObjectReader
         ensures { draft_of result ≡ fresh_draft }
     {
@@ -184,7 +184,7 @@ impl ObjectReader {
         self.awaited = Awaited::PropertyName;
     }
 
-    // Tells whether the object is whole.
+    // Returns whether the object is complete.
     fn expect_cells(&mut self, left: u32) -> bool
         ensures { given_by result (draft_of self.new) ≡ after_cell (draft_of self.old) (body_of self.old.body) left }
     {
@@ -196,7 +196,7 @@ impl ObjectReader {
         false
     }
 
-    /// The object, once it is whole. The next one begins.
+    /// Returns the object that was read, and expects the next one. Call it when `step` has returned true.
     pub fn take_object(&mut self, alloc: Global) -> Option<ObjectRecord>
         ensures { (draft_of self.new, option_map object_of result) ≡ given_by true (draft_of self.old) }
     {
@@ -254,7 +254,8 @@ impl ObjectReader {
         Ok(())
     }
 
-    /// Takes the next line of an object, and tells whether it was the last.
+    /// Takes the next line of an object, and returns whether it was the last. Fails if the line has a fault, or if
+    /// memory runs out.
     #[tactic(auto, unfolding(crate::specs::ObjectReading::object_step))]
     pub fn step(&mut self, alloc: Global, line: &[u8]) -> Result<bool, Refusal>
         ensures { Gives (λ whole. given_by whole (draft_of self.new)) result (object_line limited (draft_of self.old) line.now) }

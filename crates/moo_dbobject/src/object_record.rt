@@ -1,9 +1,9 @@
-//! An object as its lines give it, before anything is asked across objects.
+//! Objects as their lines give them, before any check across objects.
 
 use moo_object::{Flags, PropPerms, VerbArgs, VerbPerms};
 use moo_value::{MooStr, Value};
 
-/// A verb, without its program.
+/// A verb without its program.
 #[derive(Drop)]
 pub struct VerbRecord {
     /// Patterns with blanks between them.
@@ -13,34 +13,34 @@ pub struct VerbRecord {
     pub args: VerbArgs,
 }
 
-/// What an object has for a property.
+/// The value, owner and permissions that an object has for a property.
 #[derive(Drop)]
 pub struct PropertyRecord {
-    /// `None` where the cell is clear, so that the value is the parent's.
+    /// `None` if the cell is clear, so that the value is the parent's.
     pub value: Option<Value>,
     pub owner: i32,
     pub perms: PropPerms,
 }
 
-/// An object as its lines give it. The links to other objects are as they were read.
+/// An object as its lines give it. Its links to other objects are not checked.
 #[derive(Drop)]
 pub struct ObjectRecord {
     pub name: MooStr,
     pub flags: Flags,
     pub owner: i32,
     pub location: i32,
-    /// The first of its contents, or -1.
+    /// The first object in its contents, or -1.
     pub contents: i32,
-    /// The next in the contents of its location, or -1.
+    /// The next object in the contents of its location, or -1.
     pub next: i32,
     pub parent: i32,
-    /// The first of its children, or -1.
+    /// Its first child, or -1.
     pub child: i32,
     /// The next child of its parent, or -1.
     pub sibling: i32,
     pub verbs: Vec<VerbRecord>,
     /// The names of the properties that it defines.
     pub names: Vec<MooStr>,
-    /// Its cells: those of its own definitions, then those of its parent's, and so on to the root.
+    /// Its cells: those of its own definitions, then those of its parent's, and so on up to the root.
     pub cells: Vec<PropertyRecord>,
 }

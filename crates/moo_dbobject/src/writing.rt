@@ -1,4 +1,4 @@
-//! Writing the lists of numbers and of names in objects.
+//! Writers of the lists of numbers and of names in objects.
 ghost use Rattle.std.specs.Prelude.{◌≡◌, ◌++◌, map, OnOk};
 ghost use Rattle.std.specs.Fmt.{signed_decimal};
 ghost use Rattle.moo_dbvalue.specs.Lines.{unlines};
@@ -7,7 +7,7 @@ use moo_dbvalue::{put_line, put_number};
 use moo_value::MooStr;
 use std::alloc::AllocError;
 
-/// Appends the lines of numbers with signs.
+/// Appends signed numbers, one line each. Fails only if memory runs out.
 pub fn put_numbers(out: &mut Vec<u8>, numbers: &[i32]) -> Result<(), AllocError>
     ensures { OnOk result (out.new.items ≡ out.old.items ++ unlines (map signed_decimal numbers.now)) }
 {
@@ -17,7 +17,7 @@ pub fn put_numbers(out: &mut Vec<u8>, numbers: &[i32]) -> Result<(), AllocError>
     Ok(())
 }
 
-/// Appends names, each a line.
+/// Appends names, one line each. Fails only if memory runs out.
 pub fn put_names(out: &mut Vec<u8>, names: &[MooStr]) -> Result<(), AllocError>
     ensures { OnOk result (out.new.items ≡ out.old.items ++ unlines names.now) }
 {

@@ -1,4 +1,4 @@
--- What a reader knows behind the bytes that it has taken.
+-- The state of a reader after the bytes that it has taken.
 use Rattle.std.proofs.Common.{◌≡◌, ℕ, Bool, true, false, eqb, eq-eqb, suc, ◌+◌, ◌-◌, List, [], ◌∷◌, ◌++◌, length, Option, Some, None, Result, Ok, ◌⊎◌, inl, inr, refl, sym, ap, subst, ◌∙◌, append_assoc, arith, MatchOption}
 use Rattle.std.specs.Prelude.{codes, map}
 use Rattle.std.specs.Fmt.{signed_decimal}
@@ -37,7 +37,7 @@ use Rattle.moo_dbprogram.specs.Reading.{IsBehind, IsRefused, IsSourceRefused, en
 
 -- ---- the records
 
--- a going reader stands where the bytes lead
+-- a reader without a fault is in the state to which the bytes lead
 pub taken_going : (r : DbReader) (bytes : List ℕ) → IsGoing r → HasTaken r bytes → taken_on limited begin bytes ≡ Ok (taken_of r)
 taken_going r bytes going h = at r.failed going h
   where
@@ -82,7 +82,7 @@ line_passes bytes line s t whole a b =
     let before = taken_so limited bytes s a in
     record { front = whole.line; is = whole.is; clean = whole.clean; past = past; before = before; does = line_does limited s bytes (s.rest ++ whole.line) t.progress before past.step }
 
--- where no program ends, no source comes
+-- if no program ends, no source comes
 pub still_sources : (s t : Taken) (bytes line : List ℕ) → Passes s bytes line t → ended_between (verb_read s.progress.section s.progress) (verb_read t.progress.section t.progress) ≡ None → SameSources s.progress t.progress
 still_sources s t bytes line h none = by h.does
   where
@@ -96,7 +96,7 @@ still_sources s t bytes line h none = by h.does
         cc
         )
 
--- where one ends
+-- if one ends
 pub record Ends (s : Taken) (bytes line : List ℕ) (t : Taken) (h : Passes s bytes line t) (o v : ℕ) : Type 0 where
   pub section : s.progress.section ≡ section.Source
   pub object : s.progress.object ≡ o
@@ -134,7 +134,7 @@ ends_source s t bytes line h o v some = by h.does
           ended = ended;
         }
 
--- ---- where the program stands
+-- ---- the place of the program
 
 -- the lines that have come before and in a program
 programmed_front : (t : Text) (k : Slack) (m : ℕ) (more : List Line) → programmed t k m more ≡ programmed t k m [] ++ more
@@ -150,7 +150,7 @@ dot_behind : (before source : List Line) (o v : ℕ) → through_program before 
 dot_behind before source o v =
     ap unlines (sym (append_assoc before (program_line o v ∷ source) (codes "." ∷ []))) ∙ flat_map_push (λ (l : Line). l ++ 10 ∷ []) (before ++ program_line o v ∷ source) (codes ".")
 
--- the program stands there, and this is what had come before its dot
+-- the program is there, and this is what had come before its dot
 pub record StandsBehind (bytes : List ℕ) (n o v : ℕ) (p : Progress) : Type 0 where
   pub place : HasProgramAt bytes n o v p.source
   pub same : place.reading.state.progress ≡ p
@@ -250,7 +250,7 @@ same_or_apart i o j v = decide (eqb i o) refl (eqb j v) refl
 
 -- ---- the dot that ends a program
 
--- the states behind the line before and behind the dot, and the source between them, which the reader has
+-- the states after the line before and after the dot, and the source between them, which the reader has
 pub record IsAtDot (old new : DbReader) (bytes line : List ℕ) (before : IsAt old bytes) (o v : ℕ) : Type 0 where
   pub after : IsAt new (bytes ++ line)
   pub passes : Passes before.state bytes line after.state

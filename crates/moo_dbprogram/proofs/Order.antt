@@ -1,4 +1,4 @@
--- Of several faults of a text one is told.
+-- Of several faults of a text one is reported.
 use Rattle.std.proofs.Common.{◌≡◌, ◌≢◌, refl, ℕ, ◌+◌, ◌-◌, ◌<◌, List, length, Option, Some, None, Result, Err, inl, inr, sym, ap, subst, ◌∙◌, arith}
 use Rattle.std.proofs.lemmas.Bool.{cases_lt}
 use Rattle.moo_dbvalue.specs.Lines.{Line, limited}
@@ -18,7 +18,7 @@ use Rattle.moo_dbprogram.specs.Faults.{AreSoundBefore, AreToldAlike, IsBlamed, C
 use Rattle.moo_dbprogram.specs.Reading.{IsRecordFault, IsToldProgram, IsRefused}
 use Rattle.moo_dbprogram.proofs.Blame.{blamed_is_outside}
 
--- what is answered is a fault of a line, and this is told
+-- the answer is a fault of a line, and this is reported
 pub record IsToldLine {A : Type 0} (answer : Result A Told) (d : DbFault) : Type 0 where
   pub fault : LineFault
   pub answers : answer ≡ Err (record { line = d.line; fault = fault })
@@ -41,7 +41,7 @@ told_line bytes answer d h known = at h.fault.kind refl h.stops
       kind = kind_is ∙ ap kind_of_refusal is;
     }
 
--- the same line, and the same kind
+-- two faults have one line and one kind
 abbrev pub AreSame : DbFault → DbFault → Type 0
 AreSame d e = (d.line ≡ e.line) × (d.kind ≡ e.kind)
 
@@ -63,7 +63,7 @@ one_line bytes d e h k =
     let same : left ≡ right = cc in
     (ap (λ (x : Told). x.line) same, h.kind ∙ ap (λ (x : Told). kind_of x.fault) same ∙ sym k.kind)
 
--- a program that has come before the told line is not at fault
+-- a program that has come before the reported line is not at fault
 line_or_program : (bytes : List ℕ) (d e : DbFault) → IsToldLine (answer_to limited bytes) d → AreSoundBefore d.line bytes → IsToldProgram bytes e → ⊥
 line_or_program bytes d e h sound p =
     let place = p.is.place in
@@ -83,7 +83,7 @@ later_program bytes d e p q before =
     let b = q.is.parsed p.object p.verb p.is.source there in
     blamed_is_outside p.is.source p.fault b.0 p.is.blamed b.1
 
--- the same program is told, with the same source
+-- two faults report one program, with one source
 record AreOfOneSource (bytes : List ℕ) (d e : DbFault) (p : IsToldProgram bytes d) (q : IsToldProgram bytes e) : Type 0 where
   line : d.line ≡ e.line
   source : p.is.source ≡ q.is.source
@@ -152,7 +152,7 @@ one_is_told bytes d e (inr (inl h)) (inr (inr q)) known other = absurd (line_or_
 one_is_told bytes d e (inr (inr p)) (inr (inl k)) known other = absurd (line_or_program bytes e d (told_line bytes (answer_to limited bytes) e k other) k.sound p)
 one_is_told bytes d e (inr (inr p)) (inr (inr q)) known other = program_alike bytes d e p q
 
--- for a choice of what is told of each source
+-- for a choice of the fault that is reported of each source
 pub one_by_choice : (choice : Choice) (bytes : List ℕ) (d e : DbFault) → IsRefused bytes (answer_to limited bytes) d → IsRefused bytes (answer_to limited bytes) e
     → TellsBy (chosen_by choice) bytes d → TellsBy (chosen_by choice) bytes e → d.kind ≢ kind.Memory → e.kind ≢ kind.Memory → AreSame d e
 one_by_choice choice bytes d e (inl memory) k by also known other = absurd (known memory)

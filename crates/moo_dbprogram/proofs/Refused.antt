@@ -1,4 +1,4 @@
--- Refusals of bytes stand for all that begin so, and what they say of the whole.
+-- A refusal of bytes holds for all bytes that begin so, and has consequences for the whole.
 use Rattle.std.proofs.lemmas.List.{take_rest, take-append-drop}
 use Rattle.std.proofs.Common.{◌≡◌, ℕ, ◌+◌, ◌-◌, List, [], ◌∷◌, ◌++◌, length, take, drop, Option, Some, None, Result, Ok, Err, inl, inr, refl, sym, ap, subst, ◌∙◌, append_assoc, arith, MatchOption}
 use Rattle.moo_dbvalue.specs.Lines.{limited}
@@ -21,7 +21,7 @@ use Rattle.moo_dbprogram.specs.Faults.{AreSoundBefore, through_program}
 use Rattle.moo_dbprogram.specs.Reading.{IsRecordFault, IsToldProgram, IsRefused, IsBehind, HasRead, IsWell, HasRefused, IsRead}
 use Rattle.moo_dbprogram.proofs.Behind.{parsed_within}
 
--- ---- what stands before a fault
+-- ---- the text before a fault
 
 sound_here : (r : ProgramReader) (bytes : List ℕ) (n : ℕ) (h : IsBehind r bytes) → n ≡ h.at.state.lines + 1 → AreSoundBefore n bytes
 sound_here r bytes n h is =
@@ -35,7 +35,7 @@ sound_on bytes more n h = record { stand = stands_on limited (n - 1) bytes more 
 taken_from : {A : Type 0} (r : ProgramReader) (bytes : List ℕ) (f : Taken → Result A Told) (h : IsBehind r bytes) → and_then (taken_on limited begin bytes) f ≡ f h.at.state
 taken_from r bytes f h = ap (λ (x : Result Taken Told). and_then x f) h.at.leads
 
--- where the records stop at a fault of this line, or for want of memory
+-- if the records stop at a fault of this line, or because memory ran out
 stopped : {A : Type 0} (bytes : List ℕ) (answer : Result A Told) (f : RecordFault) → ((d : Told) → answer ≡ Err d → AreSoundBefore d.line bytes) → Stops f answer → IsRefused bytes answer (fault_of f)
 stopped {A = A} bytes answer f sound stops = at f.kind refl stops
   where
@@ -51,7 +51,7 @@ line_refused r bytes line f whole h =
     ap (taken_on limited h.at.state) (sym whole.is) ∙ sym (taken_on-append limited begin bytes line ∙ taken_from r bytes (λ t. taken_on limited t line) h) ∙ e in
     sound_on bytes line d.line (sound_here r bytes d.line h (line_fault limited h.at.state whole.line d whole.clean here)))
 
--- bytes without an end stop for want of memory alone
+-- bytes without an end stop only if memory runs out
 pub part_refused : (r : ProgramReader) (bytes part : List ℕ) (f : RecordFault) → HasNoEnd part → IsBehind r bytes → Stops f (taken_on limited begin (bytes ++ part)) → IsRefused (bytes ++ part) (taken_on limited begin (bytes ++ part)) (fault_of f)
 part_refused r bytes part f clean h =
     stopped (bytes ++ part) (taken_on limited begin (bytes ++ part)) f (λ d e. absurd (

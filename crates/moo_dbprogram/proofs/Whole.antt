@@ -1,4 +1,4 @@
--- What an answer says of the bytes of a whole text.
+-- Consequences of the answer to the bytes of a whole text.
 use Rattle.std.proofs.Common.{◌≡◌, ◌≢◌, ℕ, List, ◌++◌, Option, Some, None, Result, Ok, Err, inl, inr, refl, sym, ap, subst, ◌∙◌}
 use Rattle.std.specs.Prelude.{IfOk, IfErr, MatchResult}
 use Rattle.moo_dbvalue.specs.Lines.{limited}
@@ -77,7 +77,7 @@ one_line : (f g : LineFault) → kind_of f ≡ kind_of g → f ≡ g
 unfolding told_line
 one_line f g e = let some : LineFault → Option LineFault = λ x. Some x in let h : some f ≡ some g = sym (line_told f) ∙ ap told_line e ∙ line_told g in cc
 
--- the refusal that is told as a line's fault
+-- the refusal that is reported as a line's fault
 refusal_is : (r : Refusal) (f : LineFault) → kind_of_refusal r ≡ kind_of f → r ≡ refusal.Fault f
 refusal_is refusal.Memory f e = absurd (no_memory (kind_of f) f (sym e) refl)
 refusal_is (refusal.Fault g) f e = ap refusal.Fault (one_line g f e)
@@ -106,7 +106,7 @@ is_found bytes (Err e) h = tt
 ok_says : (bytes : List ℕ) (d : Database) (t : Text) → IsRead bytes d → Spells bytes t → Says t d
 ok_says bytes d t h s = subst (λ (u : Text). Says u d) (one_text bytes h.text t (answer_found limited bytes h.text h.records) s) h.says
 
--- the source of a program that is told, in a text that the bytes spell
+-- the source of a program that is reported, in a text that the bytes spell
 pub source_told : (bytes : List ℕ) (e : DbFault) (t : Text) (p : IsToldProgram bytes e) → Spells bytes t → entry_at t.programs p.object p.verb ≡ Some p.is.source
 source_told bytes e t p s = p.is.place.there p.is.place.after t (subst (λ (b : List ℕ). Spells b t) p.is.place.whole s)
 

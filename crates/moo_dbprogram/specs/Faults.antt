@@ -1,4 +1,4 @@
--- What is told of bytes that are refused.
+-- The faults that are reported of refused bytes.
 use Rattle.std.specs.Prelude.{◌≡◌, ◌≢◌, ℕ, suc, ◌+◌, ◌-◌, List, ◌++◌, Option, Some, None, ◌⊎◌, length}
 use Rattle.moo_grammar.specs.declared.names.Names.TheVariants.{Any}
 use Rattle.moo_syntax.specs.declared.syntax_fault.SyntaxFaultKind.{SyntaxFaultKind}
@@ -20,7 +20,7 @@ use Rattle.moo_dbrecord.specs.declared.fault.ProgramFaultKind.TheVariants as pro
 use Rattle.moo_dbrecord.specs.declared.fault.DbFault.{DbFault}
 use Rattle.moo_dbprogram.specs.Says.{HasProgramsWithin}
 
--- how a fault of a source is told, but for want of memory
+-- the kind that is reported of a fault of a source; none if memory ran out
 abbrev pub told_kind : SyntaxFaultKind → Option ProgramFaultKind
 told_kind syntax.BadToken = Some program.BadToken
 told_kind syntax.Unexpected = Some program.Unexpected
@@ -34,11 +34,11 @@ abbrev pub source_kind_of : ℕ → ℕ → ℕ → Option ProgramFaultKind → 
 source_kind_of o v line None = kind.Memory
 source_kind_of o v line (Some k) = kind.Program o v (record { line = line; kind = k })
 
--- what is told of a verb whose source has a fault of this kind on this line
+-- the kind that is reported of a verb whose source has a fault of this kind on this line
 abbrev pub source_kind : ℕ → ℕ → ℕ → SyntaxFaultKind → DbFaultKind
 source_kind o v line k = source_kind_of o v line (told_kind k)
 
--- the fault that is told says this of the source
+-- the source has the fault that is reported
 pub record IsBlamed (source : List Line) (f : ProgramFault) : Type 0 where
   pub kind : SyntaxFaultKind
   pub told : told_kind kind ≡ Some f.kind
@@ -48,8 +48,8 @@ pub record IsBlamed (source : List Line) (f : ProgramFault) : Type 0 where
 abbrev pub through_program : List Line → ℕ → ℕ → List Line → List ℕ
 through_program before o v source = unlines (before ++ program_lines (record { object = o; verb = v; source = source }))
 
--- The bytes have the program of verb v of object o, with this first line and this source: the lines up to its dot can stand
--- where they are, and it is the one that is being read there; with the dot it has come.
+-- The bytes have the program of verb v of object o, with this first line and this source: the lines up to its dot are
+-- right where they are, and it is the one that is being read there; with the dot it has come.
 pub record HasProgramAt (bytes : List ℕ) (line o v : ℕ) (source : List Line) : Type 0 where
   pub before : List Line
   pub after : List ℕ
@@ -63,22 +63,22 @@ pub record HasProgramAt (bytes : List ℕ) (line o v : ℕ) (source : List Line)
   -- each text that begins so has it
   pub there : (more : List ℕ) (t : Text) → Spells (through_program before o v source ++ more) t → entry_at t.programs o v ≡ Some source
 
--- The program of this verb, on whose first line the fault is told, is none for this reason, and each program that has come
--- before it is one by the parser.
+-- The source of this verb, whose first line is the reported one, is no program for this reason. Each program that has
+-- come before it is one by the parser.
 pub record IsProgramFault (bytes : List ℕ) (line o v : ℕ) (f : ProgramFault) : Type 0 where
   pub source : List Line
   pub place : HasProgramAt bytes line o v source
   pub blamed : IsBlamed source f
   pub parsed : HasProgramsWithin place.reading.state.progress.text
 
--- The lines before line n can stand where they are, and each program that has come with them is one by the parser.
+-- The lines before line n are right where they are, and each program that has come with them is one by the parser.
 pub record AreSoundBefore (n : ℕ) (bytes : List ℕ) : Type 0 where
   pub stand : Stand limited (n - 1) bytes
   pub parsed : HasProgramsWithin stand.state.progress.text
 
 -- ---- kinds of faults
 
--- a fault of a line that stands there, whatever the limits on sizes are
+-- a fault of a line that is wrong there, whatever the size limits are
 abbrev pub IsOfLine : DbFaultKind → Type 0
 IsOfLine k = (f : LineFault) × (k ≡ kind_of f) × (f ≢ Truncated) × (f ≢ TooLarge)
 
@@ -89,13 +89,13 @@ pub record IsTooDeep (k : DbFaultKind) : Type 0 where
   pub line : ℕ
   pub is : k ≡ kind.Program object verb (record { line = line; kind = program.TooDeep })
 
--- want of memory, or what is past a limit
+-- memory ran out, or a limit was exceeded
 abbrev pub IsOfLimits : DbFaultKind → Type 0
 IsOfLimits k = (k ≡ kind.Memory) ⊎ (k ≡ kind.TooLarge) ⊎ IsTooDeep k
 
--- ---- two faults that are told of one text
+-- ---- two faults that are reported of one text
 
--- of a program that is none two faults may be told, both of its source
+-- of a source that is no program two faults may be reported, both of that source
 pub record AreOfOneProgram (j k : DbFaultKind) : Type 0 where
   pub object : ℕ
   pub verb : ℕ
@@ -107,24 +107,24 @@ pub record AreOfOneProgram (j k : DbFaultKind) : Type 0 where
   pub blamed : IsBlamed source fault
   pub also_blamed : IsBlamed source other
 
--- on the same line the same is told, but for which fault of one program it is
+-- both report one line and one kind, but for which fault of one program it is
 pub record AreToldAlike (d e : DbFault) : Type 0 where
   pub line : d.line ≡ e.line
   pub kind : (d.kind ≡ e.kind) ⊎ AreOfOneProgram d.kind e.kind
 
--- ---- what is told of sources
+-- ---- what is reported of sources
 
--- which faults may be told of a source
+-- the faults that may be reported of a source
 abbrev pub Telling : Type 1
 Telling = List Line → ProgramFault → Type 0
 
--- a choice of what each source is told
+-- a choice of the fault that is reported of each source
 abbrev pub Choice : Type 0
 Choice = List Line → Option ProgramFault
 
 abbrev pub chosen_by : Choice → Telling
 chosen_by choice source f = choice source ≡ Some f
 
--- where a program is told, it is what may be told of its source
+-- if a program is reported, its fault is one that may be reported of its source
 abbrev pub TellsBy : Telling → List ℕ → DbFault → Type 0
 TellsBy T bytes e = (o v : ℕ) (f : ProgramFault) → e.kind ≡ kind.Program o v f → (h : IsProgramFault bytes e.line o v f) → T h.source f

@@ -1,6 +1,6 @@
--- What the sources of a text have for programs.
+-- The programs of the sources of a text.
 pub mod Says
--- What is told of a source that is no program.
+-- The faults that are reported of a source that is no program.
 pub mod Faults
--- What a reader has taken between two pieces.
+-- The state of a reader between two pieces.
 pub mod Reading

@@ -1,4 +1,4 @@
--- What a reader has taken between two pieces, and what it answers.
+-- The state of a reader between two pieces, and its answers.
 use Rattle.std.specs.Prelude.{◌≡◌, ℕ, ◌-◌, List, [], ◌∷◌, ◌++◌, length, Option, Some, None, Result, Ok, Err, ◌⊎◌, MatchOption}
 use Rattle.moo_grammar.specs.declared.names.Names.TheVariants.{Any}
 use Rattle.moo_syntax.specs.declared.syntax_fault.SyntaxFaultKind.{SyntaxFaultKind}
@@ -26,7 +26,7 @@ pub record IsBehind (r : ProgramReader) (bytes : List ℕ) : Type 0 where
   pub at : IsAt r.records bytes
   pub parsed : AreParsedAs at.state.progress.text.programs (programs_of r.programs)
 
--- where a reader stands in the text, but for sources that were dropped
+-- the reader's state in the text, but for sources that were dropped
 abbrev pub place_of : ProgramReader → Progress
 place_of r = (taken_of r.records).progress
 
@@ -65,18 +65,18 @@ HasRefused r e = r.failed ≡ Some e
 abbrev pub lines_of : ProgramReader → ℕ
 lines_of r = (taken_of r.records).lines
 
--- the records of the bytes are read, and say what is kept
+-- the records of the bytes are read, and describe what is kept
 pub record IsRead (bytes : List ℕ) (d : Database) : Type 0 where
   pub text : Text
   pub records : answer_to limited bytes ≡ Ok text
   pub says : Says text d
 
--- what is answered of the whole bytes
+-- the answer for the whole bytes
 abbrev pub Answers : Result Database DbFault → List ℕ → Type 0
 Answers (Ok d) bytes = IsRead bytes d
 Answers (Err e) bytes = IsRefused bytes (answer_to limited bytes) e
 
--- the verb whose program ended, of the verbs whose programs were being read before a line and behind it
+-- the verb whose program ended, given the verbs whose programs were being read before a line and after it
 abbrev pub ended_between : Option (ℕ × ℕ) → Option (ℕ × ℕ) → Option (ℕ × ℕ)
 ended_between verb None = verb
 ended_between verb (Some other) = None
@@ -88,7 +88,7 @@ verb_at r = verb_read (taken_of r).progress.section (taken_of r).progress
 abbrev pub sources_at : DbReader → Table
 sources_at r = (taken_of r).progress.text.programs
 
--- the fault of a source of a verb, behind so many lines
+-- the fault of a source of a verb, after so many lines
 pub record IsSourceFault (lines o v : ℕ) (source : List Line) (e : DbFault) : Type 0 where
   pub line : e.line ≡ lines - length source - 1
   pub at : ℕ

@@ -35,7 +35,7 @@ IsParsedAs s b = HasSource (IsParsed Any) s b
 abbrev pub AreParsedAs : Table → Programs → Type 0
 AreParsedAs sources programs = HaveSources (IsParsed Any) sources programs
 
--- The text says what is kept of it.
+-- The text describes what is kept of it.
 pub record Says (t : Text) (d : Database) : Type 0 where
   pub players : d.players.items ≡ t.players
   pub objects : map (option_map object_of) d.objects.items ≡ t.objects

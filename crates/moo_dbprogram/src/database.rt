@@ -1,4 +1,4 @@
-//! What is kept of a database text.
+//! The contents of a database text that are kept.
 
 use moo_dbobject::ObjectRecord;
 use moo_dbrecord::Connection;
@@ -8,10 +8,10 @@ use moo_grammar::Program;
 #[derive(Drop)]
 pub struct Database {
     pub players: Vec<i32>,
-    /// By number, `None` for a recycled one.
+    /// By number, `None` for a recycled object.
     pub objects: Vec<Option<ObjectRecord>>,
-    /// By object and verb, `None` for a verb without a program. A verb past the end of its row, and
-    /// each of an object past the last row, has none.
+    /// By object and verb, `None` for a verb without a program. A verb past the end of its row has none, nor has a
+    /// verb of an object past the last row.
     pub programs: Vec<Vec<Option<Program>>>,
     pub connections: Vec<Connection>,
 }

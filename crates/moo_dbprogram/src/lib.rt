@@ -1,5 +1,5 @@
-//! A whole database text with its programs as trees, read in pieces.
-//! A room behind `moo_dbtext`.
+//! Whole database texts with their programs as trees, read in pieces.
+//! An internal crate of `moo_dbtext`.
 #![tactic(auto)]
 
 mod database;

@@ -1,4 +1,4 @@
-//! A text that comes in pieces, and the programs in it.
+//! A reader of texts that come in pieces, with the programs in them.
 ghost use Rattle.std.specs.Prelude.{◌≡◌, ◌++◌, ℕ, List, [], Some, Ok, OnOk, IfErr, IfOk, IsErrOf, MatchResult};
 ghost use Rattle.moo_dbvalue.specs.Lines.{Line, limited};
 ghost use Rattle.moo_dbrecord.specs.Programs.{entry_at};
@@ -20,7 +20,7 @@ use moo_syntax::{Names, parse_with};
 use moo_token::Known;
 use std::alloc::Global;
 
-/// Takes a line with its end, and tells the verb whose program it ends.
+/// Takes a line with its end. Returns the object and verb whose program the line ends, if it ends one.
 #[inline(always)]
 fn take_line(
     alloc: Global,
@@ -41,7 +41,7 @@ fn take_line(
     }
 }
 
-/// The program of a verb's source.
+/// Parses the source of a verb. Returns `None` if it has none.
 fn program_of(
     alloc: Global,
     known: &mut Known,
@@ -67,7 +67,7 @@ fn program_of(
     }
 }
 
-/// The same, with these programs for its sources.
+/// Returns the contents of a text, with these programs in place of its sources.
 fn with_programs(dump: Dump, programs: Vec<Vec<Option<Program>>>) -> Database
     ensures { result ≡ record { players = dump.players; objects = dump.objects; programs = programs; connections = dump.connections } }
 {
@@ -79,19 +79,19 @@ fn with_programs(dump: Dump, programs: Vec<Vec<Option<Program>>>) -> Database
     }
 }
 
-/// Reads a text in pieces, and parses each program at the dot that ends it. After a fault each call
-/// answers that fault.
+/// Reads a text in pieces, and parses each program at the dot that ends it. After a fault each call returns that
+/// fault.
 #[derive(Drop)]
 pub struct ProgramReader {
     records: DbReader,
     programs: Vec<Vec<Option<Program>>>,
-    /// The names that stand in the programs.
+    /// The names that are used in the programs.
     known: Known,
     failed: Option<DbFault>,
 }
 
 impl ProgramReader {
-    /// A reader before the first byte.
+    /// Returns a reader that expects the first byte.
     pub fn new(alloc: Global) -> ProgramReader
         ensures taken { HasRead result [] }
         ensures well { IsWell result }
@@ -104,14 +104,14 @@ impl ProgramReader {
         }
     }
 
-    /// How many lines have ended.
+    /// Returns the number of lines that have ended.
     pub fn lines(&self) -> u64
         ensures { result ≡ lines_of self.now }
     {
         self.records.lines()
     }
 
-    /// Parses and keeps the program of a verb, whose dot has come, and drops its lines.
+    /// Parses and keeps the program of a verb whose dot has come, and drops its lines.
     #[inline(never)]
     fn keep(&mut self, alloc: Global, object: u32, verb: u32) -> Result<(), DbFault>
         ensures there { OnOk result ((source : List Line) → entry_at (sources_at self.old.records) object verb ≡ Some source → IsParsedAs (Some source) (entry_at (programs_of self.new.programs) object verb)) }
@@ -180,7 +180,7 @@ impl ProgramReader {
         self.part(alloc, more)
     }
 
-    /// Takes the next piece of the text.
+    /// Takes the next piece of the text. Returns the first fault, of a line or a program, or `Memory`.
     pub fn feed(&mut self, alloc: Global, piece: &[u8]) -> Result<(), DbFault>
         ensures taken { (bytes : List ℕ) → HasRead self.old bytes → HasRead self.new (bytes ++ piece.now) }
         ensures ok { OnOk result (IsWell self.new) }
@@ -197,7 +197,7 @@ impl ProgramReader {
         taken
     }
 
-    /// Takes the next line with its end, as `feed` does, without a search for it.
+    /// Takes the next line with its end, as `feed` does, without a search for the end.
     pub fn feed_line(&mut self, alloc: Global, line: &[u8]) -> Result<(), DbFault>
         requires { IsWholeLine line.now }
         ensures taken { (bytes : List ℕ) → HasRead self.old bytes → HasRead self.new (bytes ++ line.now) }
@@ -215,21 +215,22 @@ impl ProgramReader {
         taken
     }
 
-    /// What the lines say that have come, but for the lines of programs, which are dropped at their dots.
+    /// Returns what the lines so far hold. The lines of a program are dropped at its dot.
     pub fn dump(&self) -> &Dump
         ensures { text_of result.now ≡ (place_of self.now).text }
     {
         self.records.dump()
     }
 
-    /// Whether all objects have come.
+    /// Returns whether all objects have come.
     pub fn has_objects(&self) -> bool
         ensures { result ≡ has_objects (place_of self.now).section }
     {
         self.records.has_objects()
     }
 
-    /// What is kept of the whole text, once all of it has been fed.
+    /// Returns the contents, once the whole text has been fed. Fails if a line is missing or has no end, or with an
+    /// earlier fault.
     pub fn finish(self) -> Result<Database, DbFault>
         ensures answer { (bytes : List ℕ) → HasRead self bytes → Answers result bytes }
         ensures again { (e : DbFault) → HasRefused self e → IsErrOf result e }
@@ -250,25 +251,26 @@ fn read_all(alloc: Global, bytes: &[u8]) -> Result<Database, DbFault>
     reader.finish()
 }
 
-/// What the bytes of a whole text say line by line, with its programs.
+/// Reads a whole text with its programs. Returns the first fault, or `Memory`.
 pub fn read_programs(alloc: Global, bytes: &[u8]) -> Result<Database, DbFault>
-    // What is read is spelled so, within the limits.
+    // The bytes spell, within the limits, a text with the contents that are returned.
     ensures found { IfOk result (λ d. (t : Text) × (SpellsWithin bytes.now t × Says t d)) }
-    // What is spelled so, each source a program, is read, unless memory ends it or it is past a limit.
+    // If the bytes spell a text whose sources are programs, the reader returns its contents, unless memory runs out
+    // or a limit is exceeded.
     ensures only { (t : Text) → Spells bytes.now t → HasPrograms t → MatchResult result (Says t) (λ e. IsOfLimits e.kind) }
-    // What is within the limits is read, unless memory ends it.
+    // If text and programs are within the limits, the reader returns the contents, unless memory runs out.
     ensures within { (t : Text) → SpellsWithin bytes.now t → HasProgramsWithin t → MatchResult result (Says t) (λ e. e.kind ≡ DbFaultKind.Memory) }
-    // No text begins with the lines up to the one that is told.
+    // No text begins with the lines up to the reported one.
     ensures place { IfErr result (λ e. IsOfLine e.kind → (more : List ℕ) (t : Text) → ¬ (Spells (front_lines e.line bytes.now ++ more) t)) }
-    // Where a program is told, the bytes have it there, and its source is none.
+    // If a program is reported, the bytes have it there, and its source is no program.
     ensures program { IfErr result (λ e. (object verb : ℕ) (fault : ProgramFault) → e.kind ≡ DbFaultKind.Program object verb fault → IsProgramFault bytes.now e.line object verb fault) }
-    // Where a size is told, no text within the limits begins with the lines up to it.
+    // If a size is reported, no text within the limits begins with the lines up to that one.
     ensures size { IfErr result (λ e. e.kind ≡ DbFaultKind.TooLarge → (more : List ℕ) (t : Text) → ¬ (SpellsWithin (front_lines e.line bytes.now ++ more) t)) }
-    // A size is told only of a line that can stand there but for its size.
+    // A size is reported only of a line that would be right without limits,
     ensures large { IfErr result (λ e. e.kind ≡ DbFaultKind.TooLarge → StandWithoutLimits e.line bytes.now) }
-    // And that can't stand there with it.
+    // and that is wrong with them.
     ensures past { IfErr result (λ e. e.kind ≡ DbFaultKind.TooLarge → ¬ (Stand limited e.line bytes.now)) }
-    // The answer of a reader that is fed the same bytes in any pieces.
+    // The answer is that of a reader that is fed these bytes in any pieces.
     ensures exact { Answers result bytes.now }
 {
     read_all(alloc, bytes)

@@ -17,7 +17,7 @@ fn put_in(row: &mut Vec<Option<Program>>, verb: usize, program: Program) -> Resu
     Ok(())
 }
 
-/// Gives a verb its program. Rows are added as they are needed.
+/// Gives a verb its program, and adds rows as needed.
 pub(crate) fn put_program(
     alloc: Global,
     rows: &mut Vec<Vec<Option<Program>>>,

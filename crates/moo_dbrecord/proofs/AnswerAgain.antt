@@ -1,4 +1,4 @@
--- A text that is spelled is read, and a fault is told where no spelling goes on.
+-- A text that is spelled is read, and a fault is reported if no spelling goes on.
 use Rattle.std.proofs.Common.{◌≡◌, ℕ, zero, suc, ◌+◌, ◌<◌, ◌≤◌, ◌^◌, Bool, true, false, cond, eqb, ltb, List, [], ◌∷◌, ◌++◌, length, Result, Ok, Err, ◌⊎◌, inl, inr, zero-add, refl, sym, ap, ◌∙◌, append_assoc, arith}
 use Rattle.std.proofs.lemmas.List.{length-append}
 use Rattle.moo_dbvalue.specs.declared.fault.LineFault.{LineFault}
@@ -74,7 +74,7 @@ answer_again z bytes t k h lines =
     let b = lines_taken z (text_lines t k) 0 start a.0 no_slack (start_is z) a.1 in
     ap (answer_to z) lines ∙ ap (λ (r : Result Taken Told). and_then r finished) b.1 ∙ ap (told (b.0 + 1)) a.2
 
--- a fault of a line stands past the lines before it
+-- a fault is on a line past the lines before it
 pub fault_line : (z : Sizes) (bs : List ℕ) (s : Taken) (e : Told) → taken_on z s bs ≡ Err e → s.lines < e.line
 unfolding taken_on line_ended
 fault_line z [] s e h = absurd cc
@@ -103,7 +103,7 @@ taken_lines z (b ∷ bs) s t h = decide (eqb b 10) (λ u f. taken_lines z bs u t
     decide true rest f = ended_at (dump_step z s.progress.section s.progress s.rest) rest f
     decide false rest f = rest (record s { rest = s.rest ++ b ∷ [] }) f
 
--- the same fault is told of every text that begins with the lines up to it
+-- a fault of a text is that of every text that begins with the lines up to it
 pub same_fault : (z : Sizes) (bs : List ℕ) (s : Taken) (e : Told) (k : ℕ) (more : List ℕ) → taken_on z s bs ≡ Err e → e.line ≡ s.lines + k → taken_on z s (front_lines k bs ++ more) ≡ Err e
 unfolding taken_on line_ended
 same_fault z [] s e k more h at = absurd cc

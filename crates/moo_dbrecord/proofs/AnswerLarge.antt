@@ -1,4 +1,4 @@
--- A size is told only of a line that can stand there but for its size.
+-- A size is reported only of a line that would be right without limits.
 use Rattle.std.proofs.Common.{◌≡◌, ◌≢◌, ℕ, suc, ◌+◌, Bool, true, false, cond, eqb, List, [], ◌∷◌, ◌++◌, Result, Ok, Err, inl, inr, refl, sym, ap, subst, ◌∙◌, append-nil, zero-add, arith}
 use Rattle.std.specs.Prelude.{IfErr, nat_lt}
 use Rattle.moo_dbvalue.specs.declared.fault.LineFault.{LineFault}
@@ -38,7 +38,7 @@ text_told e d h = cc
 
 -- ---- a line after another
 
--- line n is one of those behind the state, and without limits they can stand where they are
+-- line n is one of those after the state, and without limits they are right
 record Stand (n : ℕ) (s : Taken) (bs : List ℕ) : Type 0 where
   more : ℕ
   line : n ≡ s.lines + suc more
@@ -49,7 +49,7 @@ record Stand (n : ℕ) (s : Taken) (bs : List ℕ) : Type 0 where
 abbrev next : Taken → Progress → Taken
 next s p = record { lines = s.lines + 1; progress = p; rest = [] }
 
--- the same where a line ends, which without limits reads as q
+-- line n is one of those after a state in which a line ends, which without limits reads as q
 record StandBehind (n : ℕ) (s : Taken) (q : Result Progress LineFault) (bs : List ℕ) : Type 0 where
   more : ℕ
   line : n ≡ s.lines + suc more
@@ -72,7 +72,7 @@ behind n s (Err f) q bs cut strict rest h =
     let same = taken_told (told_at (s.lines + 1) f) (told_at n TooLarge) h in
     taken_here n s q bs (strict (ap (λ (d : Told). d.fault) same)) (ap (λ (d : Told). d.line) same)
 
--- the same before a byte that is the end of a line, or not
+-- line n is one of those after a state whose next byte ends a line, or doesn't
 record StandAt (n : ℕ) (s : Taken) (b : ℕ) (bs : List ℕ) (is : Bool) : Type 0 where
   more : ℕ
   line : n ≡ s.lines + suc more
@@ -97,7 +97,7 @@ at_line n s (b ∷ bs) h =
         let t = rest (record s { rest = s.rest ++ b ∷ [] }) k in
         record { more = t.more; line = t.line; state = t.state; taken = t.taken; lines = t.lines }
 
--- ---- the end tells no size
+-- ---- the end reports no size
 
 end_never : (x : Section) (t : Text) → NeverLarge (end_of x t)
 end_never section.End t = tt
@@ -164,7 +164,7 @@ answer_large bytes n h =
     let same : suc t.more ≡ n = omega (arith, t.line) in
     record { state = t.state; taken = ap (λ (i : ℕ). taken_on unlimited begin (front_lines i bytes)) (sym same) ∙ t.taken; lines = t.lines }
 
--- under the limits it can't stand
+-- under the limits it is wrong
 answer_past : (bytes : List ℕ) (n : ℕ) → answer_to limited bytes ≡ err_text (told_at n TooLarge) → StandUnder limited n bytes → ⊥
 unfolding answer_to
 answer_past bytes n h stand =

@@ -6,7 +6,7 @@ use Rattle.moo_dbvalue.specs.Lines.{Line}
 use Rattle.moo_dbrecord.specs.Programs.{Row, Table, is_open_in, is_open, with_source_in, with_source, Program, Fills}
 use Rattle.moo_dbrecord.specs.Writing.{row_programs, table_programs}
 
--- the same verbs, none of which has a program
+-- rows in which no verb has a program
 abbrev none_for : Option (List Line) → Option (List Line)
 none_for p = None
 
@@ -16,7 +16,7 @@ emptied_row row = map none_for row
 abbrev pub emptied : Table → Table
 emptied table = map emptied_row table
 
--- a verb behind others
+-- a verb after others
 open_behind_in : (front row : Row) → is_open_in (length front) (front ++ row) ≡ is_open_in 0 row
 open_behind_in [] row = refl
 open_behind_in (None ∷ front) row = open_behind_in front row
@@ -39,7 +39,7 @@ fills_then : (a b c : Table) (ps qs : List Program) → Fills a ps b → Fills b
 fills_then a b c [] qs h k = subst (λ (t : Table). Fills t qs c) (sym h) k
 fills_then a b c (p ∷ ps) qs h k = (h.0, fills_then (with_source p.object p.verb p.source a) b c ps qs h.1 k)
 
--- object o is behind the rows of front, and its verb v behind those of done
+-- object o is after the rows of front, and its verb v after those of done
 row_fills : (front : Table) (done row : Row) (back : Table) (o v : ℕ) → o ≡ length front → v ≡ length done
     → Fills (front ++ (done ++ emptied_row row) ∷ back) (row_programs o v row) (front ++ (done ++ row) ∷ back)
 row_fills front done [] back o v at_o at_v = refl

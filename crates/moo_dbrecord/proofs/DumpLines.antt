@@ -1,4 +1,4 @@
--- A line behind those that a reader of texts has taken.
+-- A line after those that a reader of texts has taken.
 use Rattle.std.proofs.Common.{◌≡◌, ℕ, suc, ◌+◌, ◌≤◌, Bool, true, false, cond, eqb, List, [], ◌∷◌, ◌++◌, length, Option, Some, None, Ok, refl, sym, ap, subst, ◌∙◌, append_assoc, arith, add-zero, eq-eqb}
 use Rattle.std.specs.Prelude.{map}
 use Rattle.std.specs.Fmt.{signed_decimal}
@@ -17,7 +17,7 @@ use Rattle.moo_dbrecord.specs.Programs.{Table, is_open, with_source, Program, pr
 use Rattle.moo_dbrecord.specs.Texts.{Text, Slack, header_line, live_line, recycled_line, objects_lines}
 use Rattle.moo_dbrecord.proofs.DumpProgress.{counts, objected, programmed}
 
--- ---- a line behind others
+-- ---- a line after others
 
 pub counts_more : (t : Text) (k : Slack) (n m i : ℕ) (more : List Line) (line : Line) → counts t k n m i (more ++ line ∷ []) ≡ counts t k n m i more ++ line ∷ []
 counts_more t k n m i more line = ap (λ (ls : List Line). header_line t.version ∷ count_line n ∷ count_line m ∷ signed_decimal k.unused ∷ count_line i ∷ ls) (sym (append_assoc (map signed_decimal t.players) more (line ∷ [])))

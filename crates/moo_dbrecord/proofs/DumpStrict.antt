@@ -1,4 +1,4 @@
--- Where a size of a text is past its limit, the line can stand but for that limit.
+-- If a size of a text exceeds its limit, the line is right but for that limit.
 use Rattle.std.proofs.Common.{ℕ, zero, suc, ℤ, pos, negsuc, Bool, true, false, cond, leb, [], ◌∷◌, ◌++◌, length, ◌≢◌, Option, Some, None, Result, Ok, Err}
 use Rattle.std.specs.Prelude.{codes}
 use Rattle.std.specs.Str.{bytes_eq}

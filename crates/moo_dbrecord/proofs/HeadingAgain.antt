@@ -115,7 +115,7 @@ number_apart at k (negsuc n) h = (k.minus, digits_apart at k (decimal (suc n)) (
 count_fits : (n : ℕ) → n < 2 ^ 31 → FitsSigned w32 (pos n)
 count_fits n h = record { sfits = omega arith }
 
--- ---- numbers whose faults are told as others
+-- ---- numbers whose faults are reported as others
 
 told_as_ok : {A : Type 0} (f : LineFault) (r : Result A LineFault) (x : A) → told_as f r ≡ Ok x → r ≡ Ok x
 told_as_ok f (Ok y) x e = e

@@ -68,7 +68,7 @@ joined_none line front back r h e =
     let differs : (rest : List ℕ) → line ≢ front ++ rest = subst (λ (o : Option (Bor (List ℕ))). MatchOption o ((rest : List ℕ) → line ≢ front ++ rest) (λ y. line ≡ front ++ y.now)) e parts in
     is_false (bytes_eq line (front ++ back)) (λ same. differs back ((bytes_eq-Decides line (front ++ back)).0 same))
 
--- ---- what stands behind a front
+-- ---- the rest after a prefix
 
 eq_self : (line : Line) → bytes_eq line line ≡ true
 eq_self line = (bytes_eq-Decides line line).1 refl

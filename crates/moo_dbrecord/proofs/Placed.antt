@@ -123,7 +123,7 @@ one_set_of_objects z m n bytes h k past other = elim (cases_lt m n) [
   | inr ge ↦ let back = objects_stand z n m bytes k h ge other in record { past = other; objects = sym back.objects; players = sym back.players }
 ]
 
--- ---- where the objects stand
+-- ---- the place of the objects
 
 abbrev front_of : Text → Slack → ℕ → List Line
 front_of t k m = lines_to_objects t.version m k.unused k.notes t.players t.objects
@@ -151,7 +151,7 @@ fronted section.ConnectionCount p k past = (length k.programs, _, programmed_beh
 fronted section.Connection p k past = (length k.programs, _, programmed_behind p.text k (length k.programs) (tasks_lines (connections_line p.text.form (length p.text.links + suc p.left) ∷ map link_line p.text.links)))
 fronted section.End p k past = (length k.programs, _, programmed_behind p.text k (length k.programs) (tasks_lines (connections_lines p.text.form p.text.links)))
 
--- behind its last object the bytes of a text begin with all of them
+-- after its last object the bytes of a text begin with all of them
 pub objects_begin : (bytes : List ℕ) (s : Taken) → taken_on limited begin bytes ≡ Ok s → has_objects s.progress.section ≡ true → BeginsWithObjects bytes s.progress.text.players s.progress.text.objects
 objects_begin bytes s e past =
     let h = taken_so limited bytes s e in

@@ -1,4 +1,4 @@
--- What the answer to the bytes of a whole text says of them.
+-- Consequences of the answer to the bytes of a whole text.
 use Rattle.std.proofs.Common.{◌≡◌, ◌≢◌, ℕ, List, ◌++◌, Result, Ok, Err, inl, inr, sym, ap, subst, ◌∙◌}
 use Rattle.std.specs.Prelude.{IfOk, IfErr}
 use Rattle.moo_dbvalue.specs.declared.fault.LineFault.{LineFault}
@@ -73,7 +73,7 @@ is_only bytes r h t s =
       | inr large ↦ as_large t r large.0 (subst (Answers text_of r) large.1 h)
     ]
 
--- ---- no text goes on behind a fault
+-- ---- no text goes on after a fault
 
 unlimited_too : (bytes : List ℕ) (n : ℕ) (f : LineFault) → f ≢ TooLarge → answer_to limited bytes ≡ fails n f → answer_to unlimited bytes ≡ fails n f
 unlimited_too bytes n f not_large h =
@@ -97,7 +97,7 @@ size_at : (k : Refusal) (n : ℕ) (bytes : List ℕ) → StopsAt k n (answer_to 
 size_at refusal.Memory n bytes h is more t = absurd is
 size_at (refusal.Fault f) n bytes h is more t = λ s. no_spelling limited bytes (told_at n f) h (not_cut f is) more t s.slack s.written s.lines
 
--- no text within the limits goes on behind a size
+-- no text within the limits goes on after a size
 pub is_too_large : (bytes : List ℕ) (r : Result Dump RecordFault) → Answers text_of r (answer_to limited bytes) → IfErr r (λ e. IsOfSize e.kind → (more : List ℕ) (t : Text) → ¬ (SpellsWithin (front_lines e.line bytes ++ more) t))
 is_too_large bytes (Ok d) h = tt
 is_too_large bytes (Err e) h = size_at e.kind e.line bytes h

@@ -23,7 +23,7 @@ use Rattle.moo_dbrecord.proofs.AnswerFound.{IsTaken, then_ok, told_ok, line_foun
 use Rattle.moo_dbrecord.proofs.AnswerAgain.{answer_again}
 use Rattle.moo_dbrecord.proofs.AnswerCut.{taken_cut}
 
--- ---- what stands for a verb
+-- ---- the entry of a verb
 
 there_in : (row : Row) (v : ℕ) (s : List Line) → is_open_in v row ≡ true → slice_index_or (with_source_in v s row) v None ≡ Some s
 there_in [] v s h = absurd cc

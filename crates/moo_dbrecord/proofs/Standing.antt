@@ -105,7 +105,7 @@ front_of_front (suc m) (suc n) (b ∷ bs) le = ap (λ (r : List ℕ). b ∷ r) (
     decide true h g = h
     decide false h g = g
 
--- ---- lines that stand
+-- ---- lines that are right
 
 pub stand_ends : (z : Sizes) (n : ℕ) (bytes : List ℕ) → Stand z n bytes → n ≤ ends bytes
 stand_ends z n bytes h =
@@ -130,7 +130,7 @@ one_stand z n bytes h k =
     let e : ok h.state ≡ ok k.state = sym h.taken ∙ k.taken in
     cc
 
--- where no line ends nothing comes
+-- if no line ends nothing comes
 same_place : (z : Sizes) (bs : List ℕ) (s t : Taken) → taken_on z s bs ≡ Ok t → t.lines ≡ s.lines → t.progress ≡ s.progress
 unfolding taken_on
 same_place z [] s t h e = let ok : Taken → Result Taken Told = λ x. Ok x in let f : ok s ≡ ok t = h in cc
@@ -145,14 +145,14 @@ same_place z (b ∷ bs) s t h e = decide (eqb b 10) (λ u f g. same_place z bs u
         absurd (omega arith)
     decide false rest f = rest (record s { rest = s.rest ++ b ∷ [] }) f e
 
--- behind the lines that have ended
+-- the state after the lines that have ended
 record IsCutAt (z : Sizes) (s : Taken) (bs : List ℕ) (t : Taken) : Type 0 where
   state : Taken
   taken : taken_on z s bs ≡ Ok state
   lines : state.lines ≡ t.lines
   progress : state.progress ≡ t.progress
 
--- the same before a byte that is the end of a line, or not
+-- the state after the lines that have ended, if the next byte ends a line or doesn't
 record IsCutBehind (z : Sizes) (s : Taken) (b : ℕ) (bs : List ℕ) (t : Taken) (is : Bool) : Type 0 where
   state : Taken
   taken : cond is (and_then (line_ended z s s.rest) (λ u. taken_on z u bs)) (taken_on z (record s { rest = s.rest ++ b ∷ [] }) bs) ≡ Ok state
@@ -178,7 +178,7 @@ cut_at z (b ∷ bs) s t (suc k) h e =
         let r = rest (record s { rest = s.rest ++ b ∷ [] }) (suc k) f e in
         record { state = r.state; taken = r.taken; lines = r.lines; progress = r.progress }
 
--- the lines that have ended stand, and what has come has come with them
+-- the lines that have ended are right, and what has come has come with them
 pub record StandSo (z : Sizes) (bytes : List ℕ) (s : Taken) : Type 0 where
   pub stand : Stand z s.lines bytes
   pub same : stand.state.progress ≡ s.progress
@@ -188,7 +188,7 @@ stand_so z bytes s h =
     let c = cut_at z bytes begin s s.lines h (omega arith) in
     record { stand = record { state = c.state; taken = c.taken; lines = c.lines }; same = c.progress }
 
--- ---- a fault stands behind the lines that stand
+-- ---- a fault comes after the lines that are right
 
 pub line_fault : (z : Sizes) (s : Taken) (line : Line) (d : Told) → HasNoEnd line → taken_on z s (line ++ 10 ∷ []) ≡ Err d → d.line ≡ s.lines + 1
 unfolding taken_on line_ended

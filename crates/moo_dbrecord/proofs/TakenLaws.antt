@@ -63,7 +63,7 @@ pub whole_taken : (z : Sizes) (s : Taken) (bytes : List ℕ) → IsWholeLine byt
 whole_taken z s bytes h =
     ap (taken_on z s) h.is ∙ line_taken z s h.line [] h.clean ∙ nothing_more (line_ended z s (s.rest ++ h.line)) z ∙ ap (λ (l : Line). line_ended z s (s.rest ++ l)) (sym (without_end bytes h))
 
--- ---- the first bytes, and those behind them
+-- ---- the first bytes, and those after them
 
 parts_taken : (z : Sizes) (s : Taken) (bytes : List ℕ) (n : ℕ) → taken_on z s bytes ≡ and_then (taken_on z s (take n bytes)) (λ t. taken_on z t (drop n bytes))
 parts_taken z s bytes n = ap (taken_on z s) (sym (take-append-drop n bytes)) ∙ taken_on-append z s (take n bytes) (drop n bytes)

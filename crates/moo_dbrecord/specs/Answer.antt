@@ -1,4 +1,4 @@
--- What reading a text answers, and what a reader has taken between two pieces.
+-- The answer of reading a text, and the state of a reader between two pieces.
 use Rattle.std.specs.Prelude.{◌≡◌, ◌≢◌, ◌<◌, length, slice_index, ℕ, ◌+◌, ◌==◌, zero, suc, List, [], ◌∷◌, ◌++◌, Some, None, Result, Ok, Err, MatchOption, if◌then◌else◌}
 use Rattle.moo_dbvalue.specs.Lines.{Line, Sizes, limited, unlimited}
 use Rattle.moo_dbrecord.specs.Texts.{Text}
@@ -12,12 +12,12 @@ use Rattle.moo_dbrecord.specs.declared.dump_reader.Section.{Section}
 use Rattle.moo_dbrecord.specs.declared.dump_reader.Section.TheVariants as section
 use Rattle.moo_dbrecord.specs.declared.db_reader.DbReader.{DbReader}
 
--- a fault, and the number of the line where it is
+-- a fault, and the number of the line at fault
 pub record Told : Type 0 where
   pub line : ℕ
   pub fault : LineFault
 
--- how many lines have come, what they say, and what has come of the next line
+-- how many lines have come, what they hold, and what has come of the next line
 pub record Taken : Type 0 where
   pub lines : ℕ
   pub progress : Progress
@@ -69,11 +69,11 @@ finished s = finished_with s s.rest
 abbrev pub begin : Taken
 begin = record { lines = 0; progress = start; rest = [] }
 
--- What reading the whole text answers, with limits on sizes or without.
+-- The answer of reading the whole text, with size limits or without.
 unfoldable pub answer_to : Sizes → List ℕ → Result Text Told
 answer_to z bytes = and_then (taken_on z begin bytes) finished
 
--- What a function returned, seen by view, is this answer, unless memory stopped it.
+-- What a function returned, seen by view, is this answer, unless memory ran out.
 abbrev pub StopsAt : {Y : Type 0} → Refusal → ℕ → Result Y Told → Type 0
 StopsAt refusal.Memory n answer = Unit {0}
 StopsAt (refusal.Fault f) n answer = answer ≡ Err (record { line = n; fault = f })
@@ -116,12 +116,12 @@ pub record IsWholeLine (bytes : List ℕ) : Type 0 where
   pub is : bytes ≡ line ++ 10 ∷ []
   pub clean : HasNoEnd line
 
--- a fault of a line that stands there, whatever the limits on sizes are
+-- a fault of a line that is wrong there, whatever the size limits are
 abbrev pub IsOfLine : Refusal → Type 0
 IsOfLine refusal.Memory = ⊥
 IsOfLine (refusal.Fault f) = (f ≢ Truncated) × (f ≢ TooLarge)
 
--- a limit on sizes
+-- a size limit
 abbrev pub IsOfSize : Refusal → Type 0
 IsOfSize refusal.Memory = ⊥
 IsOfSize (refusal.Fault f) = f ≡ TooLarge
@@ -130,12 +130,12 @@ abbrev pub IsMemoryOrSize : Refusal → Type 0
 IsMemoryOrSize refusal.Memory = Unit {0}
 IsMemoryOrSize (refusal.Fault f) = f ≡ TooLarge
 
--- the answer of a text that is spelled so, or that it is past a limit
+-- the answer is the text that is spelled, or reports that memory or a limit was exceeded
 abbrev pub IsReadOrTooLarge : {X : Type 0} → (X → Text) → Text → Result X RecordFault → Type 0
 IsReadOrTooLarge view t (Ok x) = t ≡ view x
 IsReadOrTooLarge view t (Err e) = IsMemoryOrSize e.kind
 
--- Each of the first n lines can stand where it is: with limits on sizes, or without.
+-- Each of the first n lines is right where it is: with size limits, or without.
 pub record Stand (z : Sizes) (n : ℕ) (bytes : List ℕ) : Type 0 where
   pub state : Taken
   pub taken : taken_on z begin (front_lines n bytes) ≡ Ok state

@@ -14,8 +14,8 @@ use Rattle.moo_dbrecord.specs.declared.dump_reader.Section.{Section}
 use Rattle.moo_dbrecord.specs.declared.dump_reader.Section.TheVariants as section
 use Rattle.moo_dbrecord.specs.declared.dump_reader.DumpReader.{DumpReader}
 
--- A text that is being read: what the next line is, what has been read, how many players or connections, objects and
--- programs follow the one that is read now, and what was read of that one.
+-- A text that is being read: what the next line holds, what has been read, how many players or connections, objects
+-- and programs follow the one that is being read, and what was read of that one.
 pub record Progress : Type 0 where
   pub section : Section
   pub text : Text
@@ -111,7 +111,7 @@ dump_step s section.ConnectionCount p line = connection_count_of s line >>= λ c
 dump_step s section.Connection p line = connection_of p.text.form line >>= λ l. Ok (after_connections p (record p.text { links = p.text.links ++ l ∷ [] }) p.left)
 dump_step s section.End p line = Err TrailingBytes
 
--- where no line is left
+-- the answer if no line is left
 abbrev pub end_of : Section → Text → Result Text LineFault
 end_of section.End t = Ok t
 end_of section.ConnectionCount t = if nat_lt t.version 4 then Ok t else Err Truncated

@@ -1,4 +1,4 @@
--- Lines that are no bare number or string.
+-- Lines that are more than one number or string.
 use Rattle.std.specs.Prelude.{ℕ, ℤ, pos, negsuc, zero, suc, ◌==◌, ◌&&◌, nat_le, Bool, true, false, [], ◌∷◌, length, take, drop, codes, Option, Some, None, option_map, Result, Ok, Err, if◌then◌else◌}
 use Rattle.std.specs.Str.{bytes_eq}
 use Rattle.moo_dbvalue.specs.Lines.{Line, ◌>>=◌, Sizes, within, most_records, number_of, count_of}
@@ -9,7 +9,7 @@ use Rattle.moo_dbrecord.specs.Texts.{Link, header_front, live_line, recycled_lin
 use Rattle.moo_dbrecord.specs.declared.dump.Form.{Form}
 use Rattle.moo_dbrecord.specs.declared.dump.Form.TheVariants as form
 
--- what stands before and after the first byte of a kind
+-- the parts before and after the first byte of a kind
 abbrev pub before : ℕ → Option (Line × Line) → Option (Line × Line)
 before b rest = option_map (λ p. (b ∷ p.0, p.1)) rest
 
@@ -17,11 +17,11 @@ unfoldable pub parts_of : ℕ → Line → Option (Line × Line)
 parts_of at [] = None
 parts_of at (b ∷ bs) = if b == at then Some ([], bs) else before b (parts_of at bs)
 
--- what stands behind a front
+-- what follows a prefix
 unfoldable pub behind : Line → Line → Option Line
 behind front line = if bytes_eq (take (length front) line) front then Some (drop (length front) line) else None
 
--- any fault as this one
+-- any fault, reported as this one
 abbrev pub told_as : {A : Type 0} → LineFault → Result A LineFault → Result A LineFault
 told_as fault (Ok x) = Ok x
 told_as fault (Err f) = Err fault
@@ -53,7 +53,7 @@ version_of line = version_behind (behind header_front line)
 
 -- ---- objects and programs
 
--- whether the line of object n says that it is there
+-- whether the header of object n says that it exists
 unfoldable pub head_of : ℕ → Line → Result Bool LineFault
 head_of n line =
     if bytes_eq line (live_line n) then Ok true else (if bytes_eq line (recycled_line n) then Ok false else Err BadObjectLine)
@@ -72,7 +72,7 @@ verb_named line = verb_behind (behind (codes "#") line)
 abbrev pub open_verb : Table → ℕ × ℕ → Result (ℕ × ℕ) LineFault
 open_verb table p = if is_open p.0 p.1 table then Ok p else Err BadProgramLine
 
--- the verb that a program is of
+-- the verb of a program
 unfoldable pub program_head_of : Table → Line → Result (ℕ × ℕ) LineFault
 program_head_of table line = verb_named line >>= open_verb table
 

@@ -1,6 +1,6 @@
 -- Programs by object and verb.
 pub mod Programs
--- What a database text says, and its lines.
+-- The contents of a database text, and its lines.
 pub mod Texts
 -- Reading line by line, and in pieces.
 pub mod Headings
@@ -10,5 +10,5 @@ pub mod Sparing
 pub mod Placing
 -- Writing a text.
 pub mod Writing
--- What a refusal tells.
+-- The report of a refusal.
 pub mod Faults

@@ -13,8 +13,8 @@ abbrev pub lines_to_objects : ℕ → ℕ → ℤ → (ℕ → Line) → List �
 lines_to_objects version programs unused notes players objects =
     header_line version ∷ count_line (length objects) ∷ count_line programs ∷ signed_decimal unused ∷ count_line (length players) ∷ (map signed_decimal players ++ objects_lines 0 objects notes)
 
--- The bytes begin with the lines of a text up to its last object, which can stand where they are, and with which these players
--- and these objects have come; each text that begins with these bytes has them.
+-- The bytes begin with the lines of a text up to its last object. These lines are right where they are, and hold
+-- these players and these objects. Each text that begins with these bytes has them.
 pub record BeginsWithObjects (bytes : List ℕ) (players : List ℤ) (objects : List (Option Object)) : Type 0 where
   pub version : ℕ
   pub programs : ℕ

@@ -5,14 +5,14 @@ use Rattle.std.specs.Global.{Vec}
 use Rattle.moo_dbvalue.specs.Lines.{Line, Sizes, IsStringOf, count_line}
 use Rattle.moo_dbobject.specs.Objects.{Verb, Object}
 
--- for each verb the lines of its program, none where it has no program
+-- for each verb the lines of its program, or none if it has no program
 abbrev pub Row : Type 0
 Row = List (Option (List Line))
 
 abbrev pub Table : Type 0
 Table = List Row
 
--- what stands for verb v of object o
+-- the entry of verb v of object o
 abbrev pub entry_at : {A : Type 0} → List (List (Option A)) → ℕ → ℕ → Option A
 entry_at table o v = slice_index_or (slice_index_or table o []) v None
 
@@ -39,7 +39,7 @@ blank_entry (Some o) = blank_row o
 abbrev pub blank_table : List (Option Object) → Table
 blank_table os = map blank_entry os
 
--- there is such a verb, and it has no program
+-- the verb exists, and has no program
 abbrev pub is_open_in : ℕ → Row → Bool
 is_open_in v [] = false
 is_open_in zero (None ∷ row) = true
@@ -62,7 +62,7 @@ with_source o v s [] = []
 with_source zero v s (row ∷ table) = with_source_in v s row ∷ table
 with_source (suc o) v s (row ∷ table) = row ∷ with_source o v s table
 
--- a program as it stands in a text
+-- a program as a text has it
 pub record Program : Type 0 where
   pub object : ℕ
   pub verb : ℕ

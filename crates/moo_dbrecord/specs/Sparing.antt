@@ -1,4 +1,4 @@
--- A reader that drops sources which are of no more use: it stands where another one does, but for these.
+-- A reader that drops sources after their use: it is in the state of one that doesn't, but for these.
 use Rattle.std.specs.Prelude.{◌≡◌, ℕ, List, [], Bool, true, false, is_some, map, Result, Ok, Err}
 use Rattle.moo_dbvalue.specs.Lines.{limited}
 use Rattle.moo_dbrecord.specs.Programs.{Row, Table}
@@ -25,7 +25,7 @@ outline t = record t { programs = [] }
 abbrev pub outline_read : Progress → Progress
 outline_read p = record p { text = outline p.text }
 
--- two places in a text are the same, and the same verbs have sources, whatever these are
+-- two states are equal but for the sources: the same verbs have sources, whatever these are
 pub record AreAlike (p q : Progress) : Type 0 where
   pub rest : outline_read p ≡ outline_read q
   pub same : marks_of p.text.programs ≡ marks_of q.text.programs
@@ -35,13 +35,13 @@ pub record AreAlikeTaken (s t : Taken) : Type 0 where
   pub rest : s.rest ≡ t.rest
   pub progress : AreAlike s.progress t.progress
 
--- The reader stands where the bytes lead, but for sources that were dropped.
+-- The reader is in the state to which the bytes lead, but for sources that were dropped.
 pub record IsAt (r : DbReader) (bytes : List ℕ) : Type 0 where
   pub state : Taken
   pub leads : taken_on limited begin bytes ≡ Ok state
   pub alike : AreAlikeTaken state (taken_of r)
 
--- what is answered of a whole text, but for the sources
+-- the answer for a whole text, but for the sources
 abbrev pub AnswersBut : Result Dump RecordFault → Result Text Told → Type 0
 AnswersBut (Ok d) answer = (t : Text) × (answer ≡ Ok t) × (outline t ≡ outline (text_of d))
 AnswersBut (Err e) answer = Stops e answer

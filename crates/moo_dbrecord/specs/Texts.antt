@@ -1,4 +1,4 @@
--- What a database text says line by line, and its lines.
+-- The contents of a database text line by line, and its lines.
 use Rattle.std.specs.Prelude.{IsSomeAnd, is_some, count_by, ◌≡◌, ℕ, ℤ, ◌+◌, ◌<◌, ◌≤◌, List, [], ◌∷◌, ◌++◌, map, length, codes, FitsSigned, Option, Some, None, option_map}
 use Rattle.std.specs.List.{flat_map, sum_by, AllByRecursion}
 use Rattle.std.specs.Int.{w32}
@@ -11,12 +11,12 @@ use Rattle.moo_dbrecord.specs.declared.dump.Form.TheVariants as form
 use Rattle.moo_dbrecord.specs.declared.dump.Connection.{Connection}
 use Rattle.moo_dbrecord.specs.declared.dump.Dump.{Dump}
 
--- who was connected, and the listener where the section has listeners
+-- a player who was connected, and the listener if the section has listeners
 pub record Link : Type 0 where
   pub who : ℤ
   pub listener : Option ℤ
 
--- what a text says line by line
+-- the contents of a text line by line
 pub record Text : Type 0 where
   pub version : ℕ
   pub players : List ℤ
@@ -25,7 +25,8 @@ pub record Text : Type 0 where
   pub form : Form
   pub links : List Link
 
--- what a text has besides, which is read and not kept: a number, a string for each object, and the order of the programs
+-- what a text has besides, which is read and not kept: a number, a string for each object, and the order of the
+-- programs
 pub record Slack : Type 0 where
   pub unused : ℤ
   pub notes : ℕ → Line
@@ -71,7 +72,7 @@ listener_part (Some z) = codes " " ++ signed_decimal z
 abbrev pub link_line : Link → Line
 link_line l = signed_decimal l.who ++ listener_part l.listener
 
--- how the section of n connections begins
+-- the first line of the section of n connections
 abbrev pub connections_line : Form → ℕ → Line
 connections_line form.Absent n = []
 connections_line form.Plain n = count_line n ++ codes " active connections"
@@ -97,13 +98,13 @@ abbrev pub IsEntry : Sizes → Option Object → Type 0
 IsEntry s None = Unit {0}
 IsEntry s (Some o) = IsObject s o
 
--- a listener stands just in the form with listeners
+-- a listener is given exactly in the form with listeners
 abbrev pub IsLink : Form → Link → Type 0
 IsLink form.Absent l = ⊥
 IsLink form.Plain l = FitsSigned w32 l.who × (l.listener ≡ None)
 IsLink form.WithListeners l = FitsSigned w32 l.who × IsSomeAnd l.listener (FitsSigned w32)
 
--- versions 1 to 3 alone may leave out the last section
+-- only versions 1 to 3 may leave out the last section
 abbrev pub MayHave : ℕ → Form → Type 0
 MayHave version form.Absent = version < 4
 MayHave version form.Plain = Unit {0}
@@ -113,7 +114,7 @@ pub record IsVersion (v : ℕ) : Type 0 where
   pub low : 1 ≤ v
   pub high : v ≤ 4
 
--- what may be written as a database text: with limits on sizes, or without
+-- what may be written as a database text: with size limits, or without
 pub record IsWritten (s : Sizes) (t : Text) (k : Slack) : Type 0 where
   pub version : IsVersion t.version
   pub unused : FitsSigned w32 k.unused
@@ -135,13 +136,13 @@ pub record Spells (bytes : List ℕ) (t : Text) : Type 0 where
   pub written : IsWritten unlimited t slack
   pub lines : bytes ≡ unlines (text_lines t slack)
 
--- The bytes spell this text, within the limits on sizes.
+-- The bytes spell this text, within the size limits.
 pub record SpellsWithin (bytes : List ℕ) (t : Text) : Type 0 where
   pub slack : Slack
   pub written : IsWritten limited t slack
   pub lines : bytes ≡ unlines (text_lines t slack)
 
--- its objects, and the numbers of its objects, players and programs, are within the limits on sizes
+-- its objects, and the numbers of its objects, players and programs, are within the size limits
 pub record HasRecordsWithin (t : Text) : Type 0 where
   pub objects : AllByRecursion (IsEntry limited) t.objects
   pub object_count : length t.objects ≤ most_records

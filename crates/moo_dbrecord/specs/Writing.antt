@@ -1,4 +1,4 @@
--- How a text is written: what is not kept is written in one way.
+-- The written form of a text: fields that are not kept are written in one way.
 use Rattle.std.specs.Prelude.{ℕ, pos, ◌+◌, List, [], ◌∷◌, ◌++◌, Option, Some, None}
 use Rattle.moo_dbvalue.specs.Lines.{Line, Sizes}
 use Rattle.moo_dbrecord.specs.Programs.{Row, Table, Program}
@@ -19,7 +19,7 @@ abbrev pub table_programs : ℕ → Table → List Program
 table_programs o [] = []
 table_programs o (row ∷ table) = row_programs o 0 row ++ table_programs (o + 1) table
 
--- no string that is not kept has a byte
+-- every string that is not kept is empty
 abbrev pub no_notes : ℕ → Line
 no_notes n = []
 
@@ -30,6 +30,6 @@ canonical table = record { unused = pos 0; notes = no_notes; programs = table_pr
 abbrev pub canonical_lines : Text → List Line
 canonical_lines t = text_lines t (canonical t.programs)
 
--- what has lines that are given so: with limits on sizes, or without
+-- what has such lines: with size limits, or without
 abbrev pub IsWritable : Sizes → Text → Type 0
 IsWritable s t = IsWritten s t (canonical t.programs)

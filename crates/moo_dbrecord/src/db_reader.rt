@@ -1,4 +1,4 @@
-//! A text that comes in pieces.
+//! A reader of whole texts that come in pieces.
 ghost use Rattle.std.specs.Prelude.{◌≡◌, ◌<◌, ◌≤◌, ℕ, ◌++◌, List, [], Ok, Some, None, take, length, OnOk, IfErr, IfOk, IfSome, IsErrOf, MatchOption};
 ghost use Rattle.memchr.specs.Find.{IsFirstByte, is_byte};
 ghost use Rattle.moo_dbvalue.specs.Lines.{Gives, limited};
@@ -17,7 +17,7 @@ use moo_value::MooStr;
 use std::alloc::Global;
 use thiserror::Error;
 
-/// Why a text was refused, and the number of the line where, from 1.
+/// The reason why a reader refuses a text, and the number of the line at fault, from 1.
 #[derive(Clone, Copy, Debug, PartialEq, Eq, Error)]
 #[error("line {line}: {kind}")]
 pub struct RecordFault {
@@ -25,10 +25,10 @@ pub struct RecordFault {
     pub kind: Refusal,
 }
 
-/// How many bytes are looked at one by one: most lines are short numbers, and a search by words takes longer to begin.
+/// The number of bytes to compare one by one. Most lines are short numbers, and `memchr` takes longer to start.
 const NEARBY: usize = 8;
 
-// The place of the first line's end, if it is one of the first few, of which none is wanting.
+// Returns the index of the first line end, if it is among the first `NEARBY` bytes and there are that many.
 fn end_nearby(bytes: &[u8]) -> Option<usize>
     ensures { IfSome result (λ at. IsFirstByte (is_byte 10) bytes.now (Some at)) }
 {
@@ -43,7 +43,7 @@ fn end_nearby(bytes: &[u8]) -> Option<usize>
     None
 }
 
-/// How many bytes the first line has, with its end.
+/// Returns the length of the first line with its end, or `None` if no line ends.
 pub fn first_line(bytes: &[u8]) -> Option<usize>
     ensures { MatchOption result (HasNoEnd bytes.now) (λ n. (0 < n) × (n ≤ length bytes.now) × IsWholeLine (take n bytes.now)) }
 {
@@ -54,7 +54,7 @@ pub fn first_line(bytes: &[u8]) -> Option<usize>
     Some(at + 1)
 }
 
-/// Reads a text in pieces. After a fault each call answers that fault.
+/// Reads a text in pieces. After a fault each call returns that fault.
 #[derive(Drop)]
 pub struct DbReader {
     lines: u64,
@@ -64,7 +64,7 @@ pub struct DbReader {
 }
 
 impl DbReader {
-    /// A reader before the first byte.
+    /// Returns a reader that expects the first byte.
     #[tactic(auto, unfolding(crate::specs::Answer::taken_on))]
     pub fn new(alloc: Global) -> DbReader
         ensures taken { HasTaken result [] }
@@ -78,21 +78,21 @@ impl DbReader {
         }
     }
 
-    /// How many lines have ended.
+    /// Returns the number of lines that have ended.
     pub fn lines(&self) -> u64
         ensures { result ≡ (taken_of self.now).lines }
     {
         self.lines
     }
 
-    /// The verb whose program's lines are being read.
+    /// Returns the object and verb whose program's lines are being read.
     pub fn verb(&self) -> Option<(u32, u32)>
         ensures { let p = (taken_of self.now).progress in result ≡ verb_read p.section p }
     {
         self.reader.verb()
     }
 
-    /// The lines of a verb's program, if all of it has come.
+    /// Returns the lines of a verb's program, if all of them have come.
     pub fn source(&self, object: u32, verb: u32) -> Option<&[MooStr]>
         ensures { let table = (taken_of self.now).progress.text.programs in
             MatchOption result (entry_at table object verb ≡ None) (λ s. entry_at table object verb ≡ Some s.now) }
@@ -100,21 +100,21 @@ impl DbReader {
         self.reader.source(object, verb)
     }
 
-    /// What has come so far.
+    /// Returns what the lines so far hold.
     pub fn dump(&self) -> &Dump
         ensures { text_of result.now ≡ (taken_of self.now).progress.text }
     {
         self.reader.dump()
     }
 
-    /// Whether all objects have come.
+    /// Returns whether all objects have come.
     pub fn has_objects(&self) -> bool
         ensures { result ≡ has_objects (taken_of self.now).progress.section }
     {
         self.reader.has_objects()
     }
 
-    /// Drops the lines of a verb's program, once they are of no more use. That it has one stays known.
+    /// Drops the lines of a verb's program that has been used. The reader still knows that the verb has one.
     pub fn drop_source(&mut self, alloc: Global, object: u32, verb: u32)
         ensures alike { AreAlikeTaken (taken_of self.old) (taken_of self.new) }
         ensures going { IsGoing self.old → IsGoing self.new }
@@ -122,7 +122,7 @@ impl DbReader {
         self.reader.drop_source(alloc, object, verb);
     }
 
-    /// Ends the line that the bytes end.
+    /// Takes the line that ends with these bytes.
     #[inline(always)]
     fn line(&mut self, alloc: Global, tail: &[u8]) -> Result<(), Refusal>
         ensures steps { Gives (λ _. progress_of self.new.reader) result (dump_step limited self.old.reader.section (progress_of self.old.reader) (self.old.rest.items ++ tail.now)) }
@@ -186,10 +186,10 @@ impl DbReader {
         }
     }
 
-    /// Takes the next piece of the text.
+    /// Takes the next piece of the text. Returns the first fault, or `Memory`.
     pub fn feed(&mut self, alloc: Global, piece: &[u8]) -> Result<(), RecordFault>
         ensures taken { (text : List ℕ) → HasTaken self.old text → HasTaken self.new (text ++ piece.now) }
-        // From any place: that of a reader which has dropped sources, too.
+        // This holds from any state, also of a reader that has dropped sources.
         ensures steps { IsGoing self.old → Answers (λ _. taken_of self.new) result (taken_on limited (taken_of self.old) piece.now) }
         ensures ok { OnOk result (IsGoing self.new) }
         ensures failed { IfErr result (HasFailed self.new) }
@@ -205,7 +205,7 @@ impl DbReader {
         taken
     }
 
-    /// Takes the next line with its end, as `feed` does, without a search for it.
+    /// Takes the next line with its end, as `feed` does, without a search for the end.
     #[inline(always)]
     pub fn feed_line(&mut self, alloc: Global, line: &[u8]) -> Result<(), RecordFault>
         requires { IsWholeLine line.now }
@@ -245,10 +245,11 @@ impl DbReader {
         }
     }
 
-    /// The records of the whole text, once all of it has been fed.
+    /// Returns the records, once the whole text has been fed. Fails if a line is missing or has no end, or with an
+    /// earlier fault.
     pub fn finish(self) -> Result<Dump, RecordFault>
         ensures answer { (text : List ℕ) → HasTaken self text → Answers text_of result (answer_to limited text) }
-        // Where sources were dropped, the rest is that of the text.
+        // If sources were dropped, all else is that of the text.
         ensures spare { IsGoing self → (text : List ℕ) → IsAt self text → AnswersBut result (answer_to limited text) }
         ensures again { (e : RecordFault) → HasFailed self e → IsErrOf result e }
     {
@@ -267,23 +268,23 @@ fn read_all(alloc: Global, bytes: &[u8]) -> Result<Dump, RecordFault>
     reader.finish()
 }
 
-/// What the bytes of a whole text say, line by line.
+/// Reads the records of a whole text. Returns the first fault, or `Memory`.
 pub fn read_records(alloc: Global, bytes: &[u8]) -> Result<Dump, RecordFault>
-    // What is read is spelled so, within the limits.
+    // The bytes spell, within the limits, the text that is returned.
     ensures found { IfOk result (λ d. SpellsWithin bytes.now (text_of d)) }
-    // What is spelled so is read, unless memory ends it or it is past a limit.
+    // If the bytes spell a text, the reader returns it, unless memory runs out or a limit is exceeded.
     ensures only { (t : Text) → Spells bytes.now t → IsReadOrTooLarge text_of t result }
-    // What is within the limits is read, unless memory ends it.
+    // If the text is within the limits, the reader returns it, unless memory runs out.
     ensures within { (t : Text) → SpellsWithin bytes.now t → Answers text_of result (Ok t) }
-    // No text begins with the lines up to the one that is told.
+    // No text begins with the lines up to the reported one.
     ensures place { IfErr result (λ e. IsOfLine e.kind → (more : List ℕ) (t : Text) → ¬ (Spells (front_lines e.line bytes.now ++ more) t)) }
-    // Where a size is told, no text within the limits begins with the lines up to it.
+    // If a size is reported, no text within the limits begins with the lines up to that one.
     ensures size { IfErr result (λ e. IsOfSize e.kind → (more : List ℕ) (t : Text) → ¬ (SpellsWithin (front_lines e.line bytes.now ++ more) t)) }
-    // A size is told only of a line that can stand there but for its size.
+    // A size is reported only of a line that would be right without limits,
     ensures large { IfErr result (λ e. IsOfSize e.kind → StandWithoutLimits e.line bytes.now) }
-    // And that can't stand there with it.
+    // and that is wrong with them.
     ensures past { IfErr result (λ e. IsOfSize e.kind → ¬ (Stand limited e.line bytes.now)) }
-    // The answer of a reader that is fed the same bytes in any pieces.
+    // The answer is that of a reader that is fed these bytes in any pieces.
     ensures exact { Answers text_of result (answer_to limited bytes.now) }
 {
     read_all(alloc, bytes)

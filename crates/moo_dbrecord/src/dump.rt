@@ -1,22 +1,22 @@
-//! What a database text says line by line, before anything is asked across lines.
+//! The contents of a database text line by line, before any check across lines.
 
 use crate::program_table::Source;
 use moo_dbobject::ObjectRecord;
 
-/// How the last section spells connections.
+/// The form in which the last section lists connections.
 #[derive(Clone, Copy, Debug, PartialEq, Eq)]
 pub enum Form {
-    /// The section is left out, as it may be in versions 1 to 3.
+    /// The section is missing, as it may be in versions 1 to 3.
     Absent,
     Plain,
     WithListeners,
 }
 
-/// Who was connected.
+/// A connection that was open.
 #[derive(Clone, Copy, Debug, PartialEq, Eq)]
 pub struct Connection {
     pub who: i32,
-    /// Given just where the section has listeners.
+    /// Is given exactly if the section has listeners.
     pub listener: Option<i32>,
 }
 
@@ -26,7 +26,7 @@ pub struct Dump {
     /// From 1 to 4.
     pub version: u32,
     pub players: Vec<i32>,
-    /// By number, `None` for a recycled one.
+    /// By number, `None` for a recycled object.
     pub objects: Vec<Option<ObjectRecord>>,
     /// By object and verb, `None` for a verb without a program.
     pub programs: Vec<Vec<Option<Source>>>,

@@ -1,4 +1,4 @@
-//! A whole text, read a line at a time.
+//! A reader of whole texts, one line at a time.
 ghost use Rattle.std.specs.Prelude.{◌≡◌, ◌∷◌, ◌++◌, [], true, List, map, length, codes, option_map, Ok, OnOk, Some, None, MatchOption};
 ghost use Rattle.moo_dbvalue.specs.Lines.{Gives, limited};
 ghost use Rattle.moo_dbobject.specs.Objects.{object_of};
@@ -22,10 +22,10 @@ use moo_value::MooStr;
 use std::alloc::{AllocError, Global};
 use std::mem;
 
-/// For how many lines of a program there is room at first.
+/// The number of lines of a program to reserve memory for at first.
 const SOURCE_ROOM: usize = 16;
 
-/// What the next line is.
+/// The content of the next line.
 #[derive(Clone, Copy)]
 pub(crate) enum Section {
     Header,
@@ -51,14 +51,14 @@ pub(crate) enum Section {
 pub(crate) struct DumpReader {
     section: Section,
     dump: Dump,
-    /// How many players or connections follow the one that is read now.
+    /// The number of players or connections after the one that is being read.
     left: u32,
-    /// How many objects follow the one that is read now.
+    /// The number of objects after the one that is being read.
     objects_left: u32,
-    /// How many programs follow the one that is read now.
+    /// The number of programs after the one that is being read.
     programs_left: u32,
     object: ObjectReader,
-    /// The verb that the program is of.
+    /// The object whose verb's program is being read.
     program_object: u32,
     program_verb: u32,
     source: Source,
@@ -88,7 +88,7 @@ impl DumpReader {
         }
     }
 
-    /// What a line without an end is, where it stands.
+    /// Returns the fault of a line without an end at this point.
     pub(crate) fn unended(&self) -> LineFault
         ensures { result ≡ unended self.now.section }
     {
@@ -98,7 +98,7 @@ impl DumpReader {
         }
     }
 
-    /// The verb whose program's lines are being read.
+    /// Returns the object and verb whose program's lines are being read.
     pub(crate) fn verb(&self) -> Option<(u32, u32)>
         ensures { result ≡ verb_read self.now.section (progress_of self.now) }
     {
@@ -108,7 +108,7 @@ impl DumpReader {
         }
     }
 
-    /// The lines of a verb's program, if all of it has come.
+    /// Returns the lines of a verb's program, if all of them have come.
     pub(crate) fn source(&self, object: u32, verb: u32) -> Option<&[MooStr]>
         ensures { let table = (progress_of self.now).text.programs in
             MatchOption result (entry_at table object verb ≡ None) (λ s. entry_at table object verb ≡ Some s.now) }
@@ -116,14 +116,14 @@ impl DumpReader {
         source_at(&self.dump.programs, object as usize, verb as usize)
     }
 
-    /// What has come so far.
+    /// Returns what the lines so far hold.
     pub(crate) fn dump(&self) -> &Dump
         ensures { result.now ≡ self.now.dump }
     {
         &self.dump
     }
 
-    /// Whether all objects have come.
+    /// Returns whether all objects have come.
     pub(crate) fn has_objects(&self) -> bool
         ensures { result ≡ has_objects self.now.section }
     {
@@ -140,7 +140,7 @@ impl DumpReader {
         }
     }
 
-    /// Drops the lines of a verb's program. That it has one stays known.
+    /// Drops the lines of a verb's program. The reader still knows that the verb has one.
     pub(crate) fn drop_source(&mut self, alloc: Global, object: u32, verb: u32)
         ensures { AreAlike (progress_of self.old) (progress_of self.new) }
     {
@@ -205,7 +205,7 @@ impl DumpReader {
         Ok(())
     }
 
-    // Puts the object behind the others once its last line has come.
+    // Appends the object to the others once its last line has come.
     #[inline(never)]
     fn end_object(&mut self, alloc: Global) -> Result<(), AllocError>
         requires { self.old.section ≡ section.Object }
@@ -340,7 +340,7 @@ impl DumpReader {
         }
     }
 
-    /// The whole text, once no line is left.
+    /// Returns the whole text, once no line is left.
     #[tactic(auto, unfolding(crate::specs::DumpReading::ended))]
     pub(crate) fn finish(self) -> Result<Dump, Refusal>
         ensures { Gives text_of result (ended (progress_of self)) }

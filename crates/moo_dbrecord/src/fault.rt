@@ -1,4 +1,4 @@
-//! Why a database text was refused, on a line or across lines.
+//! The faults of a database text, on a line or across lines.
 ghost use Rattle.std.specs.Prelude.{◌≡◌};
 ghost use Rattle.moo_dbrecord.specs.Faults.{kind_of, fault_of};
 
@@ -6,7 +6,7 @@ use crate::db_reader::RecordFault;
 use moo_dbvalue::{LineFault, Refusal};
 use thiserror::Error;
 
-/// Why the source of a verb is no program.
+/// The reason why the source of a verb is no program.
 #[derive(Clone, Copy, Debug, PartialEq, Eq, Error)]
 pub enum ProgramFaultKind {
     #[error("BadToken")]
@@ -23,7 +23,7 @@ pub enum ProgramFaultKind {
     BadLoopName,
 }
 
-/// Why the source of a verb is no program, and on which of its lines, from 1.
+/// The reason why the source of a verb is no program, and the number of its line, from 1.
 #[derive(Clone, Copy, Debug, PartialEq, Eq, Error)]
 #[error("line {line} {kind}")]
 pub struct ProgramFault {
@@ -31,7 +31,7 @@ pub struct ProgramFault {
     pub kind: ProgramFaultKind,
 }
 
-/// Why a database text was refused.
+/// The reason why a reader refuses a database text.
 #[derive(Clone, Copy, Debug, PartialEq, Eq, Error)]
 pub enum DbFaultKind {
     /// The first line names no version of the format.
@@ -40,54 +40,54 @@ pub enum DbFaultKind {
     /// The first line names a version that is not read.
     #[error("Version {0}")]
     Version(u32),
-    /// A number that is no number, has another spelling than its one, or is past its range.
+    /// The line is no number in the one decimal form, or the number is out of range.
     #[error("BadNumber")]
     BadNumber,
     /// A line is missing, or has no end.
     #[error("Truncated")]
     Truncated,
-    /// A byte that no string holds.
+    /// The line has a byte that no string can hold.
     #[error("BadString")]
     BadString,
-    /// A floating-point number's type.
+    /// A value's type is that of a floating-point number.
     #[error("FloatValue")]
     FloatValue,
-    /// A number that is no type of a value here.
+    /// A number is the type of no value that this format has.
     #[error("BadType")]
     BadType,
-    /// Not the line of the object's number.
+    /// The line isn't the header of the object with the next number.
     #[error("BadObjectLine")]
     BadObjectLine,
-    /// The object's links or names of properties don't fit those of the others.
+    /// The object's links or property names don't fit those of other objects.
     #[error("BadHierarchy #{0}")]
     BadHierarchy(u32),
-    /// The object has not as many values as properties.
+    /// The object has more or fewer values than properties.
     #[error("PropertyCount #{0}")]
     PropertyCount(u32),
-    /// A program's line that names no verb, or one that has its program.
+    /// A program's header names no verb, or a verb that already has its program.
     #[error("BadProgramLine")]
     BadProgramLine,
-    /// The source of an object's verb is no program.
+    /// The source of a verb is no program. Holds the object, the verb and the fault.
     #[error("Program #{0}:{1} {2}")]
     Program(u32, u32, ProgramFault),
-    /// There are tasks.
+    /// The text has pending tasks.
     #[error("PendingTasks")]
     PendingTasks,
-    /// A line of the last section.
+    /// A line of the section of connections is malformed.
     #[error("BadConnections")]
     BadConnections,
-    /// A line past the last one.
+    /// A line follows the last one of the format.
     #[error("TrailingBytes")]
     TrailingBytes,
-    /// A number, a count, a string or a value is past a limit on sizes.
+    /// A number, a count, a string or a value exceeds a size limit.
     #[error("TooLarge")]
     TooLarge,
-    /// There was no memory for what the text says.
+    /// Memory ran out.
     #[error("Memory")]
     Memory,
 }
 
-/// Why a database text was refused, and the number of the line that is told, from 1.
+/// The reason why a reader refuses a database text, and the number of the line at fault, from 1.
 #[derive(Clone, Copy, Debug, PartialEq, Eq, Error)]
 #[error("line {line}: {kind}")]
 pub struct DbFault {

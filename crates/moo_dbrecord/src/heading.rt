@@ -1,4 +1,4 @@
-//! Lines that are no bare number or string.
+//! Lines that are more than one number or string.
 ghost use Rattle.std.specs.Prelude.{◌≡◌, ◌++◌, option_map};
 ghost use Rattle.std.specs.Str.{bytes_eq};
 ghost use Rattle.moo_dbvalue.specs.Lines.{Gives, limited};
@@ -12,7 +12,7 @@ use crate::program_table::{Source, is_open};
 use itoa::Buffer;
 use moo_dbvalue::{LineFault, Refusal, count, number};
 
-/// What stands before and after the first byte of a kind.
+/// Splits a line at the first byte `at`, which neither part has.
 fn parts(line: &[u8], at: u8) -> Option<(&[u8], &[u8])>
     ensures { option_map (λ p. (p.0.now, p.1.now)) result ≡ parts_of at line.now }
 {
@@ -24,7 +24,7 @@ fn parts(line: &[u8], at: u8) -> Option<(&[u8], &[u8])>
     None
 }
 
-/// What stands behind a front.
+/// Returns what follows a prefix of the line.
 fn rest_behind<'a>(front: &[u8], line: &'a [u8]) -> Option<&'a [u8]>
     ensures { option_map (λ r. r.now) result ≡ behind front.now line.now }
 {
@@ -51,7 +51,7 @@ fn number_or(fault: LineFault, line: &[u8]) -> Result<i32, Refusal>
     }
 }
 
-/// The version of the format, from 1 to 4.
+/// Parses the header, and returns the version of the format, from 1 to 4.
 #[tactic(auto, unfolding(crate::specs::Headings::version_of))]
 pub(crate) fn version(line: &[u8]) -> Result<u32, Refusal>
     ensures { Gives (λ v. v) result (version_of line.now) }
@@ -81,7 +81,7 @@ fn is_joined(line: &[u8], front: &[u8], back: &[u8]) -> bool
     }
 }
 
-/// Whether the line of an object's number says that it is there, or was recycled.
+/// Parses the header of object `number`. Returns true if the object exists, false if it was recycled.
 #[tactic(auto, unfolding(crate::specs::Headings::head_of))]
 pub(crate) fn head(number: usize, line: &[u8]) -> Result<bool, Refusal>
     ensures { Gives (λ b. b) result (head_of number line.now) }
@@ -115,7 +115,7 @@ fn verb_named(line: &[u8]) -> Result<(u32, u32), Refusal>
     Ok((object, verb))
 }
 
-/// The verb that a program is of, which has none so far.
+/// Parses the header of a program. Returns its object and verb, which has no program so far.
 #[tactic(auto, unfolding(crate::specs::Headings::program_head_of))]
 pub(crate) fn program_head(
     programs: &[Vec<Option<Source>>],
@@ -130,7 +130,7 @@ pub(crate) fn program_head(
     Ok((object, verb))
 }
 
-/// A line that counts tasks, of which there are none.
+/// Parses a line that counts tasks. Returns `PendingTasks` if there are any.
 #[tactic(auto, unfolding(crate::specs::Headings::tasks_of))]
 fn tasks(words: &[u8], line: &[u8]) -> Result<(), Refusal>
     ensures { Gives (λ _. tt) result (tasks_of words.now line.now) }
@@ -148,21 +148,21 @@ fn tasks(words: &[u8], line: &[u8]) -> Result<(), Refusal>
     Ok(())
 }
 
-/// The line of the clocks.
+/// Parses the line that counts clocks.
 pub(crate) fn clocks(line: &[u8]) -> Result<(), Refusal>
     ensures { Gives (λ _. tt) result (tasks_of (codes "clocks") line.now) }
 {
     tasks(b"clocks", line)
 }
 
-/// The line of the tasks that are queued.
+/// Parses the line that counts queued tasks.
 pub(crate) fn queued_tasks(line: &[u8]) -> Result<(), Refusal>
     ensures { Gives (λ _. tt) result (tasks_of (codes "queued tasks") line.now) }
 {
     tasks(b"queued tasks", line)
 }
 
-/// The line of the tasks that are suspended.
+/// Parses the line that counts suspended tasks.
 pub(crate) fn suspended_tasks(line: &[u8]) -> Result<(), Refusal>
     ensures { Gives (λ _. tt) result (tasks_of (codes "suspended tasks") line.now) }
 {
@@ -181,7 +181,7 @@ fn form(words: &[u8]) -> Result<Form, Refusal>
     Err(Refusal::Fault(LineFault::BadConnections))
 }
 
-/// How many connections the last section has, and in which form.
+/// Parses the header of the last section: its form, and the number of connections.
 #[tactic(auto, unfolding(crate::specs::Headings::connection_count_of))]
 pub(crate) fn connection_count(line: &[u8]) -> Result<(Form, u32), Refusal>
     ensures { Gives (λ p. p) result (connection_count_of limited line.now) }

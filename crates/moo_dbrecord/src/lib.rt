@@ -1,5 +1,5 @@
-//! A whole database text: its records, read in pieces.
-//! A room behind `moo_dbtext`.
+//! The records of a whole database text, read in pieces.
+//! An internal crate of `moo_dbtext`.
 #![tactic(auto)]
 
 mod db_reader;

@@ -11,7 +11,7 @@ use std::alloc::{AllocError, Global};
 /// The lines of a program.
 pub type Source = Vec<MooStr>;
 
-/// The programs of an object's verbs, of which none was read yet.
+/// Returns a row for the verbs of an object, none of which has a program yet.
 pub(crate) fn no_programs(
     alloc: Global,
     object: &ObjectRecord,
@@ -34,7 +34,7 @@ fn is_open_in(row: &[Option<Source>], verb: usize) -> bool
     row[verb].is_none()
 }
 
-/// Whether there is such a verb, and it has no program.
+/// Returns whether the verb exists and has no program.
 pub(crate) fn is_open(table: &[Vec<Option<Source>>], object: usize, verb: usize) -> bool
     ensures { result ≡ is_open object verb (map row_of table.now) }
 {
@@ -53,7 +53,7 @@ fn source_in(row: &[Option<Source>], verb: usize) -> Option<&[MooStr]>
     }
 }
 
-/// The lines of a verb's program, if it has one.
+/// Returns the lines of a verb's program, if it has one.
 pub(crate) fn source_at(
     table: &[Vec<Option<Source>>],
     object: usize,
@@ -76,7 +76,7 @@ fn put_source_in(row: &mut Vec<Option<Source>>, verb: usize, source: Source)
     row[verb] = Some(source);
 }
 
-/// Gives a verb its program, if there is such a verb.
+/// Gives a verb its program, if the verb exists.
 pub(crate) fn put_source(
     table: &mut Vec<Vec<Option<Source>>>,
     object: usize,
@@ -91,7 +91,7 @@ pub(crate) fn put_source(
     put_source_in(&mut table[object], verb, source);
 }
 
-/// Drops the lines of a verb's program, if it has one. That it has one stays known.
+/// Drops the lines of a verb's program, if it has one. The table still has an empty program for it.
 pub(crate) fn drop_source(
     alloc: Global,
     table: &mut Vec<Vec<Option<Source>>>,

@@ -1,4 +1,4 @@
-//! Writing the lines of whole texts, part by part.
+//! Writers of the lines of whole texts, part by part.
 ghost use Rattle.std.specs.Prelude.{◌≡◌, ◌++◌, ◌∷◌, [], map, length, codes, OnOk};
 ghost use Rattle.std.specs.Fmt.{signed_decimal};
 ghost use Rattle.std.specs.List.{All};
@@ -28,7 +28,7 @@ fn put_between(
     put_line(out, back)
 }
 
-/// Appends the first line, of a version of the format.
+/// Appends the header with the version of the format.
 pub fn put_header(out: &mut Vec<u8>, version: u32) -> Result<(), AllocError>
     ensures { OnOk result (out.new.items ≡ out.old.items ++ unlines (header_line version ∷ [])) }
 {
@@ -40,7 +40,7 @@ pub fn put_header(out: &mut Vec<u8>, version: u32) -> Result<(), AllocError>
     )
 }
 
-/// Appends the number of players and the players.
+/// Appends the number of players, and the players.
 pub fn put_players(out: &mut Vec<u8>, players: &[i32]) -> Result<(), AllocError>
     ensures { OnOk result (out.new.items ≡ out.old.items ++ unlines (count_line (length players.now) ∷ map signed_decimal players.now)) }
 {
@@ -48,7 +48,7 @@ pub fn put_players(out: &mut Vec<u8>, players: &[i32]) -> Result<(), AllocError>
     put_numbers(out, players)
 }
 
-/// Appends the line of an object that is there.
+/// Appends the header of an object that exists.
 pub fn put_live(out: &mut Vec<u8>, number: usize) -> Result<(), AllocError>
     ensures { OnOk result (out.new.items ≡ out.old.items ++ unlines (live_line number ∷ [])) }
 {
@@ -57,7 +57,7 @@ pub fn put_live(out: &mut Vec<u8>, number: usize) -> Result<(), AllocError>
     put_line(out, buffer.format(number).as_bytes())
 }
 
-/// Appends the line of an object that was recycled.
+/// Appends the header of a recycled object.
 pub fn put_recycled(out: &mut Vec<u8>, number: usize) -> Result<(), AllocError>
     ensures { OnOk result (out.new.items ≡ out.old.items ++ unlines (recycled_line number ∷ [])) }
 {
@@ -67,7 +67,7 @@ pub fn put_recycled(out: &mut Vec<u8>, number: usize) -> Result<(), AllocError>
     put_line(out, b" recycled")
 }
 
-/// Appends the line before a program, of an object's verb.
+/// Appends the header of the program of an object's verb.
 pub fn put_program_line(out: &mut Vec<u8>, object: usize, verb: usize) -> Result<(), AllocError>
     ensures { OnOk result (out.new.items ≡ out.old.items ++ unlines (program_line object verb ∷ [])) }
 {
@@ -95,7 +95,7 @@ pub fn put_program(
     verb: usize,
     source: &[MooStr],
 ) -> Result<(), AllocError>
-    // Each line that was written is a string.
+    // Each written line is a string.
     ensures strings { OnOk result (All IsString source.now) }
     ensures lines { OnOk result (out.new.items ≡ out.old.items ++ unlines (program_lines (record { object = object; verb = verb; source = source.now }))) }
 {
@@ -104,7 +104,7 @@ pub fn put_program(
     put_line(out, b".")
 }
 
-/// Appends the lines of the tasks, of which there are none.
+/// Appends the lines that count tasks, all of them 0.
 pub fn put_tasks(out: &mut Vec<u8>) -> Result<(), AllocError>
     ensures { OnOk result (out.new.items ≡ out.old.items ++ unlines (tasks_lines [])) }
 {

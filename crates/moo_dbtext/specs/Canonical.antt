@@ -9,7 +9,7 @@ use Rattle.moo_saved.specs.Saved.{Saved}
 abbrev pub canonical : Saved → List ℕ
 canonical s = canonical_bytes s.world s.connected
 
--- a saved world as the types of the program have it, of which not too many are connected
+-- a saved world as the types of the program have it, with at most as many connected players as sizes allow
 pub record IsKept (z : Sizes) (s : Saved) : Type 0 where
   pub formed : IsWellFormed s.world
   pub held : IsHeld s.world s.connected

@@ -1,10 +1,11 @@
-//! What follows from the definitions.
+//! Laws on the canonical text.
 
 ghost use Rattle.moo_dbvalue.specs.Lines.{limited, unlimited};
 ghost use Rattle.moo_saved.specs.Saved.{Saved, SpellsSaved, SpellsSavedWithin};
 ghost use Rattle.moo_dbtext.specs.Canonical.{canonical, IsKept};
 
-/// The canonical text of a saved world spells it, within the limits on sizes too where not too many are connected.
+/// The canonical text of a saved world spells it. It does so within the size limits if the number of connected
+/// players is within them.
 pub fn canonical_bytes_spell_the_saved_world()
     ensures any { (s : Saved) → IsKept unlimited s → SpellsSaved (canonical s) s }
     ensures within { (s : Saved) → IsKept limited s → SpellsSavedWithin (canonical s) s }

@@ -1,4 +1,4 @@
-//! The database text of a saved world.
+//! Reads and writes saved worlds as database texts.
 #![tactic(auto)]
 
 pub mod laws;

@@ -1,4 +1,4 @@
-//! Writing a saved world, and reading what was written.
+//! Writing a saved world, and reading it back.
 
 ghost use Rattle.std.specs.Prelude.{◌≡◌, length, IfOk, IfErr, MatchResult};
 ghost use Rattle.moo_dbvalue.specs.Lines.{IsCountOf, limited, unlimited};
@@ -11,17 +11,18 @@ use moo_saved::Saved;
 use moo_world::World;
 use std::alloc::{AllocError, Global};
 
-/// The database text of a world, and of the numbers of those who are connected, for a caller that keeps the two apart.
+/// Returns the database text of a world and of the numbers of the connected players, for a caller that keeps the two
+/// apart. Fails only if memory runs out.
 pub fn write_world_and_connected(
     alloc: Global,
     world: &World,
     connected: &[i32],
 ) -> Result<Vec<u8>, AllocError>
-    // It is the canonical text.
+    // The text is the canonical one.
     ensures canonical { IfOk result (λ bytes. bytes.items ≡ canonical (record { world = world.now; connected = connected.now })) }
-    // It spells the two, unless the number of those who are connected has more than 32 bits.
+    // The text spells the two, unless the number of connected players exceeds 32 bits.
     ensures spelled { IfOk result (λ bytes. IsCountOf unlimited (length connected.now) → SpellsSaved bytes.items (record { world = world.now; connected = connected.now })) }
-    // It is within the limits on sizes, where not too many are connected.
+    // The text is within the size limits, if the number of connected players is.
     ensures within { IfOk result (λ bytes. IsCountOf limited (length connected.now) → SpellsSavedWithin bytes.items (record { world = world.now; connected = connected.now })) }
 {
     world.is_well_formed();
@@ -29,13 +30,13 @@ pub fn write_world_and_connected(
     Ok(bytes)
 }
 
-/// The database text of a saved world.
+/// Returns the database text of a saved world. Fails only if memory runs out.
 pub fn write_db(alloc: Global, saved: &Saved) -> Result<Vec<u8>, AllocError>
-    // It is the canonical text.
+    // The text is the canonical one.
     ensures canonical { IfOk result (λ bytes. bytes.items ≡ canonical (saved_of saved.now)) }
-    // It spells the saved world, unless the number of those who are connected has more than 32 bits.
+    // The text spells the saved world, unless the number of connected players exceeds 32 bits.
     ensures spelled { IfOk result (λ bytes. IsCountOf unlimited (length saved.now.connected.items) → SpellsSaved bytes.items (saved_of saved.now)) }
-    // It is within the limits on sizes, where not too many are connected.
+    // The text is within the size limits, if the number of connected players is.
     ensures within { IfOk result (λ bytes. IsCountOf limited (length saved.now.connected.items) → SpellsSavedWithin bytes.items (saved_of saved.now)) }
 {
     write_world_and_connected(alloc, &saved.world, &saved.connected)
@@ -54,7 +55,7 @@ fn written(alloc: Global, saved: &Saved) -> Result<Vec<u8>, DbFault>
     }
 }
 
-/// What is written of a saved world is read as that saved world, unless memory ends it.
+/// Writes a saved world, and reads it back. The result is equal to it. Fails only if memory runs out.
 pub fn written_and_read(alloc: Global, saved: &Saved) -> Result<Saved, DbFault>
     requires { IsCountOf limited (length saved.now.connected.items) }
     ensures { MatchResult result (λ again. saved_of again ≡ saved_of saved.now) (λ e. e.kind ≡ DbFaultKind.Memory) }

@@ -19,7 +19,7 @@ two_lines step p q one two rest r e f = one_line step p one (two ∷ rest) (Ok (
 pub record Hosts {P X H Y : Type 0} (part : P → Line → Result (P × Option X) LineFault) (host : H → Line → Result (H × Option Y) LineFault) (embed : P → H) (next : P → X → H × Option Y) : Type 0 where
   pub steps : (p : P) (line : Line) → host (embed p) line ≡ (part p line >>= λ r. elim r.1 [ None ↦ Ok (embed r.0, None) | Some x ↦ Ok (next r.0 x) ])
 
--- where the part is after some lines, as the host sees it
+-- the state of the part after some lines, as the host sees it
 abbrev pub seen : {P X H Y : Type 0} (host : H → Line → Result (H × Option Y) LineFault) (embed : P → H) (next : P → X → H × Option Y) → Place P X → Result (Place H Y) LineFault
 seen host embed next r = elim r.1 [ None ↦ Ok (embed r.0, None, []) | Some x ↦ resumed host (Ok (next r.0 x)) r.2 ]
 

@@ -1,4 +1,4 @@
--- Where a size is past its limit, the line can stand but for that limit.
+-- If a size exceeds its limit, the line is right but for that limit.
 use Rattle.std.proofs.Common.{◌≡◌, ◌≢◌, ℕ, zero, suc, ◌-◌, ℤ, pos, negsuc, Bool, true, false, cond, eqb, leb, ltb, List, [], ◌∷◌, ◌++◌, length, Option, None, Result, Ok, Err, inl, inr, subst}
 use Rattle.std.specs.Prelude.{◌&&◌}
 use Rattle.std.specs.List.{list_all}
@@ -24,7 +24,7 @@ abbrev pub NeverLarge : {A : Type 0} → Result A LineFault → Type 0
 NeverLarge (Ok x) = Unit {0}
 NeverLarge (Err f) = f ≢ TooLarge
 
--- where the first answer is that a size is past its limit, the other one is no fault
+-- if the first answer is that a size exceeds its limit, the other one is no fault
 abbrev pub Strict : {A B : Type 0} → Result A LineFault → Result B LineFault → Type 0
 Strict (Ok x) q = Unit {0}
 Strict (Err f) q = f ≡ TooLarge → IsTaken q

@@ -77,7 +77,7 @@ total_weight-extras : (es : Elements) → total_weight es ≡ length (trees_of e
 total_weight-extras no_elements = refl
 total_weight-extras (element t es) = omega (arith, weight-extra t, total_weight-extras es)
 
--- where sizes are limited: the value fits into the room, and nests no deeper than it may in so many lists
+-- if sizes are limited: the value fits into the weight that is left, and nests no deeper than it may in so many lists
 abbrev Fits : Sizes → Tree → ℕ → List Opened → Type 0
 Fits unlimited t room ls = Unit {0}
 Fits limited t room ls = (extra t ≤ room) × (room ≤ full_room) × (length ls + depth t ≤ depth_limit)

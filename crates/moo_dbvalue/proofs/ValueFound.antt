@@ -162,7 +162,7 @@ error_found line e h =
     let f = small_found 15 line b.0 b.1 in
     f.1 ∙ ap count_line (sym (error_numbered_is b.0 f.0)) ∙ ap (λ (d : ErrorCode). count_line (error_number d)) (ok_is (error_numbered b.0) e b.2)
 
--- the line of a content, behind that of its type
+-- the line of a content, after that of its type
 content : (ls : List Opened) (type line : Line) (t : Tree) (r : Partial × Option Tree) → value_lines t ≡ type ∷ line ∷ [] → Finds (lists_read ls ++ value_lines t) r → Finds ((lists_read ls ++ type ∷ []) ++ line ∷ []) r
 content ls type line t r is f = found_along _ _ r (ap (λ (vs : List Line). lists_read ls ++ vs) is ∙ sym (append_assoc (lists_read ls) (type ∷ []) (line ∷ []))) f
 
@@ -214,7 +214,7 @@ value_found s expected.Count p line r h hs =
 
 -- ---- from the first line to the last
 
--- the lines behind those that were taken
+-- the lines after those that were taken
 pub record Ends (taken ls : List Line) (p : Partial) (t : Tree) (rest : List Line) : Type 0 where
   pub lines : taken ++ ls ≡ value_lines t ++ rest
   pub is : IsWritable t

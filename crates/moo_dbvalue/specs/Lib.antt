@@ -1,4 +1,4 @@
--- How numbers, strings and values stand on lines.
+-- The lines of numbers, strings and values.
 pub mod Lines
 pub mod ValueLines
 -- Reading values line by line.

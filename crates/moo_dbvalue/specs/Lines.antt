@@ -1,4 +1,4 @@
--- How numbers and strings stand on a line.
+-- Numbers and strings, one per line.
 use Rattle.std.specs.Prelude.{◌≡◌, ◌⊎◌, ℕ, ℤ, pos, negsuc, ◌<◌, ◌≤◌, ◌^◌, Bool, List, [], ◌∷◌, ◌++◌, length, Result, Ok, Err, nat_lt, nat_le, neg_ℤ, drop, slice_index, ◌==◌, ◌&&◌, ◌||◌, if◌then◌else◌}
 use Rattle.std.specs.List.{list_all, flat_map}
 use Rattle.std.specs.Fmt.{signed_decimal}
@@ -24,7 +24,7 @@ abbrev pub ◌>>=◌ : {A B : Type 0} → Result A LineFault → (A → Result B
 (Ok x) >>= f = f x
 (Err e) >>= f = Err e
 
--- What a function returned, seen by view, is what reading gives, unless memory stopped it.
+-- What a function returned, seen by view, is what reading gives, unless memory ran out.
 abbrev pub Fails : {Y : Type 0} → Refusal → Result Y LineFault → Type 0
 Fails refusal.Memory read = Unit {0}
 Fails (refusal.Fault f) read = read ≡ Err f
@@ -33,12 +33,12 @@ abbrev pub Gives : {X Y : Type 0} → (X → Y) → Result X Refusal → Result 
 Gives view (Ok x) read = read ≡ Ok (view x)
 Gives view (Err e) read = Fails e read
 
--- Whether the limits on sizes are kept: they are where a text is read, and the format itself has none.
+-- Whether the size limits are kept. A reader of texts keeps them; the format itself has none.
 pub data Sizes : Type 0 where
   unlimited : Sizes
   limited : Sizes
 
--- what was read, where its size fits
+-- what was read, if its size fits
 abbrev pub within : {A : Type 0} → Sizes → Bool → A → Result A LineFault
 within unlimited fits x = Ok x
 within limited fits x = if fits then Ok x else Err TooLarge
@@ -83,12 +83,12 @@ is_text_byte b = (b == 9) || (nat_le 32 b && nat_le b 126)
 unfoldable pub text_of : Sizes → Line → Result (List ℕ) LineFault
 text_of s line = if list_all is_text_byte line then within s (nat_lt (length line) weight_limit) line else Err BadString
 
--- a string, which is within its limit where sizes are limited
+-- a string, which is within its limit if sizes are limited
 abbrev pub IsStringOf : Sizes → Line → Type 0
 IsStringOf unlimited s = IsText s
 IsStringOf limited s = IsString s
 
--- a number of records, which is within its limit where sizes are limited
+-- a number of records, which is within its limit if sizes are limited
 abbrev pub IsCountOf : Sizes → ℕ → Type 0
 IsCountOf unlimited n = n < 2 ^ 31
 IsCountOf limited n = n ≤ most_records
@@ -97,6 +97,6 @@ IsCountOf limited n = n ≤ most_records
 abbrev pub count_line : ℕ → Line
 count_line n = signed_decimal (pos n)
 
--- an answer under limits on sizes, and the answer without them: the same, or TooLarge
+-- an answer under size limits, and the answer without them: both are equal, or the first is TooLarge
 abbrev pub Cut : {A : Type 0} → Result A LineFault → Result A LineFault → Type 0
 Cut r q = (r ≡ q) ⊎ (r ≡ Err TooLarge)

@@ -1,4 +1,4 @@
--- Reading a value line by line: what the reader knows between two lines, and what each line makes of it.
+-- Reading a value line by line: the reader's state between two lines, and the effect of each line.
 use Rattle.std.specs.Prelude.{ℕ, ℤ, pos, negsuc, ◌==◌, zero, suc, ◌-◌, ◌&&◌, nat_lt, nat_le, ◌≡◌, Bool, true, false, List, [], ◌∷◌, ◌++◌, map, reverse, length, Option, Some, None, option_map, is_some, Result, Ok, Err, if◌then◌else◌}
 use Rattle.moo_value.specs.declared.error_code.ErrorCode.{ErrorCode}
 use Rattle.moo_value.specs.declared.value.Value.{Value}
@@ -14,12 +14,12 @@ use Rattle.moo_dbvalue.specs.declared.value_reader.Expected.TheVariants as expec
 use Rattle.moo_dbvalue.specs.declared.value_reader.OpenList.{OpenList}
 use Rattle.moo_dbvalue.specs.declared.value_reader.ValueReader.{ValueReader}
 
--- a list that is being read: its values so far, and how many follow the one that is read now
+-- a list that is being read: its values so far, and how many follow the one that is being read
 abbrev pub Opened : Type 0
 Opened = List Tree × ℕ
 
--- A value that is being read: what the next line is, what it may still weigh more than the least that goes on from here,
--- and the lists round it, the innermost first.
+-- A value that is being read: what the next line holds, the weight that is left for the rest of the value, and the
+-- lists around it, the innermost first.
 pub record Partial : Type 0 where
   pub expected : Expected
   pub room : ℕ
@@ -34,11 +34,11 @@ innermost_first ls = reverse (map opened_of ls)
 abbrev pub partial_of : ValueReader → Partial
 partial_of r = record { expected = r.expected; room = r.room; lists = innermost_first r.lists.items }
 
--- where a value begins
+-- the state at the start of a value
 abbrev pub opening : ℕ → List Opened → Partial
 opening room ls = record { expected = expected.Type; room = room; lists = ls }
 
--- what a value may weigh more than 1
+-- the greatest weight of a value, less 1
 abbrev pub full_room : ℕ
 full_room = 999999
 
@@ -52,7 +52,7 @@ is_within t = nat_le (weight t) weight_limit && nat_le (depth t) depth_limit
 abbrev pub closed : Sizes → List Tree → Result Tree LineFault
 closed s ts = within s (is_within (list_of ts)) (list_of ts)
 
--- After a whole value: it may end the lists round it, and the outermost is the answer.
+-- After a whole value: it may end the lists around it, and the outermost is the answer.
 unfoldable pub after_value : Sizes → Tree → ℕ → List Opened → Result (Partial × Option Tree) LineFault
 after_value s t room [] = Ok (begun, Some t)
 after_value s t room ((items, zero) ∷ ls) = closed s (items ++ t ∷ []) >>= λ l. after_value s l room ls
@@ -73,7 +73,7 @@ expected_after (pos n) =
     (if n == 9 then Err FloatValue else Err BadType)))))
 expected_after (negsuc n) = Err BadType
 
--- A list may stand in fewer lists than lists may nest.
+-- A list may begin inside fewer lists than the nesting limit.
 abbrev pub may_stand : Expected → List Opened → Bool
 may_stand expected.Type ls = true
 may_stand expected.Int ls = true
@@ -88,7 +88,7 @@ type_of line = number_of line >>= expected_after
 unfoldable pub error_of : Line → Result ErrorCode LineFault
 error_of line = small_of 15 line >>= λ n. Ok (error_numbered n)
 
--- what is left of the room
+-- what is left of the weight
 abbrev pub take_room : Sizes → ℕ → ℕ → Result ℕ LineFault
 take_room s n room = within s (nat_le n room) (room - n)
 
@@ -104,12 +104,12 @@ value_step s expected.Count p line = count_of line >>= λ n. take_room s n p.roo
 abbrev pub value_line : Sizes → Partial → Line → Result (Partial × Option Tree) LineFault
 value_line s p line = value_step s p.expected p line
 
--- what a line gives that ends a value, by what is put down, or ends none
+-- what a line gives: the value that was stored if the line ends one, or nothing
 abbrev pub ended_by : Bool → Option Value → Option Tree
 ended_by true whole = option_map tree whole
 ended_by false whole = None
 
--- A value is put down where one ends, and what was there stays where none does.
+-- If a line ends a value, one is stored. If not, what was there stays.
 abbrev pub IsPutDown : Bool → Option Value → Option Value → Type 0
 IsPutDown true old new = is_some new ≡ true
 IsPutDown false old new = new ≡ old

@@ -3,7 +3,7 @@ use Rattle.std.specs.Prelude.{List, [], ◌∷◌, Option, Some, None, Result, O
 use Rattle.moo_dbvalue.specs.declared.fault.LineFault.{LineFault}
 use Rattle.moo_dbvalue.specs.Lines.{Line, ◌>>=◌}
 
--- where a reader is after some lines, what it has read whole, and the lines that are left
+-- the reader's state after some lines, what it has read whole, and the lines that are left
 abbrev pub Place : Type 0 → Type 0 → Type 0
 Place P X = P × Option X × List Line
 

@@ -33,7 +33,7 @@ abbrev mutual
   AreWritable no_elements = Unit {0}
   AreWritable (element t es) = IsWritable t × AreWritable es
 
--- where sizes are limited, the value is within the limits
+-- if sizes are limited, the value is within the limits
 abbrev pub KeepsLimits : Sizes → Tree → Type 0
 KeepsLimits unlimited t = Unit {0}
 KeepsLimits limited t = IsWithinLimits t

@@ -1,11 +1,11 @@
-//! Why a line cannot stand where it is.
+//! The faults of a line of a database text.
 ghost use Rattle.std.specs.Prelude.{◌≡◌};
 ghost use Rattle.moo_dbvalue.specs.declared.fault.Refusal.TheVariants.{Memory};
 
 use std::alloc::{AllocError, AllocFailed};
 use thiserror::Error;
 
-/// Why a line cannot stand where it is.
+/// The fault for which a reader refuses a line.
 #[derive(Clone, Copy, Debug, PartialEq, Eq, Error)]
 pub enum LineFault {
     /// The first line names no version of the format.
@@ -14,42 +14,42 @@ pub enum LineFault {
     /// The first line names a version that is not read.
     #[error("Version {0}")]
     Version(u32),
-    /// A number that is no number, has another spelling than its one, or is past its range.
+    /// The line is no number in the one decimal form, or the number is out of range.
     #[error("BadNumber")]
     BadNumber,
     /// A line is missing, or has no end.
     #[error("Truncated")]
     Truncated,
-    /// A byte that no string holds.
+    /// The line has a byte that no string can hold.
     #[error("BadString")]
     BadString,
-    /// A floating-point number's type.
+    /// A value's type is that of a floating-point number.
     #[error("FloatValue")]
     FloatValue,
-    /// A number that is no type of a value here.
+    /// A number is the type of no value that this format has.
     #[error("BadType")]
     BadType,
-    /// Not the line of the object's number.
+    /// The line isn't the header of the object with the next number.
     #[error("BadObjectLine")]
     BadObjectLine,
-    /// A program's line that names no verb, or one that has its program.
+    /// A program's header names no verb, or a verb that already has its program.
     #[error("BadProgramLine")]
     BadProgramLine,
-    /// There are tasks.
+    /// The text has pending tasks.
     #[error("PendingTasks")]
     PendingTasks,
-    /// A line of the last section.
+    /// A line of the section of connections is malformed.
     #[error("BadConnections")]
     BadConnections,
-    /// A line past the last one.
+    /// A line follows the last one of the format.
     #[error("TrailingBytes")]
     TrailingBytes,
-    /// A number, a count, a string or a value is past a limit on sizes.
+    /// A number, a count, a string or a value exceeds a size limit.
     #[error("TooLarge")]
     TooLarge,
 }
 
-/// Why a line was not taken: for a fault of the text, or for want of memory.
+/// The reason why a reader refuses a line: a fault of the text, or out of memory.
 #[derive(Clone, Copy, Debug, PartialEq, Eq, Error)]
 pub enum Refusal {
     #[error("out of memory")]

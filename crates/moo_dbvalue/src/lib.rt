@@ -1,5 +1,5 @@
-//! Values as lines of a database text, and the numbers and strings that stand on a line.
-//! A room behind `moo_dbtext`.
+//! Values as lines of a database text, and numbers and strings that take one line each.
+//! An internal crate of `moo_dbtext`.
 #![tactic(auto)]
 
 mod fault;

@@ -1,4 +1,4 @@
-//! Numbers and strings, one on a line.
+//! Numbers and strings, one per line.
 ghost use Rattle.std.specs.Prelude.{◌≡◌, ◌≢◌, ◌<◌, ◌^◌, ◌∷◌, ℕ, ℤ, suc, MatchOption, IfErr, FitsSigned};
 ghost use Rattle.std.specs.Fmt.{decimal, signed_decimal};
 ghost use Rattle.std.specs.Int.{w32};
@@ -9,7 +9,7 @@ use crate::fault::{LineFault, Refusal};
 use moo_value::{MooStr, ValueFault};
 use std::alloc::Global;
 
-/// The number that digits spell in the one decimal form, where they are ten at most.
+/// Parses a natural number in the one decimal form, if it has at most ten digits.
 fn natural(digits: &[u8]) -> Option<u64>
     ensures { MatchOption result ((n : ℕ) → n < 2 ^ 32 → digits.now ≢ decimal n) (λ n. (n < 10 ^ 10) × (digits.now ≡ decimal n)) }
 {
@@ -27,7 +27,7 @@ fn natural(digits: &[u8]) -> Option<u64>
     Some(value)
 }
 
-/// The number below 0 of which these are the digits.
+/// Parses the digits of a negative number. The sign is not among them.
 fn below_zero(digits: &[u8]) -> Option<i32>
     ensures { MatchOption result ((n : ℕ) → n < 2 ^ 31 → digits.now ≢ decimal (suc n)) (λ z. FitsSigned w32 z × (45 ∷ digits.now ≡ signed_decimal z)) }
 {
@@ -38,14 +38,14 @@ fn below_zero(digits: &[u8]) -> Option<i32>
     i32::try_from(-(number as i64)).ok()
 }
 
-/// The number from 0 on of which these are the digits.
+/// Parses the digits of a number that is 0 or more.
 fn from_zero(digits: &[u8]) -> Option<i32>
     ensures { MatchOption result ((n : ℕ) → n < 2 ^ 31 → digits.now ≢ decimal n) (λ z. FitsSigned w32 z × (digits.now ≡ signed_decimal z)) }
 {
     i32::try_from(natural(digits)?).ok()
 }
 
-/// The number that a line spells in the one decimal form.
+/// Parses a signed number in the one decimal form.
 fn decimal(line: &[u8]) -> Option<i32>
     ensures { MatchOption result ((z : ℤ) → FitsSigned w32 z → line.now ≢ signed_decimal z) (λ z. FitsSigned w32 z × (line.now ≡ signed_decimal z)) }
 {
@@ -55,7 +55,7 @@ fn decimal(line: &[u8]) -> Option<i32>
     }
 }
 
-/// The number of 32 bits, with a sign, that a line spells in the one decimal form.
+/// Parses a signed 32-bit number in the one decimal form. Returns `BadNumber` if the line is none.
 #[tactic(auto, using(crate::proofs::LineLaws::number_is, crate::proofs::LineLaws::number_is_not))]
 pub fn number(line: &[u8]) -> Result<i32, Refusal>
     ensures gives { Gives (λ z. z) result (number_of line.now) }
@@ -67,7 +67,7 @@ pub fn number(line: &[u8]) -> Result<i32, Refusal>
     }
 }
 
-/// The number on a line, which is 0 or more.
+/// Parses a number that is 0 or more. Returns `BadNumber` if the line is none.
 #[tactic(auto, unfolding(crate::specs::Lines::count_of))]
 pub fn count(line: &[u8]) -> Result<u32, Refusal>
     ensures gives { Gives (λ n. n) result (count_of line.now) }
@@ -80,7 +80,7 @@ pub fn count(line: &[u8]) -> Result<u32, Refusal>
     Ok(number as u32)
 }
 
-/// The number on a line, which counts records: 1,000,000 at the most.
+/// Parses a number of records. Returns `BadNumber` if the line is none, and `TooLarge` past 1,000,000.
 #[tactic(auto, unfolding(crate::specs::Lines::bounded_count_of))]
 pub fn bounded_count(line: &[u8]) -> Result<u32, Refusal>
     ensures gives { Gives (λ n. n) result (bounded_count_of limited line.now) }
@@ -93,7 +93,7 @@ pub fn bounded_count(line: &[u8]) -> Result<u32, Refusal>
     Ok(count)
 }
 
-/// The number on a line, from 0 to `most`.
+/// Parses a number from 0 to `most`. Returns `BadNumber` if the line is none.
 #[tactic(auto, unfolding(crate::specs::Lines::small_of))]
 pub fn small(line: &[u8], most: u8) -> Result<u8, Refusal>
     ensures gives { Gives (λ n. n) result (small_of most line.now) }
@@ -106,7 +106,8 @@ pub fn small(line: &[u8], most: u8) -> Result<u8, Refusal>
     Ok(count as u8)
 }
 
-/// The string that a line is.
+/// Returns the line as a string. Returns `BadString` for a byte that no string can hold, `TooLarge` past the limit,
+/// or `Memory`.
 pub fn text(alloc: Global, line: &[u8]) -> Result<MooStr, Refusal>
     ensures { Gives (λ s. s) result (text_of limited line.now) }
 {

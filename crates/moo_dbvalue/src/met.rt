@@ -1,4 +1,4 @@
-//! Strings of a text that were met: those that are spelled alike share their bytes.
+//! A cache of the strings of a text: strings with equal bytes share them.
 ghost use Rattle.moo_dbvalue.specs.Lines.{Gives, limited, text_of};
 
 use crate::fault::Refusal;
@@ -8,19 +8,19 @@ use std::alloc::{AllocError, Global};
 
 const ROWS: usize = 512;
 
-/// The number of no string.
+/// Marks a row without a string.
 const NONE: u16 = u16::MAX;
 
-/// Strings that have been met, the last one of each row.
+/// Holds strings that were read before, the latest one of each row.
 #[derive(Drop)]
 pub struct MetStrings {
     strings: Vec<MooStr>,
-    /// The number of the string in each row, once there is one.
+    /// For each row the index of its string, or `NONE`. Empty until the first string comes.
     rows: Vec<u16>,
 }
 
 impl MetStrings {
-    /// No strings.
+    /// Returns an empty cache.
     pub fn new(alloc: Global) -> MetStrings {
         MetStrings {
             strings: Vec::new(alloc),
@@ -28,7 +28,8 @@ impl MetStrings {
         }
     }
 
-    /// The string that a line is: the one that it was before, if that is still known, or a new one.
+    /// Returns the line as a string, which shares its bytes with an equal one that the cache still has. Fails as
+    /// `line::text` does.
     pub fn text(&mut self, alloc: Global, line: &[u8]) -> Result<MooStr, Refusal>
         ensures { Gives (λ s. s) result (text_of limited line.now) }
     {
@@ -43,7 +44,7 @@ impl MetStrings {
         Ok(string)
     }
 
-    // The string in a row.
+    // Returns the string in a row, if it has one.
     fn known(&self, row: usize) -> Option<&MooStr> {
         let number = self.rows.get(row)?;
         self.strings.get(usize::from(*number))
@@ -70,7 +71,7 @@ impl MetStrings {
     }
 }
 
-// The row of a string, by its length and three of its letters.
+// Returns the row of a string, by its length and three of its bytes.
 fn row(string: &[u8]) -> usize {
     match (string.first(), string.get(string.len() / 2), string.last()) {
         (Some(first), Some(middle), Some(last)) => {

@@ -1,4 +1,4 @@
-//! A value, read a line at a time.
+//! A reader of values, one line at a time.
 ghost use Rattle.std.specs.Prelude.{◌≡◌, ◌≢◌, ◌≤◌, length, option_map, IfOk, IfErr};
 ghost use Rattle.moo_value.specs.View.{tree, trees};
 ghost use Rattle.moo_dbvalue.specs.Lines.{Gives, limited};
@@ -14,7 +14,7 @@ use crate::met::MetStrings;
 use moo_value::{DEPTH_LIMIT, ErrorCode, ListFault, MooList, Value};
 use std::alloc::Global;
 
-/// What the next line is.
+/// The content of the next line.
 #[derive(Clone, Copy)]
 enum Expected {
     Type,
@@ -25,27 +25,27 @@ enum Expected {
     Count,
 }
 
-/// A list that is being read.
+/// A list whose elements are being read.
 #[derive(Drop)]
 struct OpenList {
     items: Vec<Value>,
-    /// How many values follow the one that is read now.
+    /// The number of elements after the one that is being read.
     left: u32,
 }
 
-/// A value that is being read.
+/// Holds a value that is being read.
 #[derive(Drop)]
 pub struct ValueReader {
     expected: Expected,
-    /// What the value may still weigh more than the least that goes on from here.
+    /// The weight that is left for the rest of the value.
     room: u32,
-    /// The lists round the value that is read now, the innermost last.
+    /// The lists around the value that is being read, the innermost last.
     lists: Vec<OpenList>,
-    /// The strings of this value and those before it.
+    /// The strings of this value and of those before it.
     met: MetStrings,
 }
 
-/// What a value may weigh more than 1.
+/// The greatest weight of a value, less 1.
 const FULL_ROOM: u32 = 999_999;
 
 #[tactic(auto, unfolding(crate::specs::Reading::type_of))]
@@ -86,7 +86,7 @@ fn left_of(room: u32, amount: u32) -> Result<u32, Refusal>
     Ok(room - amount)
 }
 
-// For how many of so many values there is room at first.
+// Returns for how many of `length` elements to reserve memory at first.
 fn first_room(length: u32) -> usize {
     length.min(64) as usize
 }
@@ -102,7 +102,7 @@ fn list(alloc: Global, elements: Vec<Value>) -> Result<Value, Refusal>
 }
 
 impl ValueReader {
-    /// A reader of a value, before its first line.
+    /// Returns a reader that expects the first line of a value.
     pub fn new(alloc: Global) -> ValueReader
         ensures { partial_of result ≡ begun }
     {
@@ -114,7 +114,7 @@ impl ValueReader {
         }
     }
 
-    /// The reader before the first line of another value. It keeps the strings that it has met.
+    /// Returns a reader that expects the first line of another value. It keeps the strings that it has read.
     pub fn restarted(self, alloc: Global) -> ValueReader
         ensures { partial_of result ≡ begun }
     {
@@ -179,11 +179,11 @@ impl ValueReader {
         self.lists.len() < DEPTH_LIMIT as usize
     }
 
-    /// Takes the next line of a value, and gives the value at its last. Limits on sizes are told at the
-    /// first line after which no value is within them.
+    /// Takes the next line of a value, and returns the value at its last line. Fails at the first line after which no
+    /// value is within the size limits, or if the line has a fault, or if memory runs out.
     pub fn step(&mut self, alloc: Global, line: &[u8]) -> Result<Option<Value>, Refusal>
         ensures gives { Gives (λ o. (partial_of self.new, option_map tree o)) result (value_line limited (partial_of self.old) line.now) }
-        // The line of a type takes no memory.
+        // A line that holds a type needs no memory.
         ensures memory { (partial_of self.old).expected ≡ expected.Type → IfErr result (λ e. e ≢ Memory) }
     {
         let mut whole = None;
@@ -194,7 +194,8 @@ impl ValueReader {
         }
     }
 
-    /// Takes the next line of a value, and tells whether it was the last. Then the value is put down.
+    /// Takes the next line of a value, and returns whether it was the last. If so, puts the value into `whole`. Fails
+    /// as `step` does.
     #[tactic(auto, unfolding(crate::specs::Reading::value_step))]
     pub fn take_line(
         &mut self,
@@ -204,7 +205,7 @@ impl ValueReader {
     ) -> Result<bool, Refusal>
         ensures gives { Gives (λ ends. (partial_of self.new, ended_by ends whole.new)) result (value_line limited (partial_of self.old) line.now) }
         ensures put { IfOk result (λ ends. IsPutDown ends whole.old whole.new) }
-        // The line of a type takes no memory.
+        // A line that holds a type needs no memory.
         ensures memory { (partial_of self.old).expected ≡ expected.Type → IfErr result (λ e. e ≢ Memory) }
     {
         match self.expected {

@@ -1,4 +1,4 @@
-//! Writing lines, one after another.
+//! Writers that append lines.
 ghost use Rattle.std.specs.Prelude.{◌≡◌, ◌++◌, ◌∷◌, [], OnOk};
 ghost use Rattle.std.specs.Fmt.{signed_decimal};
 ghost use Rattle.moo_value.specs.Tree.{elements_of};
@@ -10,7 +10,7 @@ use itoa::Buffer;
 use moo_value::Value;
 use std::alloc::AllocError;
 
-/// Appends a line.
+/// Appends a line and its end. Fails only if memory runs out.
 pub fn put_line(out: &mut Vec<u8>, line: &[u8]) -> Result<(), AllocError>
     ensures { OnOk result (out.new.items ≡ out.old.items ++ unlines (line.now ∷ [])) }
 {
@@ -19,7 +19,7 @@ pub fn put_line(out: &mut Vec<u8>, line: &[u8]) -> Result<(), AllocError>
     Ok(())
 }
 
-// Appends the line of one byte: most lines are a digit, and this asks for room once.
+// Appends a line of one byte. Most lines are one digit, and this reserves memory once.
 fn put_byte(out: &mut Vec<u8>, byte: u8) -> Result<(), AllocError>
     ensures { OnOk result (out.new.items ≡ out.old.items ++ unlines ((byte ∷ []) ∷ [])) }
 {
@@ -29,7 +29,7 @@ fn put_byte(out: &mut Vec<u8>, byte: u8) -> Result<(), AllocError>
     Ok(())
 }
 
-/// Appends the line of a number that counts.
+/// Appends a count as a decimal line.
 #[tactic(auto, using(std::proofs::lemmas::Fmt::decimal_digit))]
 pub fn put_count(out: &mut Vec<u8>, count: usize) -> Result<(), AllocError>
     ensures { OnOk result (out.new.items ≡ out.old.items ++ unlines (count_line count ∷ [])) }
@@ -41,7 +41,7 @@ pub fn put_count(out: &mut Vec<u8>, count: usize) -> Result<(), AllocError>
     put_line(out, buffer.format(count).as_bytes())
 }
 
-/// Appends the line of a number with a sign.
+/// Appends a signed number as a decimal line.
 pub fn put_number(out: &mut Vec<u8>, number: i32) -> Result<(), AllocError>
     ensures { OnOk result (out.new.items ≡ out.old.items ++ unlines (signed_decimal number ∷ [])) }
 {
@@ -52,7 +52,7 @@ pub fn put_number(out: &mut Vec<u8>, number: i32) -> Result<(), AllocError>
     put_line(out, buffer.format(number).as_bytes())
 }
 
-/// Appends the lines of a value: the number of its type, and the content.
+/// Appends the lines of a value: the number of its type, and then its content.
 #[cycle(values)]
 pub fn put_value(out: &mut Vec<u8>, value: &Value) -> Result<(), AllocError>
     ensures { OnOk result (out.new.items ≡ out.old.items ++ unlines (value_lines (tree value.now))) }

@@ -1,4 +1,4 @@
-//! An input or an output, and the name by which its fault is told.
+//! Inputs and outputs, with the names by which their faults are logged.
 ghost use Rattle.std.specs.Prelude.{◌≡◌};
 
 use log::{Log, warn};
@@ -7,7 +7,7 @@ use std::io;
 use std::io::{ErrorKind, Read, Write};
 use std::rt::Files;
 
-/// An input or an output, each call of which is passed on. Its first fault is told in the log.
+/// An input or an output that passes on each call, and logs its first fault.
 #[derive(Drop)]
 pub struct Device<'a, L, T> {
     rt: &'a L,
@@ -16,7 +16,7 @@ pub struct Device<'a, L, T> {
     is_told: bool,
 }
 
-/// The file of this path, open for reading. Why it can't be opened is told.
+/// Opens the file of this path for reading. Logs the reason if it can't be opened.
 pub fn open<'a, R: Log + Files>(rt: &'a R, path: &'a str) -> io::Result<Device<'a, R, R::File>> {
     match File::open(rt, path) {
         Ok(file) => Ok(Device::new(rt, path, file)),
@@ -27,7 +27,7 @@ pub fn open<'a, R: Log + Files>(rt: &'a R, path: &'a str) -> io::Result<Device<'
     }
 }
 
-/// Tells why a file or a stream of this name has failed. Where memory was wanting it hasn't.
+/// Logs why a file or a stream of this name has failed. Running out of memory is no such failure.
 pub fn tell<L: Log>(rt: &L, name: &str, error: &io::Error) {
     if error.kind() != ErrorKind::OutOfMemory {
         warn!(rt; target: "moo", "{name}: {error}");
@@ -35,7 +35,7 @@ pub fn tell<L: Log>(rt: &L, name: &str, error: &io::Error) {
 }
 
 impl<'a, L: Log, T> Device<'a, L, T> {
-    /// An input or an output that is told by this name.
+    /// Wraps an input or an output, whose fault is logged by this name.
     pub fn new(rt: &'a L, name: &'a str, inner: T) -> Device<'a, L, T>
         ensures { result.inner ≡ inner }
     {
@@ -47,7 +47,7 @@ impl<'a, L: Log, T> Device<'a, L, T> {
         }
     }
 
-    // Tells the first fault. A call that was interrupted is made again.
+    // Logs the first fault. An interrupted call is none, because it is made again.
     fn look<V>(&mut self, answer: &io::Result<V>)
         ensures { self.new.inner ≡ self.old.inner }
     {

@@ -1,5 +1,5 @@
-//! Files and streams of the program, whose faults are told in the log: by their names, in the system's words.
-//! A room behind `moo`.
+//! Files and streams of the program, whose faults are logged by their names, in the words of the system.
+//! An internal crate of `moo`.
 #![tactic(auto)]
 
 mod device;

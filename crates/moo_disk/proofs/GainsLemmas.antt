@@ -21,7 +21,7 @@ gains_less P Q old new more gains = record {
   remembers = gains.remembers;
 }
 
--- nothing is gained where nothing happens
+-- nothing is gained if nothing happens
 pub gains_none : (P : List ℕ → Type 0) (disk : DiskView) → Gains P disk disk
 gains_none P disk = record {
   later = omega arith;

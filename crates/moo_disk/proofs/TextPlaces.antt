@@ -1,4 +1,4 @@
--- Where the texts of a crash set stand, and that two of them may change places.
+-- The indices of the texts of a crash set, and the swap of two of them.
 use Rattle.std.proofs.Common.{◌≡◌, ◌≢◌, ◌⊎◌, inl, inr, ⊎_elim, ℕ, zero, suc, ◌+◌, ◌-◌, ◌<◌, ◌≤◌, get_or, set, List, [], ◌∷◌, ◌++◌, length, map, drop, Vec, Some, Bool, true, false, if◌then◌else◌, refl, sym, ◌∙◌, ap, subst, arith, slice_get, Contains}
 use Rattle.std.specs.Option.{option_map}
 use Rattle.std.proofs.lemmas.Bool.{cases_lt}
@@ -82,7 +82,7 @@ swapped base d later i k le lt c = (
 pub texts_len : (base : List ℕ) (later : List (Vec ℕ Global)) (first : ℕ) → length (texts_from base later first) ≡ suc (length later - first)
 texts_len base later first = ap suc (length-map (drop first later) (λ (v : Vec ℕ Global). v.items) ∙ length-drop first later)
 
--- the text at a place behind the first
+-- the text at an index past the first
 pub text_at : (base : List ℕ) (later : List (Vec ℕ Global)) (first place : ℕ) (d : Vec ℕ Global) → (place ≡ 0 → ⊥)
     → place < length (texts_from base later first) → slice_get (texts_from base later first) place ≡ Some (get_or later (first + place - 1) d).items
 text_at base later first zero d behind lt = absurd (behind refl)

@@ -1,4 +1,4 @@
--- A crash set, and what it was at earlier moments.
+-- A crash set, now and at earlier moments.
 use Rattle.std.specs.Prelude.{ℕ, ◌-◌, List, [], length, Contains, Option, None, Bool, false, Vec, vec_len, vec_capacity}
 use Rattle.std.specs.declared.alloc.Global.{Global}
 use Rattle.moo_disk.specs.Disk.{DiskView}

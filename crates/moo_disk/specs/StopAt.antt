@@ -9,11 +9,11 @@ use Rattle.moo_disk.specs.declared.stop_at.Place.{Place}
 use Rattle.moo_disk.specs.declared.stop_at.Place.TheVariants.{Before, Within}
 use Rattle.moo_disk.specs.declared.stop_at.StopAt.{StopAt}
 
--- the disk that it was put round, as it is now
+-- the wrapped disk, as it is now
 abbrev pub inner_of : StopAt → MemoryDisk
 inner_of stopping = stopping.disk
 
--- what a reader, a rename and a crash find
+-- the state that a reader, a rename and a crash find
 abbrev pub view_of : StopAt → DiskView
 view_of stopping = memory_view (inner_of stopping)
 
@@ -21,11 +21,11 @@ view_of stopping = memory_view (inner_of stopping)
 abbrev pub images : StopAt → List (List ℕ)
 images stopping = memory_images (inner_of stopping)
 
--- the calls up to and with the one that it stops in, 0 once it has
+-- the calls up to and including the one that it stops in, or 0 once it has
 abbrev pub left_of : StopAt → ℕ
 left_of stopping = stopping.left
 
--- where in that call it stops
+-- the point in that call at which it stops
 abbrev pub place_of : StopAt → Place
 place_of stopping = stopping.place
 
@@ -41,7 +41,7 @@ failures_of stopping = memory_failures stopping.disk + stopping.refused
 abbrev pub IsWithin : StopAt → Type 0
 IsWithin stopping = (left_of stopping ≡ 1) × (place_of stopping ≡ Within)
 
--- the call stops within, and the disk within doesn't fail in it
+-- the call stops within, and the wrapped disk doesn't fail in it
 abbrev pub StopsWithin : StopAt → StopAt → Type 0
 StopsWithin old new = IsWithin old × ¬ HasRisen (memory_failures (inner_of old)) (memory_failures (inner_of new))
 
@@ -49,7 +49,7 @@ StopsWithin old new = IsWithin old × ¬ HasRisen (memory_failures (inner_of old
 abbrev pub IsStill : StopAt → Type 0
 IsStill stopping = (left_of stopping ≡ 0) ⊎ ((left_of stopping ≡ 1) × (place_of stopping ≡ Before))
 
--- One call: before the stop it is answered by the disk within, from the stop on it fails.
+-- One call: before the stop it is answered by the wrapped disk, from the stop on it fails.
 pub record StopsFrom {T E : Type 0} (old new : StopAt) (result : Result T E) : Type 0 where
   pub left : left_of new ≡ left_of old - 1
   pub place : place_of new ≡ place_of old

@@ -1,4 +1,4 @@
--- What holds of the texts that a crash may leave: the proofs of the laws of a disk in memory.
+-- Lemmas on the texts that a crash may leave: the proofs of the laws of a disk in memory.
 use Rattle.std.specs.Prelude.{◌≡◌, ◌⊎◌, ℕ, zero, suc, ◌+◌, ◌-◌, ◌<◌, ◌≤◌, ◌^◌, List, [], ◌∷◌, length, map, drop, Vec, Contains, slice_index_or}
 use Rattle.std.proofs.Common.{inl, inr, ⊎_elim, subst, sym, ◌∙◌, ap, arith}
 use Rattle.std.proofs.lemmas.List.{drop-drop, get_or_past}

@@ -7,7 +7,7 @@ use Rattle.moo_disk.specs.Disk.{DiskView}
 abbrev pub texts_from : List ℕ → List (Vec ℕ Global) → ℕ → List (List ℕ)
 texts_from base later first = base ∷ map (λ text. text.items) (drop first later)
 
--- where the crash set began at a moment
+-- the start of the crash set at a moment
 abbrev pub first_at : List ℕ → ℕ → ℕ → ℕ
 first_at starts first moment = slice_index_or starts moment first
 
@@ -15,19 +15,19 @@ first_at starts first moment = slice_index_or starts moment first
 abbrev pub IsEachOnce : List (List ℕ) → Type 0
 IsEachOnce texts = AllPairs (λ one other. one ≢ other) texts
 
--- the same texts, in any order
+-- equal texts, in any order
 abbrev pub SameTexts : List (List ℕ) → List (List ℕ) → Type 0
 SameTexts old new = (c : List ℕ) → Contains old c ↔ Contains new c
 
--- A text enters at the end, where it isn't one of them already.
+-- A text enters at the end, if it isn't one of them already.
 abbrev pub Enters : List ℕ → List (List ℕ) → List (List ℕ) → Type 0
 Enters text old new = (Contains old text × (new ≡ old)) ⊎ (¬ Contains old text × (new ≡ old ++ text ∷ []))
 
--- A file's text enters. Where it isn't stable, the file may be found empty too.
+-- A file's text enters. If it isn't stable, the file may be found empty too.
 abbrev pub Brings : Bool → List ℕ → List (List ℕ) → List (List ℕ) → Type 0
 Brings true text old new = Enters text old new
 Brings false text old new = (mid : List (List ℕ)) × Enters [] old mid × Enters text mid new
 
--- The spare's text is brought, where there is a spare.
+-- The spare's text is added, if there is a spare.
 abbrev pub BringsSpare : DiskView → List (List ℕ) → List (List ℕ) → Type 0
 BringsSpare disk old new = MatchOption disk.spare (new ≡ old) (λ text. Brings disk.stable text old new)

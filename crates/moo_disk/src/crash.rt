@@ -1,17 +1,17 @@
-// A disk that can be left as a crash leaves it.
+// Disks whose crashes can be simulated.
 ghost use Rattle.std.specs.Prelude.{◌≡◌, ◌↔◌, ◌<◌, ◌∷◌, [], ℕ, List, length, Contains, Some, IfErr, IfOk, IsOk, slice_get};
 ghost use Rattle.moo_disk.specs.Disk.{IsLeftBy};
 ghost use Rattle.moo_disk.specs.Texts.{IsEachOnce};
 
 use crate::{Disk, MemoryDisk};
 
-/// A disk that can be left as a crash leaves it, with each of the texts that a crash may leave.
+/// A disk that can be left as a crash leaves it, with any of the texts that the crash may leave.
 pub trait CrashDisk: Disk {
     /// The texts that a crash now may leave under main.
     ghost images: { Self → List (List ℕ) };
 
-    /// The disk that a crash leaves with the i-th of the texts, from 0 on. Where there is no i-th one, the
-    /// disk itself comes back.
+    /// Returns the disk that a crash leaves with the i-th of the texts, from 0. If there is no i-th text, returns the
+    /// disk itself as an error.
     fn crash(self, i: usize) -> Result<Self, Self>
         ensures count { IsOk result ↔ (i < length (images self)) }
         ensures image { Self.honest self
@@ -23,11 +23,11 @@ pub trait CrashDisk: Disk {
         ensures honest { IfOk result (λ left. Self.honest self ↔ Self.honest left) }
         ensures same { IfErr result (λ same. same ≡ self) };
 
-    /// They are what a crash may leave.
+    /// These are the texts that a crash may leave.
     ghost images_are_left: { (disk : Self) (c : List ℕ) → Self.honest disk
         → Contains (images disk) c ↔ (Self.view disk).may_leave c };
 
-    /// Each stands among them once.
+    /// Each text is listed once.
     ghost each_once: { (disk : Self) → IsEachOnce (images disk) };
 }
 

@@ -1,4 +1,4 @@
-// The texts that a crash may leave under main, and what they were at earlier moments.
+// The texts that a crash may leave under main, now and at earlier moments.
 ghost use Rattle.std.specs.Prelude.{◌≡◌, ◌≤◌, ◌<◌, ◌+◌, ℕ, length, drop, [], ◌∷◌, IfSome, IfNone, IfOk, IfErr, OnOk, OnErr, IsOk, Contains, slice_get, Some, true};
 ghost use Rattle.moo_disk.specs.Disk.{Gains, NoText};
 ghost use Rattle.moo_disk.specs.Texts.{Brings, Enters, IsEachOnce, SameTexts, first_at, texts_from};
@@ -7,16 +7,16 @@ ghost use Rattle.std.specs.Option.{option_map};
 use std::alloc::{AllocError, AllocFailed, Global};
 use std::mem;
 
-/// Each text once, in the order in which they entered.
+/// Holds each text once, in the order in which they entered.
 #[derive(Drop)]
 pub struct CrashSet {
     /// The text that entered first.
     base: Vec<u8>,
-    /// The texts that entered after it, behind those that a crash can leave no longer.
+    /// The texts that entered after it. The ones that a crash can no longer leave come first.
     later: Vec<Vec<u8>>,
-    /// Where in `later` the first of them stands.
+    /// The index in `later` of the first text that a crash may still leave.
     first: usize,
-    /// What `first` was before each time that one text alone was left.
+    /// The values of `first` before each time that only one text was left.
     starts: Vec<usize>,
     ghost in_range: { first ≤ length later.items },
     ghost rising: { (t : ℕ) → first_at starts.items first t ≤ first },
@@ -26,7 +26,7 @@ pub struct CrashSet {
 impl CrashSet {
     ghost use Rattle.moo_disk.specs.CrashSet.{crash_view, room_of, texts_of};
 
-    /// A set of one text.
+    /// Returns a set of one text.
     pub fn new(alloc: Global, text: Vec<u8>) -> CrashSet
         ensures { texts_of result ≡ text.items ∷ [] }
     {
@@ -38,14 +38,14 @@ impl CrashSet {
         }
     }
 
-    /// How many texts there are.
+    /// Returns the number of texts.
     pub fn count(&self) -> usize
         ensures { result ≡ length (texts_of self.now) }
     {
         self.later.len() - self.first + 1
     }
 
-    /// The text at that place, lent.
+    /// Returns the text at index `place`.
     pub fn get(&self, place: usize) -> &[u8]
         requires { place < length (texts_of self.now) }
         ensures { slice_get (texts_of self.now) place ≡ Some result.now }
@@ -56,14 +56,14 @@ impl CrashSet {
         &self.later[self.first + place - 1]
     }
 
-    // The texts behind the first one.
+    // Returns the texts after the first one.
     fn behind_first(&self) -> &[Vec<u8>]
         ensures { result.now ≡ drop self.now.first self.now.later.items }
     {
         &self.later[self.first..]
     }
 
-    // Where a text stands.
+    // Returns the index of a text, if the set has it.
     fn place_of(&self, text: &[u8]) -> Option<usize>
         ensures found { IfSome result (λ place. slice_get (texts_of self.now) place
             ≡ Some text.now) }
@@ -80,7 +80,7 @@ impl CrashSet {
         None
     }
 
-    /// Makes room for so many texts.
+    /// Reserves memory for `texts` more texts. Fails if memory runs out.
     pub fn reserve(&mut self, texts: usize) -> Result<(), AllocError>
         ensures room { OnOk result (texts ≤ room_of self.new) }
         ensures same { texts_of self.new ≡ texts_of self.old }
@@ -89,7 +89,7 @@ impl CrashSet {
         self.later.reserve(texts)
     }
 
-    /// Brings a text into the set, and answers its place.
+    /// Adds a text to the set, and returns its index. If memory runs out, the text comes back in the error.
     pub fn enter(&mut self, text: Vec<u8>) -> Result<usize, AllocFailed<Vec<u8>>>
         ensures place { IfOk result (λ place. slice_get (texts_of self.new) place
             ≡ Some text.items) }
@@ -107,8 +107,8 @@ impl CrashSet {
         Ok(self.later.len() - self.first)
     }
 
-    /// Brings a file's text into the set, and answers its place. Where the text isn't stable, the file
-    /// may be found empty too.
+    /// Adds the text of a file to the set, and returns its index. If the text isn't stable, a crash may also leave
+    /// the file empty. If memory runs out, the text comes back in the error.
     pub fn bring(
         &mut self,
         alloc: Global,
@@ -136,7 +136,7 @@ impl CrashSet {
         self.enter(text)
     }
 
-    /// Leaves the text at that place alone in the set.
+    /// Removes all texts but the one at index `place`. Fails if memory runs out.
     pub fn settle(&mut self, place: usize) -> Result<(), AllocError>
         requires { place < length (texts_of self.old) }
         ensures alone { OnOk result (option_map (λ text. text ∷ []) (slice_get (texts_of self.old) place)
@@ -150,7 +150,7 @@ impl CrashSet {
         Ok(())
     }
 
-    /// The text at that place.
+    /// Returns the text at index `place`.
     pub fn into_text(self, place: usize) -> Vec<u8>
         requires { place < length (texts_of self) }
         ensures { slice_get (texts_of self) place ≡ Some result.items }
@@ -168,7 +168,7 @@ impl CrashSet {
     }
 }
 
-// Changes places: the text at that place, and the first one.
+// Swaps the text at index `place` with the first one.
 fn bring_to_front(base: &mut Vec<u8>, later: &mut Vec<Vec<u8>>, first: usize, place: usize)
     requires { place < length (texts_from base.old.items later.old.items first) }
     ensures front { slice_get (texts_from base.old.items later.old.items first) place

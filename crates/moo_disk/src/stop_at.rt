@@ -5,29 +5,29 @@ ghost use Rattle.moo_disk.specs.Disk.{Counts, Gains, HasRisen, IsBroughtBy, Keep
 
 use crate::{Disk, DiskFault, MemoryDisk};
 
-/// Where in a call a disk stops.
+/// The point within a call at which a disk stops.
 #[derive(Clone, Copy, Debug, PartialEq, Eq)]
 pub enum Place {
     /// Before it has done anything.
     Before,
-    /// When it has done a part: an `append` the first half of its bytes, a `rename` what lets a crash
-    /// leave the spare's text, while main reads as before. Where memory is wanting for it, which counts
-    /// as a failure of the disk within, and in the other calls nothing has been done.
+    /// After a part of the call. An `append` has written the first half of its bytes. A `rename` lets a crash leave
+    /// the spare's text, while main reads as before. If memory runs out for this, which counts as a failure of the
+    /// wrapped disk, and in all other calls, nothing has been done.
     Within,
 }
 
-/// A disk that stops at its k-th call: calls before it pass, and from it on each is a device's fault.
+/// A disk that stops at its k-th call. Calls before it pass; it and all later calls return a fault.
 #[derive(Drop)]
 pub struct StopAt {
     disk: MemoryDisk,
-    /// The calls up to and with the one that it stops at, 0 once it has.
+    /// The number of calls up to and including the one that it stops at, or 0 once it has stopped.
     left: u64,
     place: Place,
-    /// The calls that it has refused.
+    /// The number of refused calls.
     refused: u64,
 }
 
-// What becomes of a call.
+// The outcome of a call.
 #[derive(Clone, Copy)]
 enum Call {
     Passes,
@@ -38,7 +38,7 @@ enum Call {
 impl StopAt {
     ghost use Rattle.moo_disk.specs.StopAt.{Becomes, failures_of, inner_of, left_of, place_of, refused_of};
 
-    /// Put round a disk. The first call is number 1; with 0 it has stopped already.
+    /// Wraps a disk. The first call is number 1; with 0 it has stopped already.
     pub fn new(disk: MemoryDisk, k: u64, place: Place) -> StopAt
         ensures inner { inner_of result ≡ disk }
         ensures left { left_of result ≡ k }
@@ -53,7 +53,7 @@ impl StopAt {
         }
     }
 
-    /// The disk within, as the stop left it.
+    /// Returns the wrapped disk, as the stop left it.
     pub fn into_inner(self) -> MemoryDisk
         ensures { result ≡ inner_of self }
     {
@@ -66,7 +66,7 @@ impl StopAt {
         disk
     }
 
-    // Counts a call, and says what becomes of it.
+    // Counts a call, and returns its outcome.
     fn count(&mut self) -> Call
         ensures call { Becomes self.old result }
         ensures left { left_of self.new ≡ left_of self.old - 1 }
@@ -85,7 +85,7 @@ impl StopAt {
         Call::Refused
     }
 
-    // One more call refused.
+    // Counts one more refused call.
     fn refuse(&mut self) -> DiskFault
         ensures failures { HasRisen (failures_of self.old) (failures_of self.new) }
         ensures left { left_of self.new ≡ left_of self.old }
@@ -97,7 +97,7 @@ impl StopAt {
     }
 }
 
-// The first half, rounded down.
+// Returns the first half of the bytes, rounded down.
 fn first_half(bytes: &[u8]) -> &[u8]
     ensures { result.now ≡ take (length bytes.now / 2) bytes.now }
 {

@@ -1,4 +1,4 @@
--- What stands right behind a number in the lists of a tree, put down list after list.
+-- The next number after each one in the lists of a tree, stored list after list.
 use Rattle.std.proofs.Common.{◌≡◌, ℕ, zero, suc, ◌+◌, ◌<◌, List, [], ◌∷◌, ◌++◌, length, Option, Some, None, nat_lt, cond, eqb, refl, sym, ap, subst, ◌∙◌, ⊎_elim, arith, get_or, set}
 use Rattle.std.specs.List.{All, count_by, slice_get}
 use Rattle.std.proofs.lemmas.Bool.{cases_Bool, cases_lt, cases_eq, eq-eqb, eqb-true, eqb-false, ne_eqb, lt-ltb, le-ltb}
@@ -9,7 +9,7 @@ use Rattle.moo_forest.proofs.Counting.{count-cons}
 use Rattle.moo_restore.specs.Recorded.{first_in, next_in, next_below}
 use Rattle.moo_dump.specs.Behind.{next_or}
 
--- what stands right behind y in the list of the number above it, where that is below n
+-- the number after y in the list of the number above it, if that is below n
 abbrev pub next_until : List Links → ℕ → Option ℕ → ℕ → Option ℕ
 next_until tree n None y = None
 next_until tree n (Some up) y = cond (nat_lt up n) (next_in y (below_of tree up)) None
@@ -28,7 +28,7 @@ counted (z ∷ zs) (suc k) d low =
     let rest = counted zs k d (omega arith) in
     omega (arith, parts, rest)
 
--- what stands below a number is a number of the tree
+-- a number below another is a number of the tree
 pub below_low : (tree : List Links) → IsForest tree → (x : ℕ) → All (λ y. y < length tree) (below_of tree x)
 below_low tree f x k d low = ⊎_elim
     (λ inside. inside)
@@ -149,7 +149,7 @@ pub among : (n : ℕ) (left done : List ℕ) (x : ℕ) → All (λ y. y < n) (le
 among n [] done x all = All-head (λ y. y < n) x done all
 among n (z ∷ left) done x all = among n left done x (All-tail (λ y. y < n) z (left ++ x ∷ done) all)
 
--- what stands behind one number more is put down
+-- the numbers after those of one list more are stored
 pub put_one : (next old : List (Option ℕ)) (behind : Option ℕ) (x : ℕ) (done : List ℕ) → x < length next → behind ≡ first_in done →
     ((y : ℕ) → get_or next y None ≡ next_or done (get_or old y None) y) → (y : ℕ) → get_or (set next x behind) y None ≡ next_or (x ∷ done) (get_or old y None) y
 put_one next old behind x done low is each y = ⊎_elim

@@ -61,7 +61,7 @@ table_more objects i o old mid new lt is so_far more =
     ∙ flat_map-append program_lines (table_programs 0 before) (row_programs i 0 (row_at o)) in
     grown old mid new (programs_lines (table_programs 0 before)) (programs_lines (row_programs i 0 (row_at o))) (programs_lines (table_programs 0 (map row_at (take (i + 1) objects)))) whole so_far more
 
--- what is recorded of what stands at a number, with these links
+-- the record of the object with a number, with these links
 abbrev pub entry_with : Link → Link → Option Object → Option recorded.Object
 entry_with parent place o = option_map (λ (p : Object). record { name = p.name; body = body_with p parent place }) o
 

@@ -1,4 +1,4 @@
--- What stands for a verb in the text of a world.
+-- The entry of a verb in the text of a world.
 use Rattle.std.proofs.Common.{◌≡◌, ℕ, zero, suc, List, [], ◌∷◌, length, Option, None, refl, sym, subst, ⊎_elim, arith, map, get_or}
 use Rattle.std.specs.List.{All, AllByRecursion}
 use Rattle.std.specs.Option.{unwrap_or}

@@ -1,4 +1,4 @@
--- What is written of a world may stand in a database text.
+-- The text of a world may be written as a database text.
 use Rattle.std.proofs.Common.{◌≡◌, ℕ, ℤ, ◌+◌, ◌<◌, ◌≤◌, ◌^◌, List, [], ◌∷◌, ◌++◌, length, map, Option, Some, None, FitsSigned, w32, refl, sym, ap, subst, ◌∙◌, arith}
 use Rattle.std.specs.List.{All, AllByRecursion, range_with_len}
 use Rattle.std.specs.Option.{unwrap_or, option_map}
@@ -29,7 +29,7 @@ use Rattle.moo_dump.proofs.Counts.{programs_counted}
 
 -- ---- programs
 
--- the programs of what stands at a number, and not too many verbs
+-- the programs of the object with a number, and not too many verbs
 abbrev HasRow : Option Object → Type 0
 HasRow o = All HoldsProgram (unwrap_or o nothing).verbs × (length (unwrap_or o nothing).verbs ≤ most)
 

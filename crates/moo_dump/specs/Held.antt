@@ -1,4 +1,4 @@
--- What the types of programs and numbers keep: a program is one of the grammar, within its limits.
+-- Properties that the types of programs and numbers keep: a program is one of the grammar, within its limits.
 use Rattle.std.specs.Prelude.{ℤ, List, Option, Some, None, FitsSigned}
 use Rattle.std.specs.Int.{w32}
 use Rattle.std.specs.List.{All}
@@ -28,7 +28,7 @@ HoldsProgram v = IsHeldProgram v.program
 abbrev pub HoldsPrograms : Option Object → Type 0
 HoldsPrograms o = All HoldsProgram (unwrap_or o nothing).verbs
 
--- what the programs of a world keep, and the numbers of those who are connected
+-- properties that the programs of a world keep, and the numbers of the connected players
 pub record IsHeld (w : World) (whos : List ℤ) : Type 0 where
   pub programs : All HoldsPrograms w.objects
   pub connected : All (FitsSigned w32) whos

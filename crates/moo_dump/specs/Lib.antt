@@ -1,6 +1,6 @@
--- What stands behind a number in the lists of a tree.
+-- The next number in the lists of a tree.
 pub mod Behind
--- What the types of a world keep.
+-- Properties that the types of a world keep.
 pub mod Held
 -- The text of a world.
 pub mod Texts

@@ -20,18 +20,18 @@ source_of program = option_map listing program
 abbrev pub row_of : List (Option Block) → Row
 row_of programs = map source_of programs
 
--- the programs of what stands at a number
+-- the programs of the object with a number
 abbrev pub row_at : Option Object → Row
 row_at o = row_of (map program_of (unwrap_or o nothing).verbs)
 
 abbrev pub table_of : List (List (Option Block)) → Table
 table_of rows = map row_of rows
 
--- who is connected, with the listener 0
+-- a connected player, with the listener 0
 abbrev pub link_to : ℤ → Link
 link_to who = record { who = who; listener = Some (pos 0) }
 
--- what is written of a world, and of those who are connected
+-- the text of a world, and of the connected players
 abbrev pub text_of_world : World → List ℤ → Text
 text_of_world w connected = record {
   version = 4;
@@ -42,6 +42,6 @@ text_of_world w connected = record {
   links = map link_to connected;
 }
 
--- the bytes of a world, and of those who are connected
+-- the bytes of a world, and of the connected players
 abbrev pub canonical_bytes : World → List ℤ → List ℕ
 canonical_bytes w connected = unlines (canonical_lines (text_of_world w connected))

@@ -1,4 +1,4 @@
-//! What stands right behind each number in the lists of a tree.
+//! The next number after each one in the lists of a tree.
 
 ghost use Rattle.std.specs.Prelude.{◌≡◌, ◌<◌, ℕ, length, IfOk, None, slice_index_or};
 ghost use Rattle.std.specs.List.{All};
@@ -7,7 +7,7 @@ ghost use Rattle.moo_dump.specs.Behind.{next_or, AreNexts};
 use moo_forest::{Below, Forest};
 use std::alloc::{AllocError, Global};
 
-/// For each number of a tree what stands right behind it among those right below the same.
+/// Returns for each number of a tree the next one among the children of its parent.
 pub(crate) fn nexts(alloc: Global, tree: &Forest) -> Result<Vec<Option<usize>>, AllocError>
     ensures { IfOk result (λ next. AreNexts tree.now next.items) }
 {
@@ -27,7 +27,7 @@ fn put_nexts(tree: &Forest, next: &mut [Option<usize>])
     }
 }
 
-// Puts down for each number of a list what stands right behind it.
+// Stores for each number of a list the next one.
 fn put_behind(list: Below<'_>, next: &mut [Option<usize>])
     requires { All (λ y. y < length next.old) list }
     ensures { (y : ℕ) → slice_index_or next.new y None ≡ next_or list.entry (slice_index_or next.old y None) y }

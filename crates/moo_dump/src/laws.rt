@@ -1,4 +1,4 @@
-//! What follows from the definitions.
+//! Laws on what is written of worlds.
 
 ghost use Rattle.std.specs.Prelude.{ℤ, List, length};
 ghost use Rattle.moo_table.specs.World.{World, IsWellFormed};
@@ -7,8 +7,8 @@ ghost use Rattle.moo_dbrecord.specs.Writing.{IsWritable};
 ghost use Rattle.moo_dump.specs.Held.{IsHeld};
 ghost use Rattle.moo_dump.specs.Texts.{text_of_world};
 
-/// What is written of a world may stand in a database text, within the limits on sizes too, where
-/// not too many are connected.
+/// The text that is written of a world can be read back. It is within the size limits if the number of connected
+/// players is.
 pub fn worlds_are_writable()
     ensures { (s : Sizes) (w : World) (connected : List ℤ) → IsWellFormed w → IsHeld w connected → IsCountOf s (length connected) → IsWritable s (text_of_world w connected) }
 {}

@@ -1,5 +1,5 @@
-//! The text of a world, as a database is written.
-//! A room behind `moo_dbtext`.
+//! The database text of a world.
+//! An internal crate of `moo_dbtext`.
 #![tactic(auto)]
 
 mod behind;

@@ -1,4 +1,4 @@
-//! The links of objects, as their tree joins them.
+//! The links of objects in a tree.
 
 ghost use Rattle.std.specs.Prelude.{◌≡◌, ◌<◌, ◌≤◌, length};
 ghost use Rattle.std.specs.Option.{ForSome};
@@ -10,7 +10,7 @@ ghost use Rattle.moo_dump.specs.Behind.{AreNexts};
 use moo_forest::Forest;
 use moo_restore::Link;
 
-/// The links of a number in a tree, of which it is known what stands right behind each number.
+/// Returns the links of number `x` in a tree. Takes for each number the next one, as `nexts` returns them.
 pub(crate) fn link_in(tree: &Forest, next: &[Option<usize>], x: usize) -> Link
     requires node { x < length tree.now }
     requires few { length tree.now ≤ most }
@@ -25,7 +25,7 @@ pub(crate) fn link_in(tree: &Forest, next: &[Option<usize>], x: usize) -> Link
     }
 }
 
-// The number of an object, -1 for none.
+// Returns the number of an object, or -1.
 fn place_number(place: Option<usize>) -> i32
     requires { ForSome place (λ y. y < most) }
     ensures { result ≡ place_number place }

@@ -1,4 +1,4 @@
-//! Writing the objects of a world.
+//! Writers of the objects of a world.
 
 ghost use Rattle.std.specs.Prelude.{◌≡◌, ◌++◌, ◌∷◌, [], ◌≤◌, length, map, option_map, OnOk};
 ghost use Rattle.std.specs.List.{flat_map, range_with_len};
@@ -94,7 +94,7 @@ fn put_links(out: &mut Vec<u8>, owner: i32, parent: Link, place: Link) -> Result
     put_numbers(out, &links)
 }
 
-// The lines of an object below that of its number. The string that is not kept is written empty.
+// Appends the lines of an object after its header. The string that is not kept is written as empty.
 fn put_object(
     out: &mut Vec<u8>,
     object: &Object,

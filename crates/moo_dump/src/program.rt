@@ -1,4 +1,4 @@
-//! Writing the programs of a world, each as its full listing.
+//! Writers of the programs of a world, each as its full listing.
 
 ghost use Rattle.std.specs.Prelude.{◌≡◌, ◌++◌, map, OnOk};
 ghost use Rattle.std.specs.List.{All, flat_map};

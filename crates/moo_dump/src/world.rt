@@ -1,4 +1,4 @@
-//! Writing a whole world.
+//! The writer of a whole world.
 
 ghost use Rattle.std.specs.Prelude.{◌≡◌, ◌++◌, ◌∷◌, [], pos, length, map, FitsSigned, IfOk, OnOk};
 ghost use Rattle.std.specs.List.{All};
@@ -23,7 +23,7 @@ use std::alloc::{AllocError, Global};
 /// The version of the format that is written.
 const VERSION: u32 = 4;
 
-// The lines up to the number of the players.
+// Appends the lines before the number of players.
 fn put_heading(out: &mut Vec<u8>, world: &World) -> Result<(), AllocError>
     ensures { OnOk result (out.new.items ≡ out.old.items ++ unlines (header_line 4 ∷ count_line (length world.now.objects) ∷ count_line (programs_in world.now.objects) ∷ signed_decimal (pos 0) ∷ [])) }
 {
@@ -49,7 +49,7 @@ fn connections(alloc: Global, connected: &[i32]) -> Result<Vec<Connection>, Allo
     Ok(links)
 }
 
-// The lines behind the programs.
+// Appends the lines after the programs.
 fn put_back(alloc: Global, out: &mut Vec<u8>, connected: &[i32]) -> Result<(), AllocError>
     ensures lines { OnOk result (out.new.items ≡ out.old.items ++ unlines (tasks_lines (connections_lines WithListeners (map link_to connected.now)))) }
     ensures held { OnOk result (All (FitsSigned w32) connected.now) }
@@ -77,11 +77,12 @@ fn put_world(
     Ok(())
 }
 
-/// The text of a world, with the numbers of those who are connected. One listing is held at a time.
+/// Returns the text of a world, with the numbers of the connected players. Holds one listing at a time. Fails only if
+/// memory runs out.
 pub fn write_world(alloc: Global, world: &World, connected: &[i32]) -> Result<Vec<u8>, AllocError>
     // The bytes are those of the world.
     ensures bytes { IfOk result (λ bytes. bytes.items ≡ canonical_bytes world.now connected.now) }
-    // What is written may stand in a database text, within the limits on sizes too, where not too many are connected.
+    // The text can be read back. It is within the size limits if the number of connected players is.
     ensures writable { IfOk result (λ _. (s : Sizes) → IsCountOf s (length connected.now) → IsWritable s (text_of_world world.now connected.now)) }
     // Each program is one of some text, within its limits, and the lines of its listing are strings.
     ensures held { IfOk result (λ _. IsHeld world.now connected.now) }

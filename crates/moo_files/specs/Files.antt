@@ -1,4 +1,4 @@
--- What the disk over files says of itself: nothing of what files hold.
+-- The state of the disk over files, which says nothing of what files hold.
 use Rattle.std.specs.Prelude.{ℕ, [], None, false}
 use Rattle.moo_disk.specs.Disk.{DiskView}
 use Rattle.moo_files.specs.declared.file_disk.FileDisk.{FileDisk}

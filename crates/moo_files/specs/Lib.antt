@@ -1,2 +1,2 @@
--- What the disk over files says of itself.
+-- The state of the disk over files.
 pub mod Files

@@ -1,4 +1,4 @@
-//! The calls of the disk over files, each as calls of the system.
+//! A disk over files, each call of which makes calls of the operating system.
 ghost use Rattle.std.specs.Prelude.{◌≡◌, IsSome};
 ghost use Rattle.moo_disk.specs.Disk.{Counts};
 ghost use Rattle.moo_files.specs.Files.{no_view};
@@ -13,10 +13,10 @@ use std::path::Path;
 use std::rt::Files;
 use std::{fs, io};
 
-/// The permissions of a spare until it has those of main: its owner's alone.
+/// The permissions of a spare until it has those of main: only the owner may use it.
 const OWNERS_ALONE: u32 = 0o600;
 
-/// What a call was about.
+/// The file or folder of a call.
 #[derive(Clone, Copy, Debug, PartialEq, Eq)]
 enum Place {
     Main,
@@ -24,7 +24,7 @@ enum Place {
     Folder,
 }
 
-/// What became of the last call.
+/// The outcome of the last call.
 #[derive(Drop)]
 enum Last {
     Went,
@@ -32,8 +32,9 @@ enum Last {
     Failed(Place, io::Error),
 }
 
-/// Two files of one folder: the database, and the spare, whose name has `.new` added. What files hold no contract says: only that
-/// each fault is counted, and that no bytes go to a spare which isn't a file of its own, open since it was made.
+/// Two files of one folder: the database, and the spare, whose name ends in `.new`. No contract says what the files
+/// hold. The contracts say only that each fault is counted, and that bytes go only to a spare of its own. That is a
+/// file which has been open since it was created, and is not main's.
 #[derive(Drop)]
 pub struct FileDisk<R: Files> {
     files: R,
@@ -42,14 +43,14 @@ pub struct FileDisk<R: Files> {
     folder: String,
     /// The spare, open for writing from `create_spare` to `rename`.
     writing: Option<R::File>,
-    /// The bytes that went to the spare since it was made.
+    /// The number of bytes written to the spare since it was created.
     bytes: u64,
     last: Last,
     failures: u64,
     calls: u64,
 }
 
-/// The folder in which a path lies.
+/// Returns the folder of a path.
 fn folder_of(path: &str) -> &str {
     match Path::new(path).parent() {
         Some(folder) if folder.as_str() != "" => folder.as_str(),
@@ -58,8 +59,8 @@ fn folder_of(path: &str) -> &str {
 }
 
 impl<R: Files + Drop> FileDisk<R> {
-    /// The disk of the database at this path. A symbolic link is followed once, here, so that it stays what it is when a checkpoint
-    /// puts another file in the place of the one that it leads to. An error where there is no such file.
+    /// Returns the disk of the database at this path. Resolves a symbolic link once, here, so that a checkpoint
+    /// replaces the file it leads to and not the link. Fails if there is no such file.
     pub fn open(alloc: Global, files: R, path: &str) -> io::Result<FileDisk<R>> {
         let main = files.canonicalize(alloc, path)?.into_string();
         let folder = String::from_str(alloc, folder_of(main.as_str()))?;
@@ -79,13 +80,13 @@ impl<R: Files + Drop> FileDisk<R> {
 }
 
 impl<R: Files> FileDisk<R> {
-    /// The path of the spare.
+    /// Returns the path of the spare.
     pub fn spare(&self) -> &str {
         self.spare.as_str()
     }
 
-    /// Whether a spare can be made: the error says why not. One that is made for it is removed again, and one that is there already is left
-    /// as it is.
+    /// Tests whether a spare can be created, and removes it again. Leaves an existing spare as it is. The error says
+    /// why none can be created.
     pub fn try_spare(&self) -> io::Result<()> {
         match self.create_new() {
             Ok(_) => fs::remove_file(&self.files, self.spare.as_str()),
@@ -94,7 +95,7 @@ impl<R: Files> FileDisk<R> {
         }
     }
 
-    // Counts a call, and a failure where it met one.
+    // Counts a call, and a failure if it failed.
     fn counted<T: Drop>(&mut self, place: Place, answer: io::Result<T>) -> Result<T, DiskFault>
         ensures fault { Counts self.old.failures self.new.failures result }
         ensures same { self.new.writing ≡ self.old.writing }
@@ -113,7 +114,7 @@ impl<R: Files> FileDisk<R> {
         }
     }
 
-    // A file that was not there before, so that it can't be the one under main, by a link either.
+    // Creates a file that was not there before, so that it can't be the file of main, even by a link.
     fn create_new(&self) -> io::Result<R::File> {
         OpenOptions::new()
             .write(true)
@@ -122,7 +123,8 @@ impl<R: Files> FileDisk<R> {
             .open(&self.files, self.spare.as_str())
     }
 
-    // A fresh spare in the place of what has its name. Who may read main may read it; before it has main's permissions nobody else may.
+    // Creates a spare, in place of any file with its name. It gets main's permissions; before that, only the owner
+    // may use it.
     fn fresh_spare(&self) -> io::Result<R::File> {
         match fs::remove_file(&self.files, self.spare.as_str()) {
             Err(error) if error.kind() != ErrorKind::NotFound => return Err(error),
@@ -139,7 +141,7 @@ impl<R: Files> FileDisk<R> {
         file.read(buffer)
     }
 
-    // A folder opens for reading as a file does, and its sync puts the names in it on the disk for good.
+    // A folder opens for reading as a file does. Its sync makes the names in it stable.
     fn sync_folder(&self) -> io::Result<()> {
         File::open(&self.files, self.folder.as_str())?.sync_all()
     }
@@ -167,7 +169,7 @@ impl<R: Files> Watched for FileDisk<R> {
     }
 }
 
-/// Where no spare is open, nothing can be done to it.
+/// Returns the error of a call that needs an open spare if there is none.
 fn no_spare<T>() -> io::Result<T> {
     Err(io::Error::from(ErrorKind::NotFound))
 }

@@ -1,5 +1,5 @@
-//! The disk of a server over two files of one folder: the database, and beside it the spare.
-//! A room behind `moo`.
+//! The disk of a server over two files of one folder: the database and the spare.
+//! An internal crate of `moo`.
 #![tactic(auto)]
 
 mod file_disk;

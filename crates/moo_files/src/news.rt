@@ -1,22 +1,22 @@
-//! What an operator is told of a disk.
+//! Reports on a disk for its operator.
 use std::io;
 
-/// What became of the last call of a disk.
+/// The outcome of the last call of a disk.
 #[derive(Clone, Copy, Debug)]
 pub enum News<'a> {
-    /// It went well, and there is nothing to tell.
+    /// The call succeeded, and there is nothing to report.
     Went,
-    /// A checkpoint of so many bytes is under main, and its name is on the disk for good.
+    /// A checkpoint of so many bytes is under main, and its name is stable.
     Written(u64),
-    /// It failed over the file or folder of this name, for this reason.
+    /// The call failed for the file or folder of this name, for this reason.
     Failed(&'a str, &'a io::Error),
 }
 
-/// A disk that counts its calls, and tells what became of the last one.
+/// A disk that counts its calls, and reports the outcome of the last one.
 pub trait Watched {
-    /// The calls so far. At 2^64 it begins again.
+    /// Returns the number of calls so far, modulo 2^64.
     fn calls(&self) -> u64;
 
-    /// What became of the last call.
+    /// Returns the outcome of the last call.
     fn news(&self) -> News<'_>;
 }

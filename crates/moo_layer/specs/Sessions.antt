@@ -1,10 +1,10 @@
--- What a layer of sessions does: the world with those who are connected to it.
+-- The meaning of a layer of sessions: the world with its connections.
 use Rattle.std.specs.Prelude.{◌≡◌, ◌≢◌, ℕ, List, [], ◌++◌, Bool, false}
 use Rattle.moo_layer.specs.declared.sessions.Asked.{Asked}
 use Rattle.moo_layer.specs.declared.sessions.Happening as given
 use Rattle.moo_layer.specs.declared.sessions.Happening.TheVariants as the
 
--- what happens to it, beside the passing of time
+-- the events of a layer, apart from the passing of time
 pub data Happening : Type 0 where
   -- connection c is opened
   Opens : ℕ → Happening
@@ -36,7 +36,7 @@ silence = record { sent = λ c. []; logged = [] }
 abbrev pub then_out : Output → Output → Output
 then_out first second = record { sent = λ c. first.sent c ++ second.sent c; logged = first.logged ++ second.logged }
 
--- what comes of a happening: what goes out, whether a checkpoint was asked for, and whether a shutdown was
+-- the result of an event: the output, whether a checkpoint was asked for, and whether a shutdown was
 pub record Told : Type 0 where
   pub out : Output
   pub asks : Bool
@@ -44,9 +44,9 @@ pub record Told : Type 0 where
 
 -- The meaning of a layer, over its states and the saved worlds that it starts from.
 pub record Meaning (Sessions Saved : Type 0) : Type 1 where
-  -- what a happening at a moment does, its hooks included
+  -- the effect of an event at a moment, its hooks included
   pub happens : Happening → ℕ → Sessions → Told → Sessions → Type 0
-  -- what a start from a saved world at a moment does, with its hooks
+  -- the effect of a start from a saved world at a moment, with its hooks
   pub starts : Saved → ℕ → Told → Sessions → Type 0
   -- the connection is open
   pub is_open : Sessions → ℕ → Bool
@@ -66,20 +66,20 @@ abbrev pub is_dropped : {Sessions Saved : Type 0} → Meaning Sessions Saved →
 is_dropped m state (Receives c piece) = m.is_leaving state c
 is_dropped m state happening = false
 
--- it may happen: a connection is opened under a number that none has
+-- the event may happen: a connection opens under a number that none has
 abbrev pub IsApt : {Sessions Saved : Type 0} → Meaning Sessions Saved → Sessions → Happening → Type 0
 IsApt m state (Opens c) = m.is_open state c ≡ false
 IsApt m state happening = Unit {0}
 
--- A layer in the program: its meaning, the state of a value, what waits of the events that were kept, and what is under way
--- since.
+-- A layer in the program: its meaning, the state of a value, the output that waits of the events that were kept, and
+-- the output that is under way since.
 pub record Layer (S Sessions Saved : Type 0) : Type 1 where
   pub meaning : Meaning Sessions Saved
   pub state : S → Sessions
   pub waiting : S → Output
   pub under_way : S → Output
 
--- Something happened to a layer, and this was asked for.
+-- An event happened to a layer, and this was asked for.
 pub record Happens {S Sessions Saved : Type 0} (l : Layer S Sessions Saved) (happening : Happening) (moment : ℕ) (old new : S) (asked : Asked) : Type 0 where
   pub told : Told
   pub happens : l.meaning.happens happening moment (l.state old) told (l.state new)
@@ -87,7 +87,7 @@ pub record Happens {S Sessions Saved : Type 0} (l : Layer S Sessions Saved) (hap
   pub asks : asked.checkpoint ≡ told.asks
   pub shuts : asked.shutdown ≡ told.shuts
 
--- what waited for a number is handed out, and nothing of it is left
+-- the bytes that waited for a number are taken, and none of them is left
 pub record HandsOut {S Sessions Saved : Type 0} (l : Layer S Sessions Saved) (c : ℕ) (bytes : List ℕ) (old new : S) : Type 0 where
   pub all : bytes ≡ (l.waiting old).sent c
   pub nothing : (l.waiting new).sent c ≡ []
@@ -96,7 +96,7 @@ pub record HandsOut {S Sessions Saved : Type 0} (l : Layer S Sessions Saved) (c 
   pub state : l.state new ≡ l.state old
   pub under_way : l.under_way old ≡ silence → l.under_way new ≡ silence
 
--- what waited for the log is handed out, and nothing of it is left
+-- the lines that waited for the log are taken, and none of them is left
 pub record HandsOutLog {S Sessions Saved : Type 0} (l : Layer S Sessions Saved) (lines : List (List ℕ)) (old new : S) : Type 0 where
   pub all : lines ≡ (l.waiting old).logged
   pub nothing : (l.waiting new).logged ≡ []

@@ -1,5 +1,5 @@
-//! What a server asks of the world and of those who are connected to it.
-//! A room behind `moo_server`.
+//! The operations that a server needs of a world and of its connections.
+//! An internal crate of `moo_server`.
 #![tactic(auto)]
 
 mod sessions;

@@ -11,13 +11,14 @@ use std::alloc::{AllocError, Global};
 
 /// Sessions that start from a saved world and are saved as database texts.
 pub trait Starts: Sessions {
-    /// The hooks of the start run.
+    /// Starts from a saved world, and runs the hooks of the start. `moment` is in seconds. Fails only if memory runs
+    /// out.
     fn start(alloc: Global, saved: Saved, moment: u32) -> Result<(Self, Asked), AllocError>
         ensures starts { IfOk result (λ given. Started Self.layer (saved_of saved) moment given.0 given.1) };
 
     /// The text of a saved world is its canonical one.
     ghost text_is: { (s : saving.Saved) → Self.layer.meaning.text_of s ≡ canonical s };
 
-    /// A text spells what it spells within the limits, as database texts do.
+    /// A text spells the saved world that it spells, within the limits, as a database text.
     ghost spells_is: { (c : List ℕ) (s : saving.Saved) → Self.layer.meaning.Spells c s ↔ SpellsSavedWithin c s };
 }

@@ -18,7 +18,7 @@ pub one_reading : OneReading
 one_reading before after other piece answer instead r q =
     (answer_is before after piece answer r ∙ sym (answer_is before other piece instead q), after_is before after piece answer r ∙ sym (after_is before other piece instead q))
 
--- the same from any stream on
+-- the lines of pieces that follow any stream
 all_read : (sent : List ℕ) {held after : Rest} {pieces answer : List (List ℕ)} → held ≡ rest sent → ReadsAll held pieces answer after →
     (lines sent ++ answer ≡ lines (sent ++ concat pieces)) × (after ≡ rest (sent ++ concat pieces))
 all_read sent e no_piece_more = (append-nil (lines sent) ∙ ap lines (sym (append-nil sent)), e ∙ ap rest (sym (append-nil sent)))

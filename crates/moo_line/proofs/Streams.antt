@@ -98,7 +98,7 @@ all_and_last [] h = absurd h
 all_and_last (a ∷ []) h = refl
 all_and_last (a ∷ b ∷ c) h = ap (λ w. a ∷ w) (all_and_last (b ∷ c) tt)
 
--- a front of a front with more behind it
+-- a front of a front with more after it
 pub take-take_append : (n : ℕ) (xs ys : List ℕ) → take n (take n xs ++ ys) ≡ take n (xs ++ ys)
 take-take_append zero xs ys = refl
 take-take_append (suc n) [] ys = refl
@@ -115,7 +115,7 @@ ended_at r b = cond (r.after_return && eqb b 10) [] (cond (is_end b) (r.line ∷
 abbrev pub line_after : Rest → ℕ → List ℕ
 line_after r b = cond (r.after_return && eqb b 10) r.line (cond (is_end b) [] (take line_limit (r.line ++ filter is_kept (b ∷ []))))
 
--- what stands after the last end when one more byte has come
+-- the rest after the last end when one more byte has come
 abbrev pub next : Rest → ℕ → Rest
 next r b = record { line = line_after r b; after_return = eqb b 13 }
 
@@ -186,7 +186,7 @@ abbrev pub rest_of : Rest → List ℕ → Rest
 rest_of r [] = r
 rest_of r (b ∷ bs) = rest_of (next r b) bs
 
--- a stream with a piece behind it
+-- a stream with a piece after it
 pub lines-append : (s p : List ℕ) → lines (s ++ p) ≡ lines s ++ lines_of (rest s) p
 lines-append s [] = ap lines (append-nil s) ∙ sym (append-nil (lines s))
 lines-append s (b ∷ bs) =

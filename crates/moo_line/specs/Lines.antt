@@ -1,4 +1,4 @@
--- The lines of a connection, said of all the bytes that it sends.
+-- The lines of a connection, defined on all the bytes that it sends.
 use Rattle.std.specs.Prelude.{ℕ, Bool, ◌==◌, ◌||◌, ◌&&◌, nat_le, List, [], ◌∷◌, take, filter, map, if◌then◌else◌}
 use Rattle.std.specs.List.{slice_split}
 use Rattle.moo_line.specs.Rest.{Rest}
@@ -12,7 +12,7 @@ is_end b = b == 13 || b == 10
 abbrev pub is_second : ℕ → ℕ → Bool
 is_second before b = before == 13 && b == 10
 
--- a stream that stands after the byte `before`, without each LF right after a CR
+-- a stream that follows the byte `before`, without each LF right after a CR
 abbrev pub with_single_ends : ℕ → List ℕ → List ℕ
 with_single_ends before [] = []
 with_single_ends before (b ∷ bs) = if is_second before b then with_single_ends b bs else b ∷ with_single_ends b bs
@@ -27,12 +27,12 @@ last [] = []
 last (a ∷ []) = a
 last (a ∷ b ∷ rest) = last (b ∷ rest)
 
--- the last byte of a stream that stands after the byte `before`
+-- the last byte of a stream that follows the byte `before`
 abbrev pub last_byte : ℕ → List ℕ → ℕ
 last_byte before [] = before
 last_byte before (b ∷ bs) = last_byte b bs
 
--- what stands between the ends; nothing ends the last of these
+-- the stretches between the ends; nothing ends the last of these
 abbrev pub stretches : List ℕ → List (List ℕ)
 stretches stream = slice_split is_end (with_single_ends 0 stream)
 
@@ -48,6 +48,6 @@ kept stretch = take line_limit (filter is_kept stretch)
 abbrev pub lines : List ℕ → List (List ℕ)
 lines stream = map kept (all_but_last (stretches stream))
 
--- what stands after the last end
+-- what follows the last end
 abbrev pub rest : List ℕ → Rest
 rest stream = record { line = kept (last (stretches stream)); after_return = last_byte 0 stream == 13 }

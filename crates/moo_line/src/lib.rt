@@ -1,5 +1,5 @@
-//! What a connection types, as lines, in whatever pieces it comes.
-//! A room behind `moo_session`.
+//! Splits the bytes of a connection into lines, in whatever pieces they come.
+//! An internal crate of `moo_session`.
 #![tactic(auto)]
 
 pub mod laws;

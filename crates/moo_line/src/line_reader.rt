@@ -11,10 +11,10 @@ use moo_value::{MooStr, ValueFault};
 use std::alloc::{AllocError, Global};
 use std::marker::Model;
 
-/// How many bytes of a line are kept.
+/// The number of bytes of a line that are kept.
 pub const LINE_LIMIT: usize = 8192;
 
-/// Reads the lines of one connection. Between two pieces it holds what follows the last line end.
+/// Reads the lines of one connection. Between two pieces it holds the bytes after the last line end.
 #[derive(Drop)]
 pub struct LineReader {
     alloc: Global,
@@ -34,7 +34,7 @@ impl Model for LineReader {
 }
 
 impl LineReader {
-    /// The reader of a connection that has sent nothing.
+    /// Returns the reader of a connection that has sent nothing.
     pub fn new(alloc: Global) -> LineReader
         ensures { result ≡ rest [] }
     {
@@ -45,8 +45,9 @@ impl LineReader {
         }
     }
 
-    /// The lines that a piece of any length ends, in their order: each the tabs and the bytes from 32 to 126 between two
-    /// line ends, at most `LINE_LIMIT` of them. `Err` where memory is wanting; the reader is then as it was.
+    /// Returns the lines that a piece of any length ends, in their order. Each is the tabs and the bytes from 32 to
+    /// 126 between two line ends, at most `LINE_LIMIT` of them. If memory runs out, returns an error and leaves the
+    /// reader as it was.
     pub fn feed(&mut self, piece: &[u8]) -> Result<Vec<MooStr>, AllocError>
         ensures lines { IfOk result (λ answer. (sent : List ℕ) → self.old ≡ rest sent → lines (sent ++ piece.now) ≡ lines sent ++ answer.items) }
         ensures rest { OnOk result ((sent : List ℕ) → self.old ≡ rest sent → self.new ≡ rest (sent ++ piece.now)) }
@@ -77,7 +78,7 @@ impl LineReader {
     }
 }
 
-/// Adds what is kept of the bytes to a line.
+/// Appends to a line those of the bytes that are kept.
 fn keep(line: &mut Vec<u8>, bytes: &[u8]) -> Result<(), AllocError>
     requires { length line.old.items ≤ line_limit }
     ensures { OnOk result (line.new.items ≡ take line_limit (line.old.items ++ filter is_kept bytes.now)) }
@@ -107,14 +108,14 @@ fn finished(alloc: Global, line: Vec<u8>) -> Result<MooStr, AllocError>
     }
 }
 
-/// Whether a found line end is the LF of a CR that stands right before the stretch.
+/// Returns whether a line end is the LF of a CR right before the stretch.
 fn is_second_byte(after_return: bool, stretch: &[u8], ending: u8) -> bool
     ensures { result ≡ (is_still_after after_return stretch.now && ending == 10) }
 {
     is_still_after(after_return, stretch) && ending == b'\n'
 }
 
-/// Whether a CR stands right before what follows the bytes.
+/// Returns whether a CR comes right before what follows the bytes.
 fn is_still_after(after_return: bool, bytes: &[u8]) -> bool
     ensures { result ≡ is_still_after after_return bytes.now }
 {

@@ -65,7 +65,7 @@ begun bytes ps qs os us h k =
 pub faultless_begun : (bytes : List ℕ) (ps : List ℤ) (os : List (Option recorded.Object)) → BeginsWithObjects bytes ps os → HasNoObjectFault bytes → AreFaultless os
 faultless_begun bytes ps os h none = subst AreFaultless h.objects_come (none h.lines h.stand h.all)
 
--- where no object is at fault none is told
+-- if no object is at fault none is reported
 no_object : (bytes : List ℕ) (e : DbFault) → HasNoObjectFault bytes → HasToldObject bytes e → ⊥
 no_object bytes e none h = at h.is
   where
@@ -110,7 +110,7 @@ one_answer bytes (Ok s) (Err e) h k known other = loaded_or_refused bytes s e h 
 one_answer bytes (Err d) (Ok t) h k known other = loaded_or_refused bytes t d k h known
 one_answer bytes (Err d) (Err e) h k known other = one_refusal bytes d e h k known other
 
--- ---- for a choice of what is told of each source
+-- ---- for a choice of the fault that is reported of each source
 
 chosen_refusal : (choice : Choice) (bytes : List ℕ) (d e : DbFault) → IsRefusedSo bytes d → IsRefusedSo bytes e → TellsBy (chosen_by choice) bytes d → TellsBy (chosen_by choice) bytes e
     → d.kind ≢ kind.Memory → e.kind ≢ kind.Memory → AreSame d e

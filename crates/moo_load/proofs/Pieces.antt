@@ -43,7 +43,7 @@ pub answer_says : (bytes : List ℕ) (r : Result stored.Saved DbFault) → LoadA
 answer_says bytes (Ok s) h = tt
 answer_says bytes (Err e) h = refusal_says bytes e h
 
--- ---- objects that are looked at behind the last of them
+-- ---- objects that are checked after the last of them
 
 begins_on : (bytes more : List ℕ) (players : List ℤ) (objects : List (Option Object)) → BeginsWithObjects bytes players objects → BeginsWithObjects (bytes ++ more) players objects
 begins_on bytes more players objects h = record {

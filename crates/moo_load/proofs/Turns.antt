@@ -1,4 +1,4 @@
--- What has come when, and what that says of objects.
+-- The moment at which the objects have come, and its consequences for them.
 use Rattle.std.proofs.Common.{◌≡◌, ◌≢◌, ℕ, ◌+◌, ◌≤◌, Bool, true, false, List, [], ◌∷◌, ◌++◌, length, Option, Some, None, Result, Ok, Err, ◌⊎◌, inl, inr, refl, sym, ap, subst, ◌∙◌, append-nil, append_assoc, arith}
 use Rattle.std.specs.Prelude.{map, option_map}
 use Rattle.std.proofs.lemmas.List.{length-map}
@@ -31,7 +31,7 @@ use Rattle.moo_load.specs.Taking.{IsLoading}
 use Rattle.moo_load.specs.declared.world_reader.WorldReader.{WorldReader}
 use Rattle.moo_load.proofs.Order.{faultless_begun}
 
--- ---- where the reader stands
+-- ---- the state of the reader
 
 abbrev behind_of : (r : WorldReader) (bytes : List ℕ) → IsLoading r bytes → IsBehind r.programs bytes
 behind_of r bytes h = read_well r.programs bytes h.well h.read
@@ -69,7 +69,7 @@ unlooked r bytes more h early n k le past =
     let e : true ≡ false = sym on.past ∙ none in
     cc
 
--- a program stands behind the objects
+-- a program comes after the objects
 read_past : (x : Section) (p : Progress) (v : ℕ × ℕ) → verb_read x p ≡ Some v → has_objects x ≡ true
 read_past section.Source p v e = refl
 read_past section.Header p v e = absurd cc
@@ -200,7 +200,7 @@ loading_nothing r read well early =
       faultless = λ checked. absurd (let f : true ≡ false = sym checked ∙ early in cc);
     }
 
--- what ends no line brings no object, and what comes behind the objects changes none
+-- bytes that end no line bring no object, and bytes after the objects change none
 on_of : (p q : ProgramReader) (bytes part : List ℕ) (checked : Bool) → IsBehind p bytes → IsBehind q (bytes ++ part) → checked ≡ has_objects (place_of p).section → (checked ≡ true) ⊎ HasNoEnd part
     → (checked ≡ has_objects (place_of q).section) × (checked ≡ true → (place_of q).text.objects ≡ (place_of p).text.objects)
 on_of p q bytes part checked b c looked (inl is) =
@@ -226,7 +226,7 @@ pub loading_line : (u : WorldReader) (bytes : List ℕ) → HasRead u.programs b
     → (has_objects (place_of u.programs).section ≡ true → AreFaultless (place_of u.programs).text.objects) → IsLoading u bytes
 loading_line u bytes read well looked faultless = record { read = read; well = well; looked = looked; faultless = λ checked. faultless (sym looked ∙ checked) }
 
--- ---- what a look at the objects says
+-- ---- consequences of a check of the objects
 
 pub faultless_placed : (os : List (Option ObjectRecord)) → AreFaultless (map (option_map object_of) os) → IsFirst (IsWellPlaced (with_objects os)) (length os) None
 faultless_placed os h = let many = length-map os (option_map object_of) in λ x low. h.placed x (omega (arith, low, many))

@@ -1,4 +1,4 @@
--- What an answer says of the bytes of a whole text.
+-- Consequences of the answer to the bytes of a whole text.
 use Rattle.std.proofs.Common.{◌≡◌, ℕ, ℤ, suc, ◌≤◌, Bool, true, false, List, [], ◌∷◌, ◌++◌, length, arith, Option, Some, None, Result, Ok, Err, ◌⊎◌, inl, inr, refl, sym, ap, subst, ◌∙◌, append-nil}
 use Rattle.std.specs.Prelude.{IfOk, IfErr, MatchResult, map, slice_index_or, count_by, is_some}
 use Rattle.std.specs.List.{sum_by, AllByRecursion}
@@ -81,7 +81,7 @@ line_is line.TooLarge = refl
 no_line : (k : DbFaultKind) (f : LineFault) → is_of_line k ≡ false → k ≡ kind_of f → ⊥
 no_line k f e is = let g : false ≡ true = sym e ∙ ap is_of_line is ∙ line_is f in cc
 
--- a refusal of the records is of a line, or want of memory
+-- a refusal of the records is of a line, or memory ran out
 no_refusal : (r : Refusal) (k : DbFaultKind) → is_of_line k ≡ false → (k ≡ kind.Memory → ⊥) → k ≡ kind_of_refusal r → ⊥
 no_refusal refusal.Memory k e other is = other is
 no_refusal (refusal.Fault f) k e other is = no_line k f e is
@@ -168,7 +168,7 @@ saved_loaded bytes d s h k = record {
 pub without_memory : (bytes : List ℕ) (e : DbFault) → e.kind ≡ kind.Memory → IsRefusedSo bytes e
 without_memory bytes e memory = inl (record { refused = inl memory; objects = λ known. absurd (known memory) })
 
--- an object is told where the bytes begin a text
+-- an object is reported if the bytes begin a text
 pub told_begun : (bytes : List ℕ) (players : List ℤ) (objects : List (Option recorded.Object)) (e : DbFault) (f : RestoreFault) → BeginsWithObjects bytes players objects → IsFaultOf (of_objects objects) f → IsTold (length players) objects f e
     → IsRefusedSo bytes e
 told_begun bytes players objects e (restoring.Hierarchy x) begins fault told = inr (record { object = x; is = inl (told.0, record { players = players; objects = objects; begins = begins; fault = fault; line = told.1 }) })
@@ -188,7 +188,7 @@ is_found_within bytes (Err e) h = tt
 pub has_source : (P : List Line → Block → Type 0) (t : Text) (s : Saved) (k : IsTextOf P t s) → (o v : ℕ) (x : List Line) → entry_at t.programs o v ≡ Some x → (b : Block) × P x b
 has_source P t s k o v x e = some_source P (entry_at k.records.programs o v) x (subst (λ (y : Option (List Line)). HasSource P y (entry_at k.records.programs o v)) e (k.sources o v))
 
--- where an object is at fault no saved world is spelled
+-- if an object is at fault no saved world is spelled
 pub no_saved : (bytes : List ℕ) (e : DbFault) (s : Saved) → HasToldObject bytes e → SpellsSaved bytes s → ⊥
 no_saved bytes e s h k = at h.is
   where

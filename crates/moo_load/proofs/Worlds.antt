@@ -1,4 +1,4 @@
--- What a text says of saved worlds, with programs within the limits and without.
+-- The saved worlds that a text describes, with programs within the limits and without.
 use Rattle.std.proofs.Common.{◌≡◌, ℕ, List, Option, Some, None, subst}
 use Rattle.moo_program.specs.Tree.{Block}
 use Rattle.moo_grammar.specs.declared.names.Names.TheVariants.{Any}

@@ -1,9 +1,9 @@
--- What is told of objects.
+-- The faults that are reported of objects.
 pub mod Objects
--- What a reader answers.
+-- The answers of a reader.
 pub mod Loading
 -- A reader between two pieces.
 pub mod Taking
 pub mod Feeding
--- Why bytes are refused.
+-- The reasons why bytes are refused.
 pub mod Refusals

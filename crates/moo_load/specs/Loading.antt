@@ -1,4 +1,4 @@
--- What a reader of worlds answers.
+-- The answers of a reader of worlds.
 use Rattle.std.specs.Prelude.{◌≡◌, ◌≢◌, IfErr, ℕ, ℤ, ◌+◌, List, ◌++◌, Option, Result, Ok, Err, ◌⊎◌, map, take, length}
 use Rattle.moo_grammar.specs.declared.names.Names.TheVariants.{Any}
 use Rattle.moo_grammar.specs.Texts.{IsParsed}
@@ -31,7 +31,7 @@ who_of l = l.who
 abbrev pub records_kept : Database → Records
 records_kept d = records_from d.objects.items d.programs.items d.players.items
 
--- the line of object x, where there are so many players
+-- the line of object x, if there are so many players
 abbrev pub IsLineOf : ℕ → List (Option Object) → ℕ → ℕ → Type 0
 IsLineOf players objects x line = line ≡ 6 + players + length (objects_lines 0 (take x objects) no_notes)
 
@@ -40,7 +40,7 @@ IsTold players objects (restoring.Hierarchy x) e = (e.kind ≡ kind.BadHierarchy
 IsTold players objects (restoring.PropertyCount x) e = (e.kind ≡ kind.PropertyCount x) × IsLineOf players objects x e.line
 IsTold players objects restoring.Memory e = e.kind ≡ kind.Memory
 
--- of a text that has these players and these objects, an object is at fault, and that is told
+-- an object is at fault in a text that has these players and these objects, and that is reported
 pub record IsTextTold (players : List ℤ) (objects : List (Option Object)) (e : DbFault) : Type 0 where
   pub fault : RestoreFault
   pub is : IsFaultOf (of_objects objects) fault
@@ -49,13 +49,13 @@ pub record IsTextTold (players : List ℤ) (objects : List (Option Object)) (e :
 abbrev pub IsTextUntold : List ℤ → List (Option Object) → DbFault → Type 0
 IsTextUntold players objects e = (e.kind ≡ kind.Memory) ⊎ IsTextTold players objects e
 
--- what is saved says what is kept
+-- the saved world is the one that the contents describe
 pub record IsSavedFrom (d : Database) (s : stored.Saved) : Type 0 where
   pub says : Says (records_kept d) s.world
   pub sound : IsWellFormed s.world
   pub connected : s.connected.items ≡ map who_of (map link_of d.connections.items)
 
--- ---- what is answered of bytes
+-- ---- the answer for bytes
 
 -- the bytes are a text's, and the text is one of what is saved
 pub record IsLoaded (bytes : List ℕ) (s : Saved) : Type 0 where
@@ -64,12 +64,12 @@ pub record IsLoaded (bytes : List ℕ) (s : Saved) : Type 0 where
   pub is : IsTextOf (IsParsed Any) text s
   pub sound : IsWellFormed s.world
 
--- an object is told of the text that the bytes begin
+-- an object is reported of the text that the bytes begin
 pub record HasToldObject (bytes : List ℕ) (e : DbFault) : Type 0 where
   pub object : ℕ
   pub is : ((e.kind ≡ kind.BadHierarchy object) × HasObjectFault IsHierarchyFault bytes e.line object) ⊎ ((e.kind ≡ kind.PropertyCount object) × HasObjectFault IsCountFault bytes e.line object)
 
--- a line or a program is told, and no object is at fault, if all have come
+-- a line or a program is reported, and no object is at fault, if all have come
 pub record HasToldLine (bytes : List ℕ) (e : DbFault) : Type 0 where
   pub refused : IsRefused bytes (answer_to limited bytes) e
   pub objects : e.kind ≢ kind.Memory → HasNoObjectFault bytes
@@ -88,24 +88,24 @@ LoadAnswers (Err e) bytes = IsRefusedSo bytes e
 
 -- ---- two answers to the same bytes
 
--- it isn't want of memory
+-- memory didn't run out
 abbrev pub IsKnown : Result stored.Saved DbFault → Type 0
 IsKnown r = IfErr r (λ e. e.kind ≢ kind.Memory)
 
--- the same saved world, or the same fault, but for which fault of one program it is
+-- one saved world, or one fault, but for which fault of one program it is
 abbrev pub AreAlike : Result stored.Saved DbFault → Result stored.Saved DbFault → Type 0
 AreAlike (Ok s) (Ok t) = saved_of s ≡ saved_of t
 AreAlike (Ok s) (Err e) = ⊥
 AreAlike (Err d) (Ok t) = ⊥
 AreAlike (Err d) (Err e) = AreToldAlike d e
 
--- ---- for a telling of sources that are no programs
+-- ---- for a choice of faults of sources that are no programs
 
--- what is answered of bytes, and where a program is told, it is what may be told of its source
+-- the answer for bytes; if a program is reported, its fault is one that may be reported of its source
 abbrev pub LoadAnswersBy : Telling → Result stored.Saved DbFault → List ℕ → Type 0
 LoadAnswersBy T r bytes = LoadAnswers r bytes × IfErr r (TellsBy T bytes)
 
--- the same saved world, or the same fault
+-- one saved world, or one fault
 abbrev pub AreSame : Result stored.Saved DbFault → Result stored.Saved DbFault → Type 0
 AreSame (Ok s) (Ok t) = saved_of s ≡ saved_of t
 AreSame (Ok s) (Err e) = ⊥

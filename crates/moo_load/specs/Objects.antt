@@ -1,4 +1,4 @@
--- What is told of objects that are at fault.
+-- The faults that are reported of objects.
 use Rattle.std.specs.Prelude.{◌≡◌, ℕ, ℤ, ◌+◌, true, Option, Some, None, List, [], take, length}
 use Rattle.moo_dbvalue.specs.Lines.{limited}
 use Rattle.moo_dbobject.specs.Objects.{Object, object_lines}
@@ -11,7 +11,7 @@ use Rattle.moo_restore.specs.First.{IsFirst}
 use Rattle.moo_restore.specs.Records.{Records}
 use Rattle.moo_restore.specs.Faults.{IsWellPlaced, HasItsCells}
 
--- how many lines an entry has, that of its number among them
+-- how many lines an entry has, with its header
 abbrev pub entry_length : Option Object → ℕ
 entry_length None = 1
 entry_length (Some o) = length (object_lines o []) + 1
@@ -20,12 +20,12 @@ entry_length (Some o) = length (object_lines o []) + 1
 abbrev pub line_of_object : List ℤ → List (Option Object) → ℕ → ℕ
 line_of_object players objects x = 6 + length players + length (objects_lines 0 (take x objects) no_notes)
 
--- the records of objects alone
+-- records that have objects only
 abbrev pub of_objects : List (Option Object) → Records
 of_objects objects = record { objects = objects; programs = []; players = [] }
 
--- The bytes begin with the lines of a text up to its last object, among its objects x is at fault, and its line is line n.
--- Whatever comes behind the objects changes nothing of that.
+-- The bytes begin with the lines of a text up to its last object, among its objects x is at fault, and its line is
+-- line n. No bytes after the objects change that.
 pub record HasObjectFault (Fault : Records → ℕ → Type 0) (bytes : List ℕ) (n x : ℕ) : Type 0 where
   pub players : List ℤ
   pub objects : List (Option Object)

@@ -8,7 +8,7 @@ use Rattle.moo_load.specs.Objects.{AreFaultless}
 use Rattle.moo_load.specs.Loading.{IsRefusedFrom}
 use Rattle.moo_load.specs.declared.world_reader.WorldReader.{WorldReader}
 
--- The bytes have been taken. The objects have been looked at just where all have come, and then none is at fault.
+-- The bytes have been taken. The objects have been checked exactly if all have come, and then none is at fault.
 pub record IsLoading (r : WorldReader) (bytes : List ℕ) : Type 0 where
   pub read : HasRead r.programs bytes
   pub well : programs.IsWell r.programs

@@ -1,4 +1,4 @@
-//! A database text that comes in pieces.
+//! A reader of database texts that come in pieces.
 ghost use Rattle.std.specs.Prelude.{◌++◌, ℕ, List, [], OnOk, IfOk, IfErr, IsErrOf};
 ghost use Rattle.moo_dbrecord.specs.declared.fault.DbFault.{DbFault};
 ghost use Rattle.moo_saved.specs.Saved.{saved_of, SpellsSavedWithin};
@@ -12,8 +12,8 @@ use moo_saved::Saved;
 use std::alloc::Global;
 use std::marker::Model;
 
-/// Reads a database text in pieces. What its objects have wrong is told as soon as the last of them has come. After a fault
-/// each call answers that fault.
+/// Reads a database text in pieces. Reports the faults of its objects as soon as the last of them has come. After a
+/// fault each call returns that fault.
 #[derive(Drop)]
 pub struct DbReader {
     reader: WorldReader,
@@ -36,7 +36,7 @@ impl Model for DbReader {
 }
 
 impl DbReader {
-    /// A reader before the first byte.
+    /// Returns a reader that expects the first byte.
     pub fn new(alloc: Global) -> DbReader
         ensures { HasFed result [] }
     {
@@ -45,7 +45,8 @@ impl DbReader {
         }
     }
 
-    /// Takes the next piece of the text. A fault is that of each text that begins with what has come.
+    /// Takes the next piece of the text. A fault holds of every text that begins with the bytes so far. Returns
+    /// `Memory` if memory runs out.
     pub fn feed(&mut self, alloc: Global, piece: &[u8]) -> Result<(), DbFault>
         ensures taken { (bytes : List ℕ) → HasFed self.old bytes → HasFed self.new (bytes ++ piece.now) }
         ensures ok { OnOk result (IsWell self.new) }
@@ -63,27 +64,28 @@ impl DbReader {
         self.reader.finish(alloc, is_left)
     }
 
-    /// The saved world of the whole text, once all of it has been fed.
+    /// Returns the saved world, once the whole text has been fed. Fails if a line is missing or has no end, or with
+    /// an earlier fault, or if memory runs out.
     pub fn finish(self, alloc: Global) -> Result<Saved, DbFault>
-        // What is read is spelled so, within the limits.
+        // The bytes spell, within the limits, the saved world that is returned.
         ensures found { (bytes : List ℕ) → HasFed self bytes → IfOk result (λ s. SpellsSavedWithin bytes (saved_of s)) }
-        // What is told where the text is refused says why.
+        // If the text is refused, the reported fault says why.
         ensures refused { (bytes : List ℕ) → HasFed self bytes → IfErr result (Refuses bytes) }
-        // The answer that `read_db` gives for the same bytes.
+        // The answer is that of `read_db` for these bytes.
         ensures answer { (bytes : List ℕ) → HasFed self bytes → LoadAnswers result bytes }
         ensures again { (e : DbFault) → HasRefused self e → IsErrOf result e }
     {
         self.end(alloc, false)
     }
 
-    /// The same, for a process that ends soon: the memory of the records that the world is made from is
-    /// left to its end.
+    /// Returns the saved world as `finish` does, for a process that ends soon. It leaks the memory of the records
+    /// that the world is made from.
     pub fn finish_leaving(self, alloc: Global) -> Result<Saved, DbFault>
-        // What is read is spelled so, within the limits.
+        // The bytes spell, within the limits, the saved world that is returned.
         ensures found { (bytes : List ℕ) → HasFed self bytes → IfOk result (λ s. SpellsSavedWithin bytes (saved_of s)) }
-        // What is told where the text is refused says why.
+        // If the text is refused, the reported fault says why.
         ensures refused { (bytes : List ℕ) → HasFed self bytes → IfErr result (Refuses bytes) }
-        // The answer that `read_db` gives for the same bytes.
+        // The answer is that of `read_db` for these bytes.
         ensures answer { (bytes : List ℕ) → HasFed self bytes → LoadAnswers result bytes }
         ensures again { (e : DbFault) → HasRefused self e → IsErrOf result e }
     {

@@ -1,5 +1,5 @@
-//! From a database text to the world that it saves.
-//! A room behind `moo_dbtext`.
+//! The world that a database text saves.
+//! An internal crate of `moo_dbtext`.
 #![tactic(auto)]
 
 mod db_reader;

@@ -1,4 +1,4 @@
-//! The world of what is kept of a text.
+//! The world that the contents of a text describe.
 ghost use Rattle.std.specs.Prelude.{◌≡◌, ◌⊎◌, map, take, option_map, IfOk, IfErr};
 ghost use Rattle.moo_dbobject.specs.Objects.{object_of};
 ghost use Rattle.moo_dbrecord.specs.Texts.{link_of};
@@ -19,7 +19,7 @@ use moo_world::World;
 use std::alloc::{AllocError, Global};
 use std::mem::forget;
 
-/// Who was connected.
+/// Returns the numbers of the connected players.
 fn connected(alloc: Global, connections: &[Connection]) -> Result<Vec<i32>, AllocError>
     ensures { IfOk result (λ who. who.items ≡ map who_of (map link_of connections.now)) }
 {
@@ -30,7 +30,7 @@ fn connected(alloc: Global, connections: &[Connection]) -> Result<Vec<i32>, Allo
     Ok(who)
 }
 
-/// Want of memory behind so many lines.
+/// Returns the fault of running out of memory after `lines` lines.
 fn without_memory(lines: u64) -> DbFault
     ensures { result.kind ≡ DbFaultKind.Memory }
 {
@@ -40,7 +40,7 @@ fn without_memory(lines: u64) -> DbFault
     }
 }
 
-/// How a fault of an object is told, in a text of so many lines and players and these objects.
+/// Returns the fault of object `x`, on the line that names it, in a text with these lines, players and objects.
 fn told_object(
     lines: u64,
     players: usize,
@@ -56,7 +56,7 @@ fn told_object(
     }
 }
 
-/// How it is told why no world was restored.
+/// Returns the fault to report if no world was restored.
 pub(crate) fn told(
     lines: u64,
     players: usize,
@@ -84,7 +84,7 @@ pub(crate) fn told(
     }
 }
 
-/// The world of these records, of which no object is at fault.
+/// Returns the world of records in which no object is at fault. Fails only if memory runs out.
 fn world_of(
     alloc: Global,
     lines: u64,
@@ -107,8 +107,8 @@ fn world_of(
     }
 }
 
-/// The saved world of what is kept of a text of so many lines, of which no object is at fault. The
-/// memory of the records is given back, or left to the end of the process.
+/// Returns the saved world of a text of `lines` lines, in which no object is at fault. Frees the memory of the
+/// records, or leaks it if `is_left`. Fails only if memory runs out.
 pub(crate) fn load(
     alloc: Global,
     lines: u64,

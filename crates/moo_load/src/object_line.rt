@@ -13,7 +13,7 @@ ghost use Rattle.moo_dbrecord.specs.Writing.{no_notes};
 use moo_dbobject::{ObjectRecord, PropertyRecord};
 use moo_value::Value;
 
-/// How many lines a value has, as far as that is a number of 64 bits.
+/// Returns the number of lines of a value, or `None` if it doesn't fit 64 bits.
 #[cycle(values)]
 fn lines_of_value(value: &Value) -> Option<u64>
     ensures { IfSome result (λ n. n ≡ length (value_lines (tree value.now))) }
@@ -92,8 +92,8 @@ fn lines_of_entries(entries: &[Option<ObjectRecord>]) -> Option<u64>
     Some(lines)
 }
 
-/// The number of the line that names an object, in a text of so many players and these objects.
-/// `None` where there is no such object, or where that is no number of 64 bits.
+/// Returns the number of the line that names object `x`, in a text with so many players and these objects. Returns
+/// `None` if `x` is past the objects, or if the number doesn't fit 64 bits.
 pub(crate) fn line_of_object(
     players: usize,
     objects: &[Option<ObjectRecord>],

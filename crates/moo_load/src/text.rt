@@ -1,4 +1,4 @@
-//! The saved world of a database text.
+//! The saved world of a whole database text.
 ghost use Rattle.std.specs.Prelude.{◌≡◌, IfOk, IfErr, MatchResult};
 ghost use Rattle.moo_dbprogram.specs.Faults.{IsOfLimits};
 ghost use Rattle.moo_saved.specs.Saved as saving;
@@ -19,17 +19,17 @@ fn read_all(alloc: Global, bytes: &[u8]) -> Result<Saved, DbFault>
     reader.finish(alloc)
 }
 
-/// The saved world that the bytes of a whole text spell.
+/// Reads the saved world that the bytes of a whole text spell. Returns the first fault, or `Memory`.
 pub fn read_db(alloc: Global, bytes: &[u8]) -> Result<Saved, DbFault>
-    // What is read is spelled so, within the limits.
+    // The bytes spell, within the limits, the saved world that is returned.
     ensures found { IfOk result (λ s. SpellsSavedWithin bytes.now (saved_of s)) }
-    // What is spelled so is read, unless memory ends it or it is past a limit.
+    // If the bytes spell a saved world, the reader returns it, unless memory runs out or a limit is exceeded.
     ensures only { (s : saving.Saved) → SpellsSaved bytes.now s → MatchResult result (λ r. saved_of r ≡ s) (λ e. IsOfLimits e.kind) }
-    // What is within the limits is read, unless memory ends it.
+    // If it is within the limits, the reader returns it, unless memory runs out.
     ensures within { (s : saving.Saved) → SpellsSavedWithin bytes.now s → MatchResult result (λ r. saved_of r ≡ s) (λ e. e.kind ≡ DbFaultKind.Memory) }
-    // What is told where the text is refused says why.
+    // If the text is refused, the reported fault says why.
     ensures refused { IfErr result (Refuses bytes.now) }
-    // The answer of a reader that is fed the same bytes in any pieces.
+    // The answer is that of a reader that is fed these bytes in any pieces.
     ensures exact { LoadAnswers result bytes.now }
 {
     read_all(alloc, bytes)

@@ -1,4 +1,4 @@
-//! A database text whose objects are looked at as soon as the last of them has come.
+//! A reader of database texts that checks the objects as soon as the last of them has come.
 ghost use Rattle.std.specs.Prelude.{◌≡◌, ◌++◌, ◌⊎◌, ℕ, true, false, List, [], map, option_map, OnOk, IfErr, IsErrOf};
 ghost use Rattle.moo_dbobject.specs.Objects.{object_of};
 ghost use Rattle.moo_dbrecord.specs.declared.fault.DbFault.{DbFault};
@@ -17,7 +17,7 @@ use moo_restore::check_objects;
 use moo_saved::Saved;
 use std::alloc::Global;
 
-/// Tells the first object at fault, in a text with so many lines so far, these players and these objects.
+/// Returns the first fault of the objects, in a text with so many lines so far, these players and these objects.
 fn check(
     alloc: Global,
     lines: u64,
@@ -33,7 +33,7 @@ fn check(
     }
 }
 
-/// Reads a text in pieces. After a fault each call answers that fault.
+/// Reads a text in pieces. After a fault each call returns that fault.
 #[derive(Drop)]
 pub(crate) struct WorldReader {
     programs: ProgramReader,
@@ -52,7 +52,7 @@ impl WorldReader {
         }
     }
 
-    // Looks at the objects, where all have come.
+    // Checks the objects if all have come.
     fn look(&self, alloc: Global) -> Result<(), DbFault>
         ensures faultless { OnOk result (has_objects (place_of self.now.programs).section ≡ true → AreFaultless (place_of self.now.programs).text.objects) }
         ensures stops { (bytes : List ℕ) → HasRead self.now.programs bytes → IsWell self.now.programs → IfErr result (IsRefusedFrom bytes) }
@@ -65,7 +65,7 @@ impl WorldReader {
         check(alloc, self.programs.lines(), &text.players, &text.objects)
     }
 
-    // Takes a line with its end, and looks at the objects where it ends the last of them.
+    // Takes a line with its end. Checks the objects if the line ends the last of them.
     fn line(&mut self, alloc: Global, line: &[u8]) -> Result<(), DbFault>
         requires whole { IsWholeLine line.now }
         requires early { self.old.is_checked ≡ false }
@@ -79,7 +79,7 @@ impl WorldReader {
         Ok(())
     }
 
-    // Takes what ends no line, or what comes behind the objects.
+    // Takes a part of a line without its end, or any bytes after the objects.
     fn rest(&mut self, alloc: Global, rest: &[u8]) -> Result<(), DbFault>
         requires { (self.old.is_checked ≡ true) ⊎ HasNoEnd rest.now }
         ensures goes { (bytes : List ℕ) → IsLoading self.old bytes → OnOk result (IsLoading self.new (bytes ++ rest.now)) }
@@ -89,7 +89,7 @@ impl WorldReader {
         self.programs.feed(alloc, rest)
     }
 
-    // Line by line, until the objects have been looked at.
+    // Takes a piece line by line, until the objects have been checked, and then the rest.
     fn take(&mut self, alloc: Global, piece: &[u8]) -> Result<(), DbFault>
         ensures goes { (bytes : List ℕ) → IsLoading self.old bytes → OnOk result (IsLoading self.new (bytes ++ piece.now)) }
         ensures stops { (bytes : List ℕ) → IsLoading self.old bytes → IfErr result (IsRefusedFrom (bytes ++ piece.now)) }
@@ -123,8 +123,7 @@ impl WorldReader {
         taken
     }
 
-    /// The saved world of all that was taken. The memory of its records is given back, or left to the
-    /// end of the process.
+    /// Returns the saved world of the bytes so far. Frees the memory of its records, or leaks it if `is_left`.
     pub(crate) fn finish(self, alloc: Global, is_left: bool) -> Result<Saved, DbFault>
         requires { (bytes : List ℕ) × HasTaken self bytes }
         ensures answer { (bytes : List ℕ) → HasTaken self bytes → LoadAnswers result bytes }

@@ -1,5 +1,5 @@
--- What waits to be taken: the bytes of each connection's number, and the lines of the log. What an event has brought so far is under way,
--- and doesn't wait until the event is kept.
+-- The output that waits to be taken: the bytes for each connection, and the lines of the log. The output of an event
+-- is under way, and doesn't wait until the event is kept.
 use Rattle.std.specs.Prelude.{ℕ, List, [], slice_index_or}
 
 -- bytes of one number
@@ -11,7 +11,7 @@ abbrev pub no_bytes : Bytes
 no_bytes = record { waiting = []; under_way = [] }
 
 pub record Outbox : Type 0 where
-  -- those of the numbers from 0 on; there are none of the numbers behind the last
+  -- the bytes of the numbers from 0 on; the numbers past the last have none
   pub bytes : List Bytes
   pub log : List (List ℕ)
   pub log_under_way : List (List ℕ)
@@ -22,11 +22,11 @@ empty = record { bytes = []; log = []; log_under_way = [] }
 abbrev pub bytes_of : Outbox → ℕ → Bytes
 bytes_of o c = slice_index_or o.bytes c no_bytes
 
--- what waits for a number
+-- the bytes that wait for a number
 abbrev pub sent_waiting : Outbox → ℕ → List ℕ
 sent_waiting o c = (bytes_of o c).waiting
 
--- what the event that is under way has sent for it
+-- the bytes that the event under way has sent for it
 abbrev pub sent_under_way : Outbox → ℕ → List ℕ
 sent_under_way o c = (bytes_of o c).under_way
 

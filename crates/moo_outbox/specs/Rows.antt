@@ -4,19 +4,19 @@ use Rattle.std.specs.List.{list_any}
 use Rattle.moo_connection.specs.Streams.{ended}
 use Rattle.moo_outbox.specs.Outbox.{Bytes, no_bytes}
 
--- bytes are under way of touched numbers alone
+-- only touched numbers have bytes under way
 abbrev pub OnlyTouched : List Bytes → List ℕ → Type 0
 OnlyTouched rows touched = (c : ℕ) → list_any (λ n. n == c) touched ≡ false → (slice_index_or rows c no_bytes).under_way ≡ []
 
--- what is under way waits
+-- the bytes that are under way wait
 abbrev pub kept : Bytes → Bytes
 kept b = record { waiting = b.waiting ++ b.under_way; under_way = [] }
 
--- what is under way is dropped
+-- the bytes that are under way are dropped
 abbrev pub forgotten : Bytes → Bytes
 forgotten b = record { waiting = b.waiting; under_way = [] }
 
--- the row of a number changed, where there is one
+-- the row of a number changed, if there is one
 abbrev pub changed_at : (Bytes → Bytes) → ℕ → List Bytes → List Bytes
 changed_at f n rows = slice_set rows n (f (slice_index_or rows n no_bytes))
 

@@ -1,6 +1,6 @@
-//! What waits to be taken from a server: the bytes of each connection's number, and the lines of the log. What an event
-//! brings shows when the event is kept (docs/SESSIONS.md).
-//! A room behind `moo_session`.
+//! The output that waits to be taken from a server: the bytes for each connection, and the lines of the log. The
+//! output of an event waits once the event is kept (docs/SESSIONS.md).
+//! An internal crate of `moo_session`.
 #![tactic(auto)]
 
 mod outbox;

@@ -1,4 +1,4 @@
-//! What waits to be taken.
+//! The output that waits to be taken.
 ghost use Rattle.std.specs.Prelude.{◌≡◌, ◌≢◌, ◌≤◌, ◌++◌, ℕ, [], length, take, OnOk};
 ghost use Rattle.moo_connection.specs.Streams.{stream};
 ghost use Rattle.moo_outbox.specs.Outbox.{empty, bytes_of, sent_waiting, sent_under_way, log_waiting, log_under_way};
@@ -11,17 +11,17 @@ use std::alloc::{AllocError, Global};
 use std::marker::Model;
 use std::mem;
 
-/// The bytes that wait for each connection's number, and the lines of the log. What an event brings is under way until it
-/// is kept.
+/// Holds the bytes for each connection, by its number, and the lines of the log. The output of an event is under way
+/// until `keep`; then it waits to be taken.
 #[derive(Drop)]
 pub struct Outbox {
     alloc: Global,
-    // Those of the numbers from 0 on.
+    // The bytes for the connections, by number from 0 on.
     rows: Vec<Row>,
-    // Where bytes may be under way.
+    // The numbers for which bytes may be under way.
     touched: Vec<u16>,
     log: Vec<MooStr>,
-    // How many of its lines wait.
+    // The number of log lines that wait.
     settled: usize,
 }
 
@@ -38,7 +38,7 @@ impl Model for Outbox {
 }
 
 impl Outbox {
-    /// Nothing waits.
+    /// Returns an empty outbox.
     pub fn new(alloc: Global) -> Outbox
         ensures { result ≡ empty }
     {
@@ -51,8 +51,8 @@ impl Outbox {
         }
     }
 
-    /// Adds what an event has sent and its lines for the log to what is under way. `Err` where memory is wanting; what waits
-    /// stays in any case.
+    /// Adds the lines that an event has sent, and its lines for the log, to what is under way. Fails only if memory
+    /// runs out; the output that waits stays in any case.
     pub fn add(&mut self, sent: &[Sent], log: &[MooStr]) -> Result<(), AllocError>
         ensures sent { OnOk result ((c : ℕ) → sent_under_way self.new c ≡ sent_under_way self.old c ++ stream c sent.now) }
         ensures log { OnOk result (log_under_way self.new ≡ log_under_way self.old ++ log.now) }
@@ -92,7 +92,7 @@ impl Outbox {
         push_all(&mut self.log, log)
     }
 
-    /// What is under way waits from now on. Takes no memory, and time for what is under way alone.
+    /// Makes the output that is under way wait. Allocates no memory. The time depends only on what is under way.
     pub fn keep(&mut self)
         ensures sent { (c : ℕ) → sent_waiting self.new c ≡ sent_waiting self.old c ++ sent_under_way self.old c }
         ensures log { log_waiting self.new ≡ log_waiting self.old ++ log_under_way self.old }
@@ -104,7 +104,7 @@ impl Outbox {
         self.settled = self.log.len();
     }
 
-    /// What is under way is dropped. Takes no memory.
+    /// Drops the output that is under way. Allocates no memory.
     pub fn forget(&mut self)
         ensures sent { (c : ℕ) → sent_waiting self.new c ≡ sent_waiting self.old c }
         ensures log { log_waiting self.new ≡ log_waiting self.old }
@@ -116,7 +116,7 @@ impl Outbox {
         self.log.truncate(self.settled);
     }
 
-    /// Takes all that waits for a number; what is under way for it is dropped. Takes no memory.
+    /// Takes the bytes that wait for a number, and drops those under way for it. Allocates no memory.
     pub fn take(&mut self, number: u16) -> Vec<u8>
         ensures taken { result.items ≡ sent_waiting self.old number }
         ensures none { sent_waiting self.new number ≡ [] }
@@ -132,7 +132,7 @@ impl Outbox {
         }
     }
 
-    /// Takes all lines of the log that wait; what is under way of it is dropped. Takes no memory.
+    /// Takes the log lines that wait, and drops those under way. Allocates no memory.
     pub fn take_log(&mut self) -> Vec<MooStr>
         ensures taken { result.items ≡ log_waiting self.old }
         ensures none { log_waiting self.new ≡ [] }

@@ -1,4 +1,4 @@
-//! The bytes of one number.
+//! The bytes for one number.
 ghost use Rattle.std.specs.Prelude.{◌≡◌, ◌<◌, ◌++◌, ℕ, [], length, slice_index_or, OnOk};
 ghost use Rattle.moo_connection.specs.Streams.{ended};
 ghost use Rattle.moo_outbox.specs.Outbox.{no_bytes};
@@ -8,12 +8,12 @@ use std::alloc::{AllocError, Global};
 use std::marker::Model;
 use std::mem;
 
-/// The bytes of one number, those under way last.
+/// Holds the bytes for one number, those under way last.
 #[derive(Drop)]
 pub struct Row {
     alloc: Global,
     bytes: Vec<u8>,
-    // How many of them wait.
+    // The number of bytes that wait.
     settled: usize,
 }
 
@@ -39,7 +39,7 @@ impl Row {
         }
     }
 
-    // Adds a line with its end.
+    // Appends a line and its end.
     pub(crate) fn push(&mut self, line: &[u8]) -> Result<(), AllocError>
         ensures ok { OnOk result (self.new.under_way ≡ self.old.under_way ++ ended line.now) }
         ensures waiting { self.new.waiting ≡ self.old.waiting }
@@ -49,21 +49,21 @@ impl Row {
         Ok(())
     }
 
-    // What is under way waits.
+    // Makes the bytes that are under way wait.
     pub(crate) fn keep(&mut self)
         ensures { self.new ≡ kept self.old }
     {
         self.settled = self.bytes.len();
     }
 
-    // What is under way is dropped.
+    // Drops the bytes that are under way.
     pub(crate) fn forget(&mut self)
         ensures { self.new ≡ forgotten self.old }
     {
         self.bytes.truncate(self.settled);
     }
 
-    // Takes what waits.
+    // Takes the bytes that wait.
     pub(crate) fn take(&mut self) -> Vec<u8>
         ensures taken { result.items ≡ self.old.waiting }
         ensures left { self.new ≡ no_bytes }
@@ -74,7 +74,7 @@ impl Row {
     }
 }
 
-// Rows up to that of a number.
+// Adds rows up to that of a number.
 pub(crate) fn grow(alloc: Global, rows: &mut Vec<Row>, number: usize) -> Result<(), AllocError>
     ensures there { OnOk result (number < length rows.new.items) }
     ensures same { (c : ℕ) → slice_index_or rows.new.items c no_bytes ≡ slice_index_or rows.old.items c no_bytes }
@@ -85,7 +85,7 @@ pub(crate) fn grow(alloc: Global, rows: &mut Vec<Row>, number: usize) -> Result<
     Ok(())
 }
 
-// What is under way of these numbers waits.
+// Makes the bytes that are under way for these numbers wait.
 pub(crate) fn keep_all(rows: &mut Vec<Row>, numbers: &[u16])
     ensures { rows.new.items ≡ all_changed kept numbers.now rows.old.items }
 {
@@ -103,7 +103,7 @@ fn keep_at(rows: &mut Vec<Row>, number: u16)
     }
 }
 
-// What is under way of these numbers is dropped.
+// Drops the bytes that are under way for these numbers.
 pub(crate) fn forget_all(rows: &mut Vec<Row>, numbers: &[u16])
     ensures { rows.new.items ≡ all_changed forgotten numbers.now rows.old.items }
 {

@@ -49,11 +49,11 @@ keeps_then view honest stands old mid new h k = record {
 
 -- ---- pieces of a text
 
--- behind the front that was read stands what a call gave
+-- after the front that was read come the bytes that a call returned
 pub front_then : (text buffer : List ℕ) (at n : ℕ) → Reads text at buffer n → take at text ++ take n buffer ≡ take (at + n) text
 front_then text buffer at n h = ap (λ (l : List ℕ). take at text ++ l) h.bytes ∙ sym (take-add at n text)
 
--- the place behind it isn't past the text's end
+-- the offset after them isn't past the text's end
 pub place_in : (text buffer : List ℕ) (at n : ℕ) → Reads text at buffer n → n ≢ 0 → at + n ≤ length text
 place_in text buffer at n h some =
     let given : length (take n buffer) ≡ min n (length buffer) = length-take n buffer in

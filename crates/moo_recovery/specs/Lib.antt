@@ -1,2 +1,2 @@
--- What a start reads.
+-- The reading of a start.
 pub mod Recovering

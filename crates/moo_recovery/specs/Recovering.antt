@@ -1,4 +1,4 @@
--- What recovery reads of a disk, and what it answers.
+-- The reads of recovery from a disk, and its answers.
 use Rattle.std.specs.Prelude.{◌≡◌, ◌≢◌, ◌↔◌, ℕ, List, take, Option, Some, None, Result, Ok, Err}
 use Rattle.moo_dbrecord.specs.declared.fault.DbFault.{DbFault}
 use Rattle.moo_dbrecord.specs.declared.fault.DbFaultKind.TheVariants as kind
@@ -16,13 +16,14 @@ pub record Keeps {D : Type 0} (view : D → DiskView) (Honest Stands : D → Typ
   pub stands : Stands old → Stands new
   pub honest : Honest old ↔ Honest new
 
--- Where the device is told of an honest disk, the count of failures has risen. It hasn't where anything else is told.
+-- If the device of an honest disk is reported, the count of failures has risen. If anything else is reported, it
+-- hasn't.
 abbrev pub CountsFault : Type 0 → ℕ → ℕ → OpenFault → Type 0
 CountsFault Honest before now Device = Honest → HasRisen before now
 CountsFault Honest before now (Db f) = now ≡ before
 CountsFault Honest before now Memory = now ≡ before
 
--- nor where something is answered
+-- nor has it if there is no error
 abbrev pub CountsDevice : {X : Type 0} → Type 0 → ℕ → ℕ → Result X OpenFault → Type 0
 CountsDevice Honest before now (Ok x) = now ≡ before
 CountsDevice Honest before now (Err e) = CountsFault Honest before now e
@@ -32,19 +33,19 @@ abbrev pub front_to : List ℕ → Option ℕ → List ℕ
 front_to text None = text
 front_to text (Some at) = take at text
 
--- how a fault of the reader is told
+-- the report of a fault of the reader
 abbrev pub IsToldAs : DbFault → OpenFault → Type 0
 IsToldAs f Device = ⊥
 IsToldAs f (Db g) = (g ≡ f) × (f.kind ≢ kind.Memory)
 IsToldAs f Memory = f.kind ≡ kind.Memory
 
--- the text is refused where that is told
+-- the text is refused if that is reported
 abbrev pub Tells : List ℕ → OpenFault → Type 0
 Tells text Device = Unit {0}
 Tells text (Db f) = IsRefusedSo text f × (f.kind ≢ kind.Memory)
 Tells text Memory = Unit {0}
 
--- what may be answered where main is this text
+-- the answers that are possible if main is this text
 abbrev pub Recovers : List ℕ → Result stored.Saved OpenFault → Type 0
 Recovers text (Ok s) = IsLoaded text (saved_of s)
 Recovers text (Err e) = Tells text e

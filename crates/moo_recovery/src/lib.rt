@@ -1,5 +1,5 @@
 //! A server's start: the saved world that a disk holds.
-//! A room behind `moo_checkpoint`.
+//! An internal crate of `moo_checkpoint`.
 #![tactic(auto)]
 
 mod open_fault;

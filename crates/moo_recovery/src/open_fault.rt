@@ -1,4 +1,4 @@
-//! Why there is no start.
+//! The reasons why a server can't start.
 ghost use Rattle.std.specs.Prelude.{◌≡◌};
 ghost use Rattle.moo_recovery.specs.declared.open_fault.OpenFault.TheVariants.{Device, Memory};
 ghost use Rattle.moo_recovery.specs.Recovering.{IsToldAs};
@@ -8,16 +8,17 @@ use moo_disk::DiskFault;
 use std::alloc::AllocError;
 use thiserror::Error;
 
-/// Why a server has no world to start from.
+/// The reason why a server has no world to start from.
 #[derive(Clone, Copy, Debug, PartialEq, Eq, Error)]
 pub enum OpenFault {
-    /// The device failed, or did what no disk does: it gave more bytes than were asked for, or a text without an end.
+    /// The device failed, or did what no disk does: it returned more bytes than the buffer holds, or a text without
+    /// an end.
     #[error("refused: Device")]
     Device,
-    /// The main text is no database.
+    /// The main text is no database text.
     #[error("{0}")]
     Db(DbFault),
-    /// There was no memory for the world.
+    /// Memory ran out.
     #[error("refused: Memory")]
     Memory,
 }

@@ -1,4 +1,4 @@
-//! Reading the main text of a disk, a buffer at a time.
+//! Reads the main text of a disk, one buffer at a time.
 ghost use Rattle.std.specs.Prelude.{◌≡◌, ◌≢◌, ◌⊎◌, ◌↔◌, ◌+◌, ◌<◌, ◌≤◌, ◌^◌, [], length, take, IfOk, IfErr, IfSome, OnOk, MatchResult};
 ghost use Rattle.moo_dbrecord.specs.declared.fault.DbFault.{DbFault};
 ghost use Rattle.moo_dbrecord.specs.declared.fault.DbFaultKind.TheVariants as kind;
@@ -14,13 +14,14 @@ use moo_disk::Disk;
 use moo_load::{DbReader, Saved};
 use std::alloc::Global;
 
-/// The bytes of one call of the disk.
+/// The number of bytes to read in one call of the disk.
 const BUFFER: usize = 65_536;
 
-/// A main text has fewer bytes.
+/// A bound on the bytes of a main text, which has fewer.
 const END: u64 = 1 << 63;
 
-/// Reads the bytes of main from a place on to the buffer's front, and answers how many: none only at the end.
+/// Reads the bytes of main from offset `at` into the front of the buffer. Returns how many, which is 0 only at the
+/// end. Returns `Device` if the disk fails or claims more bytes than the buffer holds.
 fn read_at<D: Disk>(disk: &mut D, at: u64, buffer: &mut [u8]) -> Result<usize, OpenFault>
     ensures within { IfOk result (λ count. count ≤ length buffer.new) }
     ensures read { D.honest disk.old → IfOk result (Reads (D.view disk.old).main_text at buffer.new) }
@@ -35,7 +36,7 @@ fn read_at<D: Disk>(disk: &mut D, at: u64, buffer: &mut [u8]) -> Result<usize, O
     Ok(count)
 }
 
-/// The place behind so many bytes.
+/// Returns the offset `count` bytes after `at`, or `Device` if no main text is that long.
 fn place_after(at: u64, count: usize) -> Result<u64, OpenFault>
     ensures place { IfOk result (λ after. (after ≡ at + count) × (after < 2 ^ 63)) }
     ensures past { IfErr result (λ e. (e ≡ OpenFault.Device) × (2 ^ 63 ≤ at + count)) }
@@ -46,8 +47,8 @@ fn place_after(at: u64, count: usize) -> Result<u64, OpenFault>
     }
 }
 
-/// Feeds a reader the bytes of main from a place on that one call gives, and answers the place behind them; none
-/// at the end.
+/// Reads once from main at offset `at`, and feeds the reader those bytes. Returns the offset after them, or `None` at
+/// the end.
 fn feed_at<D: Disk>(
     alloc: Global,
     disk: &mut D,
@@ -73,7 +74,7 @@ fn feed_at<D: Disk>(
     Ok(Some(after))
 }
 
-/// Feeds a reader the main text.
+/// Feeds the reader the main text.
 fn feed_main<D: Disk>(alloc: Global, disk: &mut D, reader: &mut DbReader) -> Result<(), OpenFault>
     ensures fed { D.honest disk.old → HasFed reader.old [] → OnOk result (HasFed reader.new (D.view disk.old).main_text) }
     ensures told { D.honest disk.old → HasFed reader.old [] → IfErr result (Tells (D.view disk.old).main_text) }
@@ -98,21 +99,22 @@ fn recover_all<D: Disk>(alloc: Global, disk: &mut D) -> Result<Saved, OpenFault>
     Ok(reader.finish(alloc)?)
 }
 
-/// The saved world that a disk's main text spells. It is read a buffer at a time, and nothing is written.
+/// Reads the saved world that a disk's main text spells, one buffer at a time. Writes nothing.
 pub fn recover<D: Disk>(alloc: Global, disk: &mut D) -> Result<Saved, OpenFault>
-    // What is answered is spelled by the main text.
+    // The main text spells the saved world that is returned,
     ensures found { D.honest disk.old → IfOk result (λ s. SpellsSaved (D.view disk.old).main_text (saved_of s)) }
-    // So it is within the limits on sizes.
+    // and does so within the size limits.
     ensures sizes { D.honest disk.old → IfOk result (λ s. SpellsSavedWithin (D.view disk.old).main_text (saved_of s)) }
-    // What it spells within the limits is answered, unless the device fails or memory ends it.
+    // If the main text spells a world within the limits, it is returned, unless the device fails or memory runs out.
     ensures within { D.honest disk.old → (s : saving.Saved) → SpellsSavedWithin (D.view disk.old).main_text s
         → MatchResult result (λ r. saved_of r ≡ s) (λ e. (e ≡ OpenFault.Device) ⊎ (e ≡ OpenFault.Memory)) }
-    // Where the text is refused, this is what is told of it; want of memory is told by itself.
+    // If the text is refused, the reported fault says why. Running out of memory is reported as `OpenFault::Memory`.
     ensures refused { D.honest disk.old → IfErr result (λ e. (f : DbFault) → e ≡ OpenFault.Db f
         → Refuses (D.view disk.old).main_text f × (f.kind ≢ kind.Memory)) }
-    // The answer that the reader gives for the same bytes.
+    // The answer is that of the reader for these bytes.
     ensures exact { D.honest disk.old → Recovers (D.view disk.old).main_text result }
-    // The device is told where it failed in this call, and nowhere else.
+    // If `Device` is returned for an honest disk, its device failed in this call. If anything else is, the device did
+    // not fail.
     ensures device { CountsDevice (D.honest disk.old) (D.failures disk.old) (D.failures disk.new) result }
     // Nothing is written.
     ensures main { D.honest disk.old → KeepsMain (D.view disk.old) (D.view disk.new) }

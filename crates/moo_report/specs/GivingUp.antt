@@ -1,4 +1,4 @@
--- That the program gave up, and why.
+-- When the program gives up, and why.
 use Rattle.std.specs.Prelude.{◌≡◌, ◌⊎◌, ℕ, List, Option}
 use Rattle.std.specs.Io.KnownBytes.{Appends}
 use Rattle.moo_report.specs.Watching.{HasFailed, HasLacked}
@@ -7,9 +7,9 @@ use Rattle.moo_report.specs.declared.refusal.Refusal.{Refusal}
 use Rattle.moo_report.specs.declared.refusal.Refusal.TheVariants as giving
 use Rattle.moo_report.specs.declared.watch.Watch.{Watch}
 
--- The program gave up: the status says so, and the output grew by its line alone, unless an input or output has failed. Where
--- a device is told, a call of one has answered an error, or the most reads were made; where memory is told, a call has answered
--- that it was wanting.
+-- The program gave up: the status says so, and the output grew by its line only, unless an input or output has
+-- failed. If a device is reported, a call of one has returned an error, or the most reads were made. If memory is
+-- reported, memory ran out in a call.
 pub record HasGivenUp (old new : Option (List ℕ)) (watch : Watch) (status : ℕ) : Type 0 where
   pub refusal : Refusal
   pub is : status ≡ refusal_status refusal

@@ -1,4 +1,4 @@
--- What was seen of the devices and of the memory.
+-- The record of failures of the devices and of memory.
 pub mod Watching
 -- The status and the line of a refusal.
 pub mod Refused
@@ -6,5 +6,5 @@ pub mod Refused
 pub mod Parts
 -- The line of a fault.
 pub mod Told
--- That the program gave up.
+-- When the program gives up.
 pub mod GivingUp

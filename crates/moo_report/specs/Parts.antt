@@ -1,4 +1,4 @@
--- What a part of a line takes of an input.
+-- What a part of a line consumes of an input.
 use Rattle.std.specs.Prelude.{◌≡◌, ℕ, Bool, true, false, List, [], ◌++◌, codes, Option}
 use Rattle.std.specs.Io.KnownBytes.{Consumes, IsAtEnd, Keeps}
 use Rattle.moo_report.specs.declared.part.PartEnd.{PartEnd}
@@ -10,7 +10,7 @@ TakesPart old new bytes More = Consumes old new bytes
 TakesPart old new bytes LineFeed = Consumes old new (bytes ++ codes "\n")
 TakesPart old new bytes Input = (bytes ≡ []) × IsAtEnd old × Keeps old new
 
--- whether the line ends behind it
+-- whether the line ends after it
 abbrev pub is_last : PartEnd → Bool
 is_last More = false
 is_last LineFeed = true

@@ -1,4 +1,4 @@
--- What is answered and told where the program gives up.
+-- The status and the line if the program gives up.
 use Rattle.std.specs.Prelude.{ℕ, List, codes}
 use Rattle.moo_report.specs.declared.watch.Watch.{Watch}
 use Rattle.moo_report.specs.Watching.{HasFailed, HasLacked}
@@ -18,7 +18,7 @@ refusal_line Memory = codes "refused: Memory\n"
 abbrev pub without_memory : Refusal
 without_memory = Memory
 
--- a device has failed, where the refusal says so, or memory was wanting
+-- a device has failed, if the refusal says so, or memory ran out
 abbrev pub IsEarned : Watch → Refusal → Type 0
 IsEarned w Device = HasFailed w
 IsEarned w Memory = HasLacked w

@@ -1,4 +1,4 @@
--- The line that is told of a fault of a database.
+-- The line that reports a fault of a database.
 use Rattle.std.specs.Prelude.{ℕ, List, ◌++◌, codes}
 use Rattle.std.specs.Fmt.{decimal}
 use Rattle.moo_dbrecord.specs.declared.fault.DbFault.{DbFault}

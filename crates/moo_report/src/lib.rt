@@ -1,6 +1,6 @@
-//! What the program `moo` tells and how it ends: why it gives up, with which exit status and line, what is
-//! told of a database that is refused, and what was seen of its input, its output and the memory.
-//! A room behind `moo`.
+//! The reports and exit statuses of the program `moo`: why it gives up, why a database is refused, and whether its
+//! input, its output or memory has failed.
+//! An internal crate of `moo`.
 #![tactic(auto)]
 
 mod part;

@@ -1,4 +1,4 @@
-//! A part of a line: what a reader has at hand of it.
+//! A part of a line: the bytes of it that a reader has buffered.
 ghost use Rattle.std.specs.Prelude.{◌≡◌, ◌≢◌, ◌<◌, ◌≤◌, ◌+◌, length, take, slice_index, All, IfErr, IfNone, IfOk, IfSome, OnOk};
 ghost use Rattle.moo_report.specs.Parts.{TakesPart, is_last};
 ghost use Rattle.moo_report.specs.Refused.{IsEarned};
@@ -9,28 +9,28 @@ use crate::watch::Watch;
 use std::alloc::Global;
 use std::io::{BufRead, ErrorKind};
 
-/// What comes behind a part of a line.
+/// The end of a part of a line.
 #[derive(Clone, Copy, Debug, PartialEq, Eq)]
 pub enum PartEnd {
-    /// More of the line, perhaps.
+    /// The line may go on.
     More,
-    /// The LF that ends the line, which was taken too.
+    /// An LF ends the line. It was consumed too.
     LineFeed,
-    /// The input's end.
+    /// The input ends.
     Input,
 }
 
-/// Some bytes of a line, without its LF, and what comes behind them.
+/// Some bytes of a line, without its LF, and how they end.
 #[derive(Drop)]
 pub struct LinePart {
     /// The bytes.
     pub bytes: Vec<u8>,
-    /// What comes behind them.
+    /// How they end.
     pub end: PartEnd,
 }
 
 impl LinePart {
-    /// Whether the line ends behind these bytes.
+    /// Returns whether the line ends after these bytes.
     pub fn is_last(&self) -> bool
         ensures { result ≡ is_last self.now.end }
     {
@@ -41,7 +41,8 @@ impl LinePart {
     }
 }
 
-/// The bytes of the line that the reader has at hand, taken out of it: none of them where the read was interrupted.
+/// Consumes and returns the bytes of the line that the reader has buffered, or no bytes if the read was interrupted.
+/// Returns `Device` if the input fails, or `Memory`.
 pub fn next_part<I: BufRead>(
     alloc: Global,
     input: &mut I,
@@ -50,7 +51,7 @@ pub fn next_part<I: BufRead>(
     ensures part { IfOk result (λ part. TakesPart (I.remaining input.old) (I.remaining input.new) part.bytes.items part.end) }
     ensures no_end { IfOk result (λ part. All (λ b. b ≢ 10) part.bytes.items) }
     ensures count { OnOk result ((watch.old.reads < watch.new.reads) × (watch.new.reads ≤ most_reads)) }
-    // It counts once at most.
+    // It counts at most one read.
     ensures counted { watch.new.reads ≤ watch.old.reads + 1 }
     ensures earned { IfErr result (IsEarned watch.new) }
     ensures remembers { Remembers watch.old watch.new }
@@ -97,7 +98,7 @@ pub fn next_part<I: BufRead>(
     }
 }
 
-// Where the first LF stands.
+// Returns the index of the first LF.
 fn line_feed_at(bytes: &[u8]) -> Option<usize>
     ensures within { IfSome result (λ i. i < length bytes.now) }
     ensures some { IfSome result (λ i. slice_index bytes.now i ≡ 10) }

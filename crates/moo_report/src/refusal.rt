@@ -1,4 +1,4 @@
-//! Why the program gives up.
+//! The reasons why the program gives up.
 ghost use Rattle.std.specs.Prelude.{◌≡◌, ◌⊎◌};
 ghost use Rattle.std.specs.Io.KnownBytes.{Appends};
 ghost use Rattle.moo_report.specs.Refused.{refusal_line, refusal_status, without_memory};
@@ -10,19 +10,19 @@ use std::io;
 use std::io::Write;
 use thiserror::Error;
 
-/// Why the program gives up.
+/// The reason why the program gives up.
 #[derive(Clone, Copy, Debug, PartialEq, Eq, Error)]
 pub enum Refusal {
     /// A file, or standard input or output, failed.
     #[error("refused: Device")]
     Device,
-    /// Memory was wanting.
+    /// Memory ran out.
     #[error("refused: Memory")]
     Memory,
 }
 
 impl Refusal {
-    /// The exit status.
+    /// Returns the exit status: 3 for `Device`, 4 for `Memory`.
     pub fn status(self) -> u8
         ensures { result ≡ refusal_status self }
     {
@@ -41,14 +41,14 @@ impl Refusal {
         }
     }
 
-    /// Tells the refusal, where the output still takes it, and answers the exit status.
+    /// Writes the refusal as a line, if the output still takes it, and returns the exit status.
     pub fn told<O: Write>(self, output: &mut O) -> u8
         ensures { result ≡ refusal_status self }
     {
         self.told_watched(output, &mut Watch::new())
     }
 
-    /// The same, with the output watched.
+    /// Writes the refusal and returns the exit status as `told` does, with the output watched.
     pub fn told_watched<O: Write>(self, output: &mut O, watch: &mut Watch) -> u8
         ensures status { result ≡ refusal_status self }
         ensures told { HasFailed watch.new ⊎ Appends (O.contents output.old) (O.contents output.new) (refusal_line self) }

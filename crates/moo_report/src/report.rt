@@ -1,4 +1,4 @@
-//! Showing what a database holds, and telling why it is refused.
+//! Writes what a database holds, or why it is refused.
 ghost use Rattle.std.specs.Prelude.{◌≡◌, ◌≢◌, ◌⊎◌, IfErr, IfOk};
 ghost use Rattle.std.specs.Io.KnownBytes.{Appends, Keeps};
 ghost use Rattle.moo_report.specs.Refused.{IsEarned};
@@ -12,10 +12,10 @@ use moo_dbrecord::{DbFault, DbFaultKind};
 use std::alloc::Global;
 use std::io::Write;
 
-/// The exit status where a database is refused.
+/// The exit status if a database is refused.
 const REFUSED: u8 = 1;
 
-/// Writes a text, and answers the exit status.
+/// Writes a text, and returns the exit status 0. Returns the refusal if the output fails.
 pub fn show<O: Write>(text: &[u8], output: &mut O, watch: &mut Watch) -> Result<u8, Refusal>
     ensures shown { IfOk result (λ status. (status ≡ 0) × Appends (O.contents output.old) (O.contents output.new) text.now) }
     ensures earned { IfErr result (IsEarned watch.new) }
@@ -25,7 +25,8 @@ pub fn show<O: Write>(text: &[u8], output: &mut O, watch: &mut Watch) -> Result<
     Ok(0)
 }
 
-/// Tells in a line why a database is refused, and answers the exit status. Want of memory is a refusal of the program's own.
+/// Writes a line that says why a database is refused, and returns the exit status 1. Returns a refusal if the output
+/// fails or memory runs out, and also if the fault itself is `Memory`.
 pub fn tell<O: Write>(
     alloc: Global,
     fault: DbFault,

@@ -1,4 +1,4 @@
-//! The line that is told of a fault of a database.
+//! The line that reports a fault of a database.
 ghost use Rattle.std.specs.Prelude.{◌≡◌, ◌++◌, IfOk, OnOk};
 ghost use Rattle.std.specs.Fmt.{decimal};
 ghost use Rattle.moo_report.specs.Told.{fault_line, kind_text, program_kind_text, program_text};
@@ -7,7 +7,7 @@ use itoa::Buffer;
 use moo_dbrecord::{DbFault, DbFaultKind, ProgramFault, ProgramFaultKind};
 use std::alloc::{AllocError, Global};
 
-/// The line that tells a fault.
+/// Returns the line that reports a fault. Fails only if memory runs out.
 pub fn fault_line(alloc: Global, fault: DbFault) -> Result<Vec<u8>, AllocError>
     ensures { IfOk result (λ line. line.items ≡ fault_line fault) }
 {

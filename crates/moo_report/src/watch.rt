@@ -1,4 +1,4 @@
-//! What was seen of an input, an output and the memory: whether one has failed.
+//! A record of whether an input, an output or memory has failed.
 ghost use Rattle.std.specs.Prelude.{◌≡◌, ◌<◌, ◌≤◌, ◌+◌, [], length, take, true, false, IfErr, IfNone, IfOk, IfSome, OnErr, OnOk};
 ghost use Rattle.std.specs.Io.KnownBytes.{Appends, Consumes, IsAtEnd};
 ghost use Rattle.moo_report.specs.Refused.{without_memory, IsEarned};
@@ -8,10 +8,10 @@ use crate::refusal::Refusal;
 use std::io;
 use std::io::{ErrorKind, Read, Write};
 
-/// The most reads of one input.
+/// The greatest number of reads of one input.
 const MOST_READS: u64 = 4_294_967_296;
 
-/// Watches the calls of an input and an output, and those that take memory.
+/// Holds whether a call of an input or an output has failed, whether memory has run out, and the number of reads.
 #[derive(Debug, Drop)]
 pub struct Watch {
     failed: bool,
@@ -20,7 +20,7 @@ pub struct Watch {
 }
 
 impl Watch {
-    /// Before the first call.
+    /// Returns a record before the first call.
     pub fn new() -> Watch
         ensures failed { result.failed ≡ false }
         ensures lacked { result.lacked ≡ false }
@@ -33,7 +33,7 @@ impl Watch {
         }
     }
 
-    /// Notes that a call has answered that memory was wanting.
+    /// Records that memory ran out in a call, and returns that refusal.
     pub fn lack(&mut self) -> Refusal
         ensures refusal { result ≡ without_memory }
         ensures earned { IsEarned self.new result }
@@ -44,7 +44,7 @@ impl Watch {
         Refusal::Memory
     }
 
-    /// Notes what a device has answered.
+    /// Records the error of a device, and returns the refusal for it.
     pub(crate) fn fail(&mut self, error: io::Error) -> Refusal
         ensures failed { HasFailed self.new }
         ensures earned { IsEarned self.new result }
@@ -58,7 +58,7 @@ impl Watch {
         }
     }
 
-    /// Counts a read of the input, where not the most were made.
+    /// Counts a read of the input. Returns `Device` once `MOST_READS` are counted.
     pub(crate) fn count(&mut self) -> Result<(), Refusal>
         ensures count { OnOk result ((self.old.reads < self.new.reads) × (self.new.reads ≤ most_reads)) }
         ensures counted { self.new.reads ≤ self.old.reads + 1 }
@@ -73,7 +73,8 @@ impl Watch {
         Ok(())
     }
 
-    /// How many bytes were read into the buffer, 0 where the read was interrupted. `None` at the input's end.
+    /// Reads into the buffer, and returns the number of bytes, or 0 if the read was interrupted. Returns `None` at
+    /// the input's end. Returns the refusal if the input fails.
     pub fn read<I: Read>(
         &mut self,
         input: &mut I,
@@ -84,7 +85,7 @@ impl Watch {
         ensures some { IfOk result (λ r. IfSome r (λ n. (n ≤ length buffer.new) × Consumes (I.remaining input.old) (I.remaining input.new) (take n buffer.new))) }
         ensures end { IfOk result (λ r. IfNone r (Consumes (I.remaining input.old) (I.remaining input.new) [] × IsAtEnd (I.remaining input.new))) }
         ensures count { OnOk result ((self.old.reads < self.new.reads) × (self.new.reads ≤ most_reads)) }
-        // It counts once at most.
+        // It counts at most one read.
         ensures counted { self.new.reads ≤ self.old.reads + 1 }
         ensures failed { OnErr result (HasFailed self.new) }
         ensures earned { IfErr result (IsEarned self.new) }
@@ -103,7 +104,7 @@ impl Watch {
         }
     }
 
-    /// Writes a text, which may wait to be handed on.
+    /// Writes a text, which the output may buffer. Returns the refusal if the output fails.
     pub fn put<O: Write>(&mut self, output: &mut O, text: &[u8]) -> Result<(), Refusal>
         ensures text { OnOk result (Appends (O.contents output.old) (O.contents output.new) text.now) }
         ensures failed { OnErr result (HasFailed self.new) }
@@ -117,7 +118,7 @@ impl Watch {
         }
     }
 
-    /// Writes a text, and hands on all that waits.
+    /// Writes a text, and flushes the output. Returns the refusal if the output fails.
     pub fn write<O: Write>(&mut self, output: &mut O, text: &[u8]) -> Result<(), Refusal>
         ensures text { OnOk result (Appends (O.contents output.old) (O.contents output.new) text.now) }
         ensures failed { OnErr result (HasFailed self.new) }

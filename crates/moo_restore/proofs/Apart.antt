@@ -1,4 +1,4 @@
--- What is recorded of a verb and of a cell tells them apart.
+-- Different verbs and cells have different records.
 use Rattle.std.proofs.Common.{◌≡◌, ℕ, ◌+◌, ◌*◌, ◌≤◌, ℤ, pos, negsuc, List, [], ◌∷◌, Bool, true, false, refl, sym, ap, ◌∙◌, arith, map, get_or}
 use Rattle.moo_object.specs.Flags.{bit}
 use Rattle.moo_object.specs.Numbers.{verb_perms_number, object_specifier_number, preposition_number, preposition_specifier_number}

@@ -1,4 +1,4 @@
--- Numbers tell what they stand for apart.
+-- Different values have different numbers.
 use Rattle.std.proofs.Common.{◌≡◌, ℕ, ◌+◌, ◌*◌, Bool, true, false, refl, sym, ◌∙◌, arith}
 use Rattle.moo_object.specs.declared.flags.Flags.{Flags}
 use Rattle.moo_object.specs.declared.cell.PropPerms.{PropPerms}

@@ -26,7 +26,7 @@ chain_ends links z (v ∷ ys) at p e = (p.0, chain_ends links (link_of links v).
 same_number : (z : ℤ) (v y : ℕ) → z ≡ pos v → z ≡ pos y → v ≡ y
 same_number z v y e f = cc
 
--- a chain goes on where one has come to
+-- a chain goes on from the object that was reached
 chain_on : (links : List (Option Link)) (z : ℤ) (ys : List ℕ) (at : ℤ) (zs : List ℕ) → Passes links z ys at → IsChain links z zs → (rest : List ℕ) × (zs ≡ ys ++ rest) × IsChain links at rest
 chain_on links z [] at zs p ch = (zs, refl, subst (λ v. IsChain links v zs) p ch)
 chain_on links z (y ∷ ys) at [] p ch = absurd (let e = p.0 in cc)
@@ -62,7 +62,7 @@ pub once_at_most : (u : Option ℕ) (x : ℕ) → times_below u x ≤ 1
 once_at_most None x = omega arith
 once_at_most (Some up) x = ⊎_elim (λ e. rw e (omega arith)) (λ e. rw e (omega arith)) (cases_Bool (eqb x up))
 
--- what stands too often on the way stands too often in the whole
+-- an object that occurs too often on the way occurs too often in the whole
 extra_refutes : (links : List (Option Link)) (x : ℕ) (ps : List ℕ) (at : ℤ) → Passes links (link_of links x).first ps at → HasExtra links x ps → ¬ (HasList links x)
 extra_refutes links x ps at p extra h =
     let on = chain_on links (link_of links x).first ps at h.list p h.chain in
@@ -93,7 +93,7 @@ module _ (links : List (Option Link)) (taken : List Bool) (x : ℕ) where
           (cases_eq z y);
     }
 
-    -- one that cannot stand here
+    -- an object that cannot occur here
     pub follow_stops : (y : ℕ) → at ≡ pos y → (above_in links y ≡ Some x → get_or taken y false ≡ true) → IsFollowed links x (ys ++ y ∷ [])
     follow_stops y is stale = inr (extra_refutes links x (ys ++ y ∷ []) (link_of links y).next (passes_more links (link_of links x).first ys at y f.passes is) extra, extra)
       where

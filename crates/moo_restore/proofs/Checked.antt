@@ -1,4 +1,4 @@
--- The first fault of records, and the world that they say where there is none.
+-- The first fault of records, and the world that they describe if there is none.
 use Rattle.std.proofs.Common.{◌≡◌, ◌≢◌, ℕ, ℤ, List, length, map, Option, Some, None, refl, sym, ap, subst, ◌∙◌, arith, FitsSigned, w32}
 use Rattle.std.specs.List.{All}
 use Rattle.std.specs.Option.{option_map}

@@ -89,7 +89,7 @@ module _ (r : Records) where
             (record { lineage = s.path; is = ahead_in.0; count = sym cells_is ∙ (sym same ∙ many_in) }) s.found);
       }
 
-    -- what an object defines is counted where it is left
+    -- the definitions of an object are counted when it is left
     pub leaves_counted : get_or tour i d ≡ Leave x → own ≤ old
     leaves_counted is = over s.path s.many (subst (λ l. Leads (parent_links r) s.path l s.end) (drop_more tour i d low ∙ ap (λ v. v ∷ drop (i + 1) tour) is) s.ahead)
       where

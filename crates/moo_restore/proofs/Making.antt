@@ -1,4 +1,5 @@
--- Objects made of records in which no object is at fault are what a world can be restored from, and the records say that world.
+-- A world can be restored from objects made of records in which no object is at fault, and the records describe that
+-- world.
 use Rattle.std.proofs.Common.{◌≡◌, ℕ, ◌≤◌, List, [], ◌∷◌, ◌++◌, length, Option, Some, None, false, ◌||◌, refl, sym, ap, subst, ◌∙◌, ⊎_elim, arith, map, get_or, FitsSigned, w32}
 use Rattle.std.specs.List.{list_any, range_with_len, All}
 use Rattle.std.specs.Option.{unwrap_or, option_map}
@@ -27,7 +28,7 @@ use Rattle.moo_restore.proofs.Trees.{lineage_is_ancestors}
 use Rattle.moo_restore.proofs.Worlds.{one_lineage, own_cells, names_of}
 use Rattle.moo_restore.proofs.Writing.{link_mapped}
 
--- of two lists without a name twice, one behind the other
+-- of two lists without a name twice, one after the other
 twice_across : (ns ms : List (List ℕ)) → has_twice ns ≡ false → has_twice ms ≡ false → has_twice (ns ++ ms) ≡ list_any (λ a. list_any (same_name a) ms) ns
 twice_across [] ms one two = two
 twice_across (a ∷ ns) ms one two =

@@ -44,7 +44,7 @@ alone_more [] h (suc x) = refl
 alone_more (n ∷ nodes) h zero = h 0
 alone_more (n ∷ nodes) h (suc x) = alone_more nodes (λ y. h (suc y)) x
 
--- the objects before k stand in the lists of what they are below, and no other does
+-- the objects before k occur in the lists of the objects right above them, and no other does
 pub record AreListedTo (links : List (Option Link)) (nodes : List Links) (k : ℕ) : Type 0 where
   pub many : length nodes ≡ length links
   pub before : (x y : ℕ) → y < k → count_by (eqb y) (below_of nodes x) ≡ times_below (above_in links y) x

@@ -1,4 +1,4 @@
--- Sound links say one tree, and what says a tree is sound.
+-- Sound links describe at most one forest, and links that describe a forest are sound.
 use Rattle.std.proofs.Common.{◌≡◌, ℕ, zero, suc, ◌<◌, inl, inr, ℤ, pos, negsuc, List, [], ◌∷◌, length, Option, Some, None, refl, sym, ap, subst, ◌∙◌, ⊎_elim, arith, get_or, eqb, IsSome}
 use Rattle.std.specs.List.{count_by}
 use Rattle.std.specs.Option.{unwrap_or}
@@ -34,7 +34,7 @@ numbered_within links (pos k) y e = over (link_at links k) refl e
         let same : k ≡ y = cc in
         ⊎_elim (λ low. omega (arith, same)) (λ past. absurd (let none = get_or_past links k None past in cc)) (cases_lt k (length links))
 
--- the nodes of sound links are the tree that they say
+-- the nodes of sound links are the forest that they describe
 pub sound_forest : (links : List (Option Link)) (nodes : List Links) → AreNodesOf links nodes → ((x : ℕ) → x < length links → IsSound links x) → IsForest nodes
 sound_forest links nodes made sound = forest_checked nodes
     (λ y up is. let many = made.many in let low = numbered_within links (link_of links y).above up (sym (made.above y) ∙ is) in omega (arith, many, low))
@@ -83,7 +83,7 @@ module _ (links : List (Option Link)) (nodes : List Links) (made : AreNodesOf li
     free = joined_to_nothing;
   }
 
--- links that say a tree are sound
+-- links that describe a forest are sound
 module _ (links : List (Option Link)) (tree : List Links) (forest : IsForest tree) (says : IsTreeOf links tree) where
   same_above : (x : ℕ) → (IsPlace links (link_of links x).above) × (above_in links x ≡ above_of tree x)
   same_above x = over (above_of tree x) refl
@@ -140,7 +140,7 @@ same_node_of links one other p q x = λ i. record { above = up i; below = down i
     down : below_of one x ≡ below_of other x
     down = one_chain links (link_of links x).first (below_of one x) (below_of other x) (p.joined x).below (q.joined x).below
 
--- links say one tree at most
+-- links describe at most one forest
 pub one_tree : (links : List (Option Link)) (one other : List Links) → IsTreeOf links one → IsTreeOf links other → one ≡ other
 one_tree links one other p q =
     fill_by_all (λ k. get_or other k alone) one (length links) alone p.many (λ k low. same_node_of links one other p q k)

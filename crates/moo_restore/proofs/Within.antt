@@ -38,7 +38,7 @@ all_from : {X : Type 0} (P : X → Type 0) (xs : List X) → AllByRecursion P xs
 all_from P [] a = λ k d low. absurd (omega (arith, low))
 all_from P (x ∷ xs) a = all_at P x xs a.0 (all_from P xs a.1)
 
--- what records say
+-- consequences of what records describe
 
 verbs_said : (vs : List VerbRecord) (ps : List (Option Block)) → map recorded_verb (plain_verbs vs ps) ≡ map recorded.verb_of vs
 verbs_said [] ps = refl

@@ -1,4 +1,4 @@
--- The records of a world say it.
+-- The records of a world describe it.
 use Rattle.std.proofs.Common.{◌≡◌, ℕ, zero, suc, ◌+◌, ◌<◌, ◌≤◌, List, [], ◌∷◌, ◌++◌, length, Option, Some, None, cond, eqb, refl, sym, ap, subst, ◌∙◌, ⊎_elim, arith, map, get_or, append_assoc}
 use Rattle.std.specs.List.{range_with_len, count_by}
 use Rattle.std.specs.Option.{unwrap_or, option_map}
@@ -26,7 +26,7 @@ count_itself y ys =
     let one : count_by (eqb y) (y ∷ []) ≡ 1 = (let same = eq-eqb y y refl in rw same refl) in
     omega (arith, parts, one)
 
--- what stands behind a number that stands in a list once
+-- the next number after one that occurs in a list once
 next_found : (y : ℕ) (front rest : List ℕ) → count_by (eqb y) (front ++ y ∷ rest) ≤ 1 → next_in y (front ++ y ∷ rest) ≡ first_in rest
 next_found y [] rest few = let same = eq-eqb y y refl in rw same refl
 next_found y (z ∷ front) rest few = ⊎_elim

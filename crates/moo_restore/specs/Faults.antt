@@ -1,4 +1,4 @@
--- What keeps records from saying a world.
+-- The faults for which records describe no world.
 use Rattle.std.specs.Prelude.{◌≡◌, ℕ, List, ◌∷◌, Option, Some, None, false, length}
 use Rattle.std.specs.List.{list_any}
 use Rattle.moo_object.specs.Names.{same_name}
@@ -13,12 +13,12 @@ pub record HasOwnNames (r : Records) (x : ℕ) : Type 0 where
   pub once : has_twice (names_at r x) ≡ false
   pub apart : (ys : List ℕ) → IsLineage (parent_links r) x ys → list_any (λ n. list_any (same_name n) (names_along r ys)) (names_at r x) ≡ false
 
--- an object's place is sound in the tree of parents and in that of places
+-- an object's place is sound in the trees of parents and of locations
 pub record IsJoinedWell (objects : List (Option recorded.Object)) (x : ℕ) : Type 0 where
   pub parent : IsSound (parent_links_of objects) x
   pub place : IsSound (place_links_of objects) x
 
--- an object stands in both trees as it may, and has names of its own
+-- an object's place in both trees is sound, and its names are its own
 pub record IsWellPlaced (r : Records) (x : ℕ) : Type 0 where
   pub trees : IsJoinedWell r.objects x
   pub names : HasOwnNames r x

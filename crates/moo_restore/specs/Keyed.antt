@@ -6,7 +6,7 @@ use Rattle.moo_table.specs.Restoring.{rekeyed}
 use Rattle.moo_restore.specs.declared.link.Link.{Link}
 use Rattle.moo_restore.specs.Links.{IsLineage}
 
--- each of these is an object of the plain ones, its cells for the definitions met on going up from it
+-- each of these is an object of the plain ones, with cells for the definitions on the way up from it
 pub record AreKeyed (links : List (Option Link)) (plain made : List (Option Object)) : Type 0 where
   pub many : length made ≡ length plain
   pub each : (x : ℕ) (ys : List ℕ) → IsLineage links x ys → object_of made x ≡ with_cells (object_of plain x) (rekeyed (keys_along plain (x ∷ ys)) (thing_of plain x).cells)

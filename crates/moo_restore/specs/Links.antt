@@ -4,11 +4,11 @@ use Rattle.std.specs.Option.{unwrap_or}
 use Rattle.moo_forest.specs.Forest.{Links, alone, above_of, below_of, times_below}
 use Rattle.moo_restore.specs.declared.link.Link.{Link}
 
--- the number that stands for no object
+-- the number that means no object
 abbrev pub nowhere : ℤ
 nowhere = negsuc 0
 
--- the links of what is joined to nothing
+-- the links of an object that is joined to nothing
 abbrev pub no_link : Link
 no_link = record { above = nowhere; first = nowhere; next = nowhere }
 
@@ -28,7 +28,7 @@ numbered links (negsuc n) = None
 abbrev pub above_in : List (Option Link) → ℕ → Option ℕ
 above_in links x = numbered links (link_of links x).above
 
--- a number that is an object's, or that of none
+-- a number that is an object's, or -1
 abbrev pub IsPlace : List (Option Link) → ℤ → Type 0
 IsPlace links (pos y) = IsSome (link_at links y)
 IsPlace links (negsuc zero) = Unit {0}
@@ -39,7 +39,7 @@ abbrev pub IsLineage : List (Option Link) → ℕ → List ℕ → Type 0
 IsLineage links x [] = above_in links x ≡ None
 IsLineage links x (y ∷ ys) = (above_in links x ≡ Some y) × IsLineage links y ys
 
--- from this number on, each number is the next of the one before, and the last has none behind it
+-- from this number on, each number is the next of the one before, and the last has no next
 abbrev pub IsChain : List (Option Link) → ℤ → List ℕ → Type 0
 IsChain links z [] = z ≡ nowhere
 IsChain links z (y ∷ ys) = (z ≡ pos y) × IsChain links (link_of links y).next ys
@@ -48,7 +48,7 @@ IsChain links z (y ∷ ys) = (z ≡ pos y) × IsChain links (link_of links y).ne
 abbrev pub AreBelow : List (Option Link) → ℕ → List ℕ → Type 0
 AreBelow links x ys = (y : ℕ) → count_by (nat_eq y) ys ≡ times_below (above_in links y) x
 
--- from the first of x on stand those right below it
+-- the chain from the first of x holds the objects right below x
 pub record HasList (links : List (Option Link)) (x : ℕ) : Type 0 where
   pub list : List ℕ
   pub chain : IsChain links (link_of links x).first list
@@ -60,17 +60,17 @@ pub record IsSound (links : List (Option Link)) (x : ℕ) : Type 0 where
   pub ends : (ys : List ℕ) × IsLineage links x ys
   pub listed : HasList links x
 
--- the number of what stands right above, if anything does
+-- the number of the object right above, or -1
 abbrev pub place_number : Option ℕ → ℤ
 place_number None = nowhere
 place_number (Some x) = pos x
 
--- a tree joins x as the links say
+-- a tree joins x as the links describe
 pub record IsJoinedAs (links : List (Option Link)) (tree : List Links) (x : ℕ) : Type 0 where
   pub above : place_number (above_of tree x) ≡ (link_of links x).above
   pub below : IsChain links (link_of links x).first (below_of tree x)
 
--- a tree is what the links say: it joins each number as they do, and what has no links is joined to nothing
+-- a tree is what the links describe: it joins each number as they do, and a number without links is joined to nothing
 pub record IsTreeOf (links : List (Option Link)) (tree : List Links) : Type 0 where
   pub many : length tree ≡ length links
   pub joined : (x : ℕ) → IsJoinedAs links tree x

@@ -16,7 +16,7 @@ pub record AreMade (r : Records) (made : List (Option Object)) : Type 0 where
   pub fine : (x : ℕ) → IsFine (thing_of made x)
   pub few_programs : programs_in made ≤ most
 
--- forests as the records say
+-- forests as the records describe
 pub record AreForestsOf (r : Records) (inheritance containment : List Links) : Type 0 where
   pub parent_forest : IsForest inheritance
   pub place_forest : IsForest containment

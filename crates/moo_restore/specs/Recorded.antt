@@ -17,12 +17,12 @@ abbrev pub first_in : List ℕ → Option ℕ
 first_in [] = None
 first_in (y ∷ ys) = Some y
 
--- what stands right behind x in a list
+-- the number after x in a list
 abbrev pub next_in : ℕ → List ℕ → Option ℕ
 next_in x [] = None
 next_in x (y ∷ ys) = if y == x then first_in ys else next_in x ys
 
--- what stands right behind x among those right below the same
+-- the next child of the parent of x
 abbrev pub next_below : List Links → Option ℕ → ℕ → Option ℕ
 next_below tree None x = None
 next_below tree (Some up) x = next_in x (below_of tree up)

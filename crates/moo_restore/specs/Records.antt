@@ -1,4 +1,4 @@
--- The records of a database, and what they say of a number.
+-- The records of a database, and the record of a number.
 use Rattle.std.specs.Prelude.{ℕ, ℤ, List, [], ◌∷◌, ◌++◌, Option, Some, None, map, slice_index_or, option_map}
 use Rattle.moo_value.specs.Compare.{folded}
 use Rattle.moo_program.specs.Tree.{Block}
@@ -25,7 +25,7 @@ parent_link o = record { above = o.body.parent; first = o.body.child; next = o.b
 abbrev pub place_link : recorded.Object → Link
 place_link o = record { above = o.body.location; first = o.body.contents; next = o.body.next }
 
--- the links of the objects in the tree of parents, and in that of places
+-- the links of the objects in the trees of parents and of locations
 abbrev pub parent_links_of : List (Option recorded.Object) → List (Option Link)
 parent_links_of objects = map (option_map parent_link) objects
 

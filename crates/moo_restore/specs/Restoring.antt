@@ -1,4 +1,4 @@
--- What restoring a world from records takes and answers.
+-- Restoring a world from records: what it takes and returns.
 use Rattle.std.specs.Prelude.{ℤ, ◌≤◌, List, Option, Some, None, length, map, option_map, is_some, count_by}
 use Rattle.std.specs.List.{sum_by, AllByRecursion}
 use Rattle.std.specs.Global.{Vec}
@@ -21,14 +21,14 @@ abbrev pub IsEntryWithin : Option recorded.Object → Type 0
 IsEntryWithin None = Unit {0}
 IsEntryWithin (Some o) = recorded.IsObject limited o
 
--- what may be written as a database text within the limits on sizes
+-- the records may be written as a database text within the size limits
 pub record AreWithinLimits (r : Records) : Type 0 where
   pub objects : AllByRecursion IsEntryWithin r.objects
   pub object_count : length r.objects ≤ most
   pub player_count : length r.players ≤ most
   pub program_count : sum_by (count_by is_some) r.programs ≤ most
 
--- the records are at fault so
+-- the records have this fault
 abbrev pub IsFaultOf : Records → RestoreFault → Type 0
 IsFaultOf r (fault.Hierarchy x) = IsHierarchyFault r x
 IsFaultOf r (fault.PropertyCount x) = IsCountFault r x

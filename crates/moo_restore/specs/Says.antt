@@ -1,4 +1,4 @@
--- The world that records say.
+-- The world that records describe.
 use Rattle.std.specs.Prelude.{◌≡◌, ℕ, ◌<◌, Option, Some, None, length, map, slice_index_or}
 use Rattle.moo_program.specs.Tree.{Block}
 use Rattle.moo_object.specs.Flags.{flags_number}
@@ -27,7 +27,7 @@ recorded_cell c = record { value = c.value; owner = c.owner; perms = prop_perms_
 abbrev pub program_of : Verb → Option Block
 program_of v = v.program
 
--- the record of object x says this object
+-- the record of object x describes this object
 pub record SaysObject (r : Records) (x : ℕ) (b : recorded.Object) (o : Object) : Type 0 where
   pub name : o.name ≡ b.name
   pub owner : o.owner ≡ b.body.owner
@@ -37,14 +37,15 @@ pub record SaysObject (r : Records) (x : ℕ) (b : recorded.Object) (o : Object)
   pub names : o.defined ≡ b.body.names
   pub cells : map recorded_cell o.cells ≡ b.body.cells
 
--- what is recorded of a number says what stands there
+-- the record of a number describes the object that has it
 abbrev pub SaysAt : Records → ℕ → Option recorded.Object → Option Object → Type 0
 SaysAt r x None None = Unit {0}
 SaysAt r x None (Some o) = ⊥
 SaysAt r x (Some b) None = ⊥
 SaysAt r x (Some b) (Some o) = SaysObject r x b o
 
--- The records say this world: its objects, each with the cells for the definitions on it and its ancestors, its trees and its players.
+-- The records describe this world: its objects, each with the cells for the definitions on it and its ancestors, its
+-- trees and its players.
 pub record Says (r : Records) (w : World) : Type 0 where
   pub many : length w.objects ≡ length r.objects
   pub objects : (x : ℕ) → SaysAt r x (record_at r x) (object_of w.objects x)

@@ -1,4 +1,4 @@
--- What a world is, whatever its sizes are.
+-- The shape of a world, whatever its sizes are.
 use Rattle.std.specs.Prelude.{◌≡◌, ℕ, List, false, map}
 use Rattle.std.specs.List.{All}
 use Rattle.moo_object.specs.Cells.{key_of}

@@ -28,7 +28,7 @@ pub record IsTour (links : List (Option Link)) (tour : List Visit) : Type 0 wher
   pub leads : Leads links [] tour end
   pub whole : (x : ℕ) → x < length links → (ys : List ℕ) → IsLineage links x ys → 0 < times_entered x tour
 
--- each list holds what is right below its object
+-- each list holds the objects right below its object
 abbrev pub AreListsBelow : List (Option Link) → List Links → Type 0
 AreListsBelow links nodes = (x : ℕ) → AreBelow links x (below_of nodes x)
 

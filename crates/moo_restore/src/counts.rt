@@ -1,4 +1,4 @@
-//! The first object that has not a cell for each definition on it and its ancestors.
+//! The first object whose number of cells is wrong.
 
 ghost use Rattle.std.specs.Prelude.{◌≡◌, None, length, slice_index_or};
 ghost use Rattle.std.specs.Option.{option_map};
@@ -13,13 +13,13 @@ use crate::first::least_of;
 use crate::tour::Visit;
 use moo_dbobject::ObjectRecord;
 
-/// The first object that has more or fewer cells than there are definitions on it and its
-/// ancestors, among those from which going up ends.
+/// Returns the first object that has more or fewer cells than definitions on it and its ancestors, among those whose
+/// ancestors end.
 pub(crate) fn first_miscounted(objects: &[Option<ObjectRecord>], tour: &[Visit]) -> Option<usize>
     requires { IsTour (parent_links (with_objects objects.now)) tour.now }
     ensures { let r = with_objects objects.now in IsFirst (WhereEnded r (HasItsCells r)) (length objects.now) result }
 {
-    // So many definitions are on the way.
+    // The number of definitions on the current object and its ancestors.
     let mut definitions: u128 = 0;
     let mut first = None;
     for visit in tour {

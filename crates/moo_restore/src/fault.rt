@@ -1,19 +1,19 @@
-//! Why records say no world.
+//! The reasons why records have no world.
 
 use std::alloc::AllocError;
 use thiserror::Error;
 
-/// Why no world was restored from records.
+/// The reason why no world can be restored from records.
 #[derive(Clone, Copy, Debug, PartialEq, Eq, Error)]
 pub enum RestoreFault {
-    /// The object stands in the tree of parents or in that of places as it can't, or defines a name
-    /// twice, or one that an ancestor defines.
+    /// The object's place in the tree of parents or of locations is unsound, or it defines a name twice, or a name
+    /// that an ancestor defines.
     #[error("BadHierarchy #{0}")]
     Hierarchy(usize),
-    /// The object has more or fewer cells than there are definitions on it and its ancestors.
+    /// The object has more or fewer cells than definitions on it and its ancestors.
     #[error("PropertyCount #{0}")]
     PropertyCount(usize),
-    /// There was no memory for the world.
+    /// Memory ran out.
     #[error("Memory")]
     Memory,
 }

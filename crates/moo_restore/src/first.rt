@@ -1,9 +1,9 @@
-//! The first of several numbers.
+//! The least of several numbers.
 
 ghost use Rattle.std.specs.Prelude.{◌≡◌};
 ghost use Rattle.moo_restore.specs.First.{least_of};
 
-/// The less of two numbers, where there are any.
+/// Returns the lesser of two numbers, or the one that is given, if any.
 pub(crate) fn least_of(a: Option<usize>, b: Option<usize>) -> Option<usize>
     ensures { result ≡ least_of a b }
 {

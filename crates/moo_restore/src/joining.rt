@@ -1,4 +1,4 @@
-//! The places of recorded objects in the trees of parents and of places.
+//! The places of recorded objects in the trees of parents and of locations.
 
 ghost use Rattle.std.specs.Prelude.{◌<◌, ◌^◌, length, map, IfOk};
 ghost use Rattle.std.specs.Option.{option_map};
@@ -14,9 +14,9 @@ use crate::records::{parent_links, place_links};
 use moo_dbobject::ObjectRecord;
 use std::alloc::{AllocError, Global};
 
-/// The first object whose place in the tree of parents or in that of places isn't sound: it is
-/// right below what is no object, going up from it doesn't end, or one of its lists isn't that of
-/// what is right below it.
+/// Returns the first object whose place in the tree of parents or of locations is unsound. Such an object is right
+/// below a number that is no object's, has no end of ancestors, or has a list that differs from the objects right
+/// below it.
 pub(crate) fn first_misjoined(
     alloc: Global,
     objects: &[Option<ObjectRecord>],

@@ -1,5 +1,5 @@
-//! From the records of a database to the world that they say.
-//! A room behind `moo_dbtext`.
+//! The world that the records of a database describe.
+//! An internal crate of `moo_dbtext`.
 #![tactic(auto)]
 
 mod counts;

@@ -1,4 +1,4 @@
-//! What joins an object to others in one tree.
+//! Links that join an object to others in one tree.
 
 ghost use Rattle.std.specs.Prelude.{◌≡◌, ◌↔◌, ◌<◌, length, IsTrue};
 ghost use Rattle.std.specs.Option.{ForSome};
@@ -7,15 +7,15 @@ ghost use Rattle.moo_restore.specs.Links.{link_of, numbered, above_in, IsPlace};
 /// The numbers that join an object to others in one tree, each -1 for none.
 #[derive(Clone, Copy, Debug, PartialEq, Eq)]
 pub struct Link {
-    /// What it is right below.
+    /// Its parent in this tree.
     pub above: i32,
-    /// The first of those right below it.
+    /// The first of its children in this tree.
     pub first: i32,
-    /// The next of those right below the same.
+    /// The next child of its parent.
     pub next: i32,
 }
 
-/// The links of a number's object, or those of nothing.
+/// Returns the links of object `x`, or links with -1 only if there is none.
 pub(crate) fn link_of(links: &[Option<Link>], x: usize) -> Link
     ensures { result ≡ link_of links.now x }
 {
@@ -29,7 +29,7 @@ pub(crate) fn link_of(links: &[Option<Link>], x: usize) -> Link
     }
 }
 
-/// The object of a number, if there is one.
+/// Returns the index of the object with this number, if there is one.
 pub(crate) fn numbered(links: &[Option<Link>], number: i32) -> Option<usize>
     ensures value { result ≡ numbered links.now number }
     ensures within { ForSome result (λ x. x < length links.now) }
@@ -41,7 +41,7 @@ pub(crate) fn numbered(links: &[Option<Link>], number: i32) -> Option<usize>
     }
 }
 
-/// The object right above one.
+/// Returns the object right above `x`.
 pub(crate) fn above_in(links: &[Option<Link>], x: usize) -> Option<usize>
     ensures value { result ≡ above_in links.now x }
     ensures within { ForSome result (λ up. up < length links.now) }
@@ -49,7 +49,7 @@ pub(crate) fn above_in(links: &[Option<Link>], x: usize) -> Option<usize>
     numbered(links, link_of(links, x).above)
 }
 
-/// Whether a number is an object's, or that of none.
+/// Returns whether the number is an object's, or -1.
 pub(crate) fn is_place(links: &[Option<Link>], number: i32) -> bool
     ensures { IsTrue result ↔ IsPlace links.now number }
 {

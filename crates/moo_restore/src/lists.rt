@@ -1,4 +1,4 @@
-//! The lists of what is right below objects, followed from the first along the next.
+//! The lists of the objects right below an object, followed from `first` along `next`.
 
 ghost use Rattle.std.specs.Prelude.{◌≡◌, ◌+◌, ◌<◌, ℕ, length, Some, false, true, IfOk, MatchBool, MatchOption, IsTrue, ◌↔◌, pos, slice_index_or, ◌≢◌};
 ghost use Rattle.moo_restore.specs.Links.{above_in, link_of, nowhere};
@@ -7,8 +7,7 @@ ghost use Rattle.moo_restore.specs.Lists.{IsFollowed, AreTakenBefore};
 use crate::link::{Link, above_in, link_of};
 use std::alloc::{AllocError, Global};
 
-/// The list of what is right below `x`, as far as it is one: it ends with the first that can't
-/// stand in it.
+/// Returns the list of the objects right below `x`. It ends with the first that can't be part of it, if there is one.
 pub(crate) fn list_below(
     alloc: Global,
     links: &[Option<Link>],
@@ -61,7 +60,7 @@ fn is_end(z: i32) -> bool
     z == -1
 }
 
-// Whether an object is right below `x` and has no mark yet.
+// Returns whether `y` is right below `x` and is unmarked.
 fn is_fresh(links: &[Option<Link>], taken: &[bool], x: usize, y: usize) -> bool
     requires { length taken.now ≡ length links.now }
     ensures { MatchBool result

@@ -1,4 +1,4 @@
-//! The first object that defines a name twice, or one that an ancestor defines.
+//! The first object that defines a name twice, or a name that an ancestor defines.
 
 ghost use Rattle.std.specs.Prelude.{◌≡◌, ◌++◌, ◌∷◌, ℕ, List, [], length, map, IfOk, slice_index_or};
 ghost use Rattle.std.specs.List.{list_any};
@@ -19,8 +19,8 @@ use moo_value::MooStr;
 use std::alloc::{AllocError, Global};
 use std::collections::BTreeMap;
 
-/// The first object that defines a name twice, or one that an ancestor defines, among those from
-/// which going up ends.
+/// Returns the first object that defines a name twice, or a name that an ancestor defines, among those whose
+/// ancestors end.
 pub(crate) fn first_misnamed(
     alloc: Global,
     objects: &[Option<ObjectRecord>],
@@ -46,7 +46,7 @@ pub(crate) fn first_misnamed(
     Ok(first)
 }
 
-// The names that each object defines, letters folded.
+// Returns the names that each object defines, with letters folded.
 fn folded_rows(
     alloc: Global,
     objects: &[Option<ObjectRecord>],
@@ -80,7 +80,7 @@ fn folded_name(alloc: Global, name: &MooStr) -> Result<MooStr, AllocError>
     for byte in name.as_bytes() {
         bytes.push(byte.to_ascii_lowercase())?;
     }
-    // A string stays one with its letters folded, so that only memory can be wanting.
+    // A string with its letters folded is still a string, so only memory can run out.
     MooStr::try_from_vec(alloc, bytes).map_err(|_| AllocError)
 }
 
@@ -93,7 +93,7 @@ fn row_at(rows: &[Vec<MooStr>], x: usize) -> &[MooStr]
     }
 }
 
-// Meets names, the last one first, and says whether some was met before.
+// Adds names, the last one first, and returns whether one of them was there before.
 fn meet_all<'a>(
     met: &mut BTreeMap<&'a [u8], ()>,
     fresh: &mut Vec<bool>,
@@ -111,7 +111,7 @@ fn meet_all<'a>(
     Ok(clash)
 }
 
-// Meets a name, and says whether it was met before.
+// Adds a name, and returns whether it was there before.
 fn meet<'a>(
     met: &mut BTreeMap<&'a [u8], ()>,
     fresh: &mut Vec<bool>,
@@ -128,7 +128,7 @@ fn meet<'a>(
     Ok(known)
 }
 
-// Forgets the names met last.
+// Removes the names that were added last.
 fn forget_all<'a>(met: &mut BTreeMap<&'a [u8], ()>, fresh: &mut Vec<bool>, names: &'a [MooStr])
     ensures { (above : List (List ℕ)) → AreMet met.old fresh.old.items (names.now ++ above) → AreMet met.new fresh.new.items above }
 {
@@ -137,7 +137,7 @@ fn forget_all<'a>(met: &mut BTreeMap<&'a [u8], ()>, fresh: &mut Vec<bool>, names
     }
 }
 
-// Forgets the name met last.
+// Removes the name that was added last.
 fn forget<'a>(met: &mut BTreeMap<&'a [u8], ()>, fresh: &mut Vec<bool>, name: &'a [u8])
     ensures { (above : List (List ℕ)) → AreMet met.old fresh.old.items (name.now ∷ above) → AreMet met.new fresh.new.items above }
 {

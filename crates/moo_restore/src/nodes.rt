@@ -1,4 +1,4 @@
-//! The nodes of a tree, made from links, and the first object whose links aren't sound.
+//! The nodes of a tree that links describe, and the first object whose links are unsound.
 
 ghost use Rattle.std.specs.Prelude.{◌≡◌, ◌<◌, ◌^◌, ℕ, length, false, IfOk, slice_index_or};
 ghost use Rattle.moo_restore.specs.First.{IsFirst};
@@ -11,7 +11,7 @@ use crate::lists::list_below;
 use moo_forest::{Forest, Node, first_endless, first_unlisted};
 use std::alloc::{AllocError, Global};
 
-/// A node for each number, joined as the links say.
+/// Returns a node for each number, joined as the links describe.
 pub(crate) fn nodes_of(alloc: Global, links: &[Option<Link>]) -> Result<Vec<Node>, AllocError>
     ensures { IfOk result (λ nodes. AreNodesOf links.now nodes.items) }
 {
@@ -37,7 +37,7 @@ fn nodes_along(
     Ok(nodes)
 }
 
-/// The first object that is right below a number which isn't an object's.
+/// Returns the first object that is right below a number which is no object's.
 pub(crate) fn first_misplaced(links: &[Option<Link>]) -> Option<usize>
     ensures { IsFirst (λ x. IsPlace links.now (link_of links.now x).above) (length links.now) result }
 {
@@ -49,8 +49,8 @@ pub(crate) fn first_misplaced(links: &[Option<Link>]) -> Option<usize>
     None
 }
 
-/// The first object whose links aren't sound: it is right below what is no object, going up from
-/// it doesn't end, or its list isn't that of what is right below it.
+/// Returns the first object whose links are unsound. Such an object is right below a number that is no object's, has
+/// no end of ancestors, or has a list that differs from the objects right below it.
 pub(crate) fn first_unsound(
     alloc: Global,
     links: &[Option<Link>],
@@ -66,7 +66,7 @@ pub(crate) fn first_unsound(
     Ok(least_of(misplaced, least_of(endless, unlisted)))
 }
 
-/// The forest that sound links say.
+/// Returns the forest that sound links describe.
 pub(crate) fn forest_of(links: &[Option<Link>], nodes: Vec<Node>) -> Forest
     requires nodes { AreNodesOf links.now nodes.items }
     requires sound { (x : ℕ) → x < length links.now → IsSound links.now x }

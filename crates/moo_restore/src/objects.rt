@@ -23,8 +23,8 @@ use moo_object::Object;
 use moo_value::MooStr;
 use std::alloc::{AllocError, Global};
 
-/// The objects of these records, with the programs of their verbs, where each has a cell for each
-/// definition on it and its ancestors.
+/// Returns the objects of these records, with the programs of their verbs. Each has a cell for each definition on it
+/// and its ancestors.
 pub(crate) fn make_objects(
     alloc: Global,
     objects: &[Option<ObjectRecord>],
@@ -69,7 +69,7 @@ fn names_at(objects: &[Option<ObjectRecord>], x: usize) -> &[MooStr]
     }
 }
 
-// Puts the definitions of an object onto the way, the first name last.
+// Pushes the definitions of an object, the first name last.
 fn add_definitions(
     way: &mut Vec<(usize, MooStr)>,
     x: usize,
@@ -83,7 +83,7 @@ fn add_definitions(
     Ok(())
 }
 
-// Takes the definitions of an object off the way.
+// Pops the definitions of an object.
 fn drop_definitions(way: &mut Vec<(usize, MooStr)>, x: usize, names: &[MooStr])
     ensures { (above : List Key) → keys_on way.old.items ≡ map (λ name. (x, folded name)) names.now ++ above → keys_on way.new.items ≡ above }
 {
@@ -100,7 +100,7 @@ fn put(made: &mut Vec<Option<Object>>, x: usize, object: Option<Object>)
     }
 }
 
-// The object of a number, with a cell for each definition on the way up from it.
+// Returns object `x`, with a cell for each definition on the way up from it.
 fn make_at(
     alloc: Global,
     objects: &[Option<ObjectRecord>],

@@ -1,4 +1,4 @@
-//! The links that objects are recorded with.
+//! The links in the records of objects.
 
 ghost use Rattle.std.specs.Prelude.{◌≡◌, IfOk, map};
 ghost use Rattle.std.specs.Option.{option_map};
@@ -29,7 +29,7 @@ fn place_link(object: &ObjectRecord) -> Link
     }
 }
 
-/// The links of the objects in the tree of parents.
+/// Returns the links of the objects in the tree of parents.
 pub(crate) fn parent_links(
     alloc: Global,
     objects: &[Option<ObjectRecord>],
@@ -46,7 +46,7 @@ pub(crate) fn parent_links(
     Ok(links)
 }
 
-/// The links of the objects in the tree of places.
+/// Returns the links of the objects in the tree of locations.
 pub(crate) fn place_links(
     alloc: Global,
     objects: &[Option<ObjectRecord>],

@@ -1,4 +1,4 @@
-//! The world that records say.
+//! The world that records describe.
 
 ghost use Rattle.std.specs.Prelude.{◌≡◌, ◌<◌, None, length, IfOk, IfErr, OnOk, FitsSigned};
 ghost use Rattle.std.specs.Int.{w32};
@@ -29,8 +29,9 @@ use moo_grammar::Program;
 use moo_world::World;
 use std::alloc::{AllocError, Global};
 
-/// The world that these records say: the objects by number, `None` for a recycled one, the programs
-/// by object and verb, and the players. Strings, lists and programs in it are shared with them.
+/// Returns the world that these records describe. Takes the objects by number (`None` for a recycled one), the
+/// programs by object and verb, and the players. The world shares strings, lists and programs with them. Fails with
+/// the first fault, or if memory runs out.
 pub fn restore(
     alloc: Global,
     objects: &[Option<ObjectRecord>],
@@ -48,7 +49,7 @@ pub fn restore(
     Ok(world)
 }
 
-/// The same, of objects that `check_objects` found to be without fault: they aren't looked at again.
+/// Restores objects in which `check_objects` found no fault, without a second check. Fails only if memory runs out.
 pub fn restore_checked(
     alloc: Global,
     objects: &[Option<ObjectRecord>],
@@ -65,7 +66,7 @@ pub fn restore_checked(
     made_world(alloc, objects, programs, players, &parents, &tour)
 }
 
-// The world that records say which are without fault, along these links of parents and a tour of them.
+// Returns the world of records without fault, given their links of parents and a tour of these.
 fn made_world(
     alloc: Global,
     objects: &[Option<ObjectRecord>],
@@ -89,9 +90,9 @@ fn made_world(
     Ok(World::from_parts(made, inheritance, containment, players))
 }
 
-/// Looks for the first fault of the records of objects, which `restore` would tell.
+/// Checks the records of objects, and returns the fault that `restore` would return.
 pub fn check_objects(alloc: Global, objects: &[Option<ObjectRecord>]) -> Result<(), RestoreFault>
-    // Else none is at fault.
+    // Without a fault, no object is at fault.
     ensures placed { OnOk result (IsFirst (IsWellPlaced (with_objects objects.now)) (length objects.now) None) }
     ensures counted { OnOk result (IsFirst (HasItsCells (with_objects objects.now)) (length objects.now) None) }
     ensures fault { IfErr result (IsFaultOf (with_objects objects.now)) }
@@ -101,7 +102,7 @@ pub fn check_objects(alloc: Global, objects: &[Option<ObjectRecord>]) -> Result<
     check(alloc, objects, &tour)
 }
 
-// The first fault of the records of objects.
+// Returns the first fault of the records of objects.
 pub(crate) fn check(
     alloc: Global,
     objects: &[Option<ObjectRecord>],
@@ -134,7 +135,7 @@ fn first_in_hierarchy(
     Ok(least_of(misjoined, misnamed))
 }
 
-// The forest that sound links say.
+// Returns the forest that sound links describe.
 fn forest_in(alloc: Global, links: &[Option<Link>]) -> Result<Forest, AllocError>
     requires { IsFirst (IsSound links.now) (length links.now) None }
     ensures tree { IfOk result (λ forest. IsTreeOf links.now forest) }
@@ -145,7 +146,7 @@ fn forest_in(alloc: Global, links: &[Option<Link>]) -> Result<Forest, AllocError
     Ok(forest)
 }
 
-// That each player is a number of 32 bits, as its type says.
+// States that each player is a 32-bit number, as its type says.
 fn players_fit(players: &[i32])
     ensures { All (FitsSigned w32) players.now }
 {

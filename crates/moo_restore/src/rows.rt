@@ -13,7 +13,7 @@ use moo_object::{PropCell, Row, Verb};
 use moo_value::MooStr;
 use std::alloc::{AllocError, Global};
 
-/// Verbs with their programs. One past the last program has none.
+/// Returns verbs with their programs. A verb past the last program has none.
 pub(crate) fn make_verbs(
     alloc: Global,
     verbs: &[VerbRecord],
@@ -49,7 +49,7 @@ fn program_at(programs: &[Option<Program>], i: usize) -> Result<Option<Program>,
     }
 }
 
-/// The same names, shared.
+/// Returns names that share the bytes of these.
 pub(crate) fn share_names(alloc: Global, names: &[MooStr]) -> Result<Vec<MooStr>, AllocError>
     ensures { IfOk result (λ all. all.items ≡ names.now) }
 {
@@ -60,7 +60,7 @@ pub(crate) fn share_names(alloc: Global, names: &[MooStr]) -> Result<Vec<MooStr>
     Ok(all)
 }
 
-/// Cells for the definitions on a way up, which has the nearest last.
+/// Returns cells for the definitions on a way up, which has the nearest one last.
 pub(crate) fn make_row(
     alloc: Global,
     cells: &[PropertyRecord],
@@ -76,7 +76,7 @@ pub(crate) fn make_row(
     Ok(Row::from_cells(row))
 }
 
-// A cell for a definition of a name on an object.
+// Returns a cell for the definition of a name on an object.
 fn make_cell(cell: &PropertyRecord, definition: &(usize, MooStr)) -> Result<PropCell, AllocError>
     ensures { IfOk result (λ c. c ≡ record { definer = definition.now.0; name = folded definition.now.1; owner = cell.now.owner; perms = cell.now.perms; value = option_map tree cell.now.value }) }
 {

@@ -1,4 +1,4 @@
-//! A walk over all the trees that links make, down from each object that is right below none.
+//! A walk over all the trees that links make, down from each object that has nothing above it.
 
 ghost use Rattle.std.specs.Prelude.{◌≡◌, ◌<◌, ◌++◌, ◌∷◌, ℕ, [], None, length, vec_len, map, false, true, IfOk, OnOk, MatchBool, slice_index_or, slice_set, reverse};
 ghost use Rattle.std.specs.Option.{ForSome};
@@ -12,14 +12,14 @@ use crate::link::{Link, above_in};
 use moo_forest::{Below, Node};
 use std::alloc::{AllocError, Global};
 
-/// A step of a walk: an object is entered, and left once all that is below it has been.
+/// A step of a walk: it enters an object, and leaves it after all the objects below.
 #[derive(Clone, Copy, Debug, PartialEq, Eq)]
 pub(crate) enum Visit {
     Enter(usize),
     Leave(usize),
 }
 
-/// Enters and leaves each object from which going up ends, inside the one right above it.
+/// Returns a walk that enters and leaves each object whose ancestors end, inside the one right above it.
 pub(crate) fn tour_of(alloc: Global, links: &[Option<Link>]) -> Result<Vec<Visit>, AllocError>
     ensures { IfOk result (λ tour. IsTour links.now tour.items) }
 {
@@ -39,7 +39,7 @@ pub(crate) fn tour_of(alloc: Global, links: &[Option<Link>]) -> Result<Vec<Visit
     Ok(tour)
 }
 
-// For each object the list of those right below it.
+// Returns for each object the list of those right below it.
 fn lists_below(alloc: Global, links: &[Option<Link>]) -> Result<Vec<Node>, AllocError>
     ensures len { IfOk result (λ nodes. length nodes.items ≡ length links.now) }
     ensures lists { IfOk result (λ nodes. AreListsBelow links.now nodes.items) }
@@ -72,7 +72,7 @@ fn put_below(nodes: &mut Vec<Node>, y: usize, to: Option<usize>) -> Result<(), A
     Ok(())
 }
 
-// A visit to each object that is right below none.
+// Returns a visit to each object that has nothing above it.
 fn visits_to_tops(alloc: Global, links: &[Option<Link>]) -> Result<Vec<Visit>, AllocError>
     ensures lead { IfOk result (λ todo. Awaits links.now [] (reverse todo.items)) }
     ensures whole { IfOk result (λ todo. (y : ℕ) → y < length links.now → above_in links.now y ≡ None → 0 < times_entered y todo.items) }
@@ -86,7 +86,7 @@ fn visits_to_tops(alloc: Global, links: &[Option<Link>]) -> Result<Vec<Visit>, A
     Ok(todo)
 }
 
-// Marks an object that has no mark yet, and says whether it did.
+// Marks an object that is unmarked, and returns whether it did.
 fn mark(seen: &mut Vec<bool>, x: usize) -> bool
     ensures { MatchBool result
         ((x < length seen.old.items) × (slice_index_or seen.old.items x false ≡ false) × (seen.new.items ≡ slice_set seen.old.items x true))
@@ -99,7 +99,7 @@ fn mark(seen: &mut Vec<bool>, x: usize) -> bool
     true
 }
 
-// Visits to those right below an object, and then out of it: the last is the next one.
+// Pushes visits to the objects right below `x`, and then the exit from it. The last one pushed is the next visit.
 fn add_visits(todo: &mut Vec<Visit>, x: usize, below: Below<'_>) -> Result<(), AllocError>
     ensures { OnOk result (todo.new.items ≡ (todo.old.items ++ Leave x ∷ []) ++ map Enter below.entry) }
 {

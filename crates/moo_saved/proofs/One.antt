@@ -24,7 +24,7 @@ same_program (Some s) None c p q = absurd p
 same_program (Some s) (Some b) None p q = absurd q
 same_program (Some s) (Some b) (Some c) p q = ap (λ (x : Block). Some x) (one_program_of_text Any s b c p q)
 
--- what records say rests on the programs of the verbs alone, not on how they stand
+-- the world that records describe depends only on the programs of the verbs, not on the shape of their table
 module _ (objects : List (Option recorded.Object)) (players : List ℤ) (ps qs : List (List (Option Block))) (same : (o v : ℕ) → entry_at ps o v ≡ entry_at qs o v) where
   object_again : (x : ℕ) (b : recorded.Object) (o : Object) → SaysObject (record { objects = objects; programs = ps; players = players }) x b o
       → SaysObject (record { objects = objects; programs = qs; players = players }) x b o

@@ -1,4 +1,4 @@
--- A saved world, and what a database text says of it.
+-- A saved world, and the contents of its database text.
 use Rattle.std.specs.Prelude.{◌≡◌, ℕ, ℤ, List, map}
 use Rattle.moo_program.specs.Tree.{Block}
 use Rattle.moo_grammar.specs.declared.names.Names.TheVariants.{Any}
@@ -12,7 +12,7 @@ use Rattle.moo_restore.specs.Says.{Says}
 use Rattle.moo_restore.specs.Shapes.{IsShaped}
 use Rattle.moo_saved.specs.declared.saved.Saved as declared
 
--- a world, and who was connected
+-- a world, and the players who were connected
 pub record Saved : Type 0 where
   pub world : World
   pub connected : List ℤ
@@ -20,7 +20,7 @@ pub record Saved : Type 0 where
 abbrev pub saved_of : declared.Saved → Saved
 saved_of s = record { world = s.world; connected = s.connected.items }
 
--- A text says a saved world: its records are those of the world, with the program of each source by P.
+-- A text describes a saved world: its records are those of the world, with the program of each source by P.
 pub record IsTextOf (P : List Line → Block → Type 0) (t : Text) (s : Saved) : Type 0 where
   pub records : Records
   pub objects : records.objects ≡ t.objects
@@ -36,7 +36,7 @@ pub record SpellsSaved (bytes : List ℕ) (s : Saved) : Type 0 where
   pub says : IsTextOf (IsProgramOf Any) text s
   pub shaped : IsShaped s.world
 
--- The bytes spell this saved world, within the limits on sizes.
+-- The bytes spell this saved world, within the size limits.
 pub record SpellsSavedWithin (bytes : List ℕ) (s : Saved) : Type 0 where
   pub text : Text
   pub spelled : SpellsWithin bytes text

@@ -1,5 +1,5 @@
-//! A saved world, and which bytes spell it.
-//! A room behind `moo_dbtext`.
+//! Saved worlds, and the bytes that spell them.
+//! An internal crate of `moo_dbtext`.
 #![tactic(auto)]
 
 pub mod laws;

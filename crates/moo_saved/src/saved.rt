@@ -1,11 +1,11 @@
-//! What a server keeps in its file.
+//! The contents of a server's database file.
 
 use moo_world::World;
 
-/// A world, and who was connected.
+/// A world, and the players who were connected.
 #[derive(Drop)]
 pub struct Saved {
     pub world: World,
-    /// The numbers of those who were connected, in the order of their connections.
+    /// The numbers of the connected players, in the order of their connections.
     pub connected: Vec<i32>,
 }

@@ -32,7 +32,7 @@ one_failure xs ys true false h k e = absurd (no_done xs ys k e)
 one_failure xs ys false true h k e = absurd (no_done ys xs h (sym e))
 one_failure xs ys false false h k e = (sym (append-nil xs) ∙ e ∙ append-nil ys, refl)
 
--- the first two bytes tell the words apart
+-- the words differ in their first two bytes
 abbrev key : List ℕ → ℕ
 key text = get_or text 0 0 * 256 + get_or text 1 0
 

@@ -54,7 +54,7 @@ no_number xs at lt here before none c text a =
 pub address : (xs : List ℕ) (at n : ℕ) → at < length xs → slice_index xs at ≡ 32 → IsNumber most_connection (take at xs) n → IsAddressed xs n (drop (at + 1) xs)
 address xs at n lt here number = record { digits = take at xs; whole = at_blank xs at lt here; number = number }
 
--- ---- what stands behind a word, or before it
+-- ---- the text after a word, or before it
 
 pub cancel_word : (line word rest other : List ℕ) → line ≡ word ++ rest → line ≡ word ++ other → rest ≡ other
 cancel_word line word rest other e f = sym (drop-append_seam word rest) ∙ ap (drop (length word)) (sym e ∙ f) ∙ drop-append_seam word other
@@ -67,7 +67,7 @@ end_of line front word e =
     let n : length line - length word ≡ length front = omega (arith, ap length e, length-append front word) in
     ap (λ k. drop k line) n ∙ ap (drop (length front)) e ∙ drop-append_seam front word
 
--- what is told of all that stands behind a word, from what is told of the rest
+-- a property of the rest after a word is one of every text after it
 pub told_behind : {A : Type 0} (P : List ℕ → A → Type 0) (line word rest : List ℕ) (r : Option A) → line ≡ word ++ rest → MatchOption r ((x : A) → ¬ P rest x) (P rest)
     → MatchOption r ((other : List ℕ) (x : A) → line ≡ word ++ other → ¬ P other x) (λ x. (other : List ℕ) × (line ≡ word ++ other) × P other x)
 told_behind P line word rest None e h = λ other x f p. h x (subst (λ (l : List ℕ). P l x) (cancel_word line word other rest f e) p)

@@ -1,4 +1,4 @@
--- Words of private clauses: which lines are events of one connection.
+-- Definitions of private clauses: which lines are events of one connection.
 use Rattle.std.specs.Prelude.{⊤}
 use Rattle.moo_script_line.specs.Script.{Step, opening, typing, sending, hanging_up, moment, flushing, failing, reopening, crashing, showing}
 

@@ -1,4 +1,4 @@
 -- The forms of a script's lines.
 pub mod Script
--- What private clauses alone cite.
+-- Definitions that only private clauses use.
 pub mod Kinds

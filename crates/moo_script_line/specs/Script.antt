@@ -1,11 +1,11 @@
--- The forms of a script's lines, without their LF, and what each asks for.
+-- The forms of a script's lines, without their LF, and the step of each.
 use Rattle.std.specs.Prelude.{◌≡◌, ℕ, ◌+◌, ◌*◌, ◌<◌, ◌≤◌, Bool, true, false, List, [], ◌∷◌, ◌++◌, codes}
 use Rattle.std.specs.Str.Parse.{IsNumeral, digits_value}
 use Rattle.std.specs.Char.{digit_value}
 use Rattle.moo_script_line.specs.declared.line.ScriptLine.{ScriptLine}
 use Rattle.moo_script_line.specs.declared.line.ScriptLine.TheVariants as line
 
--- what a line asks for
+-- the step of a line
 pub data Step : Type 0 where
   opening : ℕ → Step
   typing : ℕ → List ℕ → Step
@@ -46,12 +46,12 @@ pub record IsAddressed (argument : List ℕ) (c : ℕ) (text : List ℕ) : Type 
   pub whole : argument ≡ digits ++ (codes " " ++ text)
   pub number : IsNumber most_connection digits c
 
--- what stands behind a number that fails with its effect
+-- what follows the number of a call that fails with its effect
 abbrev pub done_word : Bool → List ℕ
 done_word true = codes " done"
 done_word false = []
 
--- what each line begins with
+-- the beginning of each line
 abbrev pub word : Step → List ℕ
 word (opening c) = codes "open "
 word (typing c text) = codes "line "
@@ -64,7 +64,7 @@ word reopening = codes "reopen"
 word (crashing i) = codes "crash "
 word showing = codes "show"
 
--- and what comes behind
+-- and what follows it
 abbrev pub Argues : Step → List ℕ → Type 0
 Argues (opening c) rest = IsNumber most_connection rest c
 Argues (typing c text) rest = IsAddressed rest c text
@@ -77,11 +77,11 @@ Argues reopening rest = rest ≡ []
 Argues (crashing i) rest = IsNumber most_count rest i
 Argues showing rest = rest ≡ []
 
--- the line asks for the step
+-- the line means the step
 abbrev pub Asks : List ℕ → Step → Type 0
 Asks text s = (rest : List ℕ) × (text ≡ word s ++ rest) × Argues s rest
 
--- what the code's value asks for
+-- the step of the code's value
 abbrev pub step : ScriptLine → Step
 step (line.Open c) = opening c
 step (line.Line c text) = typing c text.now
@@ -94,6 +94,6 @@ step line.Reopen = reopening
 step (line.Crash i) = crashing i
 step line.Show = showing
 
--- a line asks for one step
+-- a line means at most one step
 abbrev pub AsksOneStep : Type 0
 AsksOneStep = (text : List ℕ) (s t : Step) → Asks text s → Asks text t → s ≡ t

@@ -1,10 +1,10 @@
-//! A connection's number, a blank and a text.
+//! Arguments made of a connection's number, a blank and a text.
 ghost use Rattle.std.specs.Prelude.{◌≡◌, ◌≢◌, ◌<◌, ℕ, List, length, take, slice_index, All, IfNone, IfSome, MatchOption};
 ghost use Rattle.moo_script_line.specs.Script.{IsAddressed};
 
 use crate::number::number;
 
-/// The number and the text.
+/// Parses a connection's number, a blank and a text.
 #[tactic(auto, using(crate::proofs::Splits::no_blank, crate::proofs::Splits::no_number, crate::proofs::Splits::address))]
 pub fn addressed(argument: &[u8]) -> Option<(u16, &[u8])>
     ensures { MatchOption result ((c : ℕ) (text : List ℕ) → ¬ IsAddressed argument.now c text) (λ found. IsAddressed argument.now found.0 found.1.now) }
@@ -18,7 +18,7 @@ pub fn addressed(argument: &[u8]) -> Option<(u16, &[u8])>
     Some((connection as u16, &argument[at + 1..]))
 }
 
-// Where the first blank stands.
+// Returns the index of the first blank.
 fn blank_at(bytes: &[u8]) -> Option<usize>
     ensures within { IfSome result (λ i. i < length bytes.now) }
     ensures some { IfSome result (λ i. slice_index bytes.now i ≡ 32) }

@@ -9,7 +9,7 @@ use crate::line::ScriptLine;
 use crate::number::{behind, number_behind};
 use std::alloc::{AllocError, Global};
 
-/// What the line asks for, where that is an event of one connection.
+/// Parses a line that is an event of one connection. Returns `None` if it is none. Fails only if memory runs out.
 pub fn read_connection_line<'a>(
     alloc: Global,
     line: &'a [u8],
@@ -34,7 +34,7 @@ pub fn read_connection_line<'a>(
     }
 }
 
-// The connection whose number stands behind a word.
+// Returns the connection whose number follows a word.
 fn connection_behind(line: &[u8], word: &[u8]) -> Option<u16>
     ensures { MatchOption result ((rest : List ℕ) (n : ℕ) → line.now ≡ word.now ++ rest → ¬ IsNumber most_connection rest n) (λ n. (rest : List ℕ) × (line.now ≡ word.now ++ rest) × IsNumber most_connection rest n) }
 {
@@ -44,7 +44,7 @@ fn connection_behind(line: &[u8], word: &[u8]) -> Option<u16>
     }
 }
 
-// The connection and the text that stand behind a word.
+// Returns the connection and the text that follow a word.
 fn addressed_behind<'a>(line: &'a [u8], word: &[u8]) -> Option<(u16, &'a [u8])>
     ensures { MatchOption result ((rest : List ℕ) (c : ℕ) (text : List ℕ) → line.now ≡ word.now ++ rest → ¬ IsAddressed rest c text) (λ found. (rest : List ℕ) × (line.now ≡ word.now ++ rest) × IsAddressed rest found.0 found.1.now) }
 {

@@ -6,7 +6,7 @@ ghost use Rattle.moo_script_line.specs.Kinds.{IsOfConnection};
 use crate::line::ScriptLine;
 use crate::number::{behind, is_same, number, number_behind};
 
-/// What the line asks for, where that is no event of a connection.
+/// Parses a line that is no event of a connection. Returns `None` if it has no such form.
 pub fn read_disk_line(line: &[u8]) -> Option<ScriptLine<'static>>
     ensures { MatchOption result ((s : Step) → (¬ IsOfConnection s) → ¬ Asks line.now s) (λ asked. Asks line.now (step asked)) }
 {
@@ -31,7 +31,7 @@ pub fn read_disk_line(line: &[u8]) -> Option<ScriptLine<'static>>
     }
 }
 
-// Which call fails, and whether it has its effect.
+// Returns the number of the call that fails, and whether it has its effect.
 fn failure(line: &[u8]) -> Option<(u64, bool)>
     ensures { MatchOption result ((k : ℕ) (effect : Bool) (rest : List ℕ) → line.now ≡ codes "fail " ++ rest → ¬ Argues (failing k effect) rest) (λ found. (rest : List ℕ) × (line.now ≡ codes "fail " ++ rest) × Argues (failing found.0 found.1) rest) }
 {
@@ -50,7 +50,7 @@ fn failure(line: &[u8]) -> Option<(u64, bool)>
     }
 }
 
-// The number, from 1, that digits write.
+// Parses a number from 1 on.
 fn counted(digits: &[u8]) -> Option<u64>
     ensures { MatchOption result ((n : ℕ) → IsNumber most_count digits.now n → ¬ (1 ≤ n)) (λ n. IsNumber most_count digits.now n × (1 ≤ n)) }
 {
@@ -60,7 +60,7 @@ fn counted(digits: &[u8]) -> Option<u64>
     }
 }
 
-// What stands before a word with which the line ends.
+// Returns the part of a line before a word that ends it.
 fn before<'a>(line: &'a [u8], word: &[u8]) -> Option<&'a [u8]>
     ensures { MatchOption result ((front : List ℕ) → ¬ (line.now ≡ front ++ word.now)) (λ front. line.now ≡ front.now ++ word.now) }
 {

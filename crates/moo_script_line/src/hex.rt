@@ -1,4 +1,4 @@
-//! Bytes that digits of base 16 write.
+//! Bytes written as hexadecimal digits.
 ghost use Rattle.std.specs.Prelude.{◌≡◌, ◌+◌, ◌*◌, ◌<◌, ℕ, List, IfOk, MatchOption};
 ghost use Rattle.std.specs.Char.{digit_value};
 ghost use Rattle.moo_script_line.specs.Script.{IsHex};
@@ -6,7 +6,8 @@ ghost use Rattle.moo_script_line.specs.Script.{IsHex};
 use crate::number::digit;
 use std::alloc::{AllocError, Global};
 
-/// The bytes that the digits write, two for each.
+/// Returns the bytes that the digits write, two for each. Returns `None` if they write none. Fails only if memory
+/// runs out.
 pub fn bytes_of_hex(alloc: Global, digits: &[u8]) -> Result<Option<Vec<u8>>, AllocError>
     ensures { IfOk result (λ read. MatchOption read ((bytes : List ℕ) → ¬ IsHex digits.now bytes) (λ bytes. IsHex digits.now bytes.items)) }
 {
@@ -23,7 +24,7 @@ pub fn bytes_of_hex(alloc: Global, digits: &[u8]) -> Result<Option<Vec<u8>>, All
     Ok(Some(bytes))
 }
 
-// The byte that two digits write.
+// Returns the byte that two digits write.
 fn pair(high: u8, low: u8) -> Option<u8>
     ensures { MatchOption result (¬ ((digit_value high < 16) × (digit_value low < 16))) (λ byte. (byte ≡ digit_value high * 16 + digit_value low) × (digit_value high < 16) × (digit_value low < 16)) }
 {

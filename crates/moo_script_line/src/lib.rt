@@ -1,5 +1,5 @@
-//! The lines of a script of events, as docs/SCRIPT.md gives them: what a line asks for, or that it has no form.
-//! A room behind `moo`.
+//! Parses the lines of a script of events (docs/SCRIPT.md).
+//! An internal crate of `moo`.
 #![tactic(auto)]
 
 mod address;

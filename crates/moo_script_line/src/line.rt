@@ -1,4 +1,4 @@
-//! What a line of a script asks for.
+//! The meaning of a line of a script.
 ghost use Rattle.std.specs.Prelude.{MatchOption, IfOk};
 ghost use Rattle.moo_script_line.specs.Script.{Step, Asks, step};
 
@@ -6,32 +6,32 @@ use crate::connection_line::read_connection_line;
 use crate::disk_line::read_disk_line;
 use std::alloc::{AllocError, Global};
 
-/// What a line of a script asks for.
+/// A parsed line of a script.
 #[derive(Debug, Drop, PartialEq, Eq)]
 pub enum ScriptLine<'a> {
-    /// `open C`: connection C is opened.
+    /// `open C`: opens connection C.
     Open(u16),
-    /// `line C TEXT`: the text and LF come in on C.
+    /// `line C TEXT`: the text and LF arrive on C.
     Line(u16, &'a [u8]),
-    /// `bytes C HEX`: the bytes that the digits write come in on C.
+    /// `bytes C HEX`: the bytes that the digits write arrive on C.
     Bytes(u16, Vec<u8>),
-    /// `hangup C`: C is hung up.
+    /// `hangup C`: hangs up C.
     Hangup(u16),
-    /// `moment T`: it is moment T, in seconds.
+    /// `moment T`: sets the moment to T, in seconds.
     Moment(u32),
-    /// `flush`: a turn of an open checkpoint.
+    /// `flush`: takes a turn of an open checkpoint.
     Flush,
     /// `fail K`, `fail K done`: the K-th call of the disk from now on fails, without or with its effect.
     Fail(u64, bool),
-    /// `reopen`: another server is opened, from the disk as it reads.
+    /// `reopen`: opens another server from the disk as it reads.
     Reopen,
-    /// `crash I`: the disk is left as its I-th image, and another server is opened from it.
+    /// `crash I`: leaves the disk as its I-th image, and opens another server from it.
     Crash(usize),
-    /// `show`: the main text is printed.
+    /// `show`: prints the main text.
     Show,
 }
 
-/// What a line asks for, without its LF. `None` where it has none of the forms. The error is want of memory.
+/// Parses a line without its LF. Returns `None` if it has no form of a script. Fails only if memory runs out.
 pub fn read_script_line<'a>(
     alloc: Global,
     line: &'a [u8],

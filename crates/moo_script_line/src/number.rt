@@ -3,7 +3,7 @@ ghost use Rattle.std.specs.Prelude.{◌≡◌, ℕ, ◌+◌, ◌*◌, ◌<◌, �
 ghost use Rattle.std.specs.Char.{digit_value};
 ghost use Rattle.moo_script_line.specs.Script.{IsNumber};
 
-/// The number of at most `most` that decimal digits write.
+/// Parses a decimal number that is at most `most`.
 #[tactic(auto, using(crate::proofs::Numbers::nothing_read, crate::proofs::Numbers::one_more_read, crate::proofs::Numbers::no_digit, crate::proofs::Numbers::too_large, crate::proofs::Numbers::all_read))]
 pub fn number(digits: &[u8], most: u64) -> Option<u64>
     ensures { MatchOption result ((n : ℕ) → ¬ IsNumber most digits.now n) (IsNumber most digits.now) }
@@ -24,7 +24,7 @@ pub fn number(digits: &[u8], most: u64) -> Option<u64>
     Some(value)
 }
 
-/// The value of a digit below the radix.
+/// Returns the value of a digit below the radix, which is from 2 to 36.
 pub fn digit(byte: u8, radix: u8) -> Option<u8>
     requires least { 2 ≤ radix }
     requires most { radix ≤ 36 }
@@ -34,7 +34,7 @@ pub fn digit(byte: u8, radix: u8) -> Option<u8>
     Some(digit as u8)
 }
 
-// The number with a digit behind it.
+// Appends a digit to a decimal number. Returns `None` past `most`.
 fn appended(value: u64, digit: u8, most: u64) -> Option<u64>
     ensures { MatchOption result (most < value * 10 + digit) (λ n. (n ≡ value * 10 + digit) × (n ≤ most)) }
 {
@@ -45,7 +45,7 @@ fn appended(value: u64, digit: u8, most: u64) -> Option<u64>
     Some(number)
 }
 
-/// The number that stands behind a word.
+/// Parses the number of at most `most` that follows a word at the start of the line.
 pub fn number_behind(line: &[u8], word: &[u8], most: u64) -> Option<u64>
     ensures { MatchOption result ((rest : List ℕ) (n : ℕ) → line.now ≡ word.now ++ rest → ¬ IsNumber most rest n) (λ n. (rest : List ℕ) × (line.now ≡ word.now ++ rest) × IsNumber most rest n) }
 {
@@ -55,7 +55,7 @@ pub fn number_behind(line: &[u8], word: &[u8], most: u64) -> Option<u64>
     number(rest, most)
 }
 
-/// What stands behind a word with which the line begins.
+/// Returns what follows a word at the start of the line.
 pub fn behind<'a>(line: &'a [u8], word: &[u8]) -> Option<&'a [u8]>
     ensures { MatchOption result ((rest : List ℕ) → ¬ (line.now ≡ word.now ++ rest)) (λ rest. line.now ≡ word.now ++ rest.now) }
 {
@@ -69,7 +69,7 @@ pub fn behind<'a>(line: &'a [u8], word: &[u8]) -> Option<&'a [u8]>
     None
 }
 
-/// Whether two texts are the same.
+/// Returns whether two texts are equal.
 pub fn is_same(text: &[u8], other: &[u8]) -> bool
     ensures { IsTrue result ↔ (text.now ≡ other.now) }
 {

@@ -47,7 +47,7 @@ nowhere (x ∷ []) some none = is_last x (not_true (x == 10) (none zero (omega a
 nowhere (x ∷ y ∷ line) some none =
     goes_on x (y ∷ line) (y ∷ line) [] (not_true (x == 10) (none zero (omega arith))) (nowhere (y ∷ line) (omega arith) (λ j l. none (suc j) (omega (arith, l))))
 
--- where an LF was found
+-- if an LF was found
 pub cut_found : (text line rest : List ℕ) (k : ℕ) → line ≡ take k text → rest ≡ drop (k + 1) text
     → NoneBefore (Passes (is_byte 10) text) 0 (length text) k → Passes (is_byte 10) text k → IsCut text line rest
 cut_found text line rest k front back before is =
@@ -58,11 +58,11 @@ cut_found text line rest k front back before is =
       omega (arith, before.high, ap length back, length-drop (k + 1) text),
     )
 
--- all that stands from a place on
+-- the whole text from an index on
 pub all_from : (text : List ℕ) (k : ℕ) → take (length text - k) (drop k text) ≡ drop k text
 all_from text k = take_all (length text - k) (drop k text) (omega (arith, length-drop k text))
 
--- where none was
+-- if none was
 pub cut_none : (text rest : List ℕ) → 0 < length text → length rest ≡ 0 → Nowhere (Passes (is_byte 10) text) 0 (length text) → IsCut text text rest
 cut_none text [] some none before = (nowhere text some (λ j l. before j (omega arith) l), some)
 cut_none text (b ∷ rest) some none before = absurd (omega (arith, none))

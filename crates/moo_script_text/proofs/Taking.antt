@@ -15,7 +15,7 @@ pub record IsHeld (first now : Option (List ℕ)) (held : List ℕ) : Type 0 whe
   pub taken : Consumes first now held
   pub none : All (λ b. b ≢ 10) held
 
--- with more behind it
+-- with more after it
 grown : (first now after : Option (List ℕ)) (held part more line : List ℕ) → Consumes first now held → Consumes now after (part ++ more) → line ≡ held ++ part
     → Consumes first after (line ++ more)
 grown first now after held part more line taken takes is =
@@ -24,7 +24,7 @@ grown first now after held part more line taken takes is =
 no_end : (held part line : List ℕ) → All (λ b. b ≢ 10) held → All (λ b. b ≢ 10) part → line ≡ held ++ part → All (λ b. b ≢ 10) line
 no_end held part line before behind is = subst (λ (l : List ℕ). All (λ b. b ≢ 10) l) (sym is) (All-append (λ b. b ≢ 10) held part before behind)
 
--- with the LF behind it
+-- with the LF after it
 pub takes_ended : (first now : Option (List ℕ)) (line : List ℕ) → Consumes first now (line ++ codes "\n") → All (λ b. b ≢ 10) line → TakesLine first now line
 takes_ended None now line taken none = tt
 takes_ended (Some bytes) None line taken none = absurd taken

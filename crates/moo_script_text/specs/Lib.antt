@@ -1,4 +1,4 @@
 -- The lines of a text.
 pub mod Lines
--- What is printed.
+-- The printed lines.
 pub mod Printed

@@ -1,4 +1,4 @@
-//! What a script reads: its lines, one after another, and the whole text of its database.
+//! The input of a script: its lines, one by one, and the whole text of its database.
 ghost use Rattle.std.specs.Prelude.{◌≡◌, ◌<◌, ◌≤◌, ◌++◌, length, IfErr, IfOk, IfSome, MatchOption, OnOk};
 ghost use Rattle.std.specs.Io.KnownBytes.{IsAtEnd};
 ghost use Rattle.moo_report.specs.Refused.{IsEarned};
@@ -9,10 +9,11 @@ use moo_report::{PartEnd, Refusal, Watch, next_part};
 use std::alloc::Global;
 use std::io::{BufRead, Read};
 
-/// How many bytes of the database are read at once.
+/// The number of bytes of the database in one read.
 const PIECE: usize = 65_536;
 
-/// The input's next line, without its LF. `None` at the input's end. The last line may have no LF.
+/// Returns the input's next line, without its LF, or `None` at the input's end. The last line may have no LF. Returns
+/// a refusal if the input fails or memory runs out.
 pub fn next_line<I: BufRead>(
     alloc: Global,
     input: &mut I,
@@ -41,7 +42,7 @@ pub fn next_line<I: BufRead>(
     }
 }
 
-/// All that the reader still gives.
+/// Returns the rest of the database's bytes. Returns a refusal if the reader fails or memory runs out.
 pub fn whole_text<F: Read>(
     alloc: Global,
     database: &mut F,
@@ -58,7 +59,7 @@ pub fn whole_text<F: Read>(
     Ok(text)
 }
 
-// Adds all that the reader still gives to the text.
+// Appends the rest of the reader's bytes to the text.
 fn read_all<F: Read>(
     database: &mut F,
     watch: &mut Watch,

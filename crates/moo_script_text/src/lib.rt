@@ -1,5 +1,5 @@
-//! The texts of a script of events: the lines of its input, and those that are printed of what is sent.
-//! A room behind `moo`.
+//! The texts of a script of events: the lines of its input, and the printed form of the lines that are sent.
+//! An internal crate of `moo`.
 #![tactic(auto)]
 
 mod input;

@@ -1,10 +1,10 @@
-//! A text's first line.
+//! The first line of a text.
 ghost use Rattle.std.specs.Prelude.{◌≡◌, [], MatchOption};
 ghost use Rattle.moo_script_text.specs.Lines.{IsCut, without_return};
 
 use memchr::memchr;
 
-/// The first line, without its LF, and what comes behind it. `None` where there is no line.
+/// Returns the first line, without its LF, and the text after it. Returns `None` if there is no line.
 pub(crate) fn first_line(text: &[u8]) -> Option<(&[u8], &[u8])>
     ensures { MatchOption result (text.now ≡ []) (λ cut. IsCut text.now cut.0.now cut.1.now) }
 {
@@ -17,7 +17,7 @@ pub(crate) fn first_line(text: &[u8]) -> Option<(&[u8], &[u8])>
     }
 }
 
-/// The line without a CR at its end.
+/// Returns the line without a CR at its end.
 pub(crate) fn without_return(line: &[u8]) -> &[u8]
     ensures { result.now ≡ without_return line.now }
 {

@@ -1,4 +1,4 @@
-//! What is printed of a script.
+//! The printed form of a script's output.
 ghost use Rattle.std.specs.Prelude.{◌≡◌, IfErr, OnErr, OnOk};
 ghost use Rattle.std.specs.Io.KnownBytes.{Appends};
 ghost use Rattle.moo_report.specs.Refused.{IsEarned};
@@ -10,7 +10,8 @@ use itoa::Buffer;
 use moo_report::{Refusal, Watch};
 use std::io::Write;
 
-/// Prints each line that was sent on a connection, behind the connection's number.
+/// Prints each line that was sent on a connection, after the connection's number. Returns the refusal if the output
+/// fails.
 pub fn print_sent<O: Write>(
     c: u16,
     sent: &[u8],
@@ -48,7 +49,7 @@ fn print_line<O: Write>(
     watch.put(output, b"\n")
 }
 
-/// Prints that the script's line of this number, counted from 1, has no form.
+/// Prints that the script's line of this number, from 1, has no form. Returns the refusal if the output fails.
 pub fn print_bad_line<O: Write>(
     number: u64,
     output: &mut O,

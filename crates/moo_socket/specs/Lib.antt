@@ -1,2 +1,2 @@
--- What waits for a socket.
+-- The bytes that wait for a socket.
 pub mod Waiting

@@ -1,15 +1,15 @@
--- What waits for a socket, and what comes from one.
+-- The bytes that wait for a socket, and the result of a read.
 use Rattle.std.specs.Prelude.{ℕ, ◌<◌, ◌≤◌, List, ◌++◌, drop}
 use Rattle.moo_socket.specs.declared.socket.Came.{Came}
 use Rattle.moo_socket.specs.declared.socket.Came.TheVariants as came
 use Rattle.moo_socket.specs.declared.socket.Socket.{Socket}
 use Rattle.moo_socket.specs.declared.waiting.Waiting.{Waiting}
 
--- those that go out next
+-- the bytes that are written next
 abbrev pub front_of : Waiting → List ℕ
 front_of w = drop w.gone w.going.items
 
--- the bytes that wait, in the order in which they go out
+-- the bytes that wait, in the order in which they are written
 abbrev pub bytes_of : Waiting → List ℕ
 bytes_of w = front_of w ++ w.behind.items
 
@@ -17,7 +17,7 @@ bytes_of w = front_of w ++ w.behind.items
 abbrev pub waits_of : Socket → List ℕ
 waits_of socket = bytes_of socket.waiting
 
--- bytes came, and no more than there was room for
+-- bytes came, no more than the buffer holds
 abbrev pub IsCame : Came → ℕ → Type 0
 IsCame (came.Bytes count) room = (0 < count) × (count ≤ room)
 IsCame came.NothingYet room = Unit {0}

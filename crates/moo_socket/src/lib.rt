@@ -1,5 +1,5 @@
 //! The socket of a connection, and the output that waits for it.
-//! A room behind the program `moo`.
+//! An internal crate of the program `moo`.
 #![tactic(auto)]
 
 mod queue;

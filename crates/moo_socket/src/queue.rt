@@ -1,4 +1,4 @@
-//! Output that waits for a socket.
+//! The queue of output that waits for a socket.
 ghost use Rattle.std.specs.Prelude.{◌≡◌, ◌≤◌, ◌↔◌, ◌++◌, [], length, drop, IsTrue, OnOk, OnErr};
 ghost use Rattle.moo_socket.specs.Waiting.{bytes_of, front_of};
 
@@ -7,7 +7,7 @@ use std::alloc::{AllocError, Global};
 use std::mem;
 
 impl Waiting {
-    /// Nothing.
+    /// Returns an empty queue.
     pub fn new(alloc: Global) -> Waiting
         ensures { bytes_of result ≡ [] }
     {
@@ -18,21 +18,21 @@ impl Waiting {
         }
     }
 
-    /// Whether nothing waits.
+    /// Returns whether nothing waits.
     pub fn is_empty(&self) -> bool
         ensures { IsTrue result ↔ (length (bytes_of self.now) ≡ 0) }
     {
         self.count() == 0
     }
 
-    /// How many bytes wait.
+    /// Returns the number of bytes that wait.
     pub fn count(&self) -> usize
         ensures { result ≡ length (bytes_of self.now) }
     {
         (self.going.len() - self.gone).saturating_add(self.behind.len())
     }
 
-    /// Puts output behind what waits. Where nothing is gathered it isn't copied.
+    /// Appends output to what waits. Doesn't copy it if nothing is gathered. Fails only if memory runs out.
     pub fn add(&mut self, output: Vec<u8>) -> Result<(), AllocError>
         ensures ok { OnOk result (bytes_of self.new ≡ bytes_of self.old ++ output.items) }
         ensures err { OnErr result (bytes_of self.new ≡ bytes_of self.old) }
@@ -44,7 +44,7 @@ impl Waiting {
         self.behind.extend_from_slice(&output)
     }
 
-    /// Where all that was going out is out, what was gathered goes next.
+    /// If all of the front was written, makes the gathered bytes the new front.
     pub fn turn(&mut self)
         ensures { bytes_of self.new ≡ bytes_of self.old }
     {
@@ -55,14 +55,14 @@ impl Waiting {
         }
     }
 
-    /// The bytes that are going out.
+    /// Returns the bytes at the front, which are written next.
     pub fn front(&self) -> &[u8]
         ensures { result.now ≡ front_of self.now }
     {
         &self.going[self.gone..]
     }
 
-    /// So many of them are out.
+    /// Removes `count` bytes from the front, after they were written.
     pub fn take(&mut self, count: usize)
         requires { count ≤ length (front_of self.old) }
         ensures { bytes_of self.new ≡ drop count (bytes_of self.old) }

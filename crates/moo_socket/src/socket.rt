@@ -8,18 +8,19 @@ use std::alloc::{AllocError, Global};
 use std::io;
 use std::io::{ErrorKind, Read, Write};
 
-/// What a read gave.
+/// The result of a read.
 #[derive(Clone, Copy, Debug, PartialEq, Eq)]
 pub enum Came {
-    /// So many bytes.
+    /// The number of bytes that were read.
     Bytes(usize),
-    /// No bytes for now.
+    /// No bytes have come yet.
     NothingYet,
-    /// The other side has ended, or the socket failed.
+    /// The other side has closed the connection, or the socket failed.
     End,
 }
 
-/// A socket, and the output that waits for it. Each call may be refused for now, and is then made again once the system says so.
+/// A socket, and the output that waits for it. A call that would block is made again once the system reports that the
+/// socket is ready.
 #[derive(Drop)]
 pub struct Socket {
     stream: TcpStream,
@@ -29,7 +30,7 @@ pub struct Socket {
 }
 
 impl Socket {
-    /// A socket that was just accepted.
+    /// Returns a socket that was just accepted.
     pub fn new(alloc: Global, stream: TcpStream) -> Socket
         ensures { waits_of result ≡ [] }
     {
@@ -41,7 +42,7 @@ impl Socket {
         }
     }
 
-    /// The system has said that it may be read or written again.
+    /// Records that the system reports the socket as ready.
     pub fn wake(&mut self)
         ensures { waits_of self.new ≡ waits_of self.old }
     {
@@ -49,19 +50,19 @@ impl Socket {
         self.may_write = true;
     }
 
-    /// Whether a read may give something.
+    /// Returns whether a read may give something.
     pub fn may_read(&self) -> bool {
         self.may_read
     }
 
-    /// How many bytes wait for it.
+    /// Returns the number of bytes that wait for it.
     pub fn waiting(&self) -> usize
         ensures { result ≡ length (waits_of self.now) }
     {
         self.waiting.count()
     }
 
-    /// Puts output behind what waits for it.
+    /// Appends output to what waits for it. Fails only if memory runs out.
     pub fn give(&mut self, output: Vec<u8>) -> Result<(), AllocError>
         ensures ok { OnOk result (waits_of self.new ≡ waits_of self.old ++ output.items) }
         ensures err { OnErr result (waits_of self.new ≡ waits_of self.old) }
@@ -69,7 +70,7 @@ impl Socket {
         self.waiting.add(output)
     }
 
-    /// One read into the buffer's front.
+    /// Reads once into the front of the buffer.
     pub fn read(&mut self, buffer: &mut [u8]) -> Came
         ensures came { IsCame result (length buffer.new) }
         ensures waits { waits_of self.new ≡ waits_of self.old }
@@ -86,7 +87,8 @@ impl Socket {
         }
     }
 
-    /// One write of what waits, where something does: how many bytes went out, from the front. A fault takes none.
+    /// Writes once from the front of what waits, if anything does, and returns the number of bytes. A failed write
+    /// removes none.
     pub fn write(&mut self) -> io::Result<usize>
         ensures out { IfOk result (λ count. (count ≤ length (waits_of self.old)) × (waits_of self.new ≡ drop count (waits_of self.old))) }
         ensures failed { OnErr result (waits_of self.new ≡ waits_of self.old) }

@@ -20,7 +20,7 @@ module _ (P : ℕ → Option Event → Type 0) where
   each_map Q (suc n) events carries each =
       (each.0, each.1, each_map Q n each.0 (λ c less. carries c (omega (arith, less))) each.2, carries n (omega arith) each.1 each.3, each.4)
 
--- events, and others behind them
+-- events, and others after them
 pub after_append : (c : ℕ) (was : Option (List ℕ)) (first second : List Event) → held_after c was (first ++ second) ≡ held_after c (held_after c was first) second
 after_append c was [] second = refl
 after_append c was (event ∷ first) second = after_append c (held_through c was event) first second

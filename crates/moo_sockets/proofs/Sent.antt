@@ -47,7 +47,7 @@ closes c key old mid new is updates same k = same k ∙ by_test (eqb c k) refl
     by_test true here = ap (λ (j : ℕ). held mid j) (sym (is ∙ eqb-true c k here)) ∙ ap waits updates.changed
     by_test false other = ap waits (updates.others k (λ e. eqb-false c k other (sym (e ∙ is))))
 
--- events, and others behind them
+-- events, and others after them
 pub follow_append : (first second all : List Event) (old mid new : Slab Socket) → all ≡ first ++ second → Follow first old mid → Follow second mid new → Follow all old new
 follow_append first second all old mid new is f s c =
     s c ∙ ap (λ (w : Option (List ℕ)). held_after c w second) (f c) ∙ sym (after_append c (held old c) first second) ∙ ap (λ (es : List Event). held_after c (held old c) es) (sym is)

@@ -1,4 +1,4 @@
--- What comes on the sockets of connections, as events of a server.
+-- The input of the sockets of connections, as events of a server.
 use Rattle.std.specs.Prelude.{◌≡◌, ℕ, zero, suc, ◌<◌, ◌≤◌, List, [], ◌∷◌, ◌++◌, Option, Some, None, IsSome, eqb, if◌then◌else◌, vec_len}
 use Rattle.std.specs.Option.{option_map}
 use Rattle.slab.specs.Slab.{Slab, get}
@@ -12,7 +12,7 @@ abbrev pub only : Option Event → List Event
 only None = []
 only (Some event) = event ∷ []
 
--- what waits for connection c's socket, if it has one
+-- the bytes that wait for connection c's socket, if it has one
 abbrev pub held : Slab Socket → ℕ → Option (List ℕ)
 held sockets c = option_map (λ (socket : Socket). waits_of socket) (get sockets c)
 
@@ -22,8 +22,8 @@ IsOpening sockets None = Unit {0}
 IsOpening sockets (Some (the.Open c)) = held sockets c ≡ None
 IsOpening sockets (Some event) = ⊥
 
--- What one read of connection c's socket gives, where `was` waits for it: nothing for now, at most 4,096 bytes, or its end; and nothing
--- where it has none.
+-- The result of one read of connection c's socket, while `was` waits for it: nothing yet, at most 4,096 bytes, or its
+-- end. Without a socket there is none.
 abbrev pub IsRead : Option (List ℕ) → ℕ → Option Event → Type 0
 IsRead was c None = Unit {0}
 IsRead was c (Some (the.Bytes k piece)) = IsSome was × (k ≡ c) × (0 < vec_len piece) × (vec_len piece ≤ 4096)
@@ -36,7 +36,7 @@ Each P zero events = events ≡ []
 Each P (suc n) events =
     (before : List Event) × (last : Option Event) × Each P n before × P n last × (events ≡ before ++ only last)
 
--- one who is opened has a socket then, for which nothing waits, and one who hangs up has none
+-- a connection that opens has a socket then, for which nothing waits, and one that hangs up has none
 abbrev pub held_through : ℕ → Option (List ℕ) → Event → Option (List ℕ)
 held_through c was (the.Open k) = if eqb k c then Some [] else was
 held_through c was (the.Hangup k) = if eqb k c then None else was
@@ -46,7 +46,7 @@ abbrev pub held_after : ℕ → Option (List ℕ) → List Event → Option (Lis
 held_after c was [] = was
 held_after c was (event ∷ events) = held_after c (held_through c was event) events
 
--- the sockets as they were, but for those of connections that are opened or hang up in these events
+-- the sockets as they were, but for those of connections that open or hang up in these events
 abbrev pub Follow : List Event → Slab Socket → Slab Socket → Type 0
 Follow events old new = (c : ℕ) → held new c ≡ held_after c (held old c) events
 
@@ -54,7 +54,7 @@ Follow events old new = (c : ℕ) → held new c ≡ held_after c (held old c) e
 abbrev pub Closes : ℕ → Slab Socket → Slab Socket → Type 0
 Closes c old new = Follow (the.Hangup c ∷ []) old new
 
--- What comes in one round: one new connection at most, and then what one read of each socket gives.
+-- The input of one round: at most one new connection, and then the result of one read of each socket.
 pub record Comes (old new : Slab Socket) (events : List Event) : Type 0 where
   pub opened : Option Event
   pub reads : List Event

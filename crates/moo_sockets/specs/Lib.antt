@@ -1,3 +1,3 @@
--- What comes on the sockets of connections, and what goes out.
+-- The input and the output of the sockets of connections.
 pub mod Coming
 pub mod Sending

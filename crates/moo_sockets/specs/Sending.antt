@@ -1,7 +1,8 @@
--- What goes out on the socket of a connection.
+-- The output of the socket of a connection.
 use Rattle.std.specs.Prelude.{◌≡◌, ℕ, List, ◌++◌, length, Option, Some}
 
--- These bytes went behind what waited for a socket, and some of all that, from the front, went out: the rest still waits.
+-- These bytes were appended to those that waited for a socket, and some of them all, from the front, were written:
+-- the rest still waits.
 pub record Sends (bytes : List ℕ) (was is : Option (List ℕ)) (waiting : ℕ) : Type 0 where
   pub before : List ℕ
   pub out : List ℕ

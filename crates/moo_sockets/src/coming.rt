@@ -1,4 +1,4 @@
-//! What comes on sockets: new connections, bytes, ends.
+//! The input of sockets: new connections, bytes and ends.
 ghost use Rattle.std.specs.Prelude.{◌≡◌, ℕ, List, ◌++◌, IfOk, OnOk};
 ghost use Rattle.moo_serving.specs.declared.event.Event as given;
 ghost use Rattle.moo_sockets.specs.Coming.{Comes, Each, Follow, IsOpening, IsRead, held, only};
@@ -13,13 +13,14 @@ use std::alloc::AllocError;
 use std::io;
 use std::io::ErrorKind;
 
-/// The most bytes that one read takes. One read is one event, and all its lines are done before anybody else's turn: so few bytes that
-/// a turn is short, and enough for most of what people type.
+/// The greatest number of bytes in one read. One read is one event, and all its lines are done before the next turn.
+/// This is few enough for short turns, and enough for most lines that people type.
 const READ_MOST: usize = 256;
 
 impl Sockets {
-    /// What one round takes in: one new connection at most, and then one read of each socket that may have bytes, by rising number.
-    /// A connection beyond the last number is closed at once. A socket that ended or failed is closed.
+    /// Takes the input of one round: at most one new connection, and then one read of each socket that may have
+    /// bytes, by rising number. Closes at once a connection for which no number is left, and any socket that ended or
+    /// failed. Fails only if memory runs out.
     pub fn take<L: Log>(&mut self, rt: &L) -> Result<Vec<Event>, AllocError>
         ensures { IfOk result (λ events. Comes self.old.sockets self.new.sockets events.items) }
     {
@@ -30,7 +31,8 @@ impl Sockets {
         Ok(events)
     }
 
-    // One new connection, where one waits. A fault is tried again later: those that are connected go on.
+    // Accepts one new connection, if one waits. After a fault it is tried again later, and the other connections go
+    // on.
     fn accept<L: Log>(&mut self, rt: &L) -> Result<Option<Event>, AllocError>
         ensures { IfOk result (λ event. IsOpening self.old.sockets event × Follow (only event) self.old.sockets self.new.sockets) }
     {
@@ -54,7 +56,7 @@ impl Sockets {
         self.keep(c, stream)
     }
 
-    // Tells that no connection can be accepted, once until one is.
+    // Logs that no connection can be accepted, once until one is.
     fn tell_refused<L: Log>(&mut self, rt: &L, error: &io::Error)
         ensures { self.new.sockets ≡ self.old.sockets }
     {
@@ -64,7 +66,7 @@ impl Sockets {
         }
     }
 
-    // Keeps a new connection's socket under its number. Where the system doesn't let it be watched it is closed.
+    // Keeps a new connection's socket under its number. Closes it if the system can't watch it.
     fn keep(&mut self, c: u16, mut stream: TcpStream) -> Result<Option<Event>, AllocError>
         requires { c ≡ self.old.sockets.vacant_key }
         ensures { IfOk result (λ event. IsOpening self.old.sockets event × Follow (only event) self.old.sockets self.new.sockets) }
@@ -81,7 +83,7 @@ impl Sockets {
         Ok(Some(Event::Open(c)))
     }
 
-    // One read of each socket that may have bytes.
+    // Reads once from each socket that may have bytes.
     fn read_all(&mut self, events: &mut Vec<Event>) -> Result<(), AllocError>
         ensures { OnOk result ((n : ℕ) × (reads : List given.Event) × Each (λ c event. IsRead (held self.old.sockets c) c event) n reads × Follow reads self.old.sockets self.new.sockets
             × (events.new.items ≡ events.old.items ++ reads)) }
@@ -94,7 +96,7 @@ impl Sockets {
         Ok(())
     }
 
-    // One read of a socket. Its end or a fault is a hang-up.
+    // Reads once from a socket. Its end or a fault is a hang-up.
     fn read(&mut self, c: u16) -> Result<Option<Event>, AllocError>
         ensures { IfOk result (λ event. IsRead (held self.old.sockets c) c event × Follow (only event) self.old.sockets self.new.sockets) }
     {
@@ -121,7 +123,7 @@ impl Sockets {
     }
 }
 
-/// Puts an event, if there is one, behind others.
+/// Appends an event, if there is one.
 pub fn put(events: &mut Vec<Event>, event: Option<Event>) -> Result<(), AllocError>
     ensures { OnOk result (events.new.items ≡ events.old.items ++ only event) }
 {

@@ -1,12 +1,12 @@
-//! Why there are no sockets.
+//! The reasons why there are no sockets.
 use std::alloc::AllocError;
 use std::io;
 use thiserror::Error;
 
-/// Why there are no sockets, or none that can be waited for.
+/// The reason why there are no sockets, or none that can be waited for.
 #[derive(Debug, Drop, Error)]
 pub enum SocketsFault {
-    /// The address can't be had, or the system doesn't tell what is ready.
+    /// The address is not available, or the system can't report which sockets are ready.
     #[error("refused: Device")]
     Device(io::Error),
     #[error("refused: Memory")]

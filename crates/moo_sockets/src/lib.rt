@@ -1,5 +1,5 @@
-//! The sockets of connections, each under its number, and where new ones come.
-//! A room behind the program `moo`.
+//! The sockets of connections, each under its number, and the listener for new ones.
+//! An internal crate of the program `moo`.
 #![tactic(auto)]
 
 mod coming;

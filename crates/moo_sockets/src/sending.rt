@@ -1,4 +1,4 @@
-//! What goes out on sockets.
+//! The output of sockets.
 ghost use Rattle.std.specs.Prelude.{◌≡◌, ◌≢◌, ℕ, IfOk, IfSome};
 ghost use Rattle.moo_sockets.specs.Coming.{held};
 ghost use Rattle.moo_sockets.specs.Sending.{Sends};
@@ -7,8 +7,8 @@ use crate::sockets::Sockets;
 use std::alloc::AllocError;
 
 impl Sockets {
-    /// One write to a connection's socket, with this output behind what waits for it: how many bytes still wait. `None` where the socket
-    /// failed, or there is none.
+    /// Appends this output to what waits for a connection's socket, and writes once. Returns the number of bytes that
+    /// still wait, or `None` if the socket failed or doesn't exist. Fails only if memory runs out.
     pub fn write(&mut self, c: u16, output: Vec<u8>) -> Result<Option<usize>, AllocError>
         ensures sent { IfOk result (λ answer. IfSome answer (λ waiting. Sends output.items (held self.old.sockets c) (held self.new.sockets c) waiting)) }
         ensures others { (k : ℕ) → k ≢ c → held self.new.sockets k ≡ held self.old.sockets k }

@@ -1,4 +1,4 @@
-//! Where connections come, and the sockets that they have.
+//! The listener, and the sockets of connections.
 ghost use Rattle.std.specs.Prelude.{◌≡◌, ◌≤◌, ◌↔◌, ℕ, IfOk, IsSome, IsTrue, None};
 ghost use Rattle.moo_sockets.specs.Coming.{Closes, held};
 
@@ -12,12 +12,12 @@ use std::io::ErrorKind;
 use std::net::{IpAddr, Net, SocketAddr};
 use std::time::Duration;
 
-/// How many ready sockets one look reports. More are reported by the next.
+/// The number of ready sockets that one call of `look` reports. The next call reports more.
 const REPORTED: usize = 256;
 
 const LISTENER: Token = Token(usize::MAX);
 
-/// The sockets of connections, and where it listens for more. The key of a socket is the number of its connection.
+/// Holds the sockets of connections, and the listener. The key of a socket is the number of its connection.
 #[derive(Drop)]
 pub struct Sockets {
     pub(crate) alloc: Global,
@@ -26,15 +26,16 @@ pub struct Sockets {
     pub(crate) listener: TcpListener,
     /// Whether a connection may wait to be accepted.
     pub(crate) may_accept: bool,
-    /// Whether the log tells already that none can be accepted.
+    /// Whether the log already says that no connection can be accepted.
     pub(crate) is_told: bool,
     pub(crate) sockets: Slab<Socket>,
-    /// Whether something came or went out since `rest`.
+    /// Whether a connection, bytes or an end came, or bytes were written, since `rest`.
     pub(crate) is_busy: bool,
 }
 
 impl Sockets {
-    /// Listens on a port of an address. Port 0 takes any free one.
+    /// Listens on a port of an address. Port 0 takes any free one. Fails if the address is not available, or if
+    /// memory runs out.
     #[tactic(auto, using(crate::proofs::Sent::held_none))]
     pub fn open<N: Net>(
         rt: &N,
@@ -60,32 +61,32 @@ impl Sockets {
         })
     }
 
-    /// Where it listens.
+    /// Returns the address on which it listens.
     pub fn address(&self) -> Result<SocketAddr, SocketsFault> {
         let address = self.listener.local_addr()?;
         Ok(address)
     }
 
-    /// From now on nothing has come or gone out.
+    /// Resets `is_busy`.
     pub fn rest(&mut self)
         ensures { (c : ℕ) → held self.new.sockets c ≡ held self.old.sockets c }
     {
         self.is_busy = false;
     }
 
-    /// Whether something came or went out since `rest`.
+    /// Returns whether a connection, bytes or an end came, or bytes were written, since `rest`.
     pub fn is_busy(&self) -> bool {
         self.is_busy
     }
 
-    /// Whether a connection has a socket.
+    /// Returns whether a connection has a socket.
     pub fn contains(&self, c: u16) -> bool
         ensures { IsTrue result ↔ IsSome (held self.now.sockets c) }
     {
         self.sockets.contains(usize::from(c))
     }
 
-    /// Numbers of sockets are below this one.
+    /// Returns a bound on the numbers of sockets, all of which are below it.
     #[tactic(auto, using(crate::proofs::Sent::held_past))]
     pub fn capacity(&self) -> usize
         ensures { (c : ℕ) → result ≤ c → held self.now.sockets c ≡ None }
@@ -93,7 +94,7 @@ impl Sockets {
         self.sockets.capacity()
     }
 
-    /// Closes a connection's socket. What still waits for it goes nowhere.
+    /// Closes a connection's socket, and drops the output that waits for it.
     #[tactic(auto, using(crate::proofs::Sent::closes))]
     pub fn close(&mut self, c: u16)
         ensures { Closes c self.old.sockets self.new.sockets }
@@ -102,8 +103,8 @@ impl Sockets {
         self.shrink();
     }
 
-    // A round goes through all numbers below the capacity. Where most are free, those above the highest in use are given up, so that a
-    // crowd which is gone costs nothing.
+    // A round visits all numbers below the capacity. If most are free, this frees those above the highest in use, so
+    // that past connections cost no time.
     fn shrink(&mut self)
         ensures { (c : ℕ) → held self.new.sockets c ≡ held self.old.sockets c }
     {
@@ -112,7 +113,8 @@ impl Sockets {
         }
     }
 
-    /// Waits for sockets that are ready, so many seconds at most, and marks them.
+    /// Waits for ready sockets, at most for so many seconds, and marks them. Fails if the system can't report them,
+    /// or if memory runs out.
     pub fn look(&mut self, seconds: u64) -> Result<(), SocketsFault>
         ensures { (c : ℕ) → held self.new.sockets c ≡ held self.old.sockets c }
     {
@@ -131,7 +133,7 @@ impl Sockets {
         Ok(())
     }
 
-    // The keys of those that are ready, the listener's among them.
+    // Returns the keys of the ready sockets, perhaps with the listener's.
     fn ready_keys(&self) -> Result<Vec<usize>, AllocError> {
         let mut keys = Vec::new(self.alloc);
         for event in self.ready.iter() {
@@ -141,7 +143,7 @@ impl Sockets {
     }
 }
 
-// Marks the sockets of these keys. It answers whether the listener's is among them.
+// Marks the sockets of these keys, and returns whether the listener's is among them.
 fn wake(sockets: &mut Slab<Socket>, keys: &[usize]) -> bool
     ensures { (c : ℕ) → held sockets.new c ≡ held sockets.old c }
 {

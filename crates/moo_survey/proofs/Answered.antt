@@ -54,7 +54,7 @@ whole_surveyed bytes es None e program refused h = inr (record { check = record 
 whole_surveyed bytes es (Some x) e program refused (inl memory) = inl memory
 whole_surveyed bytes es (Some x) e program refused (inr h) = inr (record { check = record { fault = e; program = program; answer = refused }; survey = h })
 
--- ---- what is told
+-- ---- the report
 
 no_memory : (k : DbFaultKind) → is_of_program k ≡ true → k ≡ kind.Memory → ⊥
 no_memory k program is = let no : true ≡ false = sym program ∙ ap is_of_program is in cc
@@ -102,7 +102,7 @@ other_told known old new a e status same found is one grows = record {
 pub surveyed_told : (known old new : Option (List ℕ)) (a : Answer) (faults : Vec DbFault) (end : Option DbFault) (status : ℕ) → a ≡ answer.Surveyed faults end → IfSome known (Answers a) → (LacksMemory end → ⊥) → status ≡ 1 → Appends old new (survey_text faults.items end) → IsAnswered known old new status
 surveyed_told known old new a faults end status same found = all_told known old new faults.items end status (subst (λ (x : Answer). IfSome known (Answers x)) same found)
 
--- ---- where the reading has ended
+-- ---- if the reading has ended
 
 pub refused_answers : (front more : List ℕ) (es : List DbFault) (h : Halt) (e : DbFault) → h ≡ halt.Refused e → IsHalted front es h → Answers (answer.Checked (Err e)) (front ++ more)
 refused_answers front more es h e is k = let s = subst (IsHalted front es) is k in (s.1 more, s.0)

@@ -1,4 +1,4 @@
--- What a reader of refused programs knows behind the bytes that it has taken.
+-- The state of a reader of refused programs after the bytes that it has taken.
 use Rattle.std.proofs.Common.{◌≡◌, ℕ, Bool, true, false, eqb, eq-eqb, ◌+◌, ◌-◌, ◌≤◌, List, [], ◌∷◌, ◌++◌, length, Option, Some, None, Result, Ok, ◌⊎◌, inl, inr, refl, sym, ap, subst, ◌∙◌, arith}
 use Rattle.std.proofs.lemmas.Bool.{eqb-true}
 use Rattle.moo_program.specs.Tree.{Block}

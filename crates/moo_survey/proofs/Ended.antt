@@ -1,4 +1,4 @@
--- What is told of bytes that end, or that are at fault.
+-- The report of bytes that end, or that are at fault.
 use Rattle.std.proofs.Common.{◌≡◌, ℕ, ◌+◌, ◌≤◌, List, [], ◌++◌, length, Some, None, Result, Ok, Err, inl, inr, refl, sym, ap, subst, ◌∙◌, append_assoc, append-nil, take, drop, arith}
 use Rattle.std.proofs.lemmas.List.{take-append-drop}
 use Rattle.moo_dbvalue.specs.Lines.{limited}
@@ -18,7 +18,7 @@ use Rattle.moo_survey.specs.Reading.{IsBehind, IsEnded, IsWholly}
 use Rattle.moo_survey.specs.declared.survey.Survey.{Survey}
 use Rattle.moo_survey.proofs.Noted.{between_on}
 
--- where no line of the bytes stands behind what was taken
+-- if no line of the bytes comes after what was taken
 all_looked_at : (r : Survey) (bytes more : List ℕ) (h : IsBehind r bytes) → ((n : ℕ) → Stand limited n (bytes ++ more) → n ≤ h.at.state.lines) → AreTheRefused (bytes ++ more) r.faults.items
 all_looked_at r bytes more h few =
     let s = h.at.state in
@@ -65,7 +65,7 @@ line_ended r bytes line f whole h stops = at f.kind refl stops
               end = record { fault = g; kind = ap kind_of_refusal is; answer = answer };
             }
 
--- bytes without an end stop for want of memory alone
+-- bytes without an end stop only if memory runs out
 pub part_ended : (r : Survey) (bytes part : List ℕ) (f : RecordFault) (es : List DbFault) → HasNoEnd part → IsBehind r bytes → Stops f (taken_on limited begin (bytes ++ part)) → IsEnded (bytes ++ part) es (fault_of f)
 part_ended r bytes part f es clean h stops = at f.kind refl stops
   where

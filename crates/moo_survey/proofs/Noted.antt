@@ -37,7 +37,7 @@ refused_on bytes more e h = record {
   blamed = h.blamed;
 }
 
--- a fault of a source is told of its verb, but for want of memory
+-- a fault of a source is reported of its verb, unless memory ran out
 pub known_kind : (o v : ℕ) (e : DbFault) (at : ℕ) (k : SyntaxFaultKind) (x : Option ProgramFaultKind) → told_kind k ≡ x → e.kind ≡ source_kind_of o v at x → (e.kind ≡ kind.Memory → ⊥)
     → (y : ProgramFaultKind) × (told_kind k ≡ Some y) × (e.kind ≡ kind.Program o v (record { line = at; kind = y }))
 known_kind o v e at k None told is known = absurd (known is)

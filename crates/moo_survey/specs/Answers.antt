@@ -1,4 +1,4 @@
--- What two readers of the same bytes answer, one of worlds and one of refused programs.
+-- The answers of two readers of equal bytes, one of worlds and one of refused programs.
 use Rattle.std.specs.Prelude.{◌≡◌, ◌⊎◌, ℕ, false, List, ◌++◌, Option, Some, None, Err, IfErr}
 use Rattle.moo_dbrecord.specs.declared.fault.DbFault.{DbFault}
 use Rattle.moo_dbrecord.specs.declared.fault.DbFaultKind.TheVariants as kind
@@ -23,7 +23,7 @@ pub record HaveFed (r : Readers) (bytes : List ℕ) : Type 0 where
 abbrev pub GoesOn : DbReader → List ℕ → Type 0
 GoesOn r bytes = IsWell r ⊎ ((more : List ℕ) → AreRefusedForProgram (bytes ++ more))
 
--- the bytes are refused for a program, and this is all that is told of them
+-- the bytes are refused for a program, and this is all that is reported of them
 pub record AreSurveyed (bytes : List ℕ) (faults : List DbFault) (end : Option DbFault) : Type 0 where
   pub check : AreRefusedForProgram bytes
   pub survey : IsSurvey bytes faults end
@@ -32,12 +32,12 @@ abbrev pub LacksMemory : Option DbFault → Type 0
 LacksMemory None = ⊥
 LacksMemory (Some e) = e.kind ≡ kind.Memory
 
--- why nothing more is read, however the bytes go on
+-- the reason why nothing more is read, however the bytes go on
 abbrev pub IsHalted : List ℕ → List DbFault → Halt → Type 0
 IsHalted bytes faults (halt.Refused e) = (is_of_program e.kind ≡ false) × ((more : List ℕ) → LoadAnswers (Err e) (bytes ++ more))
 IsHalted bytes faults (halt.Ended e) = (e.kind ≡ kind.Memory) ⊎ ((more : List ℕ) → AreSurveyed (bytes ++ more) faults (Some e))
 
--- what is answered of the whole bytes
+-- the answer for the whole bytes
 abbrev pub Answers : Answer → List ℕ → Type 0
 Answers (answer.Checked r) bytes = LoadAnswers r bytes × IfErr r (λ e. is_of_program e.kind ≡ false)
 Answers (answer.Surveyed faults end) bytes = LacksMemory end ⊎ AreSurveyed bytes faults.items end

@@ -2,7 +2,7 @@
 pub mod Survey
 -- A reader of them between two pieces.
 pub mod Reading
--- What is shown of a database.
+-- The output for a database.
 pub mod Shown
--- What two readers of the same bytes answer.
+-- The answers of two readers of equal bytes.
 pub mod Answers

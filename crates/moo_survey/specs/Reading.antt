@@ -25,17 +25,17 @@ abbrev pub IsNoted : List DbFault → List DbFault → ℕ → ℕ → ℕ → L
 IsNoted old new lines o v source =
     ((new ≡ old) × ((b : Block) × IsParsed Any source b)) ⊎ ((e : DbFault) × (new ≡ old ++ e ∷ []) × (e.kind ≢ kind.Memory) × IsSourceFault lines o v source e)
 
--- a line of the bytes can't stand where it is, and this is all that is told of them, however they go on
+-- a line of the bytes is wrong where it is, and this is all that is reported of them, however they go on
 pub record IsStopped (bytes : List ℕ) (faults : List DbFault) (e : DbFault) : Type 0 where
   pub fault : Told
   pub stops : taken_on limited begin bytes ≡ Err fault
   pub survey : (more : List ℕ) → IsSurvey (bytes ++ more) faults (Some e)
 
--- memory was wanting, or a line has stopped it
+-- memory ran out, or a line has stopped it
 abbrev pub IsEnded : List ℕ → List DbFault → DbFault → Type 0
 IsEnded bytes faults e = (e.kind ≡ kind.Memory) ⊎ IsStopped bytes faults e
 
--- what is told of the whole bytes, or memory was wanting
+-- the report of the whole bytes, or memory ran out
 abbrev pub IsWholly : List ℕ → List DbFault → Option DbFault → Type 0
 IsWholly bytes faults None = IsSurvey bytes faults None
 IsWholly bytes faults (Some e) = (e.kind ≡ kind.Memory) ⊎ IsSurvey bytes faults (Some e)

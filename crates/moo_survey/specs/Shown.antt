@@ -1,4 +1,4 @@
--- What `moo check --all` shows of a database.
+-- The output of `moo check --all` for a database.
 use Rattle.std.specs.Prelude.{◌≡◌, ◌⊎◌, ℕ, Bool, true, false, List, ◌++◌, Err, codes, length, Option, Some, None, IfSome}
 use Rattle.std.specs.Fmt.{decimal}
 use Rattle.std.specs.Io.KnownBytes.{Appends}
@@ -13,7 +13,7 @@ use Rattle.moo_report.specs.GivingUp.{IsGivenUp}
 use Rattle.moo_database.specs.Database.{counts_line, HasShown, HasTold}
 use Rattle.moo_survey.specs.Survey.{IsSurvey}
 
--- a program is told
+-- the fault is of a program
 abbrev pub is_of_program : DbFaultKind → Bool
 is_of_program kind.BadHeader = false
 is_of_program (kind.Version n) = false
@@ -44,7 +44,8 @@ abbrev pub survey_text : List DbFault → Option DbFault → List ℕ
 survey_text faults None = flat_map fault_line faults ++ (decimal (length faults) ++ codes " programs refused\n")
 survey_text faults (Some e) = flat_map fault_line faults ++ fault_line e
 
--- The bytes are refused for a program, they spell no saved world within the limits, and the output grew by all that is told of them.
+-- The bytes are refused for a program, they spell no saved world within the limits, and the output grew by all that
+-- is reported of them.
 pub record HasToldAll (bytes : List ℕ) (old new : Option (List ℕ)) : Type 0 where
   pub check : AreRefusedForProgram bytes
   pub none : (s : Saved) → ¬ (SpellsSavedWithin bytes s)
@@ -53,12 +54,13 @@ pub record HasToldAll (bytes : List ℕ) (old new : Option (List ℕ)) : Type 0 
   pub survey : IsSurvey bytes faults end
   pub told : Appends old new (survey_text faults end)
 
--- The output grew by the line of a fault that is none of a program, as `moo check` tells it.
+-- The output grew by the line of a fault that is of no program, as `moo check` reports it.
 pub record HasToldOther (bytes : List ℕ) (old new : Option (List ℕ)) : Type 0 where
   pub told : HasTold bytes old new
   pub other : is_of_program told.fault.kind ≡ false
 
--- The status is 0, and it was shown what the input's saved world holds, or it is 1, and all that is refused was told.
+-- The status is 0, and the contents of the input's saved world were shown, or it is 1, and all that is refused was
+-- reported.
 pub record IsAnswered (input old new : Option (List ℕ)) (status : ℕ) : Type 0 where
   pub known : (status ≡ 0) ⊎ (status ≡ 1)
   pub read : status ≡ 0 → IfSome input (λ bytes. HasShown counts_line bytes old new)

@@ -13,7 +13,7 @@ use Rattle.moo_dbrecord.specs.declared.fault.DbFaultKind.TheVariants as kind
 use Rattle.moo_dbrecord.specs.declared.fault.ProgramFault.{ProgramFault}
 use Rattle.moo_dbprogram.specs.Faults.{HasProgramAt, IsBlamed}
 
--- The bytes have the program of this verb, with its first line where the fault is told, and it is refused for this reason.
+-- The bytes have the program of this verb, whose first line is the reported one, and it is refused for this reason.
 pub record IsRefusedProgram (bytes : List ℕ) (e : DbFault) : Type 0 where
   pub object : ℕ
   pub verb : ℕ
@@ -27,12 +27,12 @@ pub record IsRefusedProgram (bytes : List ℕ) (e : DbFault) : Type 0 where
 abbrev pub dot_line : {bytes : List ℕ} {e : DbFault} → IsRefusedProgram bytes e → ℕ
 dot_line {bytes = bytes} {e = e} p = e.line + length p.source + 1
 
--- Each of these is told of a refused program, in the order of their dots, all behind line n and none behind line m.
+-- Each of these reports a refused program, in the order of their dots, all after line n and none after line m.
 abbrev pub AreRefusedBetween : List ℕ → ℕ → ℕ → List DbFault → Type 0
 AreRefusedBetween bytes n m [] = n ≤ m
 AreRefusedBetween bytes n m (e ∷ es) = (p : IsRefusedProgram bytes e) × (n < dot_line p) × AreRefusedBetween bytes (dot_line p) m es
 
--- one of these is told of the program of this verb
+-- one of these reports the program of this verb
 abbrev pub IsToldOf : ℕ → ℕ → List DbFault → Type 0
 IsToldOf o v [] = ⊥
 IsToldOf o v (e ∷ es) = ((f : ProgramFault) × (e.kind ≡ kind.Program o v f)) ⊎ IsToldOf o v es
@@ -43,7 +43,7 @@ pub record AreTheRefused (bytes : List ℕ) (faults : List DbFault) : Type 0 whe
   pub refused : AreRefusedBetween bytes 0 lines faults
   pub others : (line o v : ℕ) (source : List Line) → HasProgramAt bytes line o v source → IsToldOf o v faults ⊎ ((b : Block) × IsParsed Any source b)
 
--- this is told of the first line of the bytes that can't stand where it is
+-- this reports the first line of the bytes that is wrong where it is
 pub record IsLineTold (bytes : List ℕ) (e : DbFault) : Type 0 where
   pub fault : LineFault
   pub kind : e.kind ≡ kind_of fault
@@ -54,7 +54,7 @@ abbrev pub HaveEnd : List ℕ → Option DbFault → Type 0
 HaveEnd bytes None = (t : Text) × (answer_to limited bytes ≡ Ok t)
 HaveEnd bytes (Some e) = IsLineTold bytes e
 
--- all that is told of the bytes: the refused programs, and the line at fault behind which nothing is looked at
+-- all that is reported of the bytes: the refused programs, and the line at fault after which nothing is checked
 pub record IsSurvey (bytes : List ℕ) (faults : List DbFault) (last : Option DbFault) : Type 0 where
   pub programs : AreTheRefused bytes faults
   pub end : HaveEnd bytes last

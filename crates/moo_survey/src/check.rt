@@ -1,4 +1,4 @@
-//! `moo check --all`: what a database holds, or every program of it that is refused.
+//! `moo check --all`: counts what a database holds, or reports every program of it that is refused.
 ghost use Rattle.std.specs.Prelude.{◌≡◌, ◌⊎◌, IfErr, IfOk};
 ghost use Rattle.std.specs.Io.KnownBytes.{Appends, Keeps};
 ghost use Rattle.moo_report.specs.GivingUp.{HasGivenUp};
@@ -16,22 +16,22 @@ use std::alloc::Global;
 use std::io::{Read, Write};
 use std::mem::forget;
 
-/// The exit status where a database is refused.
+/// The exit status if a database is refused.
 const REFUSED: u8 = 1;
 
-/// Writes how many objects, programs and connections the database has that the input is, and answers the exit
-/// status: 0, or 1 where it is refused. Then each program that is refused is told in a line, in order, and how
-/// many they are or the line of the first fault that is none of a program. 3 where the input or the output
-/// failed and 4 where memory was wanting, each told in a line of its own where the output still takes it.
+/// Reads a database from the input, writes how many objects, programs and connections it has, and returns the exit
+/// status 0. If it is refused, writes a line for each refused program, in order, and then how many they are, or the
+/// line of the first other fault; returns 1. If the input or the output fails, returns 3; if memory runs out, returns
+/// 4. These are reported in a line if the output still takes it.
 ///
-/// The memory of what was read is left to the end of the process, which gives it back at once.
+/// The memory of what was read is leaked, because the process ends soon.
 pub fn run_check_all<I: Read, O: Write>(alloc: Global, input: &mut I, output: &mut O) -> u8
     ensures { ShowsAll (I.remaining input.old) (O.contents output.old) (O.contents output.new) result }
 {
     check_all_watched(alloc, input, output, &mut Watch::new())
 }
 
-/// The same, with what was seen of the input and the output.
+/// Checks a database as `run_check_all` does, and records failures of the input, the output and memory in `watch`.
 pub fn check_all_watched<I: Read, O: Write>(
     alloc: Global,
     input: &mut I,
@@ -69,7 +69,7 @@ fn checked<I: Read, O: Write>(
     }
 }
 
-// Want of memory is a refusal of the program's own.
+// Running out of memory is a refusal of the program's own.
 fn tell_all<O: Write>(
     alloc: Global,
     faults: &[DbFault],

@@ -1,5 +1,5 @@
-//! What `moo check --all` does, over a reader and a writer: it tells every program of a database that is refused.
-//! A room behind `moo`.
+//! The command `moo check --all`, over a reader and a writer. It reports every program of a database that is refused.
+//! An internal crate of `moo`.
 #![tactic(auto)]
 
 mod check;

@@ -1,4 +1,4 @@
-//! What a database is refused for, and where that is a program, every program that is.
+//! Finds the fault of a database, and every refused program if that fault is of a program.
 ghost use Rattle.std.specs.Prelude.{◌≡◌, ◌<◌, ◌++◌, ℕ, false, List, [], length, OnOk, IfErr, IfOk, IfSome, MatchOption};
 ghost use Rattle.moo_report.specs.Refused.{IsEarned};
 ghost use Rattle.moo_load.specs.Feeding.{HasFed};
@@ -13,24 +13,24 @@ use std::alloc::Global;
 use std::io::Read;
 use std::mem::forget;
 
-/// How many bytes are read at once.
+/// The number of bytes in one read.
 const PIECE: usize = 65_536;
 
-/// What is answered of a whole text.
+/// The answer for a whole text.
 #[derive(Drop)]
 pub(crate) enum Answer {
-    /// What `moo check` answers, and no program is told.
+    /// The answer of `moo check`; no program is reported.
     Checked(Result<Saved, DbFault>),
-    /// The programs that are refused, and the line at fault that ends them.
+    /// The refused programs, and the fault of a line that ends them.
     Surveyed(Vec<DbFault>, Option<DbFault>),
 }
 
-/// Why the rest of a text isn't read.
+/// The reason why the rest of a text isn't read.
 #[derive(Clone, Copy, Debug, PartialEq, Eq)]
 pub(crate) enum Halt {
-    /// `moo check` tells this fault, which is none of a program.
+    /// `moo check` reports this fault, which is of no program.
     Refused(DbFault),
-    /// This line ends the programs.
+    /// This fault of a line ends the programs.
     Ended(DbFault),
 }
 
@@ -43,7 +43,7 @@ fn is_of_program(kind: DbFaultKind) -> bool
     }
 }
 
-/// Feeds `moo check` the next piece of the text. A fault is told where it is none of a program.
+/// Feeds `moo check` the next piece of the text. Returns a fault only if it is of no program.
 fn check_piece(alloc: Global, check: &mut DbReader, piece: &[u8]) -> Result<(), DbFault>
     ensures fed { (bytes : List ℕ) → HasFed check.old bytes → HasFed check.new (bytes ++ piece.now) }
     ensures goes { (bytes : List ℕ) → HasFed check.old bytes → OnOk result (GoesOn check.new (bytes ++ piece.now)) }
@@ -58,7 +58,7 @@ fn check_piece(alloc: Global, check: &mut DbReader, piece: &[u8]) -> Result<(), 
     Err(fault)
 }
 
-/// Reads a text in pieces, as `moo check` does and for its refused programs.
+/// Reads a text in pieces, both for `moo check` and for its refused programs.
 #[derive(Drop)]
 pub(crate) struct Readers {
     check: DbReader,
@@ -75,7 +75,7 @@ impl Readers {
         }
     }
 
-    /// Takes the next piece of the text.
+    /// Takes the next piece of the text. Returns the reason to stop, if there is one.
     fn feed(&mut self, alloc: Global, piece: &[u8]) -> Result<(), Halt>
         ensures goes { (bytes : List ℕ) → HaveFed self.old bytes → OnOk result (HaveFed self.new (bytes ++ piece.now)) }
         ensures stops { (bytes : List ℕ) → HaveFed self.old bytes → IfErr result (IsHalted (bytes ++ piece.now) self.new.survey.faults.items) }
@@ -107,7 +107,7 @@ impl Readers {
         }
     }
 
-    /// What is answered where this ended the reading.
+    /// Returns the answer after the reading stopped for this reason.
     fn halted(self, halt: Halt) -> Answer
         ensures { (front more : List ℕ) → IsHalted front self.survey.faults.items halt → Answers result (front ++ more) }
     {
@@ -118,7 +118,7 @@ impl Readers {
     }
 }
 
-/// What is answered of all that the input still gives.
+/// Returns the answer for the rest of the input. Returns a refusal if the input fails or memory runs out.
 pub(crate) fn survey<I: Read>(
     alloc: Global,
     input: &mut I,
@@ -137,7 +137,7 @@ pub(crate) fn survey<I: Read>(
     }
 }
 
-// Feeds the readers all that the input still gives, or up to where nothing more is to be read.
+// Feeds the readers the rest of the input, or the input up to a reason to stop.
 fn feed_all<I: Read>(
     alloc: Global,
     input: &mut I,

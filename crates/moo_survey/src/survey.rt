@@ -15,7 +15,7 @@ use moo_dbrecord::{DbFault, DbFaultKind, DbReader, RecordFault, first_line};
 use moo_syntax::{Names, parse};
 use std::alloc::Global;
 
-/// Takes a line with its end, and tells the verb whose program it ends.
+/// Takes a line with its end. Returns the object and verb whose program the line ends, if it ends one.
 fn take_line(
     alloc: Global,
     records: &mut DbReader,
@@ -35,7 +35,7 @@ fn take_line(
     }
 }
 
-/// Why the source of a verb, whose dot has come, is no program.
+/// Returns the fault of the source of a verb whose dot has come, or `None` if the source is a program.
 fn source_fault(alloc: Global, records: &DbReader, object: u32, verb: u32) -> Option<DbFault>
     ensures none { IfNone result ((source : List Line) → entry_at (sources_at records.now) object verb ≡ Some source → (b : Block) × IsParsed Any source b) }
     ensures some { IfSome result (λ e. (source : List Line) → entry_at (sources_at records.now) object verb ≡ Some source → IsSourceRefused (taken_of records.now).lines object verb source e) }
@@ -51,7 +51,7 @@ fn source_fault(alloc: Global, records: &DbReader, object: u32, verb: u32) -> Op
     })
 }
 
-/// Reads a text in pieces, looks at each program at the dot that ends it, and notes those that are refused.
+/// Reads a text in pieces, parses each program at the dot that ends it, and collects those that are refused.
 #[derive(Drop)]
 pub(crate) struct Survey {
     records: DbReader,
@@ -59,7 +59,7 @@ pub(crate) struct Survey {
 }
 
 impl Survey {
-    /// A reader before the first byte.
+    /// Returns a reader that expects the first byte.
     pub(crate) fn new(alloc: Global) -> Survey
         ensures { IsBehind result [] }
     {
@@ -69,7 +69,7 @@ impl Survey {
         }
     }
 
-    /// Looks at the program of a verb, whose dot has come, and drops its lines.
+    /// Checks the program of a verb whose dot has come, and drops its lines.
     fn note(&mut self, alloc: Global, object: u32, verb: u32) -> Result<(), DbFault>
         ensures noted { OnOk result ((source : List Line) → entry_at (sources_at self.old.records) object verb ≡ Some source → IsNoted self.old.faults.items self.new.faults.items (taken_of self.old.records).lines object verb source) }
         ensures memory { IfErr result (λ e. e.kind ≡ DbFaultKind.Memory) }
@@ -128,14 +128,14 @@ impl Survey {
         self.part(alloc, more)
     }
 
-    /// The refused programs so far.
+    /// Returns the refused programs so far.
     pub(crate) fn into_faults(self) -> Vec<DbFault>
         ensures { result ≡ self.faults }
     {
         self.faults
     }
 
-    /// The refused programs of the whole text, once all of it has been fed, and the line at fault that ends it.
+    /// Returns the refused programs, once the whole text has been fed, and the fault of a line that ends them.
     pub(crate) fn finish(self) -> (Vec<DbFault>, Option<DbFault>)
         ensures { (bytes : List ℕ) → IsBehind self bytes → IsWholly bytes result.0.items result.1 }
     {

@@ -1,4 +1,4 @@
-//! What is told of all that is refused.
+//! The report of all that is refused.
 ghost use Rattle.std.specs.Prelude.{◌≡◌, ◌++◌, codes, length, IfOk, OnOk};
 ghost use Rattle.std.specs.Fmt.{decimal};
 ghost use Rattle.std.specs.List.{flat_map};
@@ -10,7 +10,8 @@ use moo_load::DbFault;
 use moo_report::fault_line;
 use std::alloc::{AllocError, Global};
 
-/// A line for each refused program, and then how many they are, or the line of the fault that ends them.
+/// Returns a line for each refused program, and then their number, or the line of the fault that ends them. Fails
+/// only if memory runs out.
 pub(crate) fn survey_text(
     alloc: Global,
     faults: &[DbFault],

@@ -187,7 +187,7 @@ all_listed line from at words listing over =
     let none : drop at line ≡ [] = drop_all at line over in
     rw (← append-nil words) (listing.lists [] (rw none no_more))
 
--- a word that begins where the blanks end
+-- a word that begins at the end of the blanks
 pub word_starts : (line : List ℕ) (at : ℕ) → drop at line ≡ unindented line → at < length line → BeginsWord (unindented line)
 word_starts line at is inside =
     subst BeginsWord is (rw (drop_more line at 0 inside) (begins (no_blank_at line line at is inside)))

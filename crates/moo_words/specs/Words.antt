@@ -10,13 +10,13 @@ quote = 34
 abbrev pub backslash : ℕ
 backslash = 92
 
--- a byte that stands for itself: none with a meaning of its own, and outside a group no blank
+-- a byte that means itself: none with a meaning of its own, and outside a group no blank
 pub record IsPlain (grouped : Bool) (b : ℕ) : Type 0 where
   pub no_quote : b ≢ quote
   pub no_backslash : b ≢ backslash
   pub no_blank : grouped ≡ false → b ≢ blank
 
--- the text `ts` goes on a word by the bytes `w`, inside a group or outside, and `r` comes behind the word
+-- the text `ts` goes on a word by the bytes `w`, inside a group or outside, and `r` comes after the word
 pub data Word : Bool → List ℕ → List ℕ → List ℕ → Type 0 where
   -- the line's end ends a word, and an open group with it
   ends : {g : Bool} → Word g [] [] []
@@ -26,9 +26,9 @@ pub data Word : Bool → List ℕ → List ℕ → List ℕ → Type 0 where
   quotes : {g : Bool} {b : ℕ} {ts w r : List ℕ} → b ≡ quote → Word (not g) ts w r → Word g (b ∷ ts) w r
   -- a backslash takes the next byte, whatever it is
   escapes : {g : Bool} {b c : ℕ} {ts w r : List ℕ} → b ≡ backslash → Word g ts w r → Word g (b ∷ c ∷ ts) (c ∷ w) r
-  -- at the line's end it stands for nothing
+  -- at the line's end it means nothing
   escapes_nothing : {g : Bool} {b : ℕ} → b ≡ backslash → Word g (b ∷ []) [] []
-  -- every other byte stands for itself
+  -- every other byte means itself
   plain : {g : Bool} {b : ℕ} {ts w r : List ℕ} → IsPlain g b → Word g ts w r → Word g (b ∷ ts) (b ∷ w) r
 
 -- a text that begins a word

@@ -1,4 +1,4 @@
-//! Laws of words.
+//! Laws on words.
 ghost use Rattle.std.specs.Prelude.{◌≡◌, ◌≤◌, ◌+◌, ℕ, List, length, map};
 ghost use Rattle.moo_value.specs.Tree.{string};
 ghost use Rattle.moo_value.specs.Size.{list_weight};
@@ -10,7 +10,7 @@ pub fn one_reading()
     ensures { (line : List ℕ) (ws vs : List (List ℕ)) → Words line ws → Words line vs → ws ≡ vs }
 {}
 
-/// In a line at most one first word, one rest and one list of words are typed.
+/// A line has at most one first word, one rest and one list of the words in the rest.
 pub fn one_typed()
     ensures { (line verb other rest instead : List ℕ) (args words : List (List ℕ)) →
         IsTyped line verb rest args → IsTyped line other instead words → (verb ≡ other) × (rest ≡ instead) × (args ≡ words) }

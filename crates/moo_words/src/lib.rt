@@ -1,5 +1,5 @@
-//! The words of a line, and what is typed in it: the first word and the rest.
-//! A room behind `moo_command`.
+//! The words of a line, and its division into the first word and the rest.
+//! An internal crate of `moo_command`.
 #![tactic(auto)]
 
 pub mod laws;

@@ -1,4 +1,4 @@
-//! The words of a line, one after another.
+//! A reader of the words of a line.
 ghost use Rattle.std.specs.Prelude.{◌≡◌, ◌≢◌, ◌≤◌, ◌<◌, ℕ, length, drop, slice_index, IfOk, OnOk, false};
 ghost use Rattle.moo_value.specs.Size.{IsString};
 ghost use Rattle.moo_words.specs.Words.{Word, Words};
@@ -15,14 +15,14 @@ const QUOTE: u8 = b'"';
 
 const BACKSLASH: u8 = b'\\';
 
-/// The words of a line of any length, as `docs/COMMANDS.md` says under "Words". `Err` where memory is wanting.
+/// Returns the words of a line of any length (docs/COMMANDS.md, "Words"). Fails only if memory runs out.
 pub fn words(alloc: Global, line: &MooStr) -> Result<Vec<MooStr>, AllocError>
     ensures { IfOk result (λ words. Words line.now words.items) }
 {
     read_words(alloc, line.as_bytes(), 0)
 }
 
-/// The words of a line from a place on.
+/// Returns the words of a line from offset `from` on.
 pub(crate) fn read_words(alloc: Global, line: &[u8], from: usize) -> Result<Vec<MooStr>, AllocError>
     requires string { IsString line.now }
     requires inside { from ≤ length line.now }
@@ -38,7 +38,7 @@ pub(crate) fn read_words(alloc: Global, line: &[u8], from: usize) -> Result<Vec<
     Ok(words)
 }
 
-/// The first place from here on that holds no blank, or the line's end.
+/// Returns the first offset from `from` on that holds no blank, or the line's length.
 pub fn skip_blanks(line: &[u8], from: usize) -> usize
     requires { from ≤ length line.now }
     ensures from { from ≤ result }
@@ -52,7 +52,7 @@ pub fn skip_blanks(line: &[u8], from: usize) -> usize
     at
 }
 
-/// The word that begins at a place, and the place behind it.
+/// Reads the word that begins at `at`, and returns it with the offset after it.
 pub(crate) fn read_word(
     alloc: Global,
     line: &[u8],
@@ -84,7 +84,7 @@ pub(crate) fn read_word(
     Ok((word, behind))
 }
 
-/// Whether a byte stands in the word, rather than ends it.
+/// Returns whether a byte is part of the word, rather than its end.
 fn goes_on(grouped: bool, byte: u8) -> bool
     ensures { result ≡ goes_on grouped byte }
 {

@@ -1,11 +1,11 @@
-//! Strings of bytes that are known to be allowed.
+//! Strings made of bytes that are allowed in strings.
 ghost use Rattle.std.specs.Prelude.{◌≡◌, IfOk};
 ghost use Rattle.moo_value.specs.Size.{IsString};
 
 use moo_value::{MooStr, ValueFault};
 use std::alloc::{AllocError, Global};
 
-/// The string of bytes that are one. `Err` where memory is wanting.
+/// Returns the string of these bytes, all of which are allowed. Fails only if memory runs out.
 pub fn string_of(alloc: Global, bytes: Vec<u8>) -> Result<MooStr, AllocError>
     requires { IsString bytes.items }
     ensures { IfOk result (λ string. string ≡ bytes.items) }

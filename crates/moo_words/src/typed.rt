@@ -1,4 +1,4 @@
-//! What is typed in a line: its first word, the rest as it stands there, and the words of the rest.
+//! The first word of a line, the rest as it was typed, and the words of the rest.
 ghost use Rattle.std.specs.Prelude.{◌≡◌, ◌≤◌, IfOk, IfSome, IfNone, [], drop, length};
 ghost use Rattle.moo_words.specs.Words.{Words};
 ghost use Rattle.moo_words.specs.Typed.{IsTyped, unindented};
@@ -7,7 +7,7 @@ use crate::reading::{read_word, read_words, skip_blanks};
 use moo_value::MooStr;
 use std::alloc::{AllocError, Global};
 
-/// The first word of a line, the rest as it is typed, and its words.
+/// The first word of a line, the rest as it was typed, and the words of the rest.
 #[derive(Drop)]
 pub struct Typed {
     pub verb: MooStr,
@@ -15,7 +15,8 @@ pub struct Typed {
     pub args: Vec<MooStr>,
 }
 
-/// What is typed in a line of any length, or `None` where it has no word. `Err` where memory is wanting.
+/// Splits a line of any length into its first word and the rest. Returns `None` if it has no word. Fails only if
+/// memory runs out.
 pub fn read_typed(alloc: Global, line: &MooStr) -> Result<Option<Typed>, AllocError>
     ensures some { IfOk result (λ typed. IfSome typed (λ t. IsTyped line.now t.verb t.rest t.args.items)) }
     ensures none { IfOk result (λ typed. IfNone typed (Words line.now [])) }
@@ -30,7 +31,7 @@ pub fn read_typed(alloc: Global, line: &MooStr) -> Result<Option<Typed>, AllocEr
     Ok(Some(typed))
 }
 
-/// What is typed in a line behind a place, after this verb. `Err` where memory is wanting.
+/// Splits the line from offset `behind` on, after this verb. Fails only if memory runs out.
 pub fn typed_behind(
     alloc: Global,
     verb: MooStr,

@@ -2,15 +2,13 @@
 #![tactic(auto)]
 
 use clap::error::ErrorKind;
-use moo_answer::run_expr;
-use moo_command_line::{Service, Work, read_words};
-use moo_database::{run_check, run_copy};
-use moo_device::{Device, open, tell};
-use moo_report::Refusal;
-use moo_script::run_script;
-use moo_serve::{Served, run_serve};
+use moo_cli_args::{Service, Work, read_words};
+use moo_cli_check::{run_check, run_check_all, run_copy};
+use moo_cli_expr::run_expr;
+use moo_cli_io::{Device, Refusal, log_error, open};
+use moo_cli_script::run_script;
+use moo_cli_serve::{Served, run_serve};
 use moo_server::LiveWorld;
-use moo_survey::run_check_all;
 use std::io::BufReader;
 use std::process::ExitCode;
 use std::{env, io};
@@ -41,7 +39,7 @@ fn run(rt: &HostRuntime) -> io::Result<u8> {
         }
         Err(error) => {
             if let Err(reason) = error.print(rt) {
-                tell(rt, OUTPUT, &reason);
+                log_error(rt, OUTPUT, &reason);
                 return Err(reason);
             }
             Ok(if error.use_stderr() { USAGE } else { 0 })

@@ -6,22 +6,22 @@ use Rattle.moo_value.specs.declared.error_code.ErrorCode.TheVariants.{InvalidArg
 use Rattle.moo_value.specs.declared.value.Value.{Value}
 use Rattle.moo_value.specs.Tree.{Tree}
 use Rattle.moo_value.specs.View.{tree}
-use Rattle.moo_operation.specs.declared.fault.OperationFault.{OperationFault}
-use Rattle.moo_operation.specs.declared.fault.OperationFault.TheVariants.{Raise, Memory}
-use Rattle.moo_function.specs.declared.function.Function.{Function}
-use Rattle.moo_function.specs.Table.{row}
-use Rattle.moo_function.specs.Names.{function_of}
-use Rattle.moo_function.specs.Check.{refusal}
-use Rattle.moo_value_function.specs.declared.call.Outcome.{Outcome}
-use Rattle.moo_value_function.specs.declared.call.Outcome.TheVariants as outcome
-use Rattle.moo_value_function.specs.Calls.{Raised, plainly, answer, Shows, Raises, Tells}
-use Rattle.moo_table.specs.World.{World}
-use Rattle.moo_world_function.specs.Answers.{Does, DoesSome}
-use Rattle.moo_world_function.specs.Objects.{is_valid}
-use Rattle.moo_world_function.specs.Calls.{is_of_world, answer as objects_answer, world_answer}
-use Rattle.moo_code_function.specs.Telling.{Telling}
-use Rattle.moo_code_function.specs.Answers.{Outcomes, Comes, ComesSome}
-use Rattle.moo_code_function.specs.Calls.{is_of_code, Answers}
+use Rattle.moo_builtin_operator.specs.declared.fault.OperationFault.{OperationFault}
+use Rattle.moo_builtin_operator.specs.declared.fault.OperationFault.TheVariants.{Raise, Memory}
+use Rattle.moo_syntax_function.specs.declared.function.Function.{Function}
+use Rattle.moo_syntax_function.specs.Table.{row}
+use Rattle.moo_syntax_function.specs.Names.{function_of}
+use Rattle.moo_syntax_function.specs.Check.{refusal}
+use Rattle.moo_builtin_value.specs.declared.call.Outcome.{Outcome}
+use Rattle.moo_builtin_value.specs.declared.call.Outcome.TheVariants as outcome
+use Rattle.moo_builtin_value.specs.Calls.{Raised, plainly, answer, Shows, Raises, Tells}
+use Rattle.moo_world_table.specs.World.{World}
+use Rattle.moo_builtin_world.specs.Answers.{Does, DoesSome}
+use Rattle.moo_builtin_world.specs.Objects.{is_valid}
+use Rattle.moo_builtin_world.specs.Calls.{is_of_world, answer as objects_answer, world_answer}
+use Rattle.moo_builtin.specs.Telling.{Telling}
+use Rattle.moo_builtin.specs.Answers.{Outcomes, Comes, ComesSome}
+use Rattle.moo_builtin.specs.CodeCalls.{is_of_code, Answers}
 use Rattle.moo_builtin.specs.declared.call.Caller.{Caller}
 use Rattle.moo_builtin.specs.Calls.{Field, values, objects, code, field, raising, Leaves, given, Follows, CallsPlain, unknown, refused, follows}
 use Rattle.moo_builtin.specs.Outcomes.{Replies, IsReply, Unless}

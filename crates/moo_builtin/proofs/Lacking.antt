@@ -3,18 +3,18 @@ use Rattle.std.proofs.Common.{inl, inr, ◌≡◌, List, true, false, Some, Resu
 use Rattle.moo_value.specs.declared.error_code.ErrorCode.{ErrorCode}
 use Rattle.moo_value.specs.declared.value.Value.{Value}
 use Rattle.moo_value.specs.Tree.{Tree}
-use Rattle.moo_operation.specs.declared.fault.OperationFault.{OperationFault}
-use Rattle.moo_operation.specs.declared.fault.OperationFault.TheVariants.{Raise, Memory}
-use Rattle.moo_function.specs.declared.function.Function.{Function}
-use Rattle.moo_value_function.specs.declared.call.Outcome.{Outcome}
-use Rattle.moo_value_function.specs.declared.call.Outcome.TheVariants as outcome
-use Rattle.moo_value_function.specs.Calls.{answer, Shows, Tells}
-use Rattle.moo_table.specs.World.{World}
-use Rattle.moo_world_function.specs.Answers.{Does, DoesSome, LacksOnly as AnswerLacksOnly, LacksOnlySome}
-use Rattle.moo_world_function.specs.Calls.{is_of_world, answer as objects_answer, world_answer, MayLack as WorldMayLack}
-use Rattle.moo_code_function.specs.Telling.{Faults}
-use Rattle.moo_code_function.specs.Answers.{Comes, ComesSome}
-use Rattle.moo_code_function.specs.Calls.{is_of_code, Answers, MayLack as CodeMayLack}
+use Rattle.moo_builtin_operator.specs.declared.fault.OperationFault.{OperationFault}
+use Rattle.moo_builtin_operator.specs.declared.fault.OperationFault.TheVariants.{Raise, Memory}
+use Rattle.moo_syntax_function.specs.declared.function.Function.{Function}
+use Rattle.moo_builtin_value.specs.declared.call.Outcome.{Outcome}
+use Rattle.moo_builtin_value.specs.declared.call.Outcome.TheVariants as outcome
+use Rattle.moo_builtin_value.specs.Calls.{answer, Shows, Tells}
+use Rattle.moo_world_table.specs.World.{World}
+use Rattle.moo_builtin_world.specs.Answers.{Does, DoesSome, LacksOnly as AnswerLacksOnly, LacksOnlySome}
+use Rattle.moo_builtin_world.specs.Calls.{is_of_world, answer as objects_answer, world_answer, MayLack as WorldMayLack}
+use Rattle.moo_builtin.specs.Telling.{Faults}
+use Rattle.moo_builtin.specs.Answers.{Comes, ComesSome}
+use Rattle.moo_builtin.specs.CodeCalls.{is_of_code, Answers, MayLack as CodeMayLack}
 use Rattle.moo_builtin.specs.declared.call.Caller.{Caller}
 use Rattle.moo_builtin.specs.Calls.{Field, objects, code, field, given}
 use Rattle.moo_builtin.specs.Lacking.{RaisesOr, CodeRaisesOr, AnswerMayLack, LacksOnly}

@@ -2,18 +2,18 @@
 use Rattle.std.proofs.Common.{◌≡◌, ℕ, ℤ, List, [], ◌∷◌, Option, None, Some, Result, Ok, Err, refl, sym, ap, ◌∙◌, subst}
 use Rattle.moo_value.specs.declared.error_code.ErrorCode.{ErrorCode}
 use Rattle.moo_value.specs.Tree.{Tree, object}
-use Rattle.moo_function.specs.declared.function.Function.{Function}
-use Rattle.moo_function.specs.declared.function.Function.TheVariants.{VerbCode, SetVerbCode}
+use Rattle.moo_syntax_function.specs.declared.function.Function.{Function}
+use Rattle.moo_syntax_function.specs.declared.function.Function.TheVariants.{VerbCode, SetVerbCode}
 use Rattle.moo_syntax.specs.declared.syntax_fault.SyntaxFault.{SyntaxFault}
-use Rattle.moo_value_function.specs.Calls.{Raised}
-use Rattle.moo_table.specs.World.{World}
-use Rattle.moo_world_function.specs.Calls.{answer as world_answer}
-use Rattle.moo_code_function.specs.Telling.{Telling, Faults, Choice, PassesPrograms, chosen_by}
-use Rattle.moo_code_function.specs.Answers.{Outcomes, Then}
-use Rattle.moo_code_function.specs.Setting.{verb_to_set, given_lines, IsSet, SetsText}
-use Rattle.moo_code_function.specs.Calls.{Answers}
-use Rattle.moo_code_function.proofs.Once.{Once, sets_once, only_once}
-pub use Rattle.moo_code_function.proofs.Once.{TellsOne}
+use Rattle.moo_builtin_value.specs.Calls.{Raised}
+use Rattle.moo_world_table.specs.World.{World}
+use Rattle.moo_builtin_world.specs.Calls.{answer as world_answer}
+use Rattle.moo_builtin.specs.Telling.{Telling, Faults, Choice, PassesPrograms, chosen_by}
+use Rattle.moo_builtin.specs.Answers.{Outcomes, Then}
+use Rattle.moo_builtin.specs.Setting.{verb_to_set, given_lines, IsSet, SetsText}
+use Rattle.moo_builtin.specs.CodeCalls.{Answers}
+use Rattle.moo_builtin.proofs.CodeOnce.{Once, sets_once, only_once}
+pub use Rattle.moo_builtin.proofs.CodeOnce.{TellsOne}
 use Rattle.moo_builtin.specs.declared.call.Caller.{Caller}
 use Rattle.moo_builtin.specs.Calls.{Field, values, objects, code, field, raising, Leaves, IsOf, Follows, CallsPlain, unknown, refused, follows}
 use Rattle.moo_builtin.specs.Laws.{OneResult, RaisesChangeNothing}

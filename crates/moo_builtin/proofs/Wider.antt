@@ -1,14 +1,14 @@
 -- The result of a call stays possible if more faults may be reported for texts.
 use Rattle.std.proofs.Common.{ℕ, ℤ, List, Result}
 use Rattle.moo_value.specs.Tree.{Tree}
-use Rattle.moo_function.specs.declared.function.Function.{Function}
-use Rattle.moo_function.specs.declared.function.Function.TheVariants.{VerbCode, SetVerbCode}
-use Rattle.moo_value_function.specs.Calls.{Raised}
-use Rattle.moo_table.specs.World.{World}
-use Rattle.moo_code_function.specs.Telling.{Telling}
-use Rattle.moo_code_function.specs.Calls.{Answers}
-use Rattle.moo_code_function.proofs.Wider.{Includes, sets_wider}
-pub use Rattle.moo_code_function.proofs.Wider.{Wider}
+use Rattle.moo_syntax_function.specs.declared.function.Function.{Function}
+use Rattle.moo_syntax_function.specs.declared.function.Function.TheVariants.{VerbCode, SetVerbCode}
+use Rattle.moo_builtin_value.specs.Calls.{Raised}
+use Rattle.moo_world_table.specs.World.{World}
+use Rattle.moo_builtin.specs.Telling.{Telling}
+use Rattle.moo_builtin.specs.CodeCalls.{Answers}
+use Rattle.moo_builtin.proofs.CodeWider.{Includes, sets_wider}
+pub use Rattle.moo_builtin.proofs.CodeWider.{Wider}
 use Rattle.moo_builtin.specs.declared.call.Caller.{Caller}
 use Rattle.moo_builtin.specs.Calls.{Field, values, objects, code, field, Follows, CallsPlain, unknown, refused, follows}
 

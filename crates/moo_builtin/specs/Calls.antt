@@ -3,17 +3,17 @@ use Rattle.std.specs.Prelude.{◌≡◌, ℕ, List, Bool, if◌then◌else◌, O
 use Rattle.moo_value.specs.declared.error_code.ErrorCode.{ErrorCode}
 use Rattle.moo_value.specs.declared.error_code.ErrorCode.TheVariants.{InvalidArgument}
 use Rattle.moo_value.specs.Tree.{Tree}
-use Rattle.moo_function.specs.declared.function.Function.{Function}
-use Rattle.moo_function.specs.Table.{row}
-use Rattle.moo_function.specs.Names.{function_of}
-use Rattle.moo_function.specs.Check.{refusal}
-use Rattle.moo_value_function.specs.Calls.{Raised, plainly, answer}
-use Rattle.moo_table.specs.World.{World}
-use Rattle.moo_world_function.specs.Objects.{is_valid}
-use Rattle.moo_world_function.specs.Calls.{is_of_world, answer as world_answer}
-use Rattle.moo_code_function.specs.Telling.{Telling}
-use Rattle.moo_code_function.specs.Answers.{Outcomes}
-use Rattle.moo_code_function.specs.Calls.{is_of_code, Answers}
+use Rattle.moo_syntax_function.specs.declared.function.Function.{Function}
+use Rattle.moo_syntax_function.specs.Table.{row}
+use Rattle.moo_syntax_function.specs.Names.{function_of}
+use Rattle.moo_syntax_function.specs.Check.{refusal}
+use Rattle.moo_builtin_value.specs.Calls.{Raised, plainly, answer}
+use Rattle.moo_world_table.specs.World.{World}
+use Rattle.moo_builtin_world.specs.Objects.{is_valid}
+use Rattle.moo_builtin_world.specs.Calls.{is_of_world, answer as world_answer}
+use Rattle.moo_builtin.specs.Telling.{Telling}
+use Rattle.moo_builtin.specs.Answers.{Outcomes}
+use Rattle.moo_builtin.specs.CodeCalls.{is_of_code, Answers}
 use Rattle.moo_builtin.specs.declared.call.Caller.{Caller}
 
 -- what a function reads besides its arguments: nothing, the objects of the world, or the code of a verb

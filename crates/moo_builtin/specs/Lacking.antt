@@ -2,17 +2,17 @@
 use Rattle.std.specs.Prelude.{◌≡◌, ◌⊎◌, List, Option, None, Some, Result, Ok, Err, ⊤}
 use Rattle.moo_value.specs.declared.error_code.ErrorCode.{ErrorCode}
 use Rattle.moo_value.specs.Tree.{Tree}
-use Rattle.moo_function.specs.declared.function.Function.{Function}
-use Rattle.moo_function.specs.Table.{row}
-use Rattle.moo_function.specs.Check.{refusal}
-use Rattle.moo_value_function.specs.Calls.{answer, CallMayLack as ValueMayLack}
-use Rattle.moo_value_function.specs.declared.call.Outcome.{Outcome}
-use Rattle.moo_value_function.specs.declared.call.Outcome.TheVariants as outcome
-use Rattle.moo_table.specs.World.{World}
-use Rattle.moo_world_function.specs.Objects.{is_valid}
-use Rattle.moo_world_function.specs.Calls.{answer as world_answer, MayLack as WorldMayLack}
-use Rattle.moo_code_function.specs.Telling.{Faults}
-use Rattle.moo_code_function.specs.Calls.{Answers, MayLack as CodeMayLack}
+use Rattle.moo_syntax_function.specs.declared.function.Function.{Function}
+use Rattle.moo_syntax_function.specs.Table.{row}
+use Rattle.moo_syntax_function.specs.Check.{refusal}
+use Rattle.moo_builtin_value.specs.Calls.{answer, CallMayLack as ValueMayLack}
+use Rattle.moo_builtin_value.specs.declared.call.Outcome.{Outcome}
+use Rattle.moo_builtin_value.specs.declared.call.Outcome.TheVariants as outcome
+use Rattle.moo_world_table.specs.World.{World}
+use Rattle.moo_builtin_world.specs.Objects.{is_valid}
+use Rattle.moo_builtin_world.specs.Calls.{answer as world_answer, MayLack as WorldMayLack}
+use Rattle.moo_builtin.specs.Telling.{Faults}
+use Rattle.moo_builtin.specs.CodeCalls.{Answers, MayLack as CodeMayLack}
 use Rattle.moo_builtin.specs.declared.call.Caller.{Caller}
 use Rattle.moo_builtin.specs.Calls.{Field, values, objects, code, field, given}
 

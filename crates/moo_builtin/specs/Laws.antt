@@ -1,9 +1,9 @@
 -- What plain calls keep to.
 use Rattle.std.specs.Prelude.{◌≡◌, ℕ, List, Result, Err}
 use Rattle.moo_value.specs.Tree.{Tree}
-use Rattle.moo_value_function.specs.Calls.{Raised}
-use Rattle.moo_table.specs.World.{World}
-use Rattle.moo_code_function.specs.Telling.{Faults, Choice, PassesPrograms, chosen_by}
+use Rattle.moo_builtin_value.specs.Calls.{Raised}
+use Rattle.moo_world_table.specs.World.{World}
+use Rattle.moo_builtin.specs.Telling.{Faults, Choice, PassesPrograms, chosen_by}
 use Rattle.moo_builtin.specs.declared.call.Caller.{Caller}
 use Rattle.moo_builtin.specs.Calls.{CallsPlain}
 

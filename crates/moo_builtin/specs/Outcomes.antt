@@ -3,10 +3,10 @@ use Rattle.std.specs.Prelude.{◌≡◌, Option, None, Some, Result, Ok, Err}
 use Rattle.moo_value.specs.declared.error_code.ErrorCode.{ErrorCode}
 use Rattle.moo_value.specs.Tree.{Tree}
 use Rattle.moo_value.specs.View.{tree}
-use Rattle.moo_value_function.specs.declared.call.Outcome.{Outcome}
-use Rattle.moo_value_function.specs.declared.call.Outcome.TheVariants as outcome
-use Rattle.moo_value_function.specs.Calls.{Raised, plainly}
-use Rattle.moo_table.specs.World.{World}
+use Rattle.moo_builtin_value.specs.declared.call.Outcome.{Outcome}
+use Rattle.moo_builtin_value.specs.declared.call.Outcome.TheVariants as outcome
+use Rattle.moo_builtin_value.specs.Calls.{Raised, plainly}
+use Rattle.moo_world_table.specs.World.{World}
 
 -- what a call may result in: a result or an error, and the world after it
 abbrev pub Replies : Type 1

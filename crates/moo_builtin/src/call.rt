@@ -1,19 +1,19 @@
 //! Calls plain functions.
 ghost use Rattle.std.specs.Prelude.{◌≡◌, ℕ, List, None, Some};
 ghost use Rattle.moo_value.specs.View.{trees};
-ghost use Rattle.moo_value_function.specs.Calls.{answer, Shows};
-ghost use Rattle.moo_function.specs.Names.{function_of};
-ghost use Rattle.moo_code_function.specs.Telling.{Faults};
+ghost use Rattle.moo_builtin_value.specs.Calls.{answer, Shows};
+ghost use Rattle.moo_syntax_function.specs.Names.{function_of};
+ghost use Rattle.moo_builtin.specs.Telling.{Faults};
 ghost use Rattle.moo_builtin.specs.Calls.{field, given, Follows, CallsPlain};
 ghost use Rattle.moo_builtin.specs.Outcomes.{IsReply, Unless};
 ghost use Rattle.moo_builtin.specs.Lacking.{AnswerMayLack, CallMayLack, LacksOnly};
 
-use moo_code_function::call_code;
-use moo_function::Function;
+use crate::call_code;
+use moo_builtin_value::{Outcome, answer, raised, settled};
+use moo_builtin_world::{call_world, refusal};
+use moo_syntax_function::Function;
 use moo_value::{ErrorCode, MooStr, Value};
-use moo_value_function::{Outcome, answer, raised, settled};
 use moo_world::World;
-use moo_world_function::{call_world, refusal};
 use std::alloc::Global;
 
 /// The programmer for whom a call is made, and the moment, in seconds since 1970.

@@ -1,8 +1,15 @@
 //! The plain built-in functions: those that call no verb, leave no notice, and read no frame, tick or connection.
 #![tactic(auto)]
 
+mod answers;
 mod call;
+mod code_call;
 pub mod laws;
+mod listing;
+mod setting;
 
 pub use call::{Caller, call_found, call_plain};
-pub use moo_value_function::Outcome;
+pub use code_call::call_code;
+pub use listing::verb_code;
+pub use moo_builtin_value::Outcome;
+pub use setting::{is_programmer, told_fault};

@@ -3,9 +3,9 @@ use Rattle.std.proofs.Common.{◌≡◌, ℕ, ℤ, suc, ◌<◌, List, Option, S
 use Rattle.std.specs.List.{filter_map, position, cons_option}
 use Rattle.std.specs.Option.{option_map, unwrap_or}
 use Rattle.std.proofs.lemmas.List.{get_or_read}
-use Rattle.moo_forest.specs.Forest.{Links, climb, above_of}
-use Rattle.moo_object.specs.Objects.{Object}
-use Rattle.moo_table.specs.World.{nothing}
+use Rattle.moo_world_tree.specs.Forest.{Links, climb, above_of}
+use Rattle.moo_world_object.specs.Objects.{Object}
+use Rattle.moo_world_table.specs.World.{nothing}
 use Rattle.moo_command.specs.Commands.{Command}
 use Rattle.moo_command.specs.Choice.{is_meant, meant_in}
 

@@ -5,3 +5,6 @@ pub mod Joining
 pub mod Signs
 pub mod OneCommand
 pub mod Choosing
+pub mod Going
+pub mod OneReading
+pub mod Light

@@ -11,12 +11,12 @@ use Rattle.std.proofs.lemmas.List.Elements.{filter-append}
 use Rattle.moo_value.specs.Tree.{Tree, Elements, integer, object, error, string, list, elements_of, trees_of}
 use Rattle.moo_value.specs.TreeCode.{trees_of-elements_of}
 use Rattle.moo_value.specs.Compare.{folded}
-use Rattle.moo_object.specs.Names.{same_name}
-use Rattle.moo_object.specs.Patterns.{begins}
-use Rattle.moo_object.specs.Objects.{Object}
-use Rattle.moo_forest.specs.Forest.{Links, climb, ancestors, alone}
-use Rattle.moo_table.specs.World.{World, IsWellFormed, object_of, nothing, definitions, keys_along}
-use Rattle.moo_table.specs.Properties.{read, values_above}
+use Rattle.moo_world_object.specs.Names.{same_name}
+use Rattle.moo_world_object.specs.Patterns.{begins}
+use Rattle.moo_world_object.specs.Objects.{Object}
+use Rattle.moo_world_tree.specs.Forest.{Links, climb, ancestors, alone}
+use Rattle.moo_world_table.specs.World.{World, IsWellFormed, object_of, nothing, definitions, keys_along}
+use Rattle.moo_world_table.specs.Properties.{read, values_above}
 use Rattle.moo_world.specs.Calls.{number_of}
 use Rattle.moo_command.specs.declared.named.Found.{Found}
 use Rattle.moo_command.specs.declared.named.Found.TheVariants.{Nothing, One, Several}

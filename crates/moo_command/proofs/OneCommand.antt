@@ -1,8 +1,8 @@
 -- A line has one command.
 use Rattle.std.proofs.Common.{◌≡◌, ℕ, ℤ, List, [], take, drop, slice_range, refl, sym, ap, ◌∙◌}
-use Rattle.moo_table.specs.World.{World}
-use Rattle.moo_words.specs.Typed.{IsTyped}
-use Rattle.moo_words.specs.Words.{Words}
+use Rattle.moo_world_table.specs.World.{World}
+use Rattle.moo_command.specs.FirstWord.{IsTyped}
+use Rattle.moo_command.specs.Words.{Words}
 use Rattle.moo_command.specs.Typed.{expanded}
 use Rattle.moo_command.specs.Prepositions.{Parts, Splits, joined, number_or_none}
 use Rattle.moo_command.specs.Objects.{matched}

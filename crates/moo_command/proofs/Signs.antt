@@ -4,8 +4,8 @@ use Rattle.std.specs.Prelude.{IfNone, IfSome}
 use Rattle.std.specs.Option.{option_map_or}
 use Rattle.std.proofs.lemmas.List.{drop_more}
 use Rattle.std.proofs.lemmas.Bool.{cases_Bool, cond-true, cond-false, eqb-true, eqb-false, ne_eqb, false≢true}
-use Rattle.moo_words.specs.Words.{blank, IsPlain, Word, blank_ends, plain, BeginsWord, begins, Words, no_more, after_blank, one_more}
-use Rattle.moo_words.specs.Typed.{IsTyped, unindented}
+use Rattle.moo_command.specs.Words.{blank, IsPlain, Word, blank_ends, plain, BeginsWord, begins, Words, no_more, after_blank, one_more}
+use Rattle.moo_command.specs.FirstWord.{IsTyped, unindented}
 use Rattle.moo_command.specs.Typed.{verb_of_sign, with_verb, expanded}
 use Rattle.moo_command.specs.Inner.{verb_leading}
 

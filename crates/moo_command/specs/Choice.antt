@@ -3,15 +3,15 @@ use Rattle.std.specs.Prelude.{ℕ, ℤ, negsuc, pos, Bool, true, ◌&&◌, ◌||
 use Rattle.std.specs.Option.{option_map, option_and_then}
 use Rattle.std.specs.List.{filter_map, position}
 use Rattle.std.specs.Ordering.{int_eq}
-use Rattle.moo_forest.specs.Forest.{ancestors}
-use Rattle.moo_object.specs.Objects.{Object}
-use Rattle.moo_object.specs.declared.verb.Verb.{Verb}
-use Rattle.moo_object.specs.declared.verb_args.ObjectSpecifier.{ObjectSpecifier}
-use Rattle.moo_object.specs.declared.verb_args.ObjectSpecifier.TheVariants as specifier
-use Rattle.moo_object.specs.declared.verb_args.PrepositionSpecifier.{PrepositionSpecifier}
-use Rattle.moo_object.specs.Numbers.{preposition_specifier_number}
-use Rattle.moo_object.specs.Patterns.{fits_names}
-use Rattle.moo_table.specs.World.{World, thing_of}
+use Rattle.moo_world_tree.specs.Forest.{ancestors}
+use Rattle.moo_world_object.specs.Objects.{Object}
+use Rattle.moo_world_object.specs.declared.verb.Verb.{Verb}
+use Rattle.moo_world_object.specs.declared.verb_args.ObjectSpecifier.{ObjectSpecifier}
+use Rattle.moo_world_object.specs.declared.verb_args.ObjectSpecifier.TheVariants as specifier
+use Rattle.moo_world_object.specs.declared.verb_args.PrepositionSpecifier.{PrepositionSpecifier}
+use Rattle.moo_world_object.specs.Numbers.{preposition_specifier_number}
+use Rattle.moo_world_object.specs.Patterns.{fits_names}
+use Rattle.moo_world_table.specs.World.{World, thing_of}
 use Rattle.moo_world.specs.Calls.{number_of}
 use Rattle.moo_world.specs.VerbCalls.{verb_place}
 use Rattle.moo_command.specs.declared.choice.Chosen.{Chosen}

@@ -1,8 +1,8 @@
 -- The command of a typed line.
 use Rattle.std.specs.Prelude.{◌≡◌, ℕ, ℤ, List, []}
-use Rattle.moo_table.specs.World.{World}
-use Rattle.moo_words.specs.Words.{Words}
-use Rattle.moo_words.specs.Typed.{IsTyped}
+use Rattle.moo_world_table.specs.World.{World}
+use Rattle.moo_command.specs.Words.{Words}
+use Rattle.moo_command.specs.FirstWord.{IsTyped}
 use Rattle.moo_command.specs.Typed.{expanded}
 use Rattle.moo_command.specs.Prepositions.{Parts, Splits, joined, number_or_none}
 use Rattle.moo_command.specs.Objects.{matched}

@@ -3,10 +3,10 @@ use Rattle.std.specs.Prelude.{ℕ, ◌+◌, ◌*◌, ◌-◌, ℤ, pos, Bool, tr
 use Rattle.std.specs.Ordering.{int_eq}
 use Rattle.moo_value.specs.Tree.{Tree, integer, object, error, string, list}
 use Rattle.moo_value.specs.Compare.{folded}
-use Rattle.moo_object.specs.Names.{same_name}
-use Rattle.moo_object.specs.Patterns.{begins}
-use Rattle.moo_object.specs.declared.verb_args.Preposition.{Preposition}
-use Rattle.moo_object.specs.declared.verb_args.Preposition.TheVariants.{With, At, InFrontOf, Inside, OnTopOf, OutOf, Over, Through, Under, Behind, Beside, About, Being, Like, Off}
+use Rattle.moo_world_object.specs.Names.{same_name}
+use Rattle.moo_world_object.specs.Patterns.{begins}
+use Rattle.moo_world_object.specs.declared.verb_args.Preposition.{Preposition}
+use Rattle.moo_world_object.specs.declared.verb_args.Preposition.TheVariants.{With, At, InFrontOf, Inside, OnTopOf, OutOf, Over, Through, Under, Behind, Beside, About, Being, Like, Off}
 use Rattle.moo_command.specs.declared.prepositions.Form.{Form}
 use Rattle.moo_command.specs.declared.splitting.Division.{Division}
 use Rattle.moo_command.specs.declared.named.Extent.{Extent}

@@ -5,3 +5,6 @@ pub mod Commands
 pub mod Choice
 pub mod Seen
 pub mod Inner
+pub mod Words
+pub mod FirstWord
+pub mod WordsInner

@@ -4,13 +4,13 @@ use Rattle.std.specs.Option.{option_map, option_map_or}
 use Rattle.std.specs.List.{list_any, list_all, filter_map}
 use Rattle.moo_value.specs.Tree.{Tree, integer, object, error, string, list, trees_of}
 use Rattle.moo_value.specs.Compare.{folded}
-use Rattle.moo_forest.specs.Forest.{above_of, below_of}
-use Rattle.moo_object.specs.Names.{same_name}
-use Rattle.moo_object.specs.Patterns.{begins}
-use Rattle.moo_text_function.specs.Numerals.{is_digit, number}
-use Rattle.moo_table.specs.World.{World, thing_of}
+use Rattle.moo_world_tree.specs.Forest.{above_of, below_of}
+use Rattle.moo_world_object.specs.Names.{same_name}
+use Rattle.moo_world_object.specs.Patterns.{begins}
+use Rattle.moo_builtin_value.specs.Numerals.{is_digit, number}
+use Rattle.moo_world_table.specs.World.{World, thing_of}
 use Rattle.moo_world.specs.Calls.{number_of}
-use Rattle.moo_table.specs.Properties.{read}
+use Rattle.moo_world_table.specs.Properties.{read}
 use Rattle.moo_world.specs.NamedProperties.{number_of_place}
 
 -- the number that a text names: #-1 nothing, #-2 several objects, #-3 no object

@@ -1,8 +1,8 @@
 -- A line of a player, with its leading sign written out.
 use Rattle.std.specs.Prelude.{◌==◌, ℕ, List, [], ◌∷◌, ◌++◌, Option, Some, None, codes, if◌then◌else◌}
 use Rattle.std.specs.Option.{option_map_or}
-use Rattle.moo_words.specs.Words.{blank}
-use Rattle.moo_words.specs.Typed.{unindented}
+use Rattle.moo_command.specs.Words.{blank}
+use Rattle.moo_command.specs.FirstWord.{unindented}
 
 -- the verb that a quote, a colon or a semicolon is short for
 abbrev pub verb_of_sign : ℕ → Option (List ℕ)

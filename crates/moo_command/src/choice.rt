@@ -2,17 +2,17 @@
 ghost use Rattle.std.specs.Prelude.{◌≡◌, ◌<◌, ◌∷◌, length, slice_get, IfSome};
 ghost use Rattle.std.specs.Option.{option_and_then, unwrap_or};
 ghost use Rattle.std.specs.List.{filter_map, position};
-ghost use Rattle.moo_forest.specs.Forest.{ancestors};
-ghost use Rattle.moo_table.specs.World.{most, nothing};
+ghost use Rattle.moo_world_tree.specs.Forest.{ancestors};
+ghost use Rattle.moo_world_table.specs.World.{most, nothing};
 ghost use Rattle.moo_world.specs.Calls.{number_of};
 ghost use Rattle.moo_command.specs.Choice.{agrees, takes, is_meant, chosen, chosen_on, meant_on, meant_in};
 ghost use Rattle.moo_command.specs.Seen.{command_of};
 
 use crate::command::Command;
 use crate::matching::room_of;
-use moo_forest::Forest;
-use moo_object::{Object, ObjectSpecifier, PrepositionSpecifier, Verb, fits_names};
 use moo_world::{VerbAt, World};
+use moo_world_object::{Object, ObjectSpecifier, PrepositionSpecifier, Verb, fits_names};
+use moo_world_tree::Forest;
 
 /// The verb that a command runs, and the object on which it was found.
 #[derive(Clone, Copy)]

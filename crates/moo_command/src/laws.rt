@@ -1,8 +1,6 @@
 //! Laws on commands.
 ghost use Rattle.moo_command.specs.Commands.{OneCommand, OneSplit};
 
-use moo_words::laws::one_typed;
-
 /// Words are split at a preposition in at most one way.
 pub fn one_split()
     ensures { OneSplit }
@@ -14,3 +12,5 @@ pub fn one_command()
 {
     one_typed();
 }
+
+pub use crate::word_laws::{one_reading, one_typed, words_are_light};

@@ -10,10 +10,16 @@ mod named;
 mod numbered;
 mod parsing;
 mod prepositions;
+mod reading;
 mod splitting;
+mod text;
+mod typed;
+mod word_laws;
 
 pub use choice::{Chosen, choose_verb};
 pub use command::Command;
 pub use matching::{match_object, room_of};
-pub use moo_words::{Typed, read_typed, words};
 pub use parsing::parse_command;
+pub use reading::{skip_blanks, words};
+pub use text::string_of;
+pub use typed::{Typed, read_typed, typed_behind};

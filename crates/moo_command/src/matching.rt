@@ -4,8 +4,8 @@ ghost use Rattle.moo_command.specs.Objects.{matched, room_of, named, named_near,
 
 use crate::named::{Extent, Found, found_near};
 use crate::numbered::numbered;
-use moo_object::same_name;
 use moo_world::World;
+use moo_world_object::same_name;
 
 /// Returns the object that a text names to a player. Returns -1 for an empty text, -2 if it names several objects, -3
 /// if it names none.

@@ -2,15 +2,15 @@
 ghost use Rattle.std.specs.Prelude.{◌≡◌, ◌<◌, All, Some, codes, ◌++◌};
 ghost use Rattle.std.specs.List.{list_any};
 ghost use Rattle.moo_value.specs.View.{tree};
-ghost use Rattle.moo_table.specs.World.{thing_of, most};
-ghost use Rattle.moo_table.specs.Properties.{read};
+ghost use Rattle.moo_world_table.specs.World.{thing_of, most};
+ghost use Rattle.moo_world_table.specs.Properties.{read};
 ghost use Rattle.moo_command.specs.Objects.{contents_of, names_of, named_by, strings_in};
-ghost use Rattle.moo_object.specs.Patterns.{begins};
+ghost use Rattle.moo_world_object.specs.Patterns.{begins};
 ghost use Rattle.moo_command.specs.Inner.{covers, with_found, with_all_found, found_among, number_found, is_covered};
 
-use moo_object::same_name;
 use moo_value::Value;
 use moo_world::{Below, World};
+use moo_world_object::same_name;
 
 /// Whether a text must match a whole name or only its beginning.
 #[derive(Clone, Copy)]

@@ -3,8 +3,8 @@ ghost use Rattle.std.specs.Prelude.{◌≡◌, ◌≤◌, ◌<◌, ◌+◌, [], 
 ghost use Rattle.std.specs.Option.{option_map};
 ghost use Rattle.moo_value.specs.Tree.{string};
 ghost use Rattle.moo_value.specs.Size.{list_weight, weight_limit, IsString};
-ghost use Rattle.moo_words.specs.Words.{Words};
-ghost use Rattle.moo_words.specs.Typed.{IsTyped};
+ghost use Rattle.moo_command.specs.Words.{Words};
+ghost use Rattle.moo_command.specs.FirstWord.{IsTyped};
 ghost use Rattle.moo_command.specs.Typed.{expanded, verb_of_sign};
 ghost use Rattle.moo_command.specs.Prepositions.{number_or_none};
 ghost use Rattle.moo_command.specs.Commands.{Commands, IsCommandOf};
@@ -14,11 +14,11 @@ ghost use Rattle.moo_command.specs.Inner.{verb_leading};
 use crate::command::Command;
 use crate::matching::match_object;
 use crate::splitting::{Division, joined, split};
-use moo_object::Preposition;
+use crate::word_laws::words_are_light;
+use crate::{Typed, read_typed, skip_blanks, string_of, typed_behind};
 use moo_value::MooStr;
-use moo_words::laws::words_are_light;
-use moo_words::{Typed, read_typed, skip_blanks, string_of, typed_behind};
 use moo_world::World;
+use moo_world_object::Preposition;
 use std::alloc::{AllocError, Global};
 
 /// Parses a player's line of any length. A leading quote, colon or semicolon is short for `say`, `emote` or `eval`. A

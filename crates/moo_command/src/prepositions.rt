@@ -2,8 +2,8 @@
 ghost use Rattle.std.specs.Prelude.{◌≡◌, ◌≤◌, length, map, IfSome};
 ghost use Rattle.moo_command.specs.Inner.{form_of, form_table, form_among, begins_with};
 
-use moo_object::{Preposition, same_name};
 use moo_value::MooStr;
+use moo_world_object::{Preposition, same_name};
 
 /// A spelling of a preposition.
 #[derive(Clone, Copy)]

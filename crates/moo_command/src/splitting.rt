@@ -5,9 +5,9 @@ ghost use Rattle.moo_command.specs.Prepositions.{Splits, joined};
 ghost use Rattle.moo_command.specs.Inner.{parts_of};
 
 use crate::prepositions::preposition_at;
-use moo_object::Preposition;
+use crate::string_of;
 use moo_value::MooStr;
-use moo_words::string_of;
+use moo_world_object::Preposition;
 use std::alloc::{AllocError, Global};
 
 /// The position of a preposition among words: the words before `at` precede it, and those from `behind` on follow it.

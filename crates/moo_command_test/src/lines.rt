@@ -1,6 +1,6 @@
 // The lines of a connection.
 use crate::answers::push_joined;
-use moo_line::LineReader;
+use moo_session_line::LineReader;
 use std::alloc::{AllocError, Global};
 
 // Twelve bytes of CR, LF, a letter, a blank and byte 0.

@@ -1,1 +1,11 @@
 pub mod Spelling
+pub mod Behinds
+pub mod Rows
+pub mod Counts
+pub mod Whole
+pub mod Values
+pub mod Dots
+pub mod Links
+pub mod Objects
+pub mod Written
+pub mod Sources

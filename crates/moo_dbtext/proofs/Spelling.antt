@@ -1,23 +1,23 @@
 -- The canonical text of a saved world spells it.
 use Rattle.std.proofs.Common.{◌≡◌, ℤ, List, [], ◌∷◌, Option, Some, None, refl, sym, ap, subst, map}
-use Rattle.moo_program.specs.Tree.{Block}
-use Rattle.moo_program.specs.Listing.{listing}
-use Rattle.moo_grammar.specs.declared.names.Names.TheVariants.{Any}
-use Rattle.moo_grammar.specs.Texts.{IsProgramOf, IsParsed}
+use Rattle.moo_syntax_ast.specs.Tree.{Block}
+use Rattle.moo_syntax_ast.specs.Listing.{listing}
+use Rattle.moo_syntax_grammar.specs.declared.names.Names.TheVariants.{Any}
+use Rattle.moo_syntax_grammar.specs.Texts.{IsProgramOf, IsParsed}
 use Rattle.moo_unparse.proofs.Law.{listing_is_program, listing_is_parsed}
-use Rattle.moo_table.specs.World.{World, IsWellFormed}
-use Rattle.moo_dbvalue.specs.Lines.{Line, unlimited, limited}
-use Rattle.moo_dbrecord.specs.Texts.{Link}
-use Rattle.moo_dbrecord.specs.Writing.{canonical as slack_of, IsWritable}
-use Rattle.moo_dbprogram.specs.Says.{HasSource}
-use Rattle.moo_restore.specs.Records.{program_at}
-use Rattle.moo_restore.specs.Recorded.{records_of}
-use Rattle.moo_restore.proofs.Writing.{says_itself}
-use Rattle.moo_restore.proofs.Worlds.{shaped}
-use Rattle.moo_dump.specs.Held.{IsHeldBlock, IsHeldProgram, IsHeld}
-use Rattle.moo_dump.specs.Texts.{source_of, link_to, text_of_world, canonical_bytes}
-use Rattle.moo_dump.proofs.Sources.{source_at, held_at}
-use Rattle.moo_saved.specs.Saved.{IsTextOf, SpellsSaved, SpellsSavedWithin}
+use Rattle.moo_world_table.specs.World.{World, IsWellFormed}
+use Rattle.moo_dbtext_object.specs.Lines.{Line, unlimited, limited}
+use Rattle.moo_dbtext_record.specs.Texts.{Link}
+use Rattle.moo_dbtext_record.specs.Writing.{canonical as slack_of, IsWritable}
+use Rattle.moo_dbtext_read.specs.Says.{HasSource}
+use Rattle.moo_dbtext_restore.specs.Records.{program_at}
+use Rattle.moo_dbtext_restore.specs.Recorded.{records_of}
+use Rattle.moo_dbtext_restore.proofs.Writing.{says_itself}
+use Rattle.moo_dbtext_restore.proofs.Worlds.{shaped}
+use Rattle.moo_dbtext.specs.Held.{IsHeldBlock, IsHeldProgram, IsHeld}
+use Rattle.moo_dbtext.specs.Texts.{source_of, link_to, text_of_world, canonical_bytes}
+use Rattle.moo_dbtext.proofs.Sources.{source_at, held_at}
+use Rattle.moo_dbtext_read.specs.Saved.{IsTextOf, SpellsSaved, SpellsSavedWithin}
 
 whos_again : (whos : List ℤ) → map (λ (l : Link). l.who) (map link_to whos) ≡ whos
 whos_again [] = refl

@@ -1,10 +1,10 @@
 -- The canonical text of a saved world.
 use Rattle.std.specs.Prelude.{ℕ, List, length}
-use Rattle.moo_table.specs.World.{IsWellFormed}
-use Rattle.moo_dbvalue.specs.Lines.{Sizes, IsCountOf}
-use Rattle.moo_dump.specs.Held.{IsHeld}
-use Rattle.moo_dump.specs.Texts.{canonical_bytes}
-use Rattle.moo_saved.specs.Saved.{Saved}
+use Rattle.moo_world_table.specs.World.{IsWellFormed}
+use Rattle.moo_dbtext_object.specs.Lines.{Sizes, IsCountOf}
+use Rattle.moo_dbtext.specs.Held.{IsHeld}
+use Rattle.moo_dbtext.specs.Texts.{canonical_bytes}
+use Rattle.moo_dbtext_read.specs.Saved.{Saved}
 
 abbrev pub canonical : Saved → List ℕ
 canonical s = canonical_bytes s.world s.connected

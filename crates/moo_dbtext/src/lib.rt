@@ -1,9 +1,17 @@
 //! Reads and writes saved worlds as database texts.
 #![tactic(auto)]
 
+mod behind;
+mod dump_laws;
 pub mod laws;
+mod link;
+mod object;
+mod program;
+mod world;
 mod writing;
 
-pub use moo_load::{DbFault, DbFaultKind, DbReader, ProgramFault, ProgramFaultKind, read_db};
-pub use moo_saved::Saved;
+pub use moo_dbtext_read::{
+    DbFault, DbFaultKind, DbReader, ProgramFault, ProgramFaultKind, Saved, read_db,
+};
+pub use world::write_world;
 pub use writing::{write_db, write_world_and_connected, written_and_read};

@@ -1,13 +1,12 @@
 //! Writing a saved world, and reading it back.
 
 ghost use Rattle.std.specs.Prelude.{◌≡◌, length, IfOk, IfErr, MatchResult};
-ghost use Rattle.moo_dbvalue.specs.Lines.{IsCountOf, limited, unlimited};
-ghost use Rattle.moo_saved.specs.Saved.{saved_of, SpellsSaved, SpellsSavedWithin};
+ghost use Rattle.moo_dbtext_object.specs.Lines.{IsCountOf, limited, unlimited};
+ghost use Rattle.moo_dbtext_read.specs.Saved.{saved_of, SpellsSaved, SpellsSavedWithin};
 ghost use Rattle.moo_dbtext.specs.Canonical.{canonical};
 
-use moo_dump::write_world;
-use moo_load::{DbFault, DbFaultKind, read_db};
-use moo_saved::Saved;
+use crate::write_world;
+use moo_dbtext_read::{DbFault, DbFaultKind, Saved, read_db};
 use moo_world::World;
 use std::alloc::{AllocError, Global};
 

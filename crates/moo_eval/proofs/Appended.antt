@@ -8,28 +8,28 @@ use Rattle.moo_value.specs.declared.error_code.ErrorCode.TheVariants.{TypeMismat
 use Rattle.moo_value.specs.declared.value.Value.{Value}
 use Rattle.moo_value.specs.declared.value.Value.TheVariants.{Int, Obj, Err as ErrorOf, Str, List as ListOf}
 use Rattle.moo_value.specs.TreeCode.{trees_of-elements_of}
-use Rattle.moo_program.specs.Tree.{Expr, variable, call, element, no_items}
-use Rattle.moo_operation.specs.Places.{made_list}
-use Rattle.moo_function.specs.declared.function.Function.TheVariants.{ListAppend}
-use Rattle.moo_function.specs.Table.{row}
-use Rattle.moo_function.specs.Names.{function_of}
-use Rattle.moo_function.specs.Check.{refusal}
-use Rattle.moo_value_function.specs.Lists.{put_in, list_append}
-use Rattle.moo_value_function.specs.Calls.{Raised, plainly, simply}
-use Rattle.moo_world_function.specs.Objects.{is_valid}
-use Rattle.moo_outcome.specs.declared.frame.TraceEntry.{TraceEntry}
-use Rattle.moo_outcome.specs.Variables.{bind}
-use Rattle.moo_outcome.specs.Outcome.{Stop, Failure, stops, fails, answers, settled}
-use Rattle.moo_outcome.specs.State.{Context}
-use Rattle.moo_access.specs.State.{State, bound, trace}
-use Rattle.moo_code_function.specs.Telling.{Telling}
+use Rattle.moo_syntax_ast.specs.Tree.{Expr, variable, call, element, no_items}
+use Rattle.moo_builtin_operator.specs.Places.{made_list}
+use Rattle.moo_syntax_function.specs.declared.function.Function.TheVariants.{ListAppend}
+use Rattle.moo_syntax_function.specs.Table.{row}
+use Rattle.moo_syntax_function.specs.Names.{function_of}
+use Rattle.moo_syntax_function.specs.Check.{refusal}
+use Rattle.moo_builtin_value.specs.Lists.{put_in, list_append}
+use Rattle.moo_builtin_value.specs.Calls.{Raised, plainly, simply}
+use Rattle.moo_builtin_world.specs.Objects.{is_valid}
+use Rattle.moo_eval_frame.specs.declared.frame.TraceEntry.{TraceEntry}
+use Rattle.moo_eval_frame.specs.Variables.{bind}
+use Rattle.moo_eval_frame.specs.Outcome.{Stop, Failure, stops, fails, answers, settled}
+use Rattle.moo_eval_frame.specs.State.{Context}
+use Rattle.moo_eval_access.specs.State.{State, bound, trace}
+use Rattle.moo_builtin.specs.Telling.{Telling}
 use Rattle.moo_builtin.specs.Calls.{raising, given, CallsPlain, refused, follows}
-use Rattle.moo_call.specs.Tasks.{replied}
-use Rattle.moo_call.specs.Calls.{caller, task_function, CallsAs, CallsFunction}
-use Rattle.moo_hook.specs.Calls.{caller_of, verb_caller}
-use Rattle.moo_fast_path.specs.Growth.{Appends, appends}
+use Rattle.moo_eval_call.specs.Tasks.{replied}
+use Rattle.moo_eval_call.specs.Calls.{caller, task_function, CallsAs, CallsFunction}
+use Rattle.moo_eval_call.specs.VerbCalls.{caller_of, verb_caller}
+use Rattle.moo_eval_fast_stmt.specs.Growth.{Appends, appends}
 use Rattle.moo_eval.specs.Growth.{IsLengthened, SettlesAs}
-use Rattle.moo_semantics.specs.Meaning.{Evaluates, Computes, operands_end, applies, no_more, element_stops, element_then, call_is}
+use Rattle.moo_eval_semantics.specs.Meaning.{Evaluates, Computes, operands_end, applies, no_more, element_stops, element_then, call_is}
 
 -- what comes after the last element
 behind_all : (vs : List Tree) (v : Tree) → list_append (list_of vs ∷ v ∷ []) ≡ made_list (vs ++ v ∷ [])

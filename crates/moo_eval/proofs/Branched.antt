@@ -1,16 +1,16 @@
 -- Branches that are known at once.
 use Rattle.std.proofs.Common.{ℕ, ◌<◌, ◌-◌, List, Ok}
-use Rattle.moo_program.specs.Tree.{Expr, Stmt, branches, Arms, elseif, Block}
-use Rattle.moo_table.specs.World.{World}
-use Rattle.moo_outcome.specs.declared.frame.Activation.{Activation}
-use Rattle.moo_outcome.specs.declared.notice.Notice.{Notice}
-use Rattle.moo_outcome.specs.Outcome.{next}
-use Rattle.moo_outcome.specs.State.{Context}
-use Rattle.moo_code_function.specs.Telling.{Faults}
-use Rattle.moo_call.specs.Seen.{state_at}
-use Rattle.moo_fast_path.specs.Branching.{Chooses, none_chosen, else_chosen, test_passes, test_fails, IsDone, is_set, is_grown, is_placed, is_written, is_scattered, AreDone, none_done, one_done}
-use Rattle.moo_step.specs.Running.{HasRun, alone, branched}
-use Rattle.moo_semantics.specs.Meaning.{Runs, RunsAll, ends, proceeds, Selects, none_selected, else_runs, arm_runs, arm_passed, statement_begins, selects}
+use Rattle.moo_syntax_ast.specs.Tree.{Expr, Stmt, branches, Arms, elseif, Block}
+use Rattle.moo_world_table.specs.World.{World}
+use Rattle.moo_eval_frame.specs.declared.frame.Activation.{Activation}
+use Rattle.moo_eval_frame.specs.declared.notice.Notice.{Notice}
+use Rattle.moo_eval_frame.specs.Outcome.{next}
+use Rattle.moo_eval_frame.specs.State.{Context}
+use Rattle.moo_builtin.specs.Telling.{Faults}
+use Rattle.moo_eval_call.specs.Seen.{state_at}
+use Rattle.moo_eval_fast_stmt.specs.Branching.{Chooses, none_chosen, else_chosen, test_passes, test_fails, IsDone, is_set, is_grown, is_placed, is_written, is_scattered, AreDone, none_done, one_done}
+use Rattle.moo_eval_fast_loop.specs.Running.{HasRun, alone, branched}
+use Rattle.moo_eval_semantics.specs.Meaning.{Runs, RunsAll, ends, proceeds, Selects, none_selected, else_runs, arm_runs, arm_passed, statement_begins, selects}
 use Rattle.moo_eval.proofs.Foreseen.{set_ahead, grown_ahead, placed_ahead, written_ahead}
 use Rattle.moo_eval.proofs.Scattered.{scattered_ahead}
 use Rattle.moo_eval.proofs.Known.{worth_gives}

@@ -3,18 +3,18 @@ use Rattle.std.proofs.Common.{◌≡◌, Box, Option, Some, None, List, Result, 
 use Rattle.std.specs.Global.{Global}
 use Rattle.moo_value.specs.declared.error_code.ErrorCode.{ErrorCode}
 use Rattle.moo_value.specs.Tree.{Tree}
-use Rattle.moo_program.specs.declared.tree.Expr as code_expr
-use Rattle.moo_program.specs.Tree.{Expr, Codes}
-use Rattle.moo_outcome.specs.Outcome.{Stop, Failure, passes}
-use Rattle.moo_outcome.specs.State.{Context}
-use Rattle.moo_access.specs.State.{State}
-use Rattle.moo_code_function.specs.Telling.{Telling}
-use Rattle.moo_outcome.specs.Catching.{guards, caught}
-use Rattle.moo_semantics.specs.Meaning.{Evaluates, EvaluatesAll, Computes, operands_end, applies, no_more, catch_passes, catch_or_passes}
+use Rattle.moo_syntax_ast.specs.declared.tree.Expr as code_expr
+use Rattle.moo_syntax_ast.specs.Tree.{Expr, Codes}
+use Rattle.moo_eval_frame.specs.Outcome.{Stop, Failure, passes}
+use Rattle.moo_eval_frame.specs.State.{Context}
+use Rattle.moo_eval_access.specs.State.{State}
+use Rattle.moo_builtin.specs.Telling.{Telling}
+use Rattle.moo_eval_frame.specs.Catching.{guards, caught}
+use Rattle.moo_eval_semantics.specs.Meaning.{Evaluates, EvaluatesAll, Computes, operands_end, applies, no_more, catch_passes, catch_or_passes}
 use Rattle.moo_value.specs.declared.value.Value.{Value}
-use Rattle.moo_outcome.specs.declared.outcome.Stop as code_stop
-use Rattle.moo_outcome.specs.declared.outcome.Stop.TheVariants as stop_case
-use Rattle.moo_outcome.specs.Seen.{catch_of, seen_value, IsKnown}
+use Rattle.moo_eval_frame.specs.declared.outcome.Stop as code_stop
+use Rattle.moo_eval_frame.specs.declared.outcome.Stop.TheVariants as stop_case
+use Rattle.moo_eval_frame.specs.Seen.{catch_of, seen_value, IsKnown}
 
 pub guards_end : {T : Telling} {c : Context} {s s' : State} {failure : Failure} (a : Expr) (codes : Codes) (o : Option (Box code_expr.Expr Global)) → EvaluatesAll T c (guards codes) s (Err failure) s' → Computes T c (catch_of a codes o) s (Err failure) s'
 guards_end a codes None d = operands_end d

@@ -3,14 +3,14 @@ use Rattle.std.proofs.Common.{◌≡◌, ◌<◌, List, [], ◌∷◌, ℕ, Resu
 use Rattle.moo_value.specs.declared.error_code.ErrorCode.TheVariants.{VariableNotFound}
 use Rattle.moo_value.specs.Tree.{Tree}
 use Rattle.moo_value.specs.Compare.{folded}
-use Rattle.moo_program.specs.Tree.{Expr, variable, assign, performs}
-use Rattle.moo_outcome.specs.Variables.{bind}
-use Rattle.moo_outcome.specs.Outcome.{Stop, Failure, stops, next, or_error, answers, settled}
-use Rattle.moo_outcome.specs.State.{Context}
-use Rattle.moo_access.specs.State.{State, ticked, bound, trace}
-use Rattle.moo_code_function.specs.Telling.{Telling}
-use Rattle.moo_worth.specs.Leaves.{IsLeaf, literal_leaf, variable_leaf}
-use Rattle.moo_semantics.specs.Meaning.{Evaluates, Computes, Does, begins, applies, no_more, literal_is, variable_is, assign_is, value_stops, assigns, locates, finds, inside, stores, puts_variable, evaluates}
+use Rattle.moo_syntax_ast.specs.Tree.{Expr, variable, assign, performs}
+use Rattle.moo_eval_frame.specs.Variables.{bind}
+use Rattle.moo_eval_frame.specs.Outcome.{Stop, Failure, stops, next, or_error, answers, settled}
+use Rattle.moo_eval_frame.specs.State.{Context}
+use Rattle.moo_eval_access.specs.State.{State, ticked, bound, trace}
+use Rattle.moo_builtin.specs.Telling.{Telling}
+use Rattle.moo_eval_fast_expr.specs.Leaves.{IsLeaf, literal_leaf, variable_leaf}
+use Rattle.moo_eval_semantics.specs.Meaning.{Evaluates, Computes, Does, begins, applies, no_more, literal_is, variable_is, assign_is, value_stops, assigns, locates, finds, inside, stores, puts_variable, evaluates}
 
 -- a variable takes a tick
 pub variable_read : {T : Telling} {c : Context} {name : List ℕ} {s : State} {o : Result Tree Failure} {r : Result Tree Stop} → 0 < s.ticks → answers (or_error (s.variables (folded name)) VariableNotFound) ≡ o → settled c.frame.d (trace c (ticked s)) o ≡ r → Evaluates T c (variable name) s r (ticked s)

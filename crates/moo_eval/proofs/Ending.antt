@@ -1,23 +1,23 @@
 -- A task ends as its statements lead.
 use Rattle.std.proofs.Common.{◌≡◌, ℕ, ℤ, List, [], ◌++◌, Option, None, Result, refl, sym, subst, ◌∙◌, append-nil}
-use Rattle.moo_table.specs.World.{World}
-use Rattle.moo_outcome.specs.declared.frame.Frame.{Frame}
-use Rattle.moo_outcome.specs.declared.frame.TraceEntry.{TraceEntry}
-use Rattle.moo_outcome.specs.declared.notice.Notice.{Notice}
-use Rattle.moo_outcome.specs.Surroundings.{Surroundings}
-use Rattle.moo_outcome.specs.Outcome.{Stop, Flow}
-use Rattle.moo_outcome.specs.Variables.{first_bindings, value_of_name}
-use Rattle.moo_outcome.specs.State.{Context}
+use Rattle.moo_world_table.specs.World.{World}
+use Rattle.moo_eval_frame.specs.declared.frame.Frame.{Frame}
+use Rattle.moo_eval_frame.specs.declared.frame.TraceEntry.{TraceEntry}
+use Rattle.moo_eval_frame.specs.declared.notice.Notice.{Notice}
+use Rattle.moo_eval_frame.specs.Surroundings.{Surroundings}
+use Rattle.moo_eval_frame.specs.Outcome.{Stop, Flow}
+use Rattle.moo_eval_frame.specs.Variables.{first_bindings, value_of_name}
+use Rattle.moo_eval_frame.specs.State.{Context}
 use Rattle.moo_value.specs.Tree.{Tree}
-use Rattle.moo_program.specs.Tree.{Block}
-use Rattle.moo_access.specs.State.{State}
-use Rattle.moo_code_function.specs.Telling.{Faults}
-use Rattle.moo_call.specs.Tasks.{most_ticks}
+use Rattle.moo_syntax_ast.specs.Tree.{Block}
+use Rattle.moo_eval_access.specs.State.{State}
+use Rattle.moo_builtin.specs.Telling.{Faults}
+use Rattle.moo_eval_call.specs.Tasks.{most_ticks}
 use Rattle.moo_eval.specs.declared.task.Ended as code
 use Rattle.moo_eval.specs.declared.task.Ended.TheVariants as ended
-use Rattle.moo_semantics.specs.Meaning.{RunsAll}
+use Rattle.moo_eval_semantics.specs.Meaning.{RunsAll}
 use Rattle.moo_eval.specs.Ends.{IfEnded, LeavesNotices, IsBegunBy}
-use Rattle.moo_semantics.specs.Task.{TaskEnds, first_context, first_state, end_of}
+use Rattle.moo_eval_semantics.specs.Task.{TaskEnds, first_context, first_state, end_of}
 
 pub task_ends : (around : Surroundings) (start : Frame) (before : World) (old new : List Notice) (result : code.Ended) (last : State) (outcome : Result Flow Stop) (Known : Type 0)
     → IfEnded result (λ end. end_of outcome ≡ end) → IfEnded result (λ end. Known)

@@ -2,30 +2,30 @@
 use Rattle.std.proofs.Common.{◌≡◌, ℕ, ℤ, Option, Some, None, List, [], ◌∷◌, ◌++◌, append_assoc, false, Result, Ok, Err, IfErr, refl, sym, ap, ◌∙◌, subst}
 use Rattle.moo_value.specs.declared.error_code.ErrorCode.{ErrorCode}
 use Rattle.moo_value.specs.Tree.{Tree}
-use Rattle.moo_operation.specs.declared.fault.OperationFault.{OperationFault}
-use Rattle.moo_operation.specs.declared.fault.OperationFault.TheVariants as fault
-use Rattle.moo_operation.specs.Answer.{IsRefused}
-use Rattle.moo_outcome.specs.declared.outcome.Flow as code_flow
-use Rattle.moo_outcome.specs.declared.outcome.Flow.TheVariants as flow_case
+use Rattle.moo_builtin_operator.specs.declared.fault.OperationFault.{OperationFault}
+use Rattle.moo_builtin_operator.specs.declared.fault.OperationFault.TheVariants as fault
+use Rattle.moo_builtin_operator.specs.Answer.{IsRefused}
+use Rattle.moo_eval_frame.specs.declared.outcome.Flow as code_flow
+use Rattle.moo_eval_frame.specs.declared.outcome.Flow.TheVariants as flow_case
 use Rattle.moo_value.specs.declared.error_code.ErrorCode.TheVariants.{TypeMismatch}
-use Rattle.moo_program.specs.declared.tree.Item.{Item, Element', Splice', Optional, Defaulted'}
-use Rattle.moo_program.specs.Tree.{Items, Block}
-use Rattle.moo_program.specs.View.{with_item}
-use Rattle.moo_outcome.specs.declared.outcome.Failure as code_failure
-use Rattle.moo_outcome.specs.declared.notice.Notice.{Notice}
-use Rattle.moo_outcome.specs.State.{Context}
-use Rattle.moo_table.specs.World.{World}
-use Rattle.moo_access.specs.State.{State}
-use Rattle.moo_code_function.specs.Telling.{Telling}
-use Rattle.moo_access.specs.Calls.{write_property}
-use Rattle.moo_access.specs.Target.{owned}
-use Rattle.moo_access.specs.Entering.{after_list}
-use Rattle.moo_outcome.specs.Handling.{Guarded, guarded_before}
-use Rattle.moo_outcome.specs.Outcome.{Stop, Failure, Flow, fails, answers, goes_on}
-use Rattle.moo_semantics.specs.Operands.{before}
-use Rattle.moo_semantics.specs.Meaning.{EvaluatesAll, optional_fails, defaulted_fails, Puts, property_unset, puts_property, RunsAll}
-use Rattle.moo_outcome.specs.Seen.{failure_of, flow_of, seen_by, seen_done, HadMemoryIn}
-use Rattle.moo_outcome.specs.Fault.{failed}
+use Rattle.moo_syntax_ast.specs.declared.tree.Item.{Item, Element', Splice', Optional, Defaulted'}
+use Rattle.moo_syntax_ast.specs.Tree.{Items, Block}
+use Rattle.moo_syntax_ast.specs.View.{with_item}
+use Rattle.moo_eval_frame.specs.declared.outcome.Failure as code_failure
+use Rattle.moo_eval_frame.specs.declared.notice.Notice.{Notice}
+use Rattle.moo_eval_frame.specs.State.{Context}
+use Rattle.moo_world_table.specs.World.{World}
+use Rattle.moo_eval_access.specs.State.{State}
+use Rattle.moo_builtin.specs.Telling.{Telling}
+use Rattle.moo_eval_access.specs.Calls.{write_property}
+use Rattle.moo_eval_access.specs.Target.{owned}
+use Rattle.moo_eval_access.specs.Entering.{after_list}
+use Rattle.moo_eval_frame.specs.Handling.{Guarded, guarded_before}
+use Rattle.moo_eval_frame.specs.Outcome.{Stop, Failure, Flow, fails, answers, goes_on}
+use Rattle.moo_eval_semantics.specs.Operands.{before}
+use Rattle.moo_eval_semantics.specs.Meaning.{EvaluatesAll, optional_fails, defaulted_fails, Puts, property_unset, puts_property, RunsAll}
+use Rattle.moo_eval_frame.specs.Seen.{failure_of, flow_of, seen_by, seen_done, HadMemoryIn}
+use Rattle.moo_eval_frame.specs.Fault.{failed}
 
 -- an operation that is refused with memory enough fails with its error
 pub refused : (f : OperationFault) (r : Result Tree ErrorCode) → IsRefused f r → HadMemoryIn (failed f) → answers r ≡ Err (failure_of (failed f))

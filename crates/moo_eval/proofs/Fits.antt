@@ -4,12 +4,12 @@ use Rattle.std.proofs.lemmas.Bool.Decides.{nat_tests}
 use Rattle.moo_value.specs.declared.error_code.ErrorCode.{ErrorCode}
 use Rattle.moo_value.specs.declared.error_code.ErrorCode.TheVariants.{Arguments, TypeMismatch, InvalidArgument}
 use Rattle.moo_value.specs.Tree.{Tree, integer, object, error, string, list}
-use Rattle.moo_function.specs.declared.function.Function.TheVariants as function
-use Rattle.moo_function.specs.declared.table.Kind.TheVariants.{Integer}
-use Rattle.moo_function.specs.Table.{Row, row}
-use Rattle.moo_function.specs.Check.{refusal, is_count, all_fit, all_valid, fits, kind_at, names_valid, holds_from}
-use Rattle.moo_value_function.specs.Numbers.{least_of, greatest_of}
-use Rattle.moo_value_function.specs.Calls.{plain_answer}
+use Rattle.moo_syntax_function.specs.declared.function.Function.TheVariants as function
+use Rattle.moo_syntax_function.specs.declared.table.Kind.TheVariants.{Integer}
+use Rattle.moo_syntax_function.specs.Table.{Row, row}
+use Rattle.moo_syntax_function.specs.Check.{refusal, is_count, all_fit, all_valid, fits, kind_at, names_valid, holds_from}
+use Rattle.moo_builtin_value.specs.Numbers.{least_of, greatest_of}
+use Rattle.moo_builtin_value.specs.Calls.{plain_answer}
 
 -- a test that holds of each value at each place
 holds_always : (test : ℕ → Tree → Bool) → ((place : ℕ) (t : Tree) → test place t ≡ true) → (place : ℕ) (ts : List Tree) → holds_from test place ts ≡ true

@@ -6,24 +6,24 @@ use mir.Val.{SFits, to_z, of_z}
 use lib.IntN.{nat_abs}
 use Rattle.moo_value.specs.declared.error_code.ErrorCode.TheVariants.{VariableNotFound}
 use Rattle.moo_value.specs.Tree.{Tree, list_of}
-use Rattle.moo_program.specs.declared.tree.Stmt.{Stmt}
-use Rattle.moo_program.specs.Tree.{Expr, variable, property, assign, performs, no_statement}
-use Rattle.moo_program.specs.View.{block}
-use Rattle.moo_operation.specs.Places.{made_list}
-use Rattle.moo_table.specs.World.{World}
-use Rattle.moo_outcome.specs.declared.frame.Activation.{Activation}
-use Rattle.moo_outcome.specs.declared.notice.Notice.{Notice}
-use Rattle.moo_outcome.specs.Outcome.{answers, or_error, next}
-use Rattle.moo_outcome.specs.State.{Context, within}
-use Rattle.moo_outcome.specs.Variables.{bind}
-use Rattle.moo_access.specs.State.{State, bound}
-use Rattle.moo_code_function.specs.Telling.{Telling, Faults}
-use Rattle.moo_call.specs.Seen.{state_at}
-use Rattle.moo_worth.specs.Leaves.{variable_leaf}
-use Rattle.moo_fast_path.specs.Element.{sets_place}
-use Rattle.moo_fast_path.specs.Growth.{Lengthens, splices, calls}
-use Rattle.moo_fast_path.specs.Changes.{IsSet, IsWritten, IsPlaced, IsGrown}
-use Rattle.moo_semantics.specs.Meaning.{Evaluates, Runs, statement_begins, applies, no_more, element_then, assign_is, assigns, locates, finds, inside, stores, puts_property}
+use Rattle.moo_syntax_ast.specs.declared.tree.Stmt.{Stmt}
+use Rattle.moo_syntax_ast.specs.Tree.{Expr, variable, property, assign, performs, no_statement}
+use Rattle.moo_syntax_ast.specs.View.{block}
+use Rattle.moo_builtin_operator.specs.Places.{made_list}
+use Rattle.moo_world_table.specs.World.{World}
+use Rattle.moo_eval_frame.specs.declared.frame.Activation.{Activation}
+use Rattle.moo_eval_frame.specs.declared.notice.Notice.{Notice}
+use Rattle.moo_eval_frame.specs.Outcome.{answers, or_error, next}
+use Rattle.moo_eval_frame.specs.State.{Context, within}
+use Rattle.moo_eval_frame.specs.Variables.{bind}
+use Rattle.moo_eval_access.specs.State.{State, bound}
+use Rattle.moo_builtin.specs.Telling.{Telling, Faults}
+use Rattle.moo_eval_call.specs.Seen.{state_at}
+use Rattle.moo_eval_fast_expr.specs.Leaves.{variable_leaf}
+use Rattle.moo_eval_fast_stmt.specs.Element.{sets_place}
+use Rattle.moo_eval_fast_stmt.specs.Growth.{Lengthens, splices, calls}
+use Rattle.moo_eval_fast_stmt.specs.Changes.{IsSet, IsWritten, IsPlaced, IsGrown}
+use Rattle.moo_eval_semantics.specs.Meaning.{Evaluates, Runs, statement_begins, applies, no_more, element_then, assign_is, assigns, locates, finds, inside, stores, puts_property}
 use Rattle.moo_eval.specs.Growth.{IsLengthened}
 use Rattle.moo_eval.proofs.Appended.{appended}
 use Rattle.moo_eval.proofs.Direct.{assigned, performed, leaf_gives}

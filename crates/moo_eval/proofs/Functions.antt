@@ -1,22 +1,22 @@
 -- Calls of functions over values alone.
 use Rattle.std.proofs.Common.{◌≡◌, ℕ, ℤ, List, Bool, Some, None, Result, Ok, refl, sym, ap, ◌∙◌, subst}
 use Rattle.moo_value.specs.Tree.{Tree}
-use Rattle.moo_program.specs.Tree.{Items, call}
-use Rattle.moo_function.specs.declared.function.Function.{Function}
-use Rattle.moo_function.specs.declared.function.Function.TheVariants as function
-use Rattle.moo_function.specs.Table.{row}
-use Rattle.moo_function.specs.Names.{function_of}
-use Rattle.moo_function.specs.Check.{refusal}
-use Rattle.moo_value_function.specs.Calls.{Raised, plain_answer, answer, simply}
-use Rattle.moo_world_function.specs.Objects.{is_valid}
-use Rattle.moo_outcome.specs.State.{Context, outside}
-use Rattle.moo_access.specs.State.{State, trace}
-use Rattle.moo_code_function.specs.Telling.{Telling}
+use Rattle.moo_syntax_ast.specs.Tree.{Items, call}
+use Rattle.moo_syntax_function.specs.declared.function.Function.{Function}
+use Rattle.moo_syntax_function.specs.declared.function.Function.TheVariants as function
+use Rattle.moo_syntax_function.specs.Table.{row}
+use Rattle.moo_syntax_function.specs.Names.{function_of}
+use Rattle.moo_syntax_function.specs.Check.{refusal}
+use Rattle.moo_builtin_value.specs.Calls.{Raised, plain_answer, answer, simply}
+use Rattle.moo_builtin_world.specs.Objects.{is_valid}
+use Rattle.moo_eval_frame.specs.State.{Context, outside}
+use Rattle.moo_eval_access.specs.State.{State, trace}
+use Rattle.moo_builtin.specs.Telling.{Telling}
 use Rattle.moo_builtin.specs.Calls.{values, field, given, CallsPlain, Follows, follows}
-use Rattle.moo_call.specs.Tasks.{replied}
-use Rattle.moo_call.specs.Calls.{caller, task_function, CallsAs, CallsFunction}
-use Rattle.moo_hook.specs.Calls.{verb_caller}
-use Rattle.moo_semantics.specs.Meaning.{Computes, EvaluatesAll, applies, no_more, call_is}
+use Rattle.moo_eval_call.specs.Tasks.{replied}
+use Rattle.moo_eval_call.specs.Calls.{caller, task_function, CallsAs, CallsFunction}
+use Rattle.moo_eval_call.specs.VerbCalls.{verb_caller}
+use Rattle.moo_eval_semantics.specs.Meaning.{Computes, EvaluatesAll, applies, no_more, call_is}
 use Rattle.moo_eval.proofs.Fits.{type_fits, length_fits, literal_fits, integer_fits, number_fits, object_fits, equal_fits, compare_fits, absolute_fits, index_fits, last_index_fits, substitute_fits, append_fits, insert_fits, set_fits, delete_fits, add_fits, remove_fits, member_fits, time_fits, version_fits, text_fits, least_fits, greatest_fits}
 
 -- the call of a function comes to this by itself: it calls no verb and looks at no task

@@ -2,7 +2,7 @@
 use Rattle.std.proofs.Common.{ℕ, List}
 use Rattle.moo_value.specs.Tree.{IsText}
 use Rattle.moo_value.specs.Size.{IsString}
-use Rattle.moo_semantics.specs.Line.{program_text, AnswersLine, bad_byte, too_long, refused, runs}
+use Rattle.moo_eval_semantics.specs.Line.{program_text, AnswersLine, bad_byte, too_long, refused, runs}
 use Rattle.moo_eval.proofs.Texts.{text_inside}
 
 -- A line with a byte that no string holds is answered as any other such line.

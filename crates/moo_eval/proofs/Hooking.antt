@@ -2,21 +2,21 @@
 use Rattle.std.proofs.Common.{◌≡◌, ◌≢◌, ◌<◌, ◌≤◌, ℕ, pos, List, [], ◌∷◌, length, ◌==◌, false, Result, Ok, Err, OnOk, IsTrue, is_ok, refl, sym, subst, arith}
 use Rattle.std.proofs.lemmas.Bool.{false≢true}
 use Rattle.moo_value.specs.Tree.{Tree, integer}
-use Rattle.moo_program.specs.declared.tree.Stmt.{Stmt}
-use Rattle.moo_program.specs.Tree.{Stmt as StmtTree, Block, no_statement, then}
-use Rattle.moo_program.specs.View.{block}
-use Rattle.moo_outcome.specs.Outcome.{Failure}
-use Rattle.moo_outcome.specs.State.{Context}
-use Rattle.moo_access.specs.State.{State}
-use Rattle.moo_code_function.specs.Telling.{Telling}
-use Rattle.moo_hook.specs.declared.progress.Stage.{Stage}
-use Rattle.moo_hook.specs.declared.progress.Progress as code_progress
-use Rattle.moo_hook.specs.declared.progress.Progress.TheVariants as progress_case
-use Rattle.moo_hook.specs.Progressing.{Progress}
-use Rattle.moo_hook.specs.Seen.{progress_of}
-use Rattle.moo_hook.specs.Stages.{resumed}
+use Rattle.moo_syntax_ast.specs.declared.tree.Stmt.{Stmt}
+use Rattle.moo_syntax_ast.specs.Tree.{Stmt as StmtTree, Block, no_statement, then}
+use Rattle.moo_syntax_ast.specs.View.{block}
+use Rattle.moo_eval_frame.specs.Outcome.{Failure}
+use Rattle.moo_eval_frame.specs.State.{Context}
+use Rattle.moo_eval_access.specs.State.{State}
+use Rattle.moo_builtin.specs.Telling.{Telling}
+use Rattle.moo_eval_call.specs.declared.progress.Stage.{Stage}
+use Rattle.moo_eval_call.specs.declared.progress.Progress as code_progress
+use Rattle.moo_eval_call.specs.declared.progress.Progress.TheVariants as progress_case
+use Rattle.moo_eval_call.specs.Progressing.{Progress}
+use Rattle.moo_eval_call.specs.SeenByHooks.{progress_of}
+use Rattle.moo_eval_call.specs.Stages.{resumed}
 use Rattle.moo_eval.specs.Hooks.{IsIdle}
-use Rattle.moo_semantics.specs.Meaning.{Proceeds, ends, hook_then, at_once}
+use Rattle.moo_eval_semantics.specs.Meaning.{Proceeds, ends, hook_then, at_once}
 use Rattle.moo_eval.proofs.Exits.{runs_at}
 
 -- a program with a statement is not an empty one

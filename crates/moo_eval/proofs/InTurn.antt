@@ -1,10 +1,10 @@
 -- Statements that are ready, from one on.
 use Rattle.std.proofs.Common.{◌≡◌, ℕ, ◌+◌, List, [], ◌∷◌, drop, refl}
-use Rattle.moo_program.specs.View.{statement}
-use Rattle.moo_program.specs.declared.tree.Stmt.{Stmt}
-use Rattle.moo_outcome.specs.declared.variables.Variables.{Variables}
-use Rattle.moo_step.specs.declared.step.Ready.{Ready}
-use Rattle.moo_step.specs.Ready.{IsPartOf, AreReady}
+use Rattle.moo_syntax_ast.specs.View.{statement}
+use Rattle.moo_syntax_ast.specs.declared.tree.Stmt.{Stmt}
+use Rattle.moo_eval_frame.specs.declared.variables.Variables.{Variables}
+use Rattle.moo_eval_fast_loop.specs.declared.step.Ready.{Ready}
+use Rattle.moo_eval_fast_loop.specs.Ready.{IsPartOf, AreReady}
 
 -- the first, and those after it
 first : (vs : Variables) (r : Ready) (rs : List Ready) (ts : List Stmt) → AreReady vs (r ∷ rs) ts → (u : Stmt) × (us : List Stmt) × (ts ≡ u ∷ us) × (r.left.now ≡ u ∷ us) × IsPartOf vs r.part (statement u) × AreReady vs rs us

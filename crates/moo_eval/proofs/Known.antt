@@ -1,26 +1,26 @@
 -- What is known at once is what the rules give.
 use Rattle.std.proofs.Common.{◌≡◌, ℕ, ◌<◌, ◌-◌, ℤ, true, false, List, [], ◌∷◌, Option, Some, Ok, refl, ap}
 use Rattle.moo_value.specs.Tree.{Tree}
-use Rattle.moo_program.specs.declared.operator.BinaryOperator.{BinaryOperator}
-use Rattle.moo_program.specs.declared.operator.LogicOperator.{LogicOperator}
-use Rattle.moo_program.specs.declared.operator.UnaryOperator.{UnaryOperator}
-use Rattle.moo_program.specs.Tree.{Expr, unary, binary, logic, length_mark, conditional, index, range, list, property, Items, call}
-use Rattle.moo_operation.specs.Operators.{unary_of, binary_of}
-use Rattle.moo_operation.specs.Truth.{is_true, is_decided}
-use Rattle.moo_operation.specs.Places.{index_of, range_of, length_of, made_list}
-use Rattle.moo_function.specs.declared.function.Function.{Function}
-use Rattle.moo_function.specs.Names.{function_of}
-use Rattle.moo_value_function.specs.Calls.{plain_answer}
-use Rattle.moo_table.specs.World.{World}
-use Rattle.moo_outcome.specs.declared.notice.Notice.{Notice}
-use Rattle.moo_outcome.specs.Outcome.{answers}
-use Rattle.moo_outcome.specs.State.{Context, within}
-use Rattle.moo_access.specs.State.{State}
-use Rattle.moo_access.specs.Calls.{read_property}
-use Rattle.moo_code_function.specs.Telling.{Faults}
-use Rattle.moo_worth.specs.Leaves.{IsLeaf}
-use Rattle.moo_worth.specs.Worth.{IsWorthWith, IsPlaceWith, AreWorthWith, none_worth, next_worth, leaf_known, operator_known, unary_known, decided_known, undecided_known, true_known, false_known, element_known, place_known, place_last, part_known, list_known, property_known, function_known}
-use Rattle.moo_semantics.specs.Meaning.{Evaluates, EvaluatesAll, begins, applies, no_more, element_then, unary_is, binary_is, logic_decides, logic_goes_on, conditional_true, conditional_false, index_is, range_is, list_is, length_is, property_is}
+use Rattle.moo_syntax_ast.specs.declared.operator.BinaryOperator.{BinaryOperator}
+use Rattle.moo_syntax_ast.specs.declared.operator.LogicOperator.{LogicOperator}
+use Rattle.moo_syntax_ast.specs.declared.operator.UnaryOperator.{UnaryOperator}
+use Rattle.moo_syntax_ast.specs.Tree.{Expr, unary, binary, logic, length_mark, conditional, index, range, list, property, Items, call}
+use Rattle.moo_builtin_operator.specs.Operators.{unary_of, binary_of}
+use Rattle.moo_builtin_operator.specs.Truth.{is_true, is_decided}
+use Rattle.moo_builtin_operator.specs.Places.{index_of, range_of, length_of, made_list}
+use Rattle.moo_syntax_function.specs.declared.function.Function.{Function}
+use Rattle.moo_syntax_function.specs.Names.{function_of}
+use Rattle.moo_builtin_value.specs.Calls.{plain_answer}
+use Rattle.moo_world_table.specs.World.{World}
+use Rattle.moo_eval_frame.specs.declared.notice.Notice.{Notice}
+use Rattle.moo_eval_frame.specs.Outcome.{answers}
+use Rattle.moo_eval_frame.specs.State.{Context, within}
+use Rattle.moo_eval_access.specs.State.{State}
+use Rattle.moo_eval_access.specs.Calls.{read_property}
+use Rattle.moo_builtin.specs.Telling.{Faults}
+use Rattle.moo_eval_fast_expr.specs.Leaves.{IsLeaf}
+use Rattle.moo_eval_fast_expr.specs.Worth.{IsWorthWith, IsPlaceWith, AreWorthWith, none_worth, next_worth, leaf_known, operator_known, unary_known, decided_known, undecided_known, true_known, false_known, element_known, place_known, place_last, part_known, list_known, property_known, function_known}
+use Rattle.moo_eval_semantics.specs.Meaning.{Evaluates, EvaluatesAll, begins, applies, no_more, element_then, unary_is, binary_is, logic_decides, logic_goes_on, conditional_true, conditional_false, index_is, range_is, list_is, length_is, property_is}
 use Rattle.moo_eval.proofs.Direct.{leaf_gives}
 use Rattle.moo_eval.proofs.Functions.{answer_computed}
 

@@ -5,17 +5,17 @@ use Rattle.moo_value.specs.View.{tree}
 use Rattle.moo_value.specs.declared.value.Value.{Value}
 use Rattle.moo_value.specs.declared.value.Value.TheVariants.{Int, Obj, Err as ErrorOf, Str, List as ListOf}
 use Rattle.moo_value.specs.TreeCode.{trees_of-elements_of}
-use Rattle.moo_program.specs.Tree as program
-use Rattle.moo_program.specs.Tree.{Expr, variable, splice, element, no_items, assign, performs}
-use Rattle.moo_operation.specs.Places.{made_list, spliced_of}
-use Rattle.moo_outcome.specs.Variables.{bind}
-use Rattle.moo_outcome.specs.Outcome.{Stop, Failure, stops, fails, next, answers, settled}
-use Rattle.moo_outcome.specs.State.{Context}
-use Rattle.moo_access.specs.State.{State, ticked, bound, trace}
-use Rattle.moo_code_function.specs.Telling.{Telling}
+use Rattle.moo_syntax_ast.specs.Tree as program
+use Rattle.moo_syntax_ast.specs.Tree.{Expr, variable, splice, element, no_items, assign, performs}
+use Rattle.moo_builtin_operator.specs.Places.{made_list, spliced_of}
+use Rattle.moo_eval_frame.specs.Variables.{bind}
+use Rattle.moo_eval_frame.specs.Outcome.{Stop, Failure, stops, fails, next, answers, settled}
+use Rattle.moo_eval_frame.specs.State.{Context}
+use Rattle.moo_eval_access.specs.State.{State, ticked, bound, trace}
+use Rattle.moo_builtin.specs.Telling.{Telling}
 use Rattle.moo_value.specs.declared.error_code.ErrorCode.TheVariants.{TypeMismatch}
 use Rattle.moo_eval.specs.Growth.{IsLengthened}
-use Rattle.moo_semantics.specs.Meaning.{Evaluates, Computes, Does, begins, applies, operands_end, no_more, element_stops, element_then, splice_stops, splice_fails, splice_then, list_is}
+use Rattle.moo_eval_semantics.specs.Meaning.{Evaluates, Computes, Does, begins, applies, operands_end, no_more, element_stops, element_then, splice_stops, splice_fails, splice_then, list_is}
 use Rattle.moo_eval.proofs.Direct.{assigned, unassigned, performed, unperformed}
 
 -- the elements of a list with one more after them

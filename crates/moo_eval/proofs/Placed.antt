@@ -3,16 +3,16 @@ use Rattle.std.proofs.Common.{◌≡◌, ℕ, ◌<◌, List, [], ◌∷◌, Resu
 use Rattle.moo_value.specs.declared.error_code.ErrorCode.TheVariants.{VariableNotFound}
 use Rattle.moo_value.specs.Tree.{Tree}
 use Rattle.moo_value.specs.Compare.{folded}
-use Rattle.moo_program.specs.Tree.{Expr, performs}
-use Rattle.moo_operation.specs.Assignment.{with_index_of}
-use Rattle.moo_outcome.specs.Outcome.{Stop, Failure, stops, next, or_error, answers, settled}
-use Rattle.moo_outcome.specs.State.{Context, within}
-use Rattle.moo_outcome.specs.Variables.{bind}
-use Rattle.moo_access.specs.State.{State, ticked, bound, trace}
-use Rattle.moo_code_function.specs.Telling.{Telling}
-use Rattle.moo_fast_path.specs.Element.{sets_place}
+use Rattle.moo_syntax_ast.specs.Tree.{Expr, performs}
+use Rattle.moo_builtin_operator.specs.Assignment.{with_index_of}
+use Rattle.moo_eval_frame.specs.Outcome.{Stop, Failure, stops, next, or_error, answers, settled}
+use Rattle.moo_eval_frame.specs.State.{Context, within}
+use Rattle.moo_eval_frame.specs.Variables.{bind}
+use Rattle.moo_eval_access.specs.State.{State, ticked, bound, trace}
+use Rattle.moo_builtin.specs.Telling.{Telling}
+use Rattle.moo_eval_fast_stmt.specs.Element.{sets_place}
 use Rattle.moo_eval.specs.Element.{IsPut}
-use Rattle.moo_semantics.specs.Meaning.{Evaluates, Computes, Does, begins, applies, no_more, element_stops, element_then, assign_is, target_ends, value_stops, assigns, locates, finds, inside, step_ends, enters, unread, spot_ends, steps_in, no_store, stores, puts_variable, evaluates}
+use Rattle.moo_eval_semantics.specs.Meaning.{Evaluates, Computes, Does, begins, applies, no_more, element_stops, element_then, assign_is, target_ends, value_stops, assigns, locates, finds, inside, step_ends, enters, unread, spot_ends, steps_in, no_store, stores, puts_variable, evaluates}
 use Rattle.moo_eval.proofs.Direct.{performed}
 
 -- the container with the value at the place

@@ -3,22 +3,22 @@ use Rattle.std.proofs.Common.{◌≡◌, ℕ, ◌<◌, ◌-◌, List, [], ◌∷
 use Rattle.std.specs.Borrow.{Bor}
 use Rattle.moo_value.specs.declared.value.Value.{Value as ValueModel}
 use Rattle.moo_value.specs.Tree.{Tree}
-use Rattle.moo_program.specs.Tree.{Expr, Items, Block, variable, verb_call, assign, returns, performs, then}
-use Rattle.moo_table.specs.World.{World}
-use Rattle.moo_outcome.specs.declared.frame.Activation.{Activation}
-use Rattle.moo_outcome.specs.declared.frame.CallStack.{CallStack}
-use Rattle.moo_outcome.specs.declared.notice.Notice.{Notice}
-use Rattle.moo_outcome.specs.Outcome.{returned, next, answers}
-use Rattle.moo_outcome.specs.State.{Context}
-use Rattle.moo_outcome.specs.Seen.{context_of, variables_of}
-use Rattle.moo_outcome.specs.Variables.{bind, with_variable}
-use Rattle.moo_code_function.specs.Telling.{Faults}
-use Rattle.moo_call.specs.Seen.{state_at}
-use Rattle.moo_worth.specs.Leaves.{IsLeaf}
-use Rattle.moo_worth.specs.Worth.{IsWorth}
-use Rattle.moo_worth.specs.Calls.{IsReturned, IsAnswered, verb_answers}
-use Rattle.moo_semantics.specs.Operands.{begun}
-use Rattle.moo_semantics.specs.Meaning.{Evaluates, Applies, Runs, RunsAll, begins, applies, no_more, element_then, verb_runs, leaves, statement_begins, gives}
+use Rattle.moo_syntax_ast.specs.Tree.{Expr, Items, Block, variable, verb_call, assign, returns, performs, then}
+use Rattle.moo_world_table.specs.World.{World}
+use Rattle.moo_eval_frame.specs.declared.frame.Activation.{Activation}
+use Rattle.moo_eval_frame.specs.declared.frame.CallStack.{CallStack}
+use Rattle.moo_eval_frame.specs.declared.notice.Notice.{Notice}
+use Rattle.moo_eval_frame.specs.Outcome.{returned, next, answers}
+use Rattle.moo_eval_frame.specs.State.{Context}
+use Rattle.moo_eval_frame.specs.Seen.{context_of, variables_of}
+use Rattle.moo_eval_frame.specs.Variables.{bind, with_variable}
+use Rattle.moo_builtin.specs.Telling.{Faults}
+use Rattle.moo_eval_call.specs.Seen.{state_at}
+use Rattle.moo_eval_fast_expr.specs.Leaves.{IsLeaf}
+use Rattle.moo_eval_fast_expr.specs.Worth.{IsWorth}
+use Rattle.moo_eval_fast_expr.specs.Calls.{IsReturned, IsAnswered, verb_answers}
+use Rattle.moo_eval_semantics.specs.Operands.{begun}
+use Rattle.moo_eval_semantics.specs.Meaning.{Evaluates, Applies, Runs, RunsAll, begins, applies, no_more, element_then, verb_runs, leaves, statement_begins, gives}
 use Rattle.moo_eval.specs.Callee.{GivesBoth}
 use Rattle.moo_eval.proofs.Direct.{assigned, performed, leaf_gives}
 use Rattle.moo_eval.proofs.Exits.{same_state}

@@ -1,21 +1,21 @@
 -- Scatters of lists that are known at once.
 use Rattle.std.proofs.Common.{◌≡◌, ℕ, suc, ◌+◌, ◌<◌, ◌-◌, Bool, true, false, ◌&&◌, List, [], ◌∷◌, Ok, length, refl, sym, ap, subst, arith}
 use Rattle.std.proofs.lemmas.Bool.{false≢true}
-use Rattle.moo_program.specs.Tree.{Expr, literal, variable, length_mark, unary, binary, logic, conditional, index, range, list, property, verb_call, call, assign, catch, catch_or, literal_value, Items, performs}
-use Rattle.moo_table.specs.World.{World}
-use Rattle.moo_outcome.specs.declared.frame.Activation.{Activation}
-use Rattle.moo_outcome.specs.declared.notice.Notice.{Notice}
-use Rattle.moo_outcome.specs.Outcome.{answers, next}
-use Rattle.moo_outcome.specs.State.{Context}
-use Rattle.moo_outcome.specs.Variables.{bind, with_all}
-use Rattle.moo_outcome.specs.Scatter.{LeftOut, given, missing}
-use Rattle.moo_access.specs.State.{State, ticked, bound}
-use Rattle.moo_code_function.specs.Telling.{Telling, Faults}
-use Rattle.moo_call.specs.Seen.{state_at}
-use Rattle.moo_worth.specs.Leaves.{literal_leaf}
-use Rattle.moo_fast_path.specs.Scattering.{is_written_out, are_written_out, defaults}
-use Rattle.moo_fast_path.specs.Changes.{IsScattered}
-use Rattle.moo_semantics.specs.Meaning.{Runs, SetsDefaults, statement_begins, applies, no_more, assign_is, assigns, locates, finds, inside, stores, scatters, none_missing, default_then}
+use Rattle.moo_syntax_ast.specs.Tree.{Expr, literal, variable, length_mark, unary, binary, logic, conditional, index, range, list, property, verb_call, call, assign, catch, catch_or, literal_value, Items, performs}
+use Rattle.moo_world_table.specs.World.{World}
+use Rattle.moo_eval_frame.specs.declared.frame.Activation.{Activation}
+use Rattle.moo_eval_frame.specs.declared.notice.Notice.{Notice}
+use Rattle.moo_eval_frame.specs.Outcome.{answers, next}
+use Rattle.moo_eval_frame.specs.State.{Context}
+use Rattle.moo_eval_frame.specs.Variables.{bind, with_all}
+use Rattle.moo_eval_frame.specs.Scatter.{LeftOut, given, missing}
+use Rattle.moo_eval_access.specs.State.{State, ticked, bound}
+use Rattle.moo_builtin.specs.Telling.{Telling, Faults}
+use Rattle.moo_eval_call.specs.Seen.{state_at}
+use Rattle.moo_eval_fast_expr.specs.Leaves.{literal_leaf}
+use Rattle.moo_eval_fast_stmt.specs.Scattering.{is_written_out, are_written_out, defaults}
+use Rattle.moo_eval_fast_stmt.specs.Changes.{IsScattered}
+use Rattle.moo_eval_semantics.specs.Meaning.{Runs, SetsDefaults, statement_begins, applies, no_more, assign_is, assigns, locates, finds, inside, stores, scatters, none_missing, default_then}
 use Rattle.moo_eval.proofs.Direct.{performed, leaf_gives}
 use Rattle.moo_eval.proofs.Known.{worth_gives}
 use Rattle.moo_eval.proofs.Exits.{same_state}

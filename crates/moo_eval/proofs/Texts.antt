@@ -5,7 +5,7 @@ use Rattle.std.specs.List.{AllByRecursion}
 use Rattle.std.proofs.lemmas.List.Elements.{All-from_recursion, recursion_from_All}
 use Rattle.moo_value.specs.Tree.{IsTextByte, IsText}
 use Rattle.moo_value.specs.Size.{IsString, weight_limit}
-use Rattle.moo_semantics.specs.Line.{program_text}
+use Rattle.moo_eval_semantics.specs.Line.{program_text}
 
 front : (s t : List ℕ) → AllByRecursion IsTextByte (s ++ t) → AllByRecursion IsTextByte s
 front [] t h = tt

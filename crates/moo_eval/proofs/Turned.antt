@@ -2,19 +2,19 @@
 use Rattle.std.proofs.Common.{◌≡◌, ℕ, zero, suc, ◌<◌, ◌+◌, ◌-◌, ℤ, pos, ◌+ℤ◌, List, [], ◌∷◌, true, Option, Some, None, Result, Ok, Err, IfOk, IfSome, IfNone, length, get_or, drop, refl, sym, ap, ◌∙◌, int_le, arith}
 use Rattle.std.proofs.lemmas.List.{length-drop, drop-drop}
 use Rattle.moo_value.specs.Tree.{Tree}
-use Rattle.moo_program.specs.Tree.{Expr, Block, no_statement}
-use Rattle.moo_outcome.specs.Outcome.{Flow, Stop, next}
-use Rattle.moo_outcome.specs.Leading.{numbered}
-use Rattle.moo_outcome.specs.declared.leading.Span.{Span}
-use Rattle.moo_outcome.specs.State.{Context}
-use Rattle.moo_outcome.specs.Variables.{Binding, bind}
-use Rattle.moo_table.specs.World.{World}
-use Rattle.moo_outcome.specs.declared.frame.Activation.{Activation}
-use Rattle.moo_outcome.specs.declared.notice.Notice.{Notice}
-use Rattle.moo_call.specs.Seen.{state_at}
-use Rattle.moo_access.specs.State.{State, ticked}
-use Rattle.moo_code_function.specs.Telling.{Telling}
-use Rattle.moo_semantics.specs.Meaning.{RunsAll, Turns, Loops, Visits, Counts, ends, turns, loop_left, loop_then, visit_left, visit_then, count_left, count_then}
+use Rattle.moo_syntax_ast.specs.Tree.{Expr, Block, no_statement}
+use Rattle.moo_eval_frame.specs.Outcome.{Flow, Stop, next}
+use Rattle.moo_eval_frame.specs.Leading.{numbered}
+use Rattle.moo_eval_frame.specs.declared.leading.Span.{Span}
+use Rattle.moo_eval_frame.specs.State.{Context}
+use Rattle.moo_eval_frame.specs.Variables.{Binding, bind}
+use Rattle.moo_world_table.specs.World.{World}
+use Rattle.moo_eval_frame.specs.declared.frame.Activation.{Activation}
+use Rattle.moo_eval_frame.specs.declared.notice.Notice.{Notice}
+use Rattle.moo_eval_call.specs.Seen.{state_at}
+use Rattle.moo_eval_access.specs.State.{State, ticked}
+use Rattle.moo_builtin.specs.Telling.{Telling}
+use Rattle.moo_eval_semantics.specs.Meaning.{RunsAll, Turns, Loops, Visits, Counts, ends, turns, loop_left, loop_then, visit_left, visit_then, count_left, count_then}
 use Rattle.moo_eval.specs.Turning.{EndsTurn, Within, turn_left, turn_done, IsTested, IsBegun}
 
 -- where the statements that are left lead, all of the turn's lead

@@ -1,10 +1,10 @@
 -- The meaning of the program's result for a task.
-pub use Rattle.moo_outcome.specs.Traceback.{texts}
-pub use Rattle.moo_semantics.specs.Notices.{LeavesNotices, IsBegunBy}
+pub use Rattle.moo_eval_frame.specs.Traceback.{texts}
+pub use Rattle.moo_eval_semantics.specs.Notices.{LeavesNotices, IsBegunBy}
 use Rattle.moo_value.specs.View.{tree}
 use Rattle.moo_eval.specs.declared.task.Ended as code
 use Rattle.moo_eval.specs.declared.task.Ended.TheVariants as ended
-use Rattle.moo_semantics.specs.Task.{End, value, uncaught, out_of_ticks}
+use Rattle.moo_eval_semantics.specs.Task.{End, value, uncaught, out_of_ticks}
 
 -- what holds of the end; of lack of memory nothing is said
 abbrev pub IfEnded : code.Ended → (End → Type 0) → Type 0

@@ -1,13 +1,13 @@
 -- Lists that grow in their variable.
 use Rattle.std.specs.Prelude.{◌≡◌, ℕ, List, [], ◌∷◌, Result, Ok, Err}
 use Rattle.moo_value.specs.Tree.{Tree}
-use Rattle.moo_program.specs.Tree.{Expr}
-use Rattle.moo_outcome.specs.Variables.{bind}
-use Rattle.moo_outcome.specs.Outcome.{Failure, settled}
-use Rattle.moo_outcome.specs.State.{Context}
-use Rattle.moo_access.specs.State.{State, bound, trace}
-use Rattle.moo_code_function.specs.Telling.{Telling}
-use Rattle.moo_semantics.specs.Meaning.{Computes}
+use Rattle.moo_syntax_ast.specs.Tree.{Expr}
+use Rattle.moo_eval_frame.specs.Variables.{bind}
+use Rattle.moo_eval_frame.specs.Outcome.{Failure, settled}
+use Rattle.moo_eval_frame.specs.State.{Context}
+use Rattle.moo_eval_access.specs.State.{State, bound, trace}
+use Rattle.moo_builtin.specs.Telling.{Telling}
+use Rattle.moo_eval_semantics.specs.Meaning.{Computes}
 
 -- an expression that makes a variable's list longer has a value, and then the variable is set to it
 pub record IsLengthened (T : Telling) (c : Context) (name : List ℕ) (longer : Expr) (s t : State) : Type 0 where

@@ -2,23 +2,23 @@
 use Rattle.std.specs.Prelude.{◌≡◌, ◌≢◌, Result, Ok, Err}
 use Rattle.moo_value.specs.Tree.{Tree}
 use Rattle.moo_value.specs.View.{tree}
-use Rattle.moo_program.specs.Tree.{no_statement}
-use Rattle.moo_outcome.specs.declared.outcome.Failure as code_failure
-use Rattle.moo_outcome.specs.Outcome.{Stop, Failure, Flow}
-use Rattle.moo_outcome.specs.State.{Context}
-use Rattle.moo_outcome.specs.Seen.{failure_of}
-use Rattle.moo_access.specs.State.{State}
-use Rattle.moo_access.specs.Entering.{Entered}
-use Rattle.moo_access.specs.SeenCalled.{entered_of}
-use Rattle.moo_code_function.specs.Telling.{Telling}
-use Rattle.moo_hook.specs.declared.progress.Stage.{Stage}
-use Rattle.moo_hook.specs.declared.progress.Progress as code_progress
-use Rattle.moo_hook.specs.declared.progress.Progress.TheVariants as progress_case
-use Rattle.moo_hook.specs.Progressing.{Progress, done, verb_next}
+use Rattle.moo_syntax_ast.specs.Tree.{no_statement}
+use Rattle.moo_eval_frame.specs.declared.outcome.Failure as code_failure
+use Rattle.moo_eval_frame.specs.Outcome.{Stop, Failure, Flow}
+use Rattle.moo_eval_frame.specs.State.{Context}
+use Rattle.moo_eval_frame.specs.Seen.{failure_of}
+use Rattle.moo_eval_access.specs.State.{State}
+use Rattle.moo_eval_access.specs.Entering.{Entered}
+use Rattle.moo_eval_access.specs.SeenCalled.{entered_of}
+use Rattle.moo_builtin.specs.Telling.{Telling}
+use Rattle.moo_eval_call.specs.declared.progress.Stage.{Stage}
+use Rattle.moo_eval_call.specs.declared.progress.Progress as code_progress
+use Rattle.moo_eval_call.specs.declared.progress.Progress.TheVariants as progress_case
+use Rattle.moo_eval_call.specs.Progressing.{Progress, done, verb_next}
 use Rattle.moo_eval.specs.declared.hooks.Pending.{Pending}
 use Rattle.moo_eval.specs.declared.hooks.Pending.TheVariants as pending_case
-use Rattle.moo_semantics.specs.Operands.{answered, begun, left}
-use Rattle.moo_semantics.specs.Meaning.{RunsAll, Proceeds}
+use Rattle.moo_eval_semantics.specs.Operands.{answered, begun, left}
+use Rattle.moo_eval_semantics.specs.Meaning.{RunsAll, Proceeds}
 
 -- a verb that was entered runs to its end, and its caller goes on in this state
 pub record RunsCalled (T : Telling) (e : Entered) (s : State) (r : Result Tree Failure) (s' : State) : Type 0 where

@@ -1,15 +1,15 @@
 -- Loops from within a turn on.
 use Rattle.std.specs.Prelude.{◌≡◌, ◌<◌, ℕ, true, List, Option, Some, None, Result, Ok}
 use Rattle.moo_value.specs.Tree.{Tree}
-use Rattle.moo_operation.specs.Truth.{is_true}
-use Rattle.moo_program.specs.Tree.{Expr, Block}
-use Rattle.moo_outcome.specs.Outcome.{Flow, Stop}
-use Rattle.moo_outcome.specs.Leading.{after_turn}
-use Rattle.moo_outcome.specs.State.{Context}
-use Rattle.moo_outcome.specs.Variables.{Binding}
-use Rattle.moo_access.specs.State.{State, ticked, bound}
-use Rattle.moo_code_function.specs.Telling.{Telling}
-use Rattle.moo_semantics.specs.Meaning.{Evaluates, RunsAll}
+use Rattle.moo_builtin_operator.specs.Truth.{is_true}
+use Rattle.moo_syntax_ast.specs.Tree.{Expr, Block}
+use Rattle.moo_eval_frame.specs.Outcome.{Flow, Stop}
+use Rattle.moo_eval_frame.specs.Leading.{after_turn}
+use Rattle.moo_eval_frame.specs.State.{Context}
+use Rattle.moo_eval_frame.specs.Variables.{Binding}
+use Rattle.moo_eval_access.specs.State.{State, ticked, bound}
+use Rattle.moo_builtin.specs.Telling.{Telling}
+use Rattle.moo_eval_semantics.specs.Meaning.{Evaluates, RunsAll}
 
 -- the statements that are left of a turn run, and how the loop ends with them: `None` is on to the next turn
 pub record EndsTurn (T : Telling) (c : Context) (own : Option (List ℕ)) (left : Block) (s : State) (r : Option (Result Flow Stop)) (s' : State) : Type 0 where

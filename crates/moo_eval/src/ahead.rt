@@ -1,32 +1,32 @@
 //! What is known at once, so that nothing can stop it: values of expressions, tests, and statements that set a variable to such a value.
 ghost use Rattle.std.specs.Prelude.{◌≡◌, ◌<◌, ◌≤◌, ◌-◌, ℕ, Ok, Err, IfSome, IfNone, IfOk, IfErr, IsTrue, IsFalse};
-ghost use Rattle.moo_program.specs.Tree.{Expr as ExprTree, variable, binary, assign, performs};
-ghost use Rattle.moo_program.specs.View.{tree, statement as statement_of};
+ghost use Rattle.moo_syntax_ast.specs.Tree.{Expr as ExprTree, variable, binary, assign, performs};
+ghost use Rattle.moo_syntax_ast.specs.View.{tree, statement as statement_of};
 ghost use Rattle.moo_value.specs.Tree.{Tree, integer};
 ghost use Rattle.moo_value.specs.View.{tree as tree_of};
-ghost use Rattle.moo_operation.specs.Truth.{is_true};
-ghost use Rattle.moo_outcome.specs.Outcome.{next};
-ghost use Rattle.moo_outcome.specs.State.{Context};
-ghost use Rattle.moo_outcome.specs.Seen.{context_of, stop_of, HadMemory};
-ghost use Rattle.moo_table.specs.World.{World as WorldModel};
-ghost use Rattle.moo_code_function.specs.Telling.{Faults};
-ghost use Rattle.moo_worth.specs.Worth.{IsWorth};
-ghost use Rattle.moo_semantics.specs.Meaning.{Evaluates, Runs};
+ghost use Rattle.moo_builtin_operator.specs.Truth.{is_true};
+ghost use Rattle.moo_eval_frame.specs.Outcome.{next};
+ghost use Rattle.moo_eval_frame.specs.State.{Context};
+ghost use Rattle.moo_eval_frame.specs.Seen.{context_of, stop_of, HadMemory};
+ghost use Rattle.moo_world_table.specs.World.{World as WorldModel};
+ghost use Rattle.moo_builtin.specs.Telling.{Faults};
+ghost use Rattle.moo_eval_fast_expr.specs.Worth.{IsWorth};
+ghost use Rattle.moo_eval_semantics.specs.Meaning.{Evaluates, Runs};
 ghost use Rattle.moo_eval.specs.Seen.{state_of};
 
 use crate::interpreter::Task;
-use moo_fast_path::{as_setting, put_number, puts, puts_joined, sets_operator};
-use moo_operation as operation;
-use moo_outcome::{Activation, CallStack, Stop};
-use moo_program::operator::BinaryOperator;
-use moo_program::{Expr, Name, Stmt};
-use moo_value::Value;
-use moo_world::World;
-use moo_worth::integers::is_other_than_0;
-use moo_worth::worth::{Sight, number_worth, worth};
-use moo_worth::{
+use moo_builtin_operator as operation;
+use moo_eval_fast_expr::integers::is_other_than_0;
+use moo_eval_fast_expr::worth::{Sight, number_worth, worth};
+use moo_eval_fast_expr::{
     are_leaves, is_leaf, known_leaf, leaf_at_a_glance, leaves_at_a_glance, test_worth,
 };
+use moo_eval_fast_stmt::{as_setting, put_number, puts, puts_joined, sets_operator};
+use moo_eval_frame::{Activation, CallStack, Stop};
+use moo_syntax_ast::operator::BinaryOperator;
+use moo_syntax_ast::{Expr, Name, Stmt};
+use moo_value::Value;
+use moo_world::World;
 
 impl Task {
     /// The value of an element, of a property or of a call that is known at once, where all its ticks are left. Else nothing has begun. Not

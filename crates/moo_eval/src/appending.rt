@@ -1,18 +1,18 @@
 //! Lists that grow in the variable that they stand in by `listappend`, as in `l = listappend(l, x)`.
 ghost use Rattle.std.specs.Prelude.{◌≤◌, None, IfErr, OnOk};
-ghost use Rattle.moo_program.specs.Tree.{Expr as ExprTree, variable, assign, performs};
-ghost use Rattle.moo_program.specs.View.{tree};
-ghost use Rattle.moo_outcome.specs.Seen.{context_of, failure_of, seen_flow, HadMemoryIn, IsKnown};
-ghost use Rattle.moo_code_function.specs.Telling.{Faults};
-ghost use Rattle.moo_fast_path.specs.Growth.{Appends};
+ghost use Rattle.moo_syntax_ast.specs.Tree.{Expr as ExprTree, variable, assign, performs};
+ghost use Rattle.moo_syntax_ast.specs.View.{tree};
+ghost use Rattle.moo_eval_frame.specs.Seen.{context_of, failure_of, seen_flow, HadMemoryIn, IsKnown};
+ghost use Rattle.moo_builtin.specs.Telling.{Faults};
+ghost use Rattle.moo_eval_fast_stmt.specs.Growth.{Appends};
 ghost use Rattle.moo_eval.specs.Growth.{IsLengthened, SettlesAs};
-ghost use Rattle.moo_semantics.specs.Meaning.{Does};
+ghost use Rattle.moo_eval_semantics.specs.Meaning.{Does};
 ghost use Rattle.moo_eval.specs.Seen.{state_of};
 
 use crate::interpreter::Task;
-use moo_fast_path::set_longer;
-use moo_outcome::{Activation, CallStack, Failure, Flow, Stop};
-use moo_program::{Expr, Name};
+use moo_eval_fast_stmt::set_longer;
+use moo_eval_frame::{Activation, CallStack, Failure, Flow, Stop};
+use moo_syntax_ast::{Expr, Name};
 use moo_value::{ErrorCode, Value};
 use moo_world::World;
 

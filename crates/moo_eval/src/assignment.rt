@@ -1,31 +1,31 @@
 //! Runs assignments.
 ghost use Rattle.std.specs.Prelude.{◌≤◌, None, Result, Err, IfOk, IfErr, OnOk, map};
-ghost use Rattle.moo_program.specs.Tree.{variable, assign, performs, list, splice, element, no_items};
-ghost use Rattle.moo_program.specs.View.{tree, items_of};
+ghost use Rattle.moo_syntax_ast.specs.Tree.{variable, assign, performs, list, splice, element, no_items};
+ghost use Rattle.moo_syntax_ast.specs.View.{tree, items_of};
 ghost use Rattle.moo_value.specs.View.{tree as value_tree};
-ghost use Rattle.moo_access.specs.Target.{Path, named, scattered};
-ghost use Rattle.moo_semantics.specs.Meaning.{Computes, Does, Locates, Finds, Steps, Stores, Puts, SetsDefaults};
-ghost use Rattle.moo_outcome.specs.Seen.{context_of, failure_of, seen_answer, seen_by, seen_done, seen_flow, HadMemoryIn, IsKnown, IsKnownFailure};
+ghost use Rattle.moo_eval_access.specs.Target.{Path, named, scattered};
+ghost use Rattle.moo_eval_semantics.specs.Meaning.{Computes, Does, Locates, Finds, Steps, Stores, Puts, SetsDefaults};
+ghost use Rattle.moo_eval_frame.specs.Seen.{context_of, failure_of, seen_answer, seen_by, seen_done, seen_flow, HadMemoryIn, IsKnown, IsKnownFailure};
 ghost use Rattle.moo_eval.specs.Growth.{IsLengthened};
-ghost use Rattle.moo_outcome.specs.Outcome.{Failure as Failed};
-ghost use Rattle.moo_outcome.specs.State.{Context};
-ghost use Rattle.moo_table.specs.World.{World as WorldModel};
-ghost use Rattle.moo_access.specs.State.{State};
-ghost use Rattle.moo_code_function.specs.Telling.{Faults};
+ghost use Rattle.moo_eval_frame.specs.Outcome.{Failure as Failed};
+ghost use Rattle.moo_eval_frame.specs.State.{Context};
+ghost use Rattle.moo_world_table.specs.World.{World as WorldModel};
+ghost use Rattle.moo_eval_access.specs.State.{State};
+ghost use Rattle.moo_builtin.specs.Telling.{Faults};
 ghost use Rattle.moo_eval.specs.Seen.{state_of};
-ghost use Rattle.moo_access.specs.SeenTarget.{root_seen, step_of, steps_of, path_of, spot_of};
-ghost use Rattle.moo_outcome.specs.SeenScatter.{left_out_of};
+ghost use Rattle.moo_eval_access.specs.SeenTarget.{root_seen, step_of, steps_of, path_of, spot_of};
+ghost use Rattle.moo_eval_frame.specs.SeenScatter.{left_out_of};
 
 use crate::interpreter::Task;
-use moo_access::{
+use moo_eval_access::{
     Path, Places, Root, Spot, Step, as_property, push_step, rebuilt, root_alone, set_variable,
     taken_apart, write_property,
 };
-use moo_fast_path::{as_variable, set_longer};
-use moo_outcome::{
+use moo_eval_fast_stmt::{as_variable, set_longer};
+use moo_eval_frame::{
     Activation, CallStack, Failure, Flow, LeftOut, Stop, dealt, missing, set_shares,
 };
-use moo_program::{Expr, Item, Name};
+use moo_syntax_ast::{Expr, Item, Name};
 use moo_value::{ErrorCode, Value};
 use moo_world::World;
 

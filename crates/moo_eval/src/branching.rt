@@ -1,18 +1,18 @@
 //! Branches that are known at once.
 ghost use Rattle.std.specs.Prelude.{◌≡◌, ◌<◌, ◌≤◌, Ok, IfOk, IsTrue, IsFalse};
-ghost use Rattle.moo_program.specs.View.{statement as statement_of};
-ghost use Rattle.moo_outcome.specs.Outcome.{next};
-ghost use Rattle.moo_outcome.specs.State.{Context};
-ghost use Rattle.moo_code_function.specs.Telling.{Faults};
-ghost use Rattle.moo_semantics.specs.Meaning.{Runs};
+ghost use Rattle.moo_syntax_ast.specs.View.{statement as statement_of};
+ghost use Rattle.moo_eval_frame.specs.Outcome.{next};
+ghost use Rattle.moo_eval_frame.specs.State.{Context};
+ghost use Rattle.moo_builtin.specs.Telling.{Faults};
+ghost use Rattle.moo_eval_semantics.specs.Meaning.{Runs};
 ghost use Rattle.moo_eval.specs.Seen.{state_of};
 
 use crate::interpreter::Task;
-use moo_fast_path::{as_branch, chosen_arm, runs_only};
-use moo_outcome::Activation;
-use moo_program::Stmt;
+use moo_eval_fast_expr::worth::Sight;
+use moo_eval_fast_stmt::{as_branch, chosen_arm, runs_only};
+use moo_eval_frame::Activation;
+use moo_syntax_ast::Stmt;
 use moo_world::World;
-use moo_worth::worth::Sight;
 use std::alloc::AllocError;
 
 impl Task {

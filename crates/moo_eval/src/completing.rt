@@ -1,18 +1,18 @@
 //! Statements that are run ahead, since nothing can stop them.
 ghost use Rattle.std.specs.Prelude.{◌≡◌, ◌≢◌, ◌<◌, ◌≤◌, None, Result, Ok, IfOk, IsTrue, IsFalse};
-ghost use Rattle.moo_program.specs.View.{statement as statement_of, block};
-ghost use Rattle.moo_outcome.specs.Outcome.{Flow, Stop as Stopped, next};
-ghost use Rattle.moo_outcome.specs.State.{Context};
-ghost use Rattle.moo_outcome.specs.Seen.{context_of};
-ghost use Rattle.moo_access.specs.State.{State};
-ghost use Rattle.moo_code_function.specs.Telling.{Faults};
-ghost use Rattle.moo_semantics.specs.Meaning.{Runs, RunsAll};
+ghost use Rattle.moo_syntax_ast.specs.View.{statement as statement_of, block};
+ghost use Rattle.moo_eval_frame.specs.Outcome.{Flow, Stop as Stopped, next};
+ghost use Rattle.moo_eval_frame.specs.State.{Context};
+ghost use Rattle.moo_eval_frame.specs.Seen.{context_of};
+ghost use Rattle.moo_eval_access.specs.State.{State};
+ghost use Rattle.moo_builtin.specs.Telling.{Faults};
+ghost use Rattle.moo_eval_semantics.specs.Meaning.{Runs, RunsAll};
 ghost use Rattle.moo_eval.specs.Seen.{state_of};
 
 use crate::interpreter::Task;
-use moo_fast_path::{Form, form_of, may_grow};
-use moo_outcome::{Activation, CallStack};
-use moo_program::Stmt;
+use moo_eval_fast_stmt::{Form, form_of, may_grow};
+use moo_eval_frame::{Activation, CallStack};
+use moo_syntax_ast::Stmt;
 use moo_world::World;
 use std::alloc::AllocError;
 

@@ -1,17 +1,17 @@
 //! Expressions that evaluate only some of their parts.
 ghost use Rattle.std.specs.Prelude.{◌≤◌};
-ghost use Rattle.moo_program.specs.Tree.{logic, conditional};
-ghost use Rattle.moo_program.specs.View.{tree};
-ghost use Rattle.moo_outcome.specs.Seen.{context_of, seen_answer, IsKnownFailure};
-ghost use Rattle.moo_code_function.specs.Telling.{Faults};
-ghost use Rattle.moo_semantics.specs.Meaning.{Computes};
+ghost use Rattle.moo_syntax_ast.specs.Tree.{logic, conditional};
+ghost use Rattle.moo_syntax_ast.specs.View.{tree};
+ghost use Rattle.moo_eval_frame.specs.Seen.{context_of, seen_answer, IsKnownFailure};
+ghost use Rattle.moo_builtin.specs.Telling.{Faults};
+ghost use Rattle.moo_eval_semantics.specs.Meaning.{Computes};
 ghost use Rattle.moo_eval.specs.Seen.{state_of};
 
 use crate::interpreter::Task;
-use moo_operation::is_decided;
-use moo_outcome::{Activation, CallStack, Failure};
-use moo_program::Expr;
-use moo_program::operator::LogicOperator;
+use moo_builtin_operator::is_decided;
+use moo_eval_frame::{Activation, CallStack, Failure};
+use moo_syntax_ast::Expr;
+use moo_syntax_ast::operator::LogicOperator;
 use moo_value::Value;
 use moo_world::World;
 

@@ -1,20 +1,20 @@
 //! Elements that are set in the variable that holds their list, as in `l[i] = x`, and bytes of a string.
 ghost use Rattle.std.specs.Prelude.{◌≡◌, ◌≤◌, ◌<◌, None, Ok, Err, IfOk, IfErr, IsTrue, IsFalse, OnOk};
-ghost use Rattle.moo_program.specs.Tree.{performs};
-ghost use Rattle.moo_program.specs.View.{tree, statement as statement_of};
-ghost use Rattle.moo_outcome.specs.Outcome.{next};
-ghost use Rattle.moo_outcome.specs.State.{Context};
-ghost use Rattle.moo_outcome.specs.Seen.{context_of, failure_of, seen_flow, HadMemoryIn, IsKnown};
-ghost use Rattle.moo_code_function.specs.Telling.{Faults};
-ghost use Rattle.moo_fast_path.specs.Element.{sets_place};
+ghost use Rattle.moo_syntax_ast.specs.Tree.{performs};
+ghost use Rattle.moo_syntax_ast.specs.View.{tree, statement as statement_of};
+ghost use Rattle.moo_eval_frame.specs.Outcome.{next};
+ghost use Rattle.moo_eval_frame.specs.State.{Context};
+ghost use Rattle.moo_eval_frame.specs.Seen.{context_of, failure_of, seen_flow, HadMemoryIn, IsKnown};
+ghost use Rattle.moo_builtin.specs.Telling.{Faults};
+ghost use Rattle.moo_eval_fast_stmt.specs.Element.{sets_place};
 ghost use Rattle.moo_eval.specs.Element.{IsPut};
-ghost use Rattle.moo_semantics.specs.Meaning.{Computes, Does, Runs};
+ghost use Rattle.moo_eval_semantics.specs.Meaning.{Computes, Does, Runs};
 ghost use Rattle.moo_eval.specs.Seen.{state_of};
 
 use crate::interpreter::Task;
-use moo_fast_path::{as_placing, places, set_at};
-use moo_outcome::{Activation, CallStack, Failure, Flow, Stop, read_variable};
-use moo_program::{Expr, Name, Stmt};
+use moo_eval_fast_stmt::{as_placing, places, set_at};
+use moo_eval_frame::{Activation, CallStack, Failure, Flow, Stop, read_variable};
+use moo_syntax_ast::{Expr, Name, Stmt};
 use moo_world::World;
 use std::alloc::AllocError;
 

@@ -1,30 +1,29 @@
 //! Evaluates expressions.
 ghost use Rattle.std.specs.Prelude.{◌≡◌, ◌-◌, ◌<◌, ◌≤◌, ℕ, List, [], ◌++◌, None, Ok, Err, IfOk, IfErr, OnOk, OnErr};
-ghost use Rattle.moo_program.specs.View.{tree, items_of};
+ghost use Rattle.moo_syntax_ast.specs.View.{tree, items_of};
 ghost use Rattle.moo_value.specs.View.{tree as tree_of};
-ghost use Rattle.moo_outcome.specs.Outcome.{out_of_ticks, settled};
-ghost use Rattle.moo_semantics.specs.Meaning.{Evaluates, Computes, EvaluatesAll};
-ghost use Rattle.moo_outcome.specs.Seen.{context_of, trace_of, stop_of, failure_of, seen_value, seen_answer, seen_by, HadMemory, HadMemoryIn, IsKnown, IsKnownFailure};
-ghost use Rattle.moo_function.specs.Names.{function_of};
-ghost use Rattle.moo_call.specs.Tasks.{most_ticks};
-ghost use Rattle.moo_call.specs.Calls.{CallsFunction};
-ghost use Rattle.moo_code_function.specs.Telling.{Faults};
-ghost use Rattle.moo_hook.specs.Stages.{resumed};
-ghost use Rattle.moo_hook.specs.Seen.{progress_of, seen_progress};
-ghost use Rattle.moo_hook.specs.Turns.{stage_turns, progress_turns};
+ghost use Rattle.moo_eval_frame.specs.Outcome.{out_of_ticks, settled};
+ghost use Rattle.moo_eval_semantics.specs.Meaning.{Evaluates, Computes, EvaluatesAll};
+ghost use Rattle.moo_eval_frame.specs.Seen.{context_of, trace_of, stop_of, failure_of, seen_value, seen_answer, seen_by, HadMemory, HadMemoryIn, IsKnown, IsKnownFailure};
+ghost use Rattle.moo_syntax_function.specs.Names.{function_of};
+ghost use Rattle.moo_eval_call.specs.Tasks.{most_ticks};
+ghost use Rattle.moo_eval_call.specs.Calls.{CallsFunction};
+ghost use Rattle.moo_builtin.specs.Telling.{Faults};
+ghost use Rattle.moo_eval_call.specs.Stages.{resumed};
+ghost use Rattle.moo_eval_call.specs.SeenByHooks.{progress_of, seen_progress};
+ghost use Rattle.moo_eval_call.specs.Turns.{stage_turns, progress_turns};
 ghost use Rattle.moo_eval.specs.Seen.{state_of};
 
-use moo_call::{Ticks, call_function};
-use moo_function::Function;
-use moo_hook::{Progress, Stage, resume_call};
-use moo_outcome::{
+use moo_eval_call::{Progress, Stage, Ticks, call_function, resume_call};
+use moo_eval_fast_expr::{may_be_known, may_have_worth};
+use moo_eval_frame::{
     Activation, CallStack, Failure, Gathered, Notice, Stop, literal_value, measure, read_variable,
     settle,
 };
-use moo_program::{Expr, Item};
+use moo_syntax_ast::{Expr, Item};
+use moo_syntax_function::Function;
 use moo_value::{ErrorCode, Value};
 use moo_world::World;
-use moo_worth::{may_be_known, may_have_worth};
 use std::alloc::{AllocError, Global};
 use std::cell::Cell;
 

@@ -3,17 +3,17 @@ ghost use Rattle.std.specs.Prelude.{◌≡◌, ◌≤◌, Option, Err};
 ghost use Rattle.std.specs.Borrow.{Bor};
 ghost use Rattle.moo_value.specs.declared.value.Value.{Value as ValueModel};
 ghost use Rattle.moo_value.specs.declared.error_code.ErrorCode.TheVariants.{VariableNotFound};
-ghost use Rattle.moo_program.specs.Tree.{literal as literal_node, variable};
-ghost use Rattle.moo_outcome.specs.Outcome.{fails, settled};
-ghost use Rattle.moo_outcome.specs.Seen.{context_of, seen_value, trace_of, IsKnown};
-ghost use Rattle.moo_table.specs.World.{World};
-ghost use Rattle.moo_code_function.specs.Telling.{Faults};
-ghost use Rattle.moo_semantics.specs.Meaning.{Evaluates};
+ghost use Rattle.moo_syntax_ast.specs.Tree.{literal as literal_node, variable};
+ghost use Rattle.moo_eval_frame.specs.Outcome.{fails, settled};
+ghost use Rattle.moo_eval_frame.specs.Seen.{context_of, seen_value, trace_of, IsKnown};
+ghost use Rattle.moo_world_table.specs.World.{World};
+ghost use Rattle.moo_builtin.specs.Telling.{Faults};
+ghost use Rattle.moo_eval_semantics.specs.Meaning.{Evaluates};
 ghost use Rattle.moo_eval.specs.Seen.{state_of};
 
 use crate::interpreter::Task;
-use moo_outcome::{Activation, CallStack, Failure, Stop, literal_value, settle};
-use moo_program::{Literal, Name};
+use moo_eval_frame::{Activation, CallStack, Failure, Stop, literal_value, settle};
+use moo_syntax_ast::{Literal, Name};
 use moo_value::{ErrorCode, Value};
 
 impl Task {

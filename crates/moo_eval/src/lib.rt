@@ -29,8 +29,8 @@ mod typed;
 mod writing;
 
 pub use line::{EvalLine, eval_line};
-pub use moo_hook::typed_frame;
-pub use moo_outcome::{Connection, Frame, Login, Notice, Surroundings, TaskEnv};
-pub use moo_semantics::laws;
+pub use moo_eval_call::typed_frame;
+pub use moo_eval_frame::{Connection, Frame, Login, Notice, Surroundings, TaskEnv};
+pub use moo_eval_semantics::laws;
 pub use task::{Ended, run_task};
 pub use typed::run_typed;

@@ -5,7 +5,7 @@ ghost use Rattle.moo_value.specs.Size.{IsString};
 ghost use Rattle.moo_syntax.specs.declared.syntax_fault.SyntaxFaultKind.TheVariants.{Memory};
 ghost use Rattle.moo_syntax.specs.FaultText.{fault_text};
 ghost use Rattle.moo_eval.specs.Ends.{texts};
-ghost use Rattle.moo_semantics.specs.Line.{program_text, AnswersLine};
+ghost use Rattle.moo_eval_semantics.specs.Line.{program_text, AnswersLine};
 
 use crate::typed::{one_line, run_typed};
 use moo_syntax::{Names, SyntaxFault, SyntaxFaultKind, parse};

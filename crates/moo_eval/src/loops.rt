@@ -1,20 +1,20 @@
 //! Runs loops.
 ghost use Rattle.std.specs.Prelude.{◌≤◌, ◌<◌, ◌∷◌, [], None, Some, OnOk, option_copied};
 ghost use Rattle.moo_value.specs.View.{tree as value_tree, trees};
-ghost use Rattle.moo_program.specs.Tree.{for_list, for_range};
-ghost use Rattle.moo_program.specs.View.{tree, block};
-ghost use Rattle.moo_semantics.specs.Meaning.{Does, Turns, Loops, Visits, Counts};
+ghost use Rattle.moo_syntax_ast.specs.Tree.{for_list, for_range};
+ghost use Rattle.moo_syntax_ast.specs.View.{tree, block};
+ghost use Rattle.moo_eval_semantics.specs.Meaning.{Does, Turns, Loops, Visits, Counts};
 ghost use Rattle.moo_eval.specs.Turning.{EndsTurn};
-ghost use Rattle.moo_outcome.specs.Variables.{bind};
-ghost use Rattle.moo_outcome.specs.Seen.{context_of, seen_flow, seen_turn, IsKnown};
-ghost use Rattle.moo_code_function.specs.Telling.{Faults};
+ghost use Rattle.moo_eval_frame.specs.Variables.{bind};
+ghost use Rattle.moo_eval_frame.specs.Seen.{context_of, seen_flow, seen_turn, IsKnown};
+ghost use Rattle.moo_builtin.specs.Telling.{Faults};
 ghost use Rattle.moo_eval.specs.Seen.{state_of};
 
 use crate::interpreter::Task;
 use crate::turns::{first_ready, first_ready_between, first_ready_of};
-use moo_operation::spliced;
-use moo_outcome::{Activation, CallStack, Flow, Span, Stop, after_turn, no_turn};
-use moo_program::{Expr, Name, Stmt};
+use moo_builtin_operator::spliced;
+use moo_eval_frame::{Activation, CallStack, Flow, Span, Stop, after_turn, no_turn};
+use moo_syntax_ast::{Expr, Name, Stmt};
 use moo_value::{MooStr, Value};
 use moo_world::World;
 

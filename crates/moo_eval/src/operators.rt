@@ -1,22 +1,22 @@
 //! Evaluates operators, indexes, ranges and lists.
 ghost use Rattle.std.specs.Prelude.{◌≡◌, ◌≤◌};
-ghost use Rattle.moo_program.specs.Tree.{unary, binary, index, range, list};
-ghost use Rattle.moo_program.specs.View.{tree, items_of};
-ghost use Rattle.moo_operation.specs.Places.{made_list};
-ghost use Rattle.moo_outcome.specs.Outcome.{answers};
-ghost use Rattle.moo_outcome.specs.Seen.{context_of, seen_answer, IsKnownFailure};
-ghost use Rattle.moo_code_function.specs.Telling.{Faults};
-ghost use Rattle.moo_semantics.specs.Meaning.{Computes};
+ghost use Rattle.moo_syntax_ast.specs.Tree.{unary, binary, index, range, list};
+ghost use Rattle.moo_syntax_ast.specs.View.{tree, items_of};
+ghost use Rattle.moo_builtin_operator.specs.Places.{made_list};
+ghost use Rattle.moo_eval_frame.specs.Outcome.{answers};
+ghost use Rattle.moo_eval_frame.specs.Seen.{context_of, seen_answer, IsKnownFailure};
+ghost use Rattle.moo_builtin.specs.Telling.{Faults};
+ghost use Rattle.moo_eval_semantics.specs.Meaning.{Computes};
 ghost use Rattle.moo_eval.specs.Seen.{state_of};
 
 use crate::interpreter::Task;
-use moo_operation as operation;
-use moo_outcome::{Activation, CallStack, Failure, Gathered};
-use moo_program::operator::{BinaryOperator, UnaryOperator};
-use moo_program::{Expr, Item};
+use moo_builtin_operator as operation;
+use moo_eval_fast_expr::integers;
+use moo_eval_frame::{Activation, CallStack, Failure, Gathered};
+use moo_syntax_ast::operator::{BinaryOperator, UnaryOperator};
+use moo_syntax_ast::{Expr, Item};
 use moo_value::Value;
 use moo_world::World;
-use moo_worth::integers;
 use std::alloc::Global;
 
 impl Task {

@@ -1,23 +1,23 @@
 //! Statements that set a variable to an element, to a property or to another part that is known at once.
 ghost use Rattle.std.specs.Prelude.{◌≡◌, ◌<◌, Ok, IsTrue, IsFalse};
-ghost use Rattle.moo_program.specs.Tree.{variable, index, property, assign, performs};
-ghost use Rattle.moo_program.specs.View.{tree};
-ghost use Rattle.moo_outcome.specs.Outcome.{next};
-ghost use Rattle.moo_outcome.specs.State.{Context};
-ghost use Rattle.moo_table.specs.World.{World as WorldModel};
-ghost use Rattle.moo_code_function.specs.Telling.{Faults};
-ghost use Rattle.moo_semantics.specs.Meaning.{Runs};
+ghost use Rattle.moo_syntax_ast.specs.Tree.{variable, index, property, assign, performs};
+ghost use Rattle.moo_syntax_ast.specs.View.{tree};
+ghost use Rattle.moo_eval_frame.specs.Outcome.{next};
+ghost use Rattle.moo_eval_frame.specs.State.{Context};
+ghost use Rattle.moo_world_table.specs.World.{World as WorldModel};
+ghost use Rattle.moo_builtin.specs.Telling.{Faults};
+ghost use Rattle.moo_eval_semantics.specs.Meaning.{Runs};
 ghost use Rattle.moo_eval.specs.Seen.{state_of};
 
 use crate::interpreter::Task;
-use moo_fast_path::put_value;
-use moo_outcome::Activation;
-use moo_program::{Expr, Name};
-use moo_world::World;
-use moo_worth::worth::Sight;
-use moo_worth::{
+use moo_eval_fast_expr::worth::Sight;
+use moo_eval_fast_expr::{
     copied, element_at_a_glance, may_be_part, other_part, property_at_a_glance, property_worth,
 };
+use moo_eval_fast_stmt::put_value;
+use moo_eval_frame::Activation;
+use moo_syntax_ast::{Expr, Name};
+use moo_world::World;
 
 impl Task {
     /// Runs a statement that sets a variable to what is neither a leaf nor an operator between two operands, where it is known at once, and

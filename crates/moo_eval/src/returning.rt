@@ -4,26 +4,26 @@ ghost use Rattle.std.specs.Borrow.{Bor};
 ghost use Rattle.moo_value.specs.declared.value.Value.{Value as ValueModel};
 ghost use Rattle.moo_value.specs.Tree.{Tree};
 ghost use Rattle.moo_value.specs.View.{tree as tree_of, trees};
-ghost use Rattle.moo_program.specs.Tree.{Expr as ExprTree, Items, verb_call};
-ghost use Rattle.moo_program.specs.View.{tree, items_of, block, statement as statement_of};
-ghost use Rattle.moo_outcome.specs.Outcome.{returned, next};
-ghost use Rattle.moo_outcome.specs.State.{Context};
-ghost use Rattle.moo_outcome.specs.Seen.{context_of};
-ghost use Rattle.moo_access.specs.Sought.{IsSought};
-ghost use Rattle.moo_code_function.specs.Telling.{Faults};
-ghost use Rattle.moo_semantics.specs.Meaning.{Applies, Runs, RunsAll};
+ghost use Rattle.moo_syntax_ast.specs.Tree.{Expr as ExprTree, Items, verb_call};
+ghost use Rattle.moo_syntax_ast.specs.View.{tree, items_of, block, statement as statement_of};
+ghost use Rattle.moo_eval_frame.specs.Outcome.{returned, next};
+ghost use Rattle.moo_eval_frame.specs.State.{Context};
+ghost use Rattle.moo_eval_frame.specs.Seen.{context_of};
+ghost use Rattle.moo_eval_access.specs.Sought.{IsSought};
+ghost use Rattle.moo_builtin.specs.Telling.{Faults};
+ghost use Rattle.moo_eval_semantics.specs.Meaning.{Applies, Runs, RunsAll};
 ghost use Rattle.moo_eval.specs.Seen.{state_of};
 
 use crate::interpreter::Task;
-use moo_access::Sought;
-use moo_fast_path::{as_setting, put_value};
-use moo_outcome::{Activation, CallStack};
-use moo_program::{Expr, Item, Stmt};
+use moo_eval_access::Sought;
+use moo_eval_fast_expr::ticks::take;
+use moo_eval_fast_expr::worth::{Sight, worth};
+use moo_eval_fast_expr::{as_return, called_worth, returned_worth};
+use moo_eval_fast_stmt::{as_setting, put_value};
+use moo_eval_frame::{Activation, CallStack};
+use moo_syntax_ast::{Expr, Item, Stmt};
 use moo_value::{ErrorCode, Value};
 use moo_world::World;
-use moo_worth::ticks::take;
-use moo_worth::worth::{Sight, worth};
-use moo_worth::{as_return, called_worth, returned_worth};
 
 impl Task {
     /// The value that a called verb returns first, where it is known at once from what the verb is told of its call, and all its ticks

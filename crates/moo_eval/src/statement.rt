@@ -1,17 +1,17 @@
 //! Runs statements.
 ghost use Rattle.std.specs.Prelude.{◌≢◌, ◌≤◌, ◌<◌, None, OnOk};
-ghost use Rattle.moo_program.specs.declared.tree.Stmt.TheVariants.{Return};
-ghost use Rattle.moo_program.specs.Tree.{performs, branches, no_statement};
-ghost use Rattle.moo_program.specs.View.{tree, statement as statement_of, block, arms_of};
-ghost use Rattle.moo_semantics.specs.Meaning.{Runs, Does, RunsAll, Selects};
-ghost use Rattle.moo_outcome.specs.Seen.{context_of, seen_flow, IsKnown};
-ghost use Rattle.moo_code_function.specs.Telling.{Faults};
+ghost use Rattle.moo_syntax_ast.specs.declared.tree.Stmt.TheVariants.{Return};
+ghost use Rattle.moo_syntax_ast.specs.Tree.{performs, branches, no_statement};
+ghost use Rattle.moo_syntax_ast.specs.View.{tree, statement as statement_of, block, arms_of};
+ghost use Rattle.moo_eval_semantics.specs.Meaning.{Runs, Does, RunsAll, Selects};
+ghost use Rattle.moo_eval_frame.specs.Seen.{context_of, seen_flow, IsKnown};
+ghost use Rattle.moo_builtin.specs.Telling.{Faults};
 ghost use Rattle.moo_eval.specs.Seen.{state_of};
 
 use crate::interpreter::Task;
-use moo_fast_path::{as_appended, as_assignment, as_longer, as_place_assignment};
-use moo_outcome::{Activation, CallStack, Flow, Stop, copied_name};
-use moo_program::{Arm, Expr, Stmt};
+use moo_eval_fast_stmt::{as_appended, as_assignment, as_longer, as_place_assignment};
+use moo_eval_frame::{Activation, CallStack, Flow, Stop, copied_name};
+use moo_syntax_ast::{Arm, Expr, Stmt};
 use moo_value::Value;
 use moo_world::World;
 

@@ -1,14 +1,14 @@
 //! Runs whole tasks: 'MOO Tasks' of the LambdaMOO Programmer's Manual, 'Tracebacks' and 'Limits' of docs/LANGUAGE.md.
 ghost use Rattle.std.specs.Prelude.{◌≡◌};
-ghost use Rattle.moo_outcome.specs.Seen.{seen_flow, IsKnown};
-ghost use Rattle.moo_outcome.specs.Variables.{first_bindings, value_of_name};
-ghost use Rattle.moo_outcome.specs.Seen.{surroundings_of, variables_of};
-ghost use Rattle.moo_code_function.specs.Telling.{Faults};
-ghost use Rattle.moo_semantics.specs.Task.{TaskEnds, end_of};
+ghost use Rattle.moo_eval_frame.specs.Seen.{seen_flow, IsKnown};
+ghost use Rattle.moo_eval_frame.specs.Variables.{first_bindings, value_of_name};
+ghost use Rattle.moo_eval_frame.specs.Seen.{surroundings_of, variables_of};
+ghost use Rattle.moo_builtin.specs.Telling.{Faults};
+ghost use Rattle.moo_eval_semantics.specs.Task.{TaskEnds, end_of};
 ghost use Rattle.moo_eval.specs.Ends.{IfEnded, LeavesNotices, IsBegunBy};
 
 use crate::interpreter::Task;
-use moo_outcome::{
+use moo_eval_frame::{
     Activation, CallStack, Callers, Flow, Frame, Stop, TaskEnv, Variables, traceback_lines,
 };
 use moo_value::Value;

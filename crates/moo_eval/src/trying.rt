@@ -1,23 +1,23 @@
 //! Runs `try`, with handlers or with a cleanup.
 ghost use Rattle.std.specs.Prelude.{◌≤◌, None, Result, Err, IfOk, IfErr, map};
-ghost use Rattle.moo_program.specs.Tree.{try_except, try_finally};
-ghost use Rattle.moo_program.specs.View.{block, handlers_of};
-ghost use Rattle.moo_semantics.specs.Meaning.{Does, RunsAll, Prepares, Takes};
-ghost use Rattle.moo_outcome.specs.Handling.{chosen};
-ghost use Rattle.moo_outcome.specs.Outcome.{Flow as Flowing, Stop as Stopped};
-ghost use Rattle.moo_outcome.specs.Seen.{context_of, raise_of, seen_flow, stop_of, HadMemory, IsKnown};
-ghost use Rattle.moo_outcome.specs.SeenHandling.{guarded_of, seen_guarded};
-ghost use Rattle.moo_table.specs.World.{World as WorldModel};
-ghost use Rattle.moo_access.specs.State.{State};
-ghost use Rattle.moo_code_function.specs.Telling.{Faults};
+ghost use Rattle.moo_syntax_ast.specs.Tree.{try_except, try_finally};
+ghost use Rattle.moo_syntax_ast.specs.View.{block, handlers_of};
+ghost use Rattle.moo_eval_semantics.specs.Meaning.{Does, RunsAll, Prepares, Takes};
+ghost use Rattle.moo_eval_frame.specs.Handling.{chosen};
+ghost use Rattle.moo_eval_frame.specs.Outcome.{Flow as Flowing, Stop as Stopped};
+ghost use Rattle.moo_eval_frame.specs.Seen.{context_of, raise_of, seen_flow, stop_of, HadMemory, IsKnown};
+ghost use Rattle.moo_eval_frame.specs.SeenHandling.{guarded_of, seen_guarded};
+ghost use Rattle.moo_world_table.specs.World.{World as WorldModel};
+ghost use Rattle.moo_eval_access.specs.State.{State};
+ghost use Rattle.moo_builtin.specs.Telling.{Faults};
 ghost use Rattle.moo_eval.specs.Seen.{state_of};
 
 use crate::interpreter::Task;
-use moo_outcome::{
+use moo_eval_frame::{
     Activation, CallStack, Flow, Guarded, Raise, Stop, after_finally, chosen, handler_parts,
     push_guarded, runs_finally, set_caught, settle_codes,
 };
-use moo_program::{Handler, Stmt};
+use moo_syntax_ast::{Handler, Stmt};
 use moo_world::World;
 
 impl Task {

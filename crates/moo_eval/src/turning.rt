@@ -3,30 +3,30 @@ ghost use Rattle.std.specs.Prelude.{◌≡◌, ◌<◌, ◌≤◌, ◌≤ℤ◌,
 ghost use Rattle.std.specs.Int.{w64};
 ghost use Rattle.moo_value.specs.Tree.{integer};
 ghost use Rattle.moo_value.specs.View.{tree as value_tree, trees};
-ghost use Rattle.moo_program.specs.Tree.{Expr as ExprTree};
-ghost use Rattle.moo_program.specs.View.{tree, block};
-ghost use Rattle.moo_outcome.specs.declared.frame.Activation.{Activation as ActivationModel};
-ghost use Rattle.moo_outcome.specs.Outcome.{Flow, Stop};
-ghost use Rattle.moo_outcome.specs.State.{Context};
-ghost use Rattle.moo_outcome.specs.Seen.{context_of};
-ghost use Rattle.moo_outcome.specs.Variables.{bind};
-ghost use Rattle.moo_table.specs.World.{World as WorldModel};
-ghost use Rattle.moo_access.specs.State.{State};
-ghost use Rattle.moo_code_function.specs.Telling.{Faults};
-ghost use Rattle.moo_worth.specs.Worth.{IsWorth};
-ghost use Rattle.moo_semantics.specs.Meaning.{Loops, Visits, Counts};
+ghost use Rattle.moo_syntax_ast.specs.Tree.{Expr as ExprTree};
+ghost use Rattle.moo_syntax_ast.specs.View.{tree, block};
+ghost use Rattle.moo_eval_frame.specs.declared.frame.Activation.{Activation as ActivationModel};
+ghost use Rattle.moo_eval_frame.specs.Outcome.{Flow, Stop};
+ghost use Rattle.moo_eval_frame.specs.State.{Context};
+ghost use Rattle.moo_eval_frame.specs.Seen.{context_of};
+ghost use Rattle.moo_eval_frame.specs.Variables.{bind};
+ghost use Rattle.moo_world_table.specs.World.{World as WorldModel};
+ghost use Rattle.moo_eval_access.specs.State.{State};
+ghost use Rattle.moo_builtin.specs.Telling.{Faults};
+ghost use Rattle.moo_eval_fast_expr.specs.Worth.{IsWorth};
+ghost use Rattle.moo_eval_semantics.specs.Meaning.{Loops, Visits, Counts};
 ghost use Rattle.moo_eval.specs.Turning.{Within, IsTested, IsBegun};
 ghost use Rattle.moo_eval.specs.Seen.{state_of};
 
 use crate::interpreter::Task;
-use moo_fast_path::put_value;
-use moo_outcome::{Activation, CallStack, Span};
-use moo_program::{Expr, Name, Stmt};
+use moo_eval_fast_expr::integers::is_other_than_0;
+use moo_eval_fast_expr::worth::Sight;
+use moo_eval_fast_expr::{leaf_at_a_glance, leaves_at_a_glance, test_worth};
+use moo_eval_fast_stmt::put_value;
+use moo_eval_frame::{Activation, CallStack, Span};
+use moo_syntax_ast::{Expr, Name, Stmt};
 use moo_value::Value;
 use moo_world::World;
-use moo_worth::integers::is_other_than_0;
-use moo_worth::worth::Sight;
-use moo_worth::{leaf_at_a_glance, leaves_at_a_glance, test_worth};
 use std::alloc::AllocError;
 
 impl Task {

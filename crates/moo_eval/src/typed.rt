@@ -1,17 +1,17 @@
 //! Runs programs that are typed in.
 ghost use Rattle.std.specs.Prelude.{◌≡◌, List, [], ◌∷◌, negsuc, IfOk};
-ghost use Rattle.moo_outcome.specs.Seen.{surroundings_of};
-ghost use Rattle.moo_code_function.specs.Telling.{Faults};
-ghost use Rattle.moo_semantics.specs.Task.{End, TaskEnds};
+ghost use Rattle.moo_eval_frame.specs.Seen.{surroundings_of};
+ghost use Rattle.moo_builtin.specs.Telling.{Faults};
+ghost use Rattle.moo_eval_semantics.specs.Task.{End, TaskEnds};
 ghost use Rattle.moo_eval.specs.Ends.{texts};
-ghost use Rattle.moo_outcome.specs.declared.notice.Notice.{Notice};
-ghost use Rattle.moo_hook.specs.Evaluating.{typed_frame};
-ghost use Rattle.moo_semantics.specs.Typed.{nowhere, shown};
+ghost use Rattle.moo_eval_frame.specs.declared.notice.Notice.{Notice};
+ghost use Rattle.moo_eval_call.specs.Evaluating.{typed_frame};
+ghost use Rattle.moo_eval_semantics.specs.Typed.{nowhere, shown};
 
 use crate::task::{Ended, run_task};
-use moo_grammar::Program;
-use moo_hook::typed_frame;
-use moo_outcome::{Surroundings, TaskEnv};
+use moo_eval_call::typed_frame;
+use moo_eval_frame::{Surroundings, TaskEnv};
+use moo_syntax_grammar::Program;
 use moo_world::World;
 use std::alloc::{AllocError, Global};
 

@@ -1,16 +1,16 @@
 //! Statements that set a property to what is known at once.
 ghost use Rattle.std.specs.Prelude.{◌≡◌, ◌<◌, Ok, IsTrue, IsFalse};
-ghost use Rattle.moo_program.specs.View.{statement as statement_of};
-ghost use Rattle.moo_outcome.specs.Outcome.{next};
-ghost use Rattle.moo_outcome.specs.State.{Context};
-ghost use Rattle.moo_code_function.specs.Telling.{Faults};
-ghost use Rattle.moo_semantics.specs.Meaning.{Runs};
+ghost use Rattle.moo_syntax_ast.specs.View.{statement as statement_of};
+ghost use Rattle.moo_eval_frame.specs.Outcome.{next};
+ghost use Rattle.moo_eval_frame.specs.State.{Context};
+ghost use Rattle.moo_builtin.specs.Telling.{Faults};
+ghost use Rattle.moo_eval_semantics.specs.Meaning.{Runs};
 ghost use Rattle.moo_eval.specs.Seen.{state_of};
 
 use crate::interpreter::Task;
-use moo_fast_path::{as_writing, writes};
-use moo_outcome::Activation;
-use moo_program::Stmt;
+use moo_eval_fast_stmt::{as_writing, writes};
+use moo_eval_frame::Activation;
+use moo_syntax_ast::Stmt;
 use moo_world::World;
 
 impl Task {

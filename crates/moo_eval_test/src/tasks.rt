@@ -1,7 +1,7 @@
 //! Programs that a wizard runs, with what they end in and leave.
 
 use moo_eval::{Ended, run_task, typed_frame};
-use moo_outcome::{Connection, Login, Notice, Surroundings, TaskEnv};
+use moo_eval_frame::{Connection, Login, Notice, Surroundings, TaskEnv};
 use moo_syntax::{Names, parse};
 use moo_value::{MooStr, Value};
 use moo_world::World;

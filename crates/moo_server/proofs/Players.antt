@@ -2,8 +2,8 @@
 use Rattle.std.proofs.Common.{◌≡◌, ℤ, List, [], ◌∷◌, ◌++◌, Option, Some, None, Bool, true, false, refl, ap}
 use Rattle.std.specs.Prelude.{◌&&◌, is_none}
 use Rattle.std.specs.List.{cons_option}
-use Rattle.moo_connection.specs.declared.client.Client.{Client}
-use Rattle.moo_connection.specs.Clients.{player_on, players_on, row_of}
+use Rattle.moo_session_connection.specs.declared.client.Client.{Client}
+use Rattle.moo_session_connection.specs.Clients.{player_on, players_on, row_of}
 use Rattle.moo_server.specs.Live.{player_list, players_in}
 
 pub players_row : (cs : List Client) → players_in (row_of cs) ≡ players_on cs

@@ -2,14 +2,14 @@
 use Rattle.std.proofs.Common.{◌≡◌, ◌≢◌, ℕ, List, [], ◌∷◌, ◌++◌, None, Result, Ok, Err, Bool, true, false, refl, sym, ◌∙◌, ap, subst}
 use Rattle.std.specs.Prelude.{◌&&◌, not, eqb, IfOk, OnOk}
 use Rattle.std.proofs.lemmas.Bool.{eq-eqb, eqb-true}
-use Rattle.moo_code_function.specs.Telling.{Faults}
-use Rattle.moo_connection.specs.Connections.{client_here, is_open}
-use Rattle.moo_connection.specs.Streams.{stream}
-use Rattle.moo_live.specs.declared.live.Live.{Live}
-use Rattle.moo_layer.specs.declared.sessions.Asked.{Asked}
-use Rattle.moo_layer.specs.Sessions.{Happening, Opens, Receives, HangsUp, Starts, Finishes, HandsOut, HandsOutLog, Happens, Output, Started, is_dropped, silence}
-use Rattle.moo_outbox.specs.Outbox.{Bytes, Outbox, bytes_of, log_under_way, log_waiting, sent_under_way, sent_waiting}
-use Rattle.moo_saved.specs.Saved.{Saved}
+use Rattle.moo_builtin.specs.Telling.{Faults}
+use Rattle.moo_session_connection.specs.Connections.{client_here, is_open}
+use Rattle.moo_session_connection.specs.Streams.{stream}
+use Rattle.moo_session_task.specs.declared.live.Live.{Live}
+use Rattle.moo_server_core.specs.declared.sessions.Asked.{Asked}
+use Rattle.moo_server_core.specs.Sessions.{Happening, Opens, Receives, HangsUp, Starts, Finishes, HandsOut, HandsOutLog, Happens, Output, Started, is_dropped, silence}
+use Rattle.moo_session_connection.specs.Outbox.{Bytes, Outbox, bytes_of, log_under_way, log_waiting, sent_under_way, sent_waiting}
+use Rattle.moo_dbtext_read.specs.Saved.{Saved}
 use Rattle.moo_session.specs.Events as event
 use Rattle.moo_server.specs.Live.{Becomes, live_layer, live_meaning, settled, told_of}
 use Rattle.moo_server.specs.declared.live_world.LiveWorld.{LiveWorld}

@@ -1,21 +1,21 @@
 -- The world with its connections, as the layer of sessions that a server is over.
 use Rattle.std.specs.Prelude.{◌≡◌, ℕ, ℤ, List, [], ◌∷◌, ◌++◌, Option, Some, None, Bool, false, ◌&&◌, not, is_none}
 use Rattle.std.specs.Option.{option_map}
-use Rattle.moo_saved.specs.Saved.{Saved, SpellsSavedWithin}
+use Rattle.moo_dbtext_read.specs.Saved.{Saved, SpellsSavedWithin}
 use Rattle.moo_dbtext.specs.Canonical.{canonical}
-use Rattle.moo_code_function.specs.Telling.{Telling, Faults}
-use Rattle.moo_outcome.specs.declared.surroundings.Connection.{Connection}
-use Rattle.moo_connection.specs.Connections.{Connections, client_here, is_open, players_of}
-use Rattle.moo_connection.specs.Streams.{stream}
-use Rattle.moo_live.specs.declared.live.Live.{Live}
-use Rattle.moo_live.specs.Session.{Session}
-use Rattle.moo_live.specs.State.{in_session}
-use Rattle.moo_outbox.specs.Outbox.{log_under_way, log_waiting, sent_under_way, sent_waiting}
+use Rattle.moo_builtin.specs.Telling.{Telling, Faults}
+use Rattle.moo_eval_frame.specs.declared.surroundings.Connection.{Connection}
+use Rattle.moo_session_connection.specs.Connections.{Connections, client_here, is_open, players_of}
+use Rattle.moo_session_connection.specs.Streams.{stream}
+use Rattle.moo_session_task.specs.declared.live.Live.{Live}
+use Rattle.moo_session_task.specs.Session.{Session}
+use Rattle.moo_session_task.specs.State.{in_session}
+use Rattle.moo_session_connection.specs.Outbox.{log_under_way, log_waiting, sent_under_way, sent_waiting}
 use Rattle.moo_session.specs.Events.{CheckpointEnds, CheckpointStarts, HangsUp, Hears}
 use Rattle.moo_session.specs.Events.{Opens as OpensFor, Starts as StartsFrom}
 use Rattle.moo_session.specs.Interval.{interval}
-use Rattle.moo_layer.specs.Sessions.{Happening, Opens, Receives, Starts, Finishes, Layer, Meaning, Told}
-use Rattle.moo_layer.specs.Sessions.{HangsUp as HangsUpOn}
+use Rattle.moo_server_core.specs.Sessions.{Happening, Opens, Receives, Starts, Finishes, Layer, Meaning, Told}
+use Rattle.moo_server_core.specs.Sessions.{HangsUp as HangsUpOn}
 use Rattle.moo_server.specs.declared.live_world.LiveWorld.{LiveWorld}
 
 -- a connection of this number is open that nobody is on any more: it is leaving

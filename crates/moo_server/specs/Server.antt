@@ -1,7 +1,7 @@
 -- A server over the world with its connections.
 use Rattle.moo_disk.specs.Disk.{DiskView}
-use Rattle.moo_serving.specs.Server.{Follows as FollowsOver}
-use Rattle.moo_serving.specs.declared.serving.Serving.{Serving}
+use Rattle.moo_server_core.specs.Server.{Follows as FollowsOver}
+use Rattle.moo_server_core.specs.declared.serving.Serving.{Serving}
 use Rattle.moo_server.specs.Live.{live_layer}
 use Rattle.moo_server.specs.declared.live_world.LiveWorld.{LiveWorld}
 

@@ -1,11 +1,11 @@
 //! Who is connected, and who is leaving.
 ghost use Rattle.std.specs.Prelude.{◌≡◌, ◌++◌, length, IfOk, OnOk};
-ghost use Rattle.moo_dbvalue.specs.Lines.{IsCountOf, limited};
-ghost use Rattle.moo_connection.specs.Connections.{players_of};
+ghost use Rattle.moo_dbtext_object.specs.Lines.{IsCountOf, limited};
+ghost use Rattle.moo_session_connection.specs.Connections.{players_of};
 ghost use Rattle.moo_server.specs.Live.{is_gone, player_in, player_list, players_in};
 
-use moo_connection::Connections;
-use moo_outcome::Connection;
+use moo_eval_frame::Connection;
+use moo_session_connection::Connections;
 use std::alloc::{AllocError, Global};
 
 /// More players aren't written. There are fewer numbers of connections than this.

@@ -1,15 +1,15 @@
 //! What happens to a world with its connections, and what comes of it.
 ghost use Rattle.std.specs.Prelude.{◌≡◌, ◌++◌, ◌&&◌, not, ℕ, IfOk, OnOk};
-ghost use Rattle.moo_code_function.specs.Telling.{Faults};
-ghost use Rattle.moo_connection.specs.Streams.{stream};
-ghost use Rattle.moo_layer.specs.Sessions.{IsApt, is_dropped, seen_happening};
-ghost use Rattle.moo_outbox.specs.Outbox.{log_under_way, log_waiting, sent_under_way, sent_waiting};
+ghost use Rattle.moo_builtin.specs.Telling.{Faults};
+ghost use Rattle.moo_session_connection.specs.Streams.{stream};
+ghost use Rattle.moo_server_core.specs.Sessions.{IsApt, is_dropped, seen_happening};
+ghost use Rattle.moo_session_connection.specs.Outbox.{log_under_way, log_waiting, sent_under_way, sent_waiting};
 ghost use Rattle.moo_server.specs.Live.{Becomes, live_meaning, settled};
 
 use crate::connected::is_gone;
-use moo_layer::{Asked, Happening};
-use moo_outbox::Outbox;
+use moo_server_core::{Asked, Happening};
 use moo_session::{Live, checkpoint_ends, checkpoint_starts, hang_up, hear, open};
+use moo_session_connection::Outbox;
 use std::alloc::{AllocError, Global};
 
 /// Drops what is left of an earlier happening. It takes no memory.

@@ -1,10 +1,10 @@
 //! What holds of a server over a disk, whatever comes and wherever it stops.
 ghost use Rattle.std.specs.Prelude.{ℕ, List, []};
-ghost use Rattle.moo_saved.specs.Saved.{Saved, SpellsSavedWithin};
-ghost use Rattle.moo_serving.specs.Meaning.{Entry};
-ghost use Rattle.moo_serving.specs.Server.{state_of};
-ghost use Rattle.moo_serving.specs.Calls.{Call, Calls, Lent, One, Opened, StartsAgain, lent_view};
-ghost use Rattle.moo_serving.specs.declared.serving.Serving.{Serving};
+ghost use Rattle.moo_dbtext_read.specs.Saved.{Saved, SpellsSavedWithin};
+ghost use Rattle.moo_server_core.specs.Meaning.{Entry};
+ghost use Rattle.moo_server_core.specs.Server.{state_of};
+ghost use Rattle.moo_server_core.specs.Calls.{Call, Calls, Lent, One, Opened, StartsAgain, lent_view};
+ghost use Rattle.moo_server_core.specs.declared.serving.Serving.{Serving};
 ghost use Rattle.moo_server.specs.Live.{live_layer};
 ghost use Rattle.moo_server.specs.declared.live_world.LiveWorld.{LiveWorld};
 
@@ -29,7 +29,7 @@ pub fn starting_again_reads_a_prefix<D: Disk, E: Disk, F: Disk>()
         → (lent_view D.view E.view last).left_since (lent_view D.view E.view disk).clock (F.view found).main_text
         → StartsAgain live_layer F.view F.honest (state_of live_layer start) saved entries later found }
 {
-    moo_serving::laws::starting_again_reads_a_prefix::<LiveWorld, D, E, F>();
+    moo_server_core::laws::starting_again_reads_a_prefix::<LiveWorld, D, E, F>();
 }
 
 /// The same of a stop at any moment since the start began, inside the start too: what was read at the start, or the world after a
@@ -44,5 +44,5 @@ pub fn starting_again_reads_a_prefix_since_the_start<D: Disk, E: Disk, F: Disk>(
         → (lent_view D.view E.view last).left_since (D.view first).clock (F.view found).main_text
         → StartsAgain live_layer F.view F.honest (state_of live_layer start) saved [] entries found }
 {
-    moo_serving::laws::starting_again_reads_a_prefix_since_the_start::<LiveWorld, D, E, F>();
+    moo_server_core::laws::starting_again_reads_a_prefix_since_the_start::<LiveWorld, D, E, F>();
 }

@@ -11,9 +11,10 @@ pub use live_world::LiveWorld;
 pub use lives::run_lives;
 pub use moo_checkpoint::OpenFault;
 pub use moo_disk::CrashDisk;
-pub use moo_lives::{Life, LifeBegin, LifeStop, LivesCause, LivesFault};
-use moo_serving::Serving;
-pub use moo_serving::{Cause, Event, Phase, RunFault};
+use moo_server_core::Serving;
+pub use moo_server_core::{
+    Cause, Event, Life, LifeBegin, LifeStop, LivesCause, LivesFault, Phase, RunFault,
+};
 
 /// A server over a world with its connections. The disk is lent to each run.
 pub type Server = Serving<LiveWorld>;

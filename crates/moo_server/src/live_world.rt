@@ -4,10 +4,10 @@ ghost use Rattle.std.specs.Prelude.{◌≡◌};
 use crate::connected::{is_gone, players};
 use crate::happening::{happen, is_dropped, move_out, settle};
 use moo_dbtext::write_world_and_connected;
-use moo_layer::{Asked, Happening, Sessions, Starts};
-use moo_outbox::Outbox;
-use moo_saved::Saved;
+use moo_dbtext_read::Saved;
+use moo_server_core::{Asked, Happening, Sessions, Starts};
 use moo_session::Live;
+use moo_session_connection::Outbox;
 use moo_value::MooStr;
 use std::alloc::{AllocError, Global};
 
@@ -20,7 +20,7 @@ pub struct LiveWorld {
 }
 
 impl Sessions for LiveWorld {
-    ghost use Rattle.moo_live.specs.declared.live.Live.{Live as live};
+    ghost use Rattle.moo_session_task.specs.declared.live.Live.{Live as live};
     ghost use Rattle.moo_server.specs.Live.{live_layer};
 
     ghost State = { live };

@@ -1,13 +1,13 @@
 //! Lives of a server, one after another.
 ghost use Rattle.std.specs.Prelude.{IfErr, IfOk};
 ghost use Rattle.moo_disk.specs.Disk.{LeavesOnly};
-ghost use Rattle.moo_saved.specs.Saved.{Saved, SpellsSavedWithin};
-ghost use Rattle.moo_lives.specs.Lives.{EndsAt, LivesSoFar};
+ghost use Rattle.moo_dbtext_read.specs.Saved.{Saved, SpellsSavedWithin};
+ghost use Rattle.moo_server_core.specs.Lives.{EndsAt, LivesSoFar};
 ghost use Rattle.moo_server.specs.Live.{live_layer};
 
 use crate::LiveWorld;
 use moo_disk::CrashDisk;
-use moo_lives::{Life, LifeBegin, LivesFault};
+use moo_server_core::{Life, LifeBegin, LivesFault};
 use std::alloc::Global;
 
 /// Lives one after another, each over what the last one left.
@@ -26,5 +26,5 @@ pub fn run_lives<D: CrashDisk + Drop>(
     ensures fault { D.honest disk → (s : Saved) → SpellsSavedWithin (D.view disk).main_text s → LeavesOnly (D.view disk).main_text (D.view disk)
         → IfErr result (λ fault. EndsAt live_layer D.view D.honest D.failures D.images lives.now disk fault) }
 {
-    moo_lives::run_lives::<LiveWorld, D>(alloc, disk, lives)
+    moo_server_core::run_lives::<LiveWorld, D>(alloc, disk, lives)
 }

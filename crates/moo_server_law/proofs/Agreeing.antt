@@ -1,12 +1,12 @@
 -- Tellings that agree, and tellings of which one may tell more.
-use Rattle.moo_grammar.specs.declared.names.Names.TheVariants.{Known}
+use Rattle.moo_syntax_grammar.specs.declared.names.Names.TheVariants.{Known}
 use Rattle.moo_syntax.proofs.Blamed.{parsed_is_not_blamed}
-use Rattle.moo_code_function.specs.Telling.{Faults, Choice, PassesPrograms, chosen_by}
-use Rattle.moo_call.proofs.Unique.{chosen_once}
-use Rattle.moo_semantics.specs.Task.{OneResultOfTasks}
-use Rattle.moo_semantics.specs.Laws.{ChoosesFaults, Texts, HaveOneFault, faults_of, OneResultOfTasksBy, TasksByChoice}
+use Rattle.moo_builtin.specs.Telling.{Faults, Choice, PassesPrograms, chosen_by}
+use Rattle.moo_eval_call.proofs.Unique.{chosen_once}
+use Rattle.moo_eval_semantics.specs.Task.{OneResultOfTasks}
+use Rattle.moo_eval_semantics.specs.Laws.{ChoosesFaults, Texts, HaveOneFault, faults_of, OneResultOfTasksBy, TasksByChoice}
 use Rattle.moo_command.specs.Commands.{OneCommand}
-use Rattle.moo_programming.proofs.Unique.{TellAlike}
+use Rattle.moo_session.proofs.ProgramUnique.{TellAlike}
 use Rattle.moo_server_law.proofs.UniqueLines.{Agree, Within}
 
 -- what is chosen of a text is one, and nothing of a program

@@ -1,13 +1,13 @@
 -- What is due begins at the end of an event.
 use Rattle.std.proofs.Common.{◌≡◌, ◌⊎◌, inl, inr, ⊎_elim, ℕ, List, [], ◌∷◌, Option, Some, None, Bool, true, false, refl, sym, ◌∙◌, ap, subst}
 use Rattle.std.specs.Prelude.{MatchBool, ◌+◌, ◌&&◌, ◌||◌, not, nat_le}
-use Rattle.moo_saved.specs.Saved.{Saved}
-use Rattle.moo_code_function.specs.Telling.{Faults}
-use Rattle.moo_connection.specs.Connections.{Connections, is_open, no_connections}
-use Rattle.moo_live.specs.declared.live.Live.{Live}
-use Rattle.moo_layer.specs.Sessions.{Output}
-use Rattle.moo_serving.specs.Courses.{is_closed}
-use Rattle.moo_serving.specs.Meaning.{Begins, Entry, Marks, Passes, Run, State, Steps, is_due, is_passed_over}
+use Rattle.moo_dbtext_read.specs.Saved.{Saved}
+use Rattle.moo_builtin.specs.Telling.{Faults}
+use Rattle.moo_session_connection.specs.Connections.{Connections, is_open, no_connections}
+use Rattle.moo_session_task.specs.declared.live.Live.{Live}
+use Rattle.moo_server_core.specs.Sessions.{Output}
+use Rattle.moo_server_core.specs.Courses.{is_closed}
+use Rattle.moo_server_core.specs.Meaning.{Begins, Entry, Marks, Passes, Run, State, Steps, is_due, is_passed_over}
 use Rattle.moo_server.specs.Live.{live_meaning}
 use Rattle.moo_server_law.specs.Laws.{NothingIsDue}
 use Rattle.moo_server_law.proofs.Empty.{started_empty}

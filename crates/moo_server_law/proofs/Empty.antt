@@ -2,21 +2,21 @@
 use Rattle.std.proofs.Common.{◌≡◌, ℕ, ℤ, true, false, List, [], ◌∷◌, Option, Some, None, refl, sym, ◌∙◌, ap, subst}
 use Rattle.std.specs.Prelude.{codes}
 use Rattle.moo_value.specs.Tree.{Tree}
-use Rattle.moo_table.specs.World.{World}
-use Rattle.moo_code_function.specs.Telling.{Telling}
-use Rattle.moo_outcome.specs.declared.notice.Notice.{Notice}
-use Rattle.moo_outcome.specs.declared.notice.Notice.TheVariants as notice
-use Rattle.moo_connection.specs.declared.client.Client.{Client}
-use Rattle.moo_connection.specs.Changes.{all_left}
-use Rattle.moo_connection.specs.Connections.{client_known_as, no_connections}
-use Rattle.moo_live.specs.declared.live.Live.{Live}
-use Rattle.moo_live.specs.Leaving.{disconnected, disconnected_from}
-use Rattle.moo_live.specs.Notices.{all_met, met}
-use Rattle.moo_live.specs.Sending.{all_told, sent_to, told}
-use Rattle.moo_live.specs.Session.{Session, caused, no_session}
-use Rattle.moo_live.specs.State.{state}
-use Rattle.moo_task.specs.Tasks.{CallsServerVerb, is_missing, runs, account_of}
-use Rattle.moo_task.specs.Hooks.{HooksRun, first_runs, none_waits}
+use Rattle.moo_world_table.specs.World.{World}
+use Rattle.moo_builtin.specs.Telling.{Telling}
+use Rattle.moo_eval_frame.specs.declared.notice.Notice.{Notice}
+use Rattle.moo_eval_frame.specs.declared.notice.Notice.TheVariants as notice
+use Rattle.moo_session_connection.specs.declared.client.Client.{Client}
+use Rattle.moo_session_connection.specs.Changes.{all_left}
+use Rattle.moo_session_connection.specs.Connections.{client_known_as, no_connections}
+use Rattle.moo_session_task.specs.declared.live.Live.{Live}
+use Rattle.moo_session_task.specs.Leaving.{disconnected, disconnected_from}
+use Rattle.moo_session_task.specs.Notices.{all_met, met}
+use Rattle.moo_session_task.specs.Sending.{all_told, sent_to, told}
+use Rattle.moo_session_task.specs.Session.{Session, caused, no_session}
+use Rattle.moo_session_task.specs.State.{state}
+use Rattle.moo_session_task.specs.Tasks.{CallsServerVerb, is_missing, runs, account_of}
+use Rattle.moo_session_task.specs.Hooks.{HooksRun, first_runs, none_waits}
 use Rattle.moo_session.specs.Events.{CallsOwnHook, Starts, all_parted}
 
 abbrev pub IsEmpty : Session → Type 0

@@ -1,9 +1,9 @@
 -- No hook waits behind an event.
 use Rattle.std.proofs.Common.{◌≡◌, ℕ, List, []}
-use Rattle.moo_code_function.specs.Telling.{Telling}
-use Rattle.moo_live.specs.declared.live.Live.{Live}
-use Rattle.moo_task.specs.Hooks.{HooksRun, none_waits, first_runs}
-use Rattle.moo_typing.specs.Typing.{MeetsLines, no_line_more, dropped, one_line_more}
+use Rattle.moo_builtin.specs.Telling.{Telling}
+use Rattle.moo_session_task.specs.declared.live.Live.{Live}
+use Rattle.moo_session_task.specs.Hooks.{HooksRun, none_waits, first_runs}
+use Rattle.moo_session.specs.Input.{MeetsLines, no_line_more, dropped, one_line_more}
 use Rattle.moo_session.specs.Events as event
 use Rattle.moo_session.specs.Events.{Hears}
 use Rattle.moo_server_law.specs.Sessions.{Happens, opens, hears, hangs_up, checkpoint_starts, checkpoint_ends, LeaveNoHook}

@@ -1,13 +1,13 @@
 -- A happening and a start of a server come to one thing where those of its sessions do.
 use Rattle.std.proofs.Common.{◌≡◌, ℕ, false, refl, sym, ◌∙◌, ap}
-use Rattle.moo_saved.specs.Saved.{Saved}
-use Rattle.moo_code_function.specs.Telling.{Telling}
-use Rattle.moo_live.specs.declared.live.Live.{Live}
-use Rattle.moo_layer.specs.Sessions.{Happening, Opens, Receives, HangsUp, Starts, Finishes, Told}
+use Rattle.moo_dbtext_read.specs.Saved.{Saved}
+use Rattle.moo_builtin.specs.Telling.{Telling}
+use Rattle.moo_session_task.specs.declared.live.Live.{Live}
+use Rattle.moo_server_core.specs.Sessions.{Happening, Opens, Receives, HangsUp, Starts, Finishes, Told}
 use Rattle.moo_server_law.specs.Sessions.{HaveOneResult}
-use Rattle.moo_run_law.specs.Runs.{OneRun}
-use Rattle.moo_run_law.specs.Runs as layer
-use Rattle.moo_run_law.proofs.OneRun.{one_run_of}
+use Rattle.moo_server_core.specs.Runs.{OneRun}
+use Rattle.moo_server_core.specs.Runs as layer
+use Rattle.moo_server_core.proofs.OneRun.{one_run_of}
 use Rattle.moo_server.specs.Live.{Becomes, LiveHappens, LiveStarts, live_meaning, settled, told_of}
 
 one_becoming : (T U : Telling) → HaveOneResult T U → (happening : Happening) (moment : ℕ) (old end other : Live)

@@ -3,37 +3,37 @@ use Rattle.std.proofs.Common.{◌≡◌, ◌≢◌, ℕ, ℤ, Bool, true, false,
 use Rattle.std.specs.Prelude.{codes, is_some, int_lt, position}
 use Rattle.moo_value.specs.declared.error_code.ErrorCode.{ErrorCode}
 use Rattle.moo_value.specs.Tree.{Tree, object}
-use Rattle.moo_program.specs.Tree.{Block}
+use Rattle.moo_syntax_ast.specs.Tree.{Block}
 use Rattle.moo_syntax.specs.FaultText.{fault_text}
 use Rattle.moo_command.specs.Commands.{Command}
-use Rattle.moo_table.specs.World.{World}
-use Rattle.moo_code_function.specs.Setting.{is_programmer}
-use Rattle.moo_code_function.specs.Telling.{Telling}
-use Rattle.moo_line.specs.Rest.{Rest}
-use Rattle.moo_line.specs.Lines.{lines, rest}
-use Rattle.moo_line.specs.Reading.{Reads}
-use Rattle.moo_line.proofs.Cutting.{one_reading}
-use Rattle.moo_line.proofs.Streams.{lines_of, lines-append}
-use Rattle.moo_connection.specs.declared.client.Client.{Client}
-use Rattle.moo_outcome.specs.Surroundings.{own_number}
-use Rattle.moo_outcome.specs.declared.frame.Frame.{Frame}
-use Rattle.moo_connection.specs.Connections.{Connections, client_here, client_known_as}
-use Rattle.moo_connection.specs.Gathering.{Gathering}
-use Rattle.moo_connection.specs.Changes.{joined, freed, with_prefix, with_suffix, with_gathering}
-use Rattle.moo_live.specs.declared.live.Live.{Live}
-use Rattle.moo_live.specs.Session.{Session, in_connections, with_hooks}
-use Rattle.moo_live.specs.State.{in_session}
-use Rattle.moo_live.specs.Notices.{all_met}
-use Rattle.moo_live.specs.Sending.{sent, told, all_told}
-use Rattle.moo_word_list.specs.WordList.{strings_of}
-use Rattle.moo_task.specs.Frames.{nobody as no_player, server_frame}
-use Rattle.moo_task.specs.Tasks.{RunsTask, CallsServerVerb, is_missing, runs as verb_runs, account_of}
-use Rattle.moo_task.specs.Hooks.{HooksRun, none_waits, first_runs, hook_name, player_of_hook}
-use Rattle.moo_login.specs.Login.{LogsIn, let_in, admitted, highest_in, redirected, welcomed}
-use Rattle.moo_programming.specs.Programming.{begun_by, begun_at_colon, begun_for_place, gathering_for, ready_line, told_usage, is_colon, may_write, EndsProgramming, no_verb, denied, faulty, parsed, programmed_unless, Gathers, keeps, ends}
-use Rattle.moo_commanding.specs.Commanding.{RunsVerb, runs, nothing_runs, Follows, is_done, goes_on, Commanded, sent_unless_empty}
-use Rattle.moo_commanding.specs.Frames.{command_frame}
-use Rattle.moo_typing.specs.Typing.{PlayerTypes, no_word, prefix, suffix, program, command, Types, logs_in, gathers, plays, MeetsLines, no_line_more, dropped, one_line_more}
+use Rattle.moo_world_table.specs.World.{World}
+use Rattle.moo_builtin.specs.Setting.{is_programmer}
+use Rattle.moo_builtin.specs.Telling.{Telling}
+use Rattle.moo_session_line.specs.Rest.{Rest}
+use Rattle.moo_session_line.specs.Lines.{lines, rest}
+use Rattle.moo_session_line.specs.Reading.{Reads}
+use Rattle.moo_session_line.proofs.Cutting.{one_reading}
+use Rattle.moo_session_line.proofs.Streams.{lines_of, lines-append}
+use Rattle.moo_session_connection.specs.declared.client.Client.{Client}
+use Rattle.moo_eval_frame.specs.Surroundings.{own_number}
+use Rattle.moo_eval_frame.specs.declared.frame.Frame.{Frame}
+use Rattle.moo_session_connection.specs.Connections.{Connections, client_here, client_known_as}
+use Rattle.moo_session_connection.specs.Gathering.{Gathering}
+use Rattle.moo_session_connection.specs.Changes.{joined, freed, with_prefix, with_suffix, with_gathering}
+use Rattle.moo_session_task.specs.declared.live.Live.{Live}
+use Rattle.moo_session_task.specs.Session.{Session, in_connections, with_hooks}
+use Rattle.moo_session_task.specs.State.{in_session}
+use Rattle.moo_session_task.specs.Notices.{all_met}
+use Rattle.moo_session_task.specs.Sending.{sent, told, all_told}
+use Rattle.moo_session_task.specs.WordList.{strings_of}
+use Rattle.moo_session_task.specs.Frames.{nobody as no_player, server_frame}
+use Rattle.moo_session_task.specs.Tasks.{RunsTask, CallsServerVerb, is_missing, runs as verb_runs, account_of}
+use Rattle.moo_session_task.specs.Hooks.{HooksRun, none_waits, first_runs, hook_name, player_of_hook}
+use Rattle.moo_session.specs.Login.{LogsIn, let_in, admitted, highest_in, redirected, welcomed}
+use Rattle.moo_session.specs.DotProgram.{begun_by, begun_at_colon, begun_for_place, gathering_for, ready_line, told_usage, is_colon, may_write, EndsProgramming, no_verb, denied, faulty, parsed, programmed_unless, Gathers, keeps, ends}
+use Rattle.moo_session.specs.Dispatch.{RunsVerb, runs, nothing_runs, Follows, is_done, goes_on, Commanded, sent_unless_empty}
+use Rattle.moo_session.specs.Frames.{command_frame}
+use Rattle.moo_session.specs.Input.{PlayerTypes, no_word, prefix, suffix, program, command, Types, logs_in, gathers, plays, MeetsLines, no_line_more, dropped, one_line_more}
 use Rattle.moo_session.specs.Events as event
 use Rattle.moo_session.specs.Events.{Opens, Hears, HangsUp, CallsOwnHook, hung_up, parted_from_client, player_at, with_connections}
 use Rattle.moo_server_law.specs.Stream.{HappensBeside, opens, hears, hangs_up, checkpoint_starts, checkpoint_ends, HasTyped, opened, passed, moved_out, heard}

@@ -2,22 +2,22 @@
 use Rattle.std.proofs.Common.{◌≡◌, ℕ, ℤ, List, [], refl, sym, ◌∙◌, ap, subst}
 use Rattle.std.specs.Prelude.{codes}
 use Rattle.moo_value.specs.Tree.{Tree}
-use Rattle.moo_table.specs.World.{World}
-use Rattle.moo_code_function.specs.Telling.{Telling}
-use Rattle.moo_line.specs.Rest.{Rest}
-use Rattle.moo_line.specs.Reading.{Reads}
-use Rattle.moo_line.proofs.Cutting.{one_reading}
-use Rattle.moo_connection.specs.declared.client.Client.{Client}
-use Rattle.moo_connection.specs.Connections.{Connections}
-use Rattle.moo_connection.specs.Changes.{joined, with_changed, with_heard, HasHeard}
-use Rattle.moo_live.specs.declared.live.Live.{Live}
-use Rattle.moo_live.specs.Session.{in_connections}
-use Rattle.moo_live.specs.State.{in_session}
-use Rattle.moo_task.specs.Frames.{nobody}
-use Rattle.moo_task.specs.Hooks.{HooksRun}
-use Rattle.moo_task.proofs.Unique.{one_call, one_run_of_hooks, call_within, hooks_within}
-use Rattle.moo_login.proofs.Unique.{one_login, login_within}
-use Rattle.moo_typing.specs.Typing.{MeetsLines}
+use Rattle.moo_world_table.specs.World.{World}
+use Rattle.moo_builtin.specs.Telling.{Telling}
+use Rattle.moo_session_line.specs.Rest.{Rest}
+use Rattle.moo_session_line.specs.Reading.{Reads}
+use Rattle.moo_session_line.proofs.Cutting.{one_reading}
+use Rattle.moo_session_connection.specs.declared.client.Client.{Client}
+use Rattle.moo_session_connection.specs.Connections.{Connections}
+use Rattle.moo_session_connection.specs.Changes.{joined, with_changed, with_heard, HasHeard}
+use Rattle.moo_session_task.specs.declared.live.Live.{Live}
+use Rattle.moo_session_task.specs.Session.{in_connections}
+use Rattle.moo_session_task.specs.State.{in_session}
+use Rattle.moo_session_task.specs.Frames.{nobody}
+use Rattle.moo_session_task.specs.Hooks.{HooksRun}
+use Rattle.moo_session_task.proofs.Unique.{one_call, one_run_of_hooks, call_within, hooks_within}
+use Rattle.moo_session.proofs.LoginUnique.{one_login, login_within}
+use Rattle.moo_session.specs.Input.{MeetsLines}
 use Rattle.moo_server_law.proofs.UniqueLines.{Agree, Within, one_result_of_lines, lines_within}
 use Rattle.moo_session.specs.Events.{Opens, Hears, dropped, heard, CallsOwnHook, Starts, with_connections}
 use Rattle.moo_server_law.specs.Sessions.{HaveOneResult, AreWithin}

@@ -1,29 +1,29 @@
 -- Lines have one result under two tellings that agree, and stay a result where more may be told.
 use Rattle.std.proofs.Common.{◌≡◌, ℕ, ℤ, List, [], ◌∷◌, refl, sym, ◌∙◌, ap, subst}
-use Rattle.moo_code_function.specs.Telling.{Telling}
-use Rattle.moo_code_function.proofs.Wider.{Wider}
-use Rattle.moo_outcome.specs.declared.surroundings.Login.{Login}
-use Rattle.moo_connection.specs.declared.client.Client.{Client}
-use Rattle.moo_connection.specs.Gathering.{Gathering}
-use Rattle.moo_connection.specs.Changes.{with_changed, with_prefix, with_suffix}
-use Rattle.moo_live.specs.declared.live.Live.{Live}
-use Rattle.moo_live.specs.Session.{in_connections}
-use Rattle.moo_live.specs.State.{in_session}
-use Rattle.moo_words.specs.Words.{Words}
-use Rattle.moo_words.specs.Typed.{IsTyped}
-use Rattle.moo_words.proofs.OneReading.{one_reading, one_typed}
-use Rattle.moo_task.specs.Laws.{AreAlike, IsWithin}
-use Rattle.moo_task.specs.Hooks.{HooksRun}
-use Rattle.moo_task.proofs.Unique.{one_run_of_hooks, hooks_within}
-use Rattle.moo_login.specs.Login.{LogsIn}
-use Rattle.moo_login.proofs.Unique.{one_login, login_within}
-use Rattle.moo_programming.specs.Programming.{Gathers, programming_begun}
-use Rattle.moo_programming.proofs.Unique.{TellAlike, one_gathering, gathering_within}
-use Rattle.moo_commanding.specs.Commanding.{Commanded}
+use Rattle.moo_builtin.specs.Telling.{Telling}
+use Rattle.moo_builtin.proofs.CodeWider.{Wider}
+use Rattle.moo_eval_frame.specs.declared.surroundings.Login.{Login}
+use Rattle.moo_session_connection.specs.declared.client.Client.{Client}
+use Rattle.moo_session_connection.specs.Gathering.{Gathering}
+use Rattle.moo_session_connection.specs.Changes.{with_changed, with_prefix, with_suffix}
+use Rattle.moo_session_task.specs.declared.live.Live.{Live}
+use Rattle.moo_session_task.specs.Session.{in_connections}
+use Rattle.moo_session_task.specs.State.{in_session}
+use Rattle.moo_command.specs.Words.{Words}
+use Rattle.moo_command.specs.FirstWord.{IsTyped}
+use Rattle.moo_command.proofs.OneReading.{one_reading, one_typed}
+use Rattle.moo_session_task.specs.Laws.{AreAlike, IsWithin}
+use Rattle.moo_session_task.specs.Hooks.{HooksRun}
+use Rattle.moo_session_task.proofs.Unique.{one_run_of_hooks, hooks_within}
+use Rattle.moo_session.specs.Login.{LogsIn}
+use Rattle.moo_session.proofs.LoginUnique.{one_login, login_within}
+use Rattle.moo_session.specs.DotProgram.{Gathers, programming_begun}
+use Rattle.moo_session.proofs.ProgramUnique.{TellAlike, one_gathering, gathering_within}
+use Rattle.moo_session.specs.Dispatch.{Commanded}
 use Rattle.moo_command.specs.Commands.{OneCommand}
-use Rattle.moo_commanding.proofs.Unique.{one_command_done, command_within}
-use Rattle.moo_typing.specs.Typing.{kind_of, PlayerTypes, no_word, prefix, suffix, program, command, Types, logs_in, gathers, plays, MeetsLine, MeetsLines, no_line_more, dropped, one_line_more}
-use Rattle.moo_typing.proofs.Steps.{typed_words}
+use Rattle.moo_session.proofs.DispatchUnique.{one_command_done, command_within}
+use Rattle.moo_session.specs.Input.{kind_of, PlayerTypes, no_word, prefix, suffix, program, command, Types, logs_in, gathers, plays, MeetsLine, MeetsLines, no_line_more, dropped, one_line_more}
+use Rattle.moo_session.proofs.InputSteps.{typed_words}
 
 -- what two tellings need for one result
 pub record Agree (T U : Telling) : Type 0 where

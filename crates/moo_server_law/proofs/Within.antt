@@ -1,13 +1,13 @@
 -- What a server may come to by one telling it may come to by one that tells more.
 use Rattle.std.proofs.Common.{ℕ, List, [], ◌∷◌, Option, Some, None, Bool, true, false}
 use Rattle.std.specs.Prelude.{MatchBool}
-use Rattle.moo_saved.specs.Saved.{Saved}
-use Rattle.moo_code_function.specs.Telling.{Telling}
-use Rattle.moo_live.specs.declared.live.Live.{Live}
-use Rattle.moo_layer.specs.Sessions.{Happening, Opens, Receives, HangsUp, Starts, Finishes, Output, Told}
-use Rattle.moo_serving.specs.Traces.{Report}
-use Rattle.moo_serving.specs.Seen.{Event, Open, Bytes, Hangup, Moment, Flush}
-use Rattle.moo_serving.specs.Meaning.{Acts, Begins, Entry, Hears, Marks, Passes, Reports, Run, State, Steps, Takes, is_done, is_passed_over}
+use Rattle.moo_dbtext_read.specs.Saved.{Saved}
+use Rattle.moo_builtin.specs.Telling.{Telling}
+use Rattle.moo_session_task.specs.declared.live.Live.{Live}
+use Rattle.moo_server_core.specs.Sessions.{Happening, Opens, Receives, HangsUp, Starts, Finishes, Output, Told}
+use Rattle.moo_server_core.specs.Traces.{Report}
+use Rattle.moo_server_core.specs.Seen.{Event, Open, Bytes, Hangup, Moment, Flush}
+use Rattle.moo_server_core.specs.Meaning.{Acts, Begins, Entry, Hears, Marks, Passes, Reports, Run, State, Steps, Takes, is_done, is_passed_over}
 use Rattle.moo_server_law.specs.Sessions.{AreWithin}
 use Rattle.moo_server.specs.Live.{Becomes, LiveHappens, LiveStarts, live_meaning, settled}
 

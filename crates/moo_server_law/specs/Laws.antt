@@ -1,11 +1,11 @@
 -- The laws of a server over a world with its connections.
 use Rattle.std.specs.Prelude.{◌≡◌, ℕ, List, true, false}
-use Rattle.moo_saved.specs.Saved.{Saved}
-use Rattle.moo_code_function.specs.Telling.{Faults}
-use Rattle.moo_connection.specs.Connections.{is_open}
-use Rattle.moo_live.specs.declared.live.Live.{Live}
-use Rattle.moo_layer.specs.Sessions.{Output}
-use Rattle.moo_serving.specs.Meaning.{Begins, Entry, Run, State, is_due}
+use Rattle.moo_dbtext_read.specs.Saved.{Saved}
+use Rattle.moo_builtin.specs.Telling.{Faults}
+use Rattle.moo_session_connection.specs.Connections.{is_open}
+use Rattle.moo_session_task.specs.declared.live.Live.{Live}
+use Rattle.moo_server_core.specs.Sessions.{Output}
+use Rattle.moo_server_core.specs.Meaning.{Begins, Entry, Run, State, is_due}
 use Rattle.moo_server.specs.Live.{live_meaning}
 
 -- While a connection is open, no checkpoint is due between two events: each ends with the beginning of what is due.

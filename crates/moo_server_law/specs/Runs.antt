@@ -1,12 +1,12 @@
 -- One run of a server over a world with its connections.
 use Rattle.std.specs.Prelude.{ℕ, List}
-use Rattle.moo_saved.specs.Saved.{Saved}
-use Rattle.moo_code_function.specs.Telling.{Choice, Faults, PassesPrograms, chosen_by}
-use Rattle.moo_semantics.specs.Laws.{ChoosesFaults, HaveOneFault, Texts, faults_of}
-use Rattle.moo_live.specs.declared.live.Live.{Live}
-use Rattle.moo_layer.specs.Sessions.{Output}
-use Rattle.moo_serving.specs.Meaning.{Begins, Entry, Run, State}
-use Rattle.moo_run_law.specs.Runs.{OneRun}
+use Rattle.moo_dbtext_read.specs.Saved.{Saved}
+use Rattle.moo_builtin.specs.Telling.{Choice, Faults, PassesPrograms, chosen_by}
+use Rattle.moo_eval_semantics.specs.Laws.{ChoosesFaults, HaveOneFault, Texts, faults_of}
+use Rattle.moo_session_task.specs.declared.live.Live.{Live}
+use Rattle.moo_server_core.specs.Sessions.{Output}
+use Rattle.moo_server_core.specs.Meaning.{Begins, Entry, Run, State}
+use Rattle.moo_server_core.specs.Runs.{OneRun}
 use Rattle.moo_server.specs.Live.{live_meaning}
 
 -- The start, the events and their reports make a run, whatever is chosen to be told of texts that are no programs.

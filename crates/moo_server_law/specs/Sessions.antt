@@ -1,9 +1,9 @@
 -- The laws of sessions.
 use Rattle.std.specs.Prelude.{◌≡◌, ℕ, ℤ, Bool, List, []}
-use Rattle.moo_table.specs.World.{World}
-use Rattle.moo_code_function.specs.Telling.{Telling, Faults, Choice, PassesPrograms, chosen_by}
-use Rattle.moo_semantics.specs.Laws.{ChoosesFaults, Texts, HaveOneFault, faults_of}
-use Rattle.moo_live.specs.declared.live.Live.{Live}
+use Rattle.moo_world_table.specs.World.{World}
+use Rattle.moo_builtin.specs.Telling.{Telling, Faults, Choice, PassesPrograms, chosen_by}
+use Rattle.moo_eval_semantics.specs.Laws.{ChoosesFaults, Texts, HaveOneFault, faults_of}
+use Rattle.moo_session_task.specs.declared.live.Live.{Live}
 use Rattle.moo_session.specs.Events.{Opens, Hears, HangsUp, CheckpointStarts, CheckpointEnds, Starts}
 
 -- What happens to a world and its sessions at a moment: an event, or a call that the server itself makes.

@@ -1,11 +1,11 @@
 -- What a connection has typed over many events.
 use Rattle.std.specs.Prelude.{◌≡◌, ◌≢◌, ℕ, Bool, List, [], ◌++◌, None}
-use Rattle.moo_code_function.specs.Telling.{Telling, Faults}
-use Rattle.moo_line.specs.Lines.{lines}
-use Rattle.moo_connection.specs.Connections.{Connections, client_here}
-use Rattle.moo_connection.specs.Changes.{HasHeard}
-use Rattle.moo_live.specs.declared.live.Live.{Live}
-use Rattle.moo_typing.specs.Typing.{MeetsLines}
+use Rattle.moo_builtin.specs.Telling.{Telling, Faults}
+use Rattle.moo_session_line.specs.Lines.{lines}
+use Rattle.moo_session_connection.specs.Connections.{Connections, client_here}
+use Rattle.moo_session_connection.specs.Changes.{HasHeard}
+use Rattle.moo_session_task.specs.declared.live.Live.{Live}
+use Rattle.moo_session.specs.Input.{MeetsLines}
 use Rattle.moo_session.specs.Events.{Opens, Hears, HangsUp, CheckpointStarts, CheckpointEnds, with_connections}
 
 -- Something happens that is no opening, bytes or hang-up of connection n.

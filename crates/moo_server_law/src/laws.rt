@@ -1,8 +1,8 @@
 //! What holds between the events of a server, and of its lives one after another.
 ghost use Rattle.std.specs.Prelude.{ℕ, List, []};
 ghost use Rattle.moo_disk.specs.Disk.{LeavesOnly};
-ghost use Rattle.moo_lives.specs.Lives.{LifeRun, Lives};
-ghost use Rattle.moo_run_law.specs.Marks.{BeginFromKept};
+ghost use Rattle.moo_server_core.specs.Lives.{LifeRun, Lives};
+ghost use Rattle.moo_server_core.specs.Marks.{BeginFromKept};
 ghost use Rattle.moo_server.specs.Live.{live_layer};
 ghost use Rattle.moo_server.specs.declared.live_world.LiveWorld.{LiveWorld};
 ghost use Rattle.moo_server_law.specs.Laws.{NothingIsDue};
@@ -30,5 +30,5 @@ pub fn lives_begin_from_marks<D: CrashDisk>()
         → Lives live_layer D.view D.honest D.failures D.images first texts runs left last
         → BeginFromKept live_layer [] runs }
 {
-    moo_run_law::laws::lives_begin_from_marks::<LiveWorld, D>();
+    moo_server_core::laws::lives_begin_from_marks::<LiveWorld, D>();
 }

@@ -2,9 +2,8 @@
 
 use crate::playing::WORLD;
 use moo_disk::{Disk, FailAt, MemoryDisk, Place, StopAt};
-use moo_layer::Starts;
 use moo_server::{Cause, Event, LiveWorld, Phase, RunFault};
-use moo_serving::Serving;
+use moo_server_core::{Serving, Starts};
 use std::alloc::{AllocError, Global};
 
 /// An opening, a turn, or what is typed on connection 1; and what is sent there for it.

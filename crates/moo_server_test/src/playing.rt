@@ -1,9 +1,8 @@
 //! What the tests share: lives of a server, one after another over one disk.
 
 use moo_disk::{Disk, FailAt, MemoryDisk, Place, StopAt};
-use moo_layer::Starts;
 use moo_server::{Event, LiveWorld, OpenFault};
-use moo_serving::Serving;
+use moo_server_core::{Serving, Starts};
 use std::alloc::Global;
 use std::test::Fail;
 

@@ -3,21 +3,21 @@ use Rattle.std.proofs.Common.{◌≡◌, ℕ, ℤ, Bool, true, false, ◌||◌, 
 use Rattle.std.specs.Prelude.{Result, Ok, Err, OnOk, IfOk, codes, is_some}
 use Rattle.std.specs.declared.alloc.AllocError.{AllocError}
 use Rattle.moo_value.specs.Tree.{Tree}
-use Rattle.moo_table.specs.World.{World}
-use Rattle.moo_code_function.specs.Telling.{Faults}
-use Rattle.moo_word_list.specs.WordList.{FitsAList}
-use Rattle.moo_word_list.proofs.Depths.{light_words_fit}
-use Rattle.moo_connection.specs.declared.client.Client.{Client}
-use Rattle.moo_connection.specs.Connections.{Connections, client_here, is_open, is_leaving}
-use Rattle.moo_connection.specs.Changes.{joined, HasHeard}
-use Rattle.moo_live.specs.declared.live.Live.{Live}
-use Rattle.moo_live.specs.Session.{Session, no_session, in_connections}
-use Rattle.moo_live.specs.State.{state}
-use Rattle.moo_task.specs.Frames.{nobody}
-use Rattle.moo_task.specs.Tasks.{CallsServerVerb}
-use Rattle.moo_task.specs.Hooks.{HooksRun}
-use Rattle.moo_login.specs.Login.{LogsIn}
-use Rattle.moo_typing.specs.Typing.{MeetsLines}
+use Rattle.moo_world_table.specs.World.{World}
+use Rattle.moo_builtin.specs.Telling.{Faults}
+use Rattle.moo_session_task.specs.WordList.{FitsAList}
+use Rattle.moo_session_task.proofs.Depths.{light_words_fit}
+use Rattle.moo_session_connection.specs.declared.client.Client.{Client}
+use Rattle.moo_session_connection.specs.Connections.{Connections, client_here, is_open, is_leaving}
+use Rattle.moo_session_connection.specs.Changes.{joined, HasHeard}
+use Rattle.moo_session_task.specs.declared.live.Live.{Live}
+use Rattle.moo_session_task.specs.Session.{Session, no_session, in_connections}
+use Rattle.moo_session_task.specs.State.{state}
+use Rattle.moo_session_task.specs.Frames.{nobody}
+use Rattle.moo_session_task.specs.Tasks.{CallsServerVerb}
+use Rattle.moo_session_task.specs.Hooks.{HooksRun}
+use Rattle.moo_session.specs.Login.{LogsIn}
+use Rattle.moo_session.specs.Input.{MeetsLines}
 use Rattle.moo_session.specs.Events.{Opens, Hears, dropped, heard, HangsUp, hung_up, CallsOwnHook, Starts, all_parted}
 
 none_of : (o : Option Client) (b : Bool) → (is_some o || b) ≡ false → o ≡ None

@@ -2,20 +2,20 @@
 use Rattle.std.specs.Prelude.{◌≡◌, ℕ, ℤ, pos, negsuc, Bool, List, [], ◌∷◌, codes, Option, Some, None, if◌then◌else◌}
 use Rattle.std.specs.Option.{option_and_then}
 use Rattle.moo_value.specs.Tree.{Tree, integer}
-use Rattle.moo_table.specs.World.{World}
-use Rattle.moo_code_function.specs.Telling.{Telling}
-use Rattle.moo_connection.specs.Clients.{player_on}
-use Rattle.moo_connection.specs.Connections.{Connections, client_here}
-use Rattle.moo_connection.specs.Changes.{joined, freed, HasHeard}
-use Rattle.moo_live.specs.declared.hook.Hook.TheVariants.{Disconnected, ClientDisconnected}
-use Rattle.moo_live.specs.declared.live.Live.{Live}
-use Rattle.moo_live.specs.Session.{Session, no_session, in_connections, caused}
-use Rattle.moo_live.specs.State.{state, in_session}
-use Rattle.moo_task.specs.Frames.{nobody}
-use Rattle.moo_task.specs.Tasks.{CallsServerVerb}
-use Rattle.moo_task.specs.Hooks.{HooksRun}
-use Rattle.moo_login.specs.Login.{LogsIn}
-use Rattle.moo_typing.specs.Typing.{MeetsLines}
+use Rattle.moo_world_table.specs.World.{World}
+use Rattle.moo_builtin.specs.Telling.{Telling}
+use Rattle.moo_session_connection.specs.Clients.{player_on}
+use Rattle.moo_session_connection.specs.Connections.{Connections, client_here}
+use Rattle.moo_session_connection.specs.Changes.{joined, freed, HasHeard}
+use Rattle.moo_session_task.specs.declared.hook.Hook.TheVariants.{Disconnected, ClientDisconnected}
+use Rattle.moo_session_task.specs.declared.live.Live.{Live}
+use Rattle.moo_session_task.specs.Session.{Session, no_session, in_connections, caused}
+use Rattle.moo_session_task.specs.State.{state, in_session}
+use Rattle.moo_session_task.specs.Frames.{nobody}
+use Rattle.moo_session_task.specs.Tasks.{CallsServerVerb}
+use Rattle.moo_session_task.specs.Hooks.{HooksRun}
+use Rattle.moo_session.specs.Login.{LogsIn}
+use Rattle.moo_session.specs.Input.{MeetsLines}
 
 -- An opening joins a connection of this number and calls `do_login_command` without words; then the hooks run.
 pub record Opens (T : Telling) (moment : ℕ) (n : ℕ) (s s' : Live) : Type 0 where

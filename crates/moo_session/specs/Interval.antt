@@ -3,8 +3,8 @@ use Rattle.std.specs.Prelude.{ℕ, nat_le, pos, negsuc, List, codes, Option, Som
 use Rattle.std.specs.Option.{option_and_then}
 use Rattle.moo_value.specs.Compare.{folded}
 use Rattle.moo_value.specs.Tree.{Tree, integer, object, error, string, list}
-use Rattle.moo_table.specs.World.{World}
-use Rattle.moo_table.specs.Properties.{read}
+use Rattle.moo_world_table.specs.World.{World}
+use Rattle.moo_world_table.specs.Properties.{read}
 use Rattle.moo_world.specs.Calls.{number_of}
 
 -- an hour

@@ -1,13 +1,11 @@
 //! Openings, bytes and hang-ups.
 ghost use Rattle.std.specs.Prelude.{◌≡◌, OnOk, IsOk, None, false};
-ghost use Rattle.moo_code_function.specs.Telling.{Faults};
-ghost use Rattle.moo_connection.specs.Connections.{client_here, is_open};
+ghost use Rattle.moo_builtin.specs.Telling.{Faults};
+ghost use Rattle.moo_session_connection.specs.Connections.{client_here, is_open};
 ghost use Rattle.moo_session.specs.Events.{Opens, Hears, HangsUp, hung_up, player_at};
 
-use moo_live::{Hook, Live, Session};
-use moo_login::log_in;
-use moo_task::{empty, run_hooks};
-use moo_typing::meet_lines;
+use crate::{log_in, meet_lines};
+use moo_session_task::{Hook, Live, Session, empty, run_hooks};
 use std::alloc::{AllocError, Global};
 
 /// A connection is opened at this moment, in seconds, under a number that none has. The error is want of memory.

@@ -2,13 +2,28 @@
 //! itself makes (docs/SESSIONS.md).
 #![tactic(auto)]
 
+mod checkpoints;
+mod connect;
+mod dispatch;
+mod dot_program;
 mod events;
+mod input;
 mod intervals;
-mod own;
+mod login;
+mod player_line;
+mod program_end;
+mod program_lines;
+mod typed_line;
+mod verb_choice;
 
+pub use checkpoints::{checkpoint_ends, checkpoint_starts, start};
+pub use dispatch::command;
+pub use dot_program::begin_programming;
 pub use events::{hang_up, hear, open};
+pub use input::meet_lines;
 pub use intervals::interval;
-pub use moo_line::LineReader;
-pub use moo_live::{Live, Session};
-pub use moo_outbox::Outbox;
-pub use own::{checkpoint_ends, checkpoint_starts, start};
+pub use login::log_in;
+pub use moo_session_connection::Outbox;
+pub use moo_session_line::LineReader;
+pub use moo_session_task::{Live, Session};
+pub use program_lines::gather;

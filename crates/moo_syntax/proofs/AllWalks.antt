@@ -1,28 +1,28 @@
 -- Every phrase of the grammar leaves the ground as it is known to, and a rule stops it at a place where it isn't kept.
 use Rattle.std.proofs.Common.{ℕ, List, [], ◌∷◌, ◌≡◌, refl, sym, ◌∙◌, ap, subst, Bool, true, false, Option, Some, None, is_some, pos, if◌then◌else◌}
-use Rattle.moo_token.specs.declared.sign.Sign.TheVariants as sign
-use Rattle.moo_token.specs.declared.keyword.Keyword.{Keyword}
-use Rattle.moo_token.specs.declared.keyword.Keyword.TheVariants as keyword
-use Rattle.moo_token.specs.declared.token.Token.{Token}
-use Rattle.moo_token.specs.declared.token.Token.TheVariants as token
-use Rattle.moo_program.specs.declared.operator.BinaryOperator.TheVariants.{Power}
-use Rattle.moo_program.specs.declared.tree.Literal.{Literal}
-use Rattle.moo_program.specs.declared.tree.Literal.TheVariants as literal
-use Rattle.moo_program.specs.Tree as tree
-use Rattle.moo_program.specs.Tree.{Expr, Items, Stmt, breaks, continues}
-use Rattle.moo_grammar.specs.declared.level.Level.{Level}
-use Rattle.moo_grammar.specs.declared.level.Level.TheVariants.{Logic, Relation, Sum, Product}
-use Rattle.moo_grammar.specs.declared.level.Operator.{Operator}
-use Rattle.moo_grammar.specs.declared.level.Operator.TheVariants as operator
-use Rattle.moo_grammar.specs.Rules.{Rules, may_assign, may_jump}
-use Rattle.moo_grammar.specs.Tokens.{is_keyword, name_at, literal_at, operator_at, next_passes}
-use Rattle.moo_grammar.specs.Grammar
-use Rattle.moo_grammar.specs.Grammar.{Sort, Of, Kind, Derives, sort, has_optional, joined, text, system_object}
-use Rattle.moo_grammar.specs.Machine.{Reading, give, phrase, Reads, gives, takes, sees, misses, reads, by_rule, Fails, forbids, takes_fails, sees_fails, misses_fails, phrase_fails, then_fails}
-use Rattle.moo_grammar.specs.Predictive.{grammar, mark, behind_brace, after_member, named, verb_arguments, behind_in, if_sign, expect, expect_keyword, loop_at, jump}
-use Rattle.moo_grammar.proofs.Derived.{derived}
-use Rattle.moo_grammar.proofs.Leads.{keyword_is}
-use Rattle.moo_expression.specs.Places.{is_jump}
+use Rattle.moo_syntax_token.specs.declared.sign.Sign.TheVariants as sign
+use Rattle.moo_syntax_token.specs.declared.keyword.Keyword.{Keyword}
+use Rattle.moo_syntax_token.specs.declared.keyword.Keyword.TheVariants as keyword
+use Rattle.moo_syntax_token.specs.declared.token.Token.{Token}
+use Rattle.moo_syntax_token.specs.declared.token.Token.TheVariants as token
+use Rattle.moo_syntax_ast.specs.declared.operator.BinaryOperator.TheVariants.{Power}
+use Rattle.moo_syntax_ast.specs.declared.tree.Literal.{Literal}
+use Rattle.moo_syntax_ast.specs.declared.tree.Literal.TheVariants as literal
+use Rattle.moo_syntax_ast.specs.Tree as tree
+use Rattle.moo_syntax_ast.specs.Tree.{Expr, Items, Stmt, breaks, continues}
+use Rattle.moo_syntax_grammar.specs.declared.level.Level.{Level}
+use Rattle.moo_syntax_grammar.specs.declared.level.Level.TheVariants.{Logic, Relation, Sum, Product}
+use Rattle.moo_syntax_grammar.specs.declared.level.Operator.{Operator}
+use Rattle.moo_syntax_grammar.specs.declared.level.Operator.TheVariants as operator
+use Rattle.moo_syntax_grammar.specs.Rules.{Rules, may_assign, may_jump}
+use Rattle.moo_syntax_grammar.specs.Tokens.{is_keyword, name_at, literal_at, operator_at, next_passes}
+use Rattle.moo_syntax_grammar.specs.Grammar
+use Rattle.moo_syntax_grammar.specs.Grammar.{Sort, Of, Kind, Derives, sort, has_optional, joined, text, system_object}
+use Rattle.moo_syntax_grammar.specs.Machine.{Reading, give, phrase, Reads, gives, takes, sees, misses, reads, by_rule, Fails, forbids, takes_fails, sees_fails, misses_fails, phrase_fails, then_fails}
+use Rattle.moo_syntax_grammar.specs.Predictive.{grammar, mark, behind_brace, after_member, named, verb_arguments, behind_in, if_sign, expect, expect_keyword, loop_at, jump}
+use Rattle.moo_syntax_grammar.proofs.Derived.{derived}
+use Rattle.moo_syntax_grammar.proofs.Leads.{keyword_is}
+use Rattle.moo_syntax.specs.Places.{is_jump}
 use Rattle.moo_syntax.specs.Ground.{Ground, Naming, of_value, of_member, of_loop, naming_behind, named_loops, loops_behind, outer}
 use Rattle.moo_syntax.proofs.Walks.{Place, ground, IsFree, behind, labelled, Wrong, at_target, at_call, at_jump, at_label, Enters, Leaves, Walks, Walk, gives_walk, refuses_walk, phrase_walk, peek_walk, allowed_walk, taken_walk, sign_walk, expect_walk, keyword_taken_walk, keyword_walk, needed_walk, option_walk, name_walk}
 

@@ -1,17 +1,17 @@
 -- The consequences of the tokens before a place for programs, if the reading of statements stopped because it was too
 -- deep.
 use Rattle.std.proofs.Common.{ℕ, zero, suc, ◌+◌, ◌≤◌, List, [], ◌∷◌, ◌≡◌, refl, sym, ap, subst, true, length, take, drop, length-drop, arith}
-use Rattle.moo_token.specs.declared.token.Token.{Token}
-use Rattle.moo_program.specs.Limits.{most_nodes}
-use Rattle.moo_grammar.specs.Agree.{Agree, here, next}
-use Rattle.moo_grammar.specs.Rules.{Rules, loose}
-use Rattle.moo_grammar.specs.Grammar.{statements, block}
-use Rattle.moo_grammar.specs.Predictive.{grammar}
-use Rattle.moo_grammar.proofs.MachineLemmas.{IsEnd, whole, behind, end_length}
-use Rattle.moo_grammar.proofs.Complete.{complete}
-use Rattle.moo_expression.specs.Outgrown.{Deepens, later}
+use Rattle.moo_syntax_token.specs.declared.token.Token.{Token}
+use Rattle.moo_syntax_ast.specs.Limits.{most_nodes}
+use Rattle.moo_syntax_grammar.specs.Agree.{Agree, here, next}
+use Rattle.moo_syntax_grammar.specs.Rules.{Rules, loose}
+use Rattle.moo_syntax_grammar.specs.Grammar.{statements, block}
+use Rattle.moo_syntax_grammar.specs.Predictive.{grammar}
+use Rattle.moo_syntax_grammar.proofs.MachineLemmas.{IsEnd, whole, behind, end_length}
+use Rattle.moo_syntax_grammar.proofs.Complete.{complete}
+use Rattle.moo_syntax.specs.Outgrown.{Deepens, later}
 use Rattle.moo_syntax.specs.Programs.{SameBefore, EachIsTooHigh, BeginsSome}
-use Rattle.moo_expression.proofs.Outgrowing.{certain_end, each_is_higher}
+use Rattle.moo_syntax.proofs.Outgrowing.{certain_end, each_is_higher}
 use Rattle.moo_syntax.proofs.Continued.{program_continued}
 
 pub here_at : {x y : Token} (ts us : List Token) → y ≡ x → Agree (x ∷ ts) (x ∷ ts) (y ∷ us)

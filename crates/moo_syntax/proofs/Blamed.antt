@@ -1,16 +1,16 @@
 -- A text with a fault is no program.
 use Rattle.std.proofs.Common.{ℕ, List, ◌≡◌, ◌≢◌, refl, subst}
-use Rattle.moo_token.specs.declared.token.Token.{Token}
-use Rattle.moo_token.specs.declared.token.Spot.{Spot}
-use Rattle.moo_token.specs.Lexing.{IsTokens, IsReading, complete}
-use Rattle.moo_token.proofs.Readings.{one_reading}
-use Rattle.moo_program.specs.Tree.{Block}
-use Rattle.moo_grammar.specs.declared.names.Names.{Names}
-use Rattle.moo_grammar.specs.Tokens.{words}
-use Rattle.moo_grammar.specs.Rules.{Rules, Admits, loose, strict}
-use Rattle.moo_grammar.specs.Grammar.{IsProgram, IsProgramBy}
-use Rattle.moo_grammar.specs.Texts.{IsProgramOf, IsParsed, IsWithin}
-use Rattle.moo_grammar.proofs.Admitted.{admitted, loose_admits}
+use Rattle.moo_syntax_token.specs.declared.token.Token.{Token}
+use Rattle.moo_syntax_token.specs.declared.token.Spot.{Spot}
+use Rattle.moo_syntax_token.specs.Lexing.{IsTokens, IsReading, complete}
+use Rattle.moo_syntax_token.proofs.Readings.{one_reading}
+use Rattle.moo_syntax_ast.specs.Tree.{Block}
+use Rattle.moo_syntax_grammar.specs.declared.names.Names.{Names}
+use Rattle.moo_syntax_grammar.specs.Tokens.{words}
+use Rattle.moo_syntax_grammar.specs.Rules.{Rules, Admits, loose, strict}
+use Rattle.moo_syntax_grammar.specs.Grammar.{IsProgram, IsProgramBy}
+use Rattle.moo_syntax_grammar.specs.Texts.{IsProgramOf, IsParsed, IsWithin}
+use Rattle.moo_syntax_grammar.proofs.Admitted.{admitted, loose_admits}
 use Rattle.moo_syntax.specs.declared.syntax_fault.SyntaxFaultKind.{SyntaxFaultKind}
 use Rattle.moo_syntax.specs.declared.syntax_fault.SyntaxFaultKind.TheVariants.{BadToken, Unexpected, BadTarget, UnknownFunction, BadLoopName, TooDeep, Memory}
 use Rattle.moo_syntax.specs.Programs.{NoProgram, Blames, with_targets, with_functions, with_loops}

@@ -1,12 +1,12 @@
 -- Statements, arms and handlers, one after another.
 use Rattle.std.proofs.Common.{◌≤◌, List, [], ◌∷◌, ◌++◌, ◌≡◌, refl, ap, max, arith}
-use Rattle.moo_program.specs.declared.tree.Stmt.{Stmt}
-use Rattle.moo_program.specs.declared.tree.Arm.{Arm, ElseIf', Else'}
-use Rattle.moo_program.specs.declared.tree.Handler.{Handler, Except', ExceptAs'}
-use Rattle.moo_program.specs.Tree
-use Rattle.moo_program.specs.Tree.{Block, Arms, Handlers, no_statement, then, no_else, no_handler, return_nothing, returns, performs, branches, for_list, for_range, while_loop, breaks, continues, try_except, try_finally}
-use Rattle.moo_program.specs.Limits.{statement_height, block_height, arms_height, handlers_height}
-use Rattle.moo_program.specs.View.{statement, block, with_arm, arms_of, with_handler, handlers_of}
+use Rattle.moo_syntax_ast.specs.declared.tree.Stmt.{Stmt}
+use Rattle.moo_syntax_ast.specs.declared.tree.Arm.{Arm, ElseIf', Else'}
+use Rattle.moo_syntax_ast.specs.declared.tree.Handler.{Handler, Except', ExceptAs'}
+use Rattle.moo_syntax_ast.specs.Tree
+use Rattle.moo_syntax_ast.specs.Tree.{Block, Arms, Handlers, no_statement, then, no_else, no_handler, return_nothing, returns, performs, branches, for_list, for_range, while_loop, breaks, continues, try_except, try_finally}
+use Rattle.moo_syntax_ast.specs.Limits.{statement_height, block_height, arms_height, handlers_height}
+use Rattle.moo_syntax_ast.specs.View.{statement, block, with_arm, arms_of, with_handler, handlers_of}
 use Rattle.moo_syntax.specs.Statements.{before, arms_before, handlers_before}
 
 pub before_nothing : (ss : List Stmt) → before ss no_statement ≡ block ss

@@ -1,19 +1,19 @@
 -- Where a tree is certain to be too high, a program by the loose grammar begins with the tokens that were taken.
 use Rattle.std.proofs.Common.{List, [], ◌∷◌, ◌≡◌, refl, sym, ◌∙◌, subst, Bool, true, false, Option, Some, None}
-use Rattle.moo_token.specs.declared.token.Token.{Token}
-use Rattle.moo_program.specs.Tree.{Block}
-use Rattle.moo_grammar.specs.Agree.{Agree, here, next}
-use Rattle.moo_grammar.specs.Rules.{Rules, loose}
-use Rattle.moo_grammar.specs.Grammar.{Sort, Of, Kind, Derives, IsProgramBy, sort, statements, block}
-use Rattle.moo_grammar.specs.Machine.{Reading, Reads, gives, takes, sees, misses, reads}
-use Rattle.moo_grammar.specs.Tokens.{next_passes}
-use Rattle.moo_grammar.specs.Predictive.{grammar}
-use Rattle.moo_grammar.proofs.MachineLemmas.{agree_next, reads_before}
-use Rattle.moo_grammar.proofs.Leads.{Fact}
-use Rattle.moo_grammar.proofs.Derived.{derived}
-use Rattle.moo_grammar.proofs.Admitted.{admitted, loose_admits}
-use Rattle.moo_grammar.proofs.Endings.{behind as stands_behind, Ends, ends_with_more}
-use Rattle.moo_expression.specs.Outgrown.{CanEnd, can_give, can_read, can_take, can_stop, can_miss, Certain, ends, takes as takes_certain, sees as sees_certain, misses as misses_certain, part, behind}
+use Rattle.moo_syntax_token.specs.declared.token.Token.{Token}
+use Rattle.moo_syntax_ast.specs.Tree.{Block}
+use Rattle.moo_syntax_grammar.specs.Agree.{Agree, here, next}
+use Rattle.moo_syntax_grammar.specs.Rules.{Rules, loose}
+use Rattle.moo_syntax_grammar.specs.Grammar.{Sort, Of, Kind, Derives, IsProgramBy, sort, statements, block}
+use Rattle.moo_syntax_grammar.specs.Machine.{Reading, Reads, gives, takes, sees, misses, reads}
+use Rattle.moo_syntax_grammar.specs.Tokens.{next_passes}
+use Rattle.moo_syntax_grammar.specs.Predictive.{grammar}
+use Rattle.moo_syntax_grammar.proofs.MachineLemmas.{agree_next, reads_before}
+use Rattle.moo_syntax_grammar.proofs.Leads.{Fact}
+use Rattle.moo_syntax_grammar.proofs.Derived.{derived}
+use Rattle.moo_syntax_grammar.proofs.Admitted.{admitted, loose_admits}
+use Rattle.moo_syntax_grammar.proofs.Endings.{behind as stands_behind, Ends, ends_with_more}
+use Rattle.moo_syntax.specs.Outgrown.{CanEnd, can_give, can_read, can_take, can_stop, can_miss, Certain, ends, takes as takes_certain, sees as sees_certain, misses as misses_certain, part, behind}
 use Rattle.moo_syntax.proofs.Examples.{example}
 use Rattle.moo_syntax.proofs.Ends.{all_end}
 

@@ -1,25 +1,25 @@
 -- How each reading of the grammar can be brought to an end in the loose grammar: if a rule stops it, and after a
 -- phrase.
 use Rattle.std.proofs.Common.{ℕ, List, [], ◌∷◌, refl, Bool, true, false, Option, Some, None, pos}
-use Rattle.moo_token.specs.declared.sign.Sign.TheVariants as sign
-use Rattle.moo_token.specs.declared.keyword.Keyword.TheVariants as keyword
-use Rattle.moo_token.specs.declared.keyword.Keyword.{Keyword}
-use Rattle.moo_token.specs.declared.token.Token.{Token}
-use Rattle.moo_token.specs.declared.token.Token.TheVariants as token
-use Rattle.moo_token.specs.declared.token.Token.TheVariants.{Sign}
-use Rattle.moo_program.specs.declared.operator.UnaryOperator.TheVariants.{Not}
-use Rattle.moo_program.specs.declared.operator.BinaryOperator.TheVariants.{Power}
-use Rattle.moo_program.specs.declared.tree.Literal.TheVariants as literal
-use Rattle.moo_program.specs.Tree as tree
-use Rattle.moo_program.specs.Tree.{Expr, Stmt}
-use Rattle.moo_grammar.specs.declared.level.Level.TheVariants.{Logic, Relation, Sum, Product}
-use Rattle.moo_grammar.specs.Rules.{Rules, loose, may_assign, may_jump}
-use Rattle.moo_grammar.specs.Grammar
-use Rattle.moo_grammar.specs.Grammar.{Sort, Of, Kind, Derives, sort, joined, negated, text, system_object, has_optional}
-use Rattle.moo_grammar.specs.Machine.{Reading, give}
-use Rattle.moo_grammar.specs.Predictive.{grammar, mark, behind_brace, expect, loop_at, jump}
-use Rattle.moo_grammar.proofs.Leads.{Fact}
-use Rattle.moo_grammar.proofs.Endings.{behind, End, ending, tail, gives_end, refuses_end, phrase_end, last_end, peek_end, taken_end, sign_end, expect_end, keyword_taken_end, keyword_end, needed_end, ruled_end, ruled_keyword_end, forbidden_name_end, name_end, option_end}
+use Rattle.moo_syntax_token.specs.declared.sign.Sign.TheVariants as sign
+use Rattle.moo_syntax_token.specs.declared.keyword.Keyword.TheVariants as keyword
+use Rattle.moo_syntax_token.specs.declared.keyword.Keyword.{Keyword}
+use Rattle.moo_syntax_token.specs.declared.token.Token.{Token}
+use Rattle.moo_syntax_token.specs.declared.token.Token.TheVariants as token
+use Rattle.moo_syntax_token.specs.declared.token.Token.TheVariants.{Sign}
+use Rattle.moo_syntax_ast.specs.declared.operator.UnaryOperator.TheVariants.{Not}
+use Rattle.moo_syntax_ast.specs.declared.operator.BinaryOperator.TheVariants.{Power}
+use Rattle.moo_syntax_ast.specs.declared.tree.Literal.TheVariants as literal
+use Rattle.moo_syntax_ast.specs.Tree as tree
+use Rattle.moo_syntax_ast.specs.Tree.{Expr, Stmt}
+use Rattle.moo_syntax_grammar.specs.declared.level.Level.TheVariants.{Logic, Relation, Sum, Product}
+use Rattle.moo_syntax_grammar.specs.Rules.{Rules, loose, may_assign, may_jump}
+use Rattle.moo_syntax_grammar.specs.Grammar
+use Rattle.moo_syntax_grammar.specs.Grammar.{Sort, Of, Kind, Derives, sort, joined, negated, text, system_object, has_optional}
+use Rattle.moo_syntax_grammar.specs.Machine.{Reading, give}
+use Rattle.moo_syntax_grammar.specs.Predictive.{grammar, mark, behind_brace, expect, loop_at, jump}
+use Rattle.moo_syntax_grammar.proofs.Leads.{Fact}
+use Rattle.moo_syntax_grammar.proofs.Endings.{behind, End, ending, tail, gives_end, refuses_end, phrase_end, last_end, peek_end, taken_end, sign_end, expect_end, keyword_taken_end, keyword_end, needed_end, ruled_end, ruled_keyword_end, forbidden_name_end, name_end, option_end}
 use Rattle.moo_syntax.proofs.Examples.{zero_token, zero, a_conditional, an_expression}
 
 mark_end : (i : Bool) {close : List Token → List Token} {Q : Fact Sort.expr} → End Sort.expr close (mark i) Q

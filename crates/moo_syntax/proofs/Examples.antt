@@ -1,18 +1,18 @@
 -- A phrase of each kind, by the loose grammar.
 use Rattle.std.proofs.Common.{List, ◌∷◌, refl, Bool, false, None, pos}
-use Rattle.moo_token.specs.declared.sign.Sign.TheVariants as sign
-use Rattle.moo_token.specs.declared.keyword.Keyword.TheVariants as keyword
-use Rattle.moo_token.specs.declared.token.Token.{Token}
-use Rattle.moo_token.specs.declared.token.Token.TheVariants as token
-use Rattle.moo_program.specs.declared.tree.Literal.TheVariants as literal
-use Rattle.moo_program.specs.Tree as tree
-use Rattle.moo_program.specs.Tree.{Expr}
-use Rattle.moo_grammar.specs.declared.level.Level.{Level}
-use Rattle.moo_grammar.specs.declared.level.Level.TheVariants.{Logic, Relation, Sum, Product}
-use Rattle.moo_grammar.specs.Rules.{loose}
-use Rattle.moo_grammar.specs.Grammar
-use Rattle.moo_grammar.specs.Grammar.{Of, Kind, Derives, sort}
-use Rattle.moo_grammar.proofs.Endings.{behind}
+use Rattle.moo_syntax_token.specs.declared.sign.Sign.TheVariants as sign
+use Rattle.moo_syntax_token.specs.declared.keyword.Keyword.TheVariants as keyword
+use Rattle.moo_syntax_token.specs.declared.token.Token.{Token}
+use Rattle.moo_syntax_token.specs.declared.token.Token.TheVariants as token
+use Rattle.moo_syntax_ast.specs.declared.tree.Literal.TheVariants as literal
+use Rattle.moo_syntax_ast.specs.Tree as tree
+use Rattle.moo_syntax_ast.specs.Tree.{Expr}
+use Rattle.moo_syntax_grammar.specs.declared.level.Level.{Level}
+use Rattle.moo_syntax_grammar.specs.declared.level.Level.TheVariants.{Logic, Relation, Sum, Product}
+use Rattle.moo_syntax_grammar.specs.Rules.{loose}
+use Rattle.moo_syntax_grammar.specs.Grammar
+use Rattle.moo_syntax_grammar.specs.Grammar.{Of, Kind, Derives, sort}
+use Rattle.moo_syntax_grammar.proofs.Endings.{behind}
 
 -- an operand that is allowed everywhere
 abbrev pub zero_token : Token

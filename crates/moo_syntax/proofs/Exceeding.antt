@@ -1,19 +1,19 @@
 -- Texts outside the limits.
 use Rattle.std.proofs.Common.{ℕ, ◌≤◌, ◌<◌, ◌+◌, List, [], ◌∷◌, ◌++◌, ◌≡◌, ◌⊎◌, inl, inr, subst, length, take, drop, arith}
-use Rattle.moo_token.specs.declared.token.Token.{Token}
-use Rattle.moo_token.specs.declared.token.Token.TheVariants as token
-use Rattle.moo_token.specs.declared.sign.Sign.TheVariants as sign
-use Rattle.moo_token.specs.declared.token.Spot.{Spot}
-use Rattle.moo_token.specs.Lexing.{IsReading}
-use Rattle.moo_program.specs.Tree.{Block}
-use Rattle.moo_program.specs.Limits.{AllFit, most_nodes, most_brackets}
-use Rattle.moo_program.specs.Listing.{listing}
-use Rattle.moo_grammar.specs.declared.names.Names.{Names}
-use Rattle.moo_grammar.specs.Rules.{strict}
-use Rattle.moo_grammar.specs.Tokens.{words}
-use Rattle.moo_grammar.specs.Brackets.{open_behind, most_open_behind, most_open}
-use Rattle.moo_grammar.specs.Grammar.{IsProgram}
-use Rattle.moo_grammar.proofs.Unique.{one_program}
+use Rattle.moo_syntax_token.specs.declared.token.Token.{Token}
+use Rattle.moo_syntax_token.specs.declared.token.Token.TheVariants as token
+use Rattle.moo_syntax_token.specs.declared.sign.Sign.TheVariants as sign
+use Rattle.moo_syntax_token.specs.declared.token.Spot.{Spot}
+use Rattle.moo_syntax_token.specs.Lexing.{IsReading}
+use Rattle.moo_syntax_ast.specs.Tree.{Block}
+use Rattle.moo_syntax_ast.specs.Limits.{AllFit, most_nodes, most_brackets}
+use Rattle.moo_syntax_ast.specs.Listing.{listing}
+use Rattle.moo_syntax_grammar.specs.declared.names.Names.{Names}
+use Rattle.moo_syntax_grammar.specs.Rules.{strict}
+use Rattle.moo_syntax_grammar.specs.Tokens.{words}
+use Rattle.moo_syntax_grammar.specs.Brackets.{open_behind, most_open_behind, most_open}
+use Rattle.moo_syntax_grammar.specs.Grammar.{IsProgram}
+use Rattle.moo_syntax_grammar.proofs.Unique.{one_program}
 use Rattle.moo_syntax.specs.Programs.{IsTooDeep, HasLongLine, by_bracket, by_nodes, by_line, line_of, text_length}
 use Rattle.moo_syntax.specs.Stops.{ExceedLimits}
 use Rattle.moo_syntax.proofs.TextLengths.{tokens_within}

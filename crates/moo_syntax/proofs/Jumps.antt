@@ -1,29 +1,29 @@
 -- The conditions of a reading of statements on labels, and on the loops around a jump.
 use Rattle.std.proofs.Common.{ℕ, ◌≤◌, List, [], ◌∷◌, ◌≡◌, refl, ap, sym, ◌∙◌, subst, Bool, true, false, not, ◌||◌, Option, Some, None, is_some, reverse, length, MatchOption, arith}
 use Rattle.std.proofs.lemmas.List.{length-reverse}
-use Rattle.moo_token.specs.declared.keyword.Keyword.{Keyword}
-use Rattle.moo_token.specs.declared.keyword.Keyword.TheVariants.{Break, Continue}
-use Rattle.moo_token.specs.declared.sign.Sign.TheVariants.{Semicolon}
-use Rattle.moo_token.specs.declared.token.Token.{Token}
-use Rattle.moo_token.specs.declared.token.Token.TheVariants as token
-use Rattle.moo_token.specs.declared.token.Token.TheVariants.{Name}
-use Rattle.moo_program.specs.Tree.{Stmt}
-use Rattle.moo_grammar.specs.declared.names.Names.{Names}
-use Rattle.moo_grammar.specs.Rules.{Rules, has_loop, may_jump}
-use Rattle.moo_grammar.specs.Tokens.{is_sign, is_keyword, name_at, next_passes}
-use Rattle.moo_grammar.specs.Grammar.{Sort, label}
-use Rattle.moo_grammar.specs.Machine.{Reading, give, Reads, gives, misses, by_form, by_rule, Fails, refuses, forbids, sees_fails, misses_fails}
-use Rattle.moo_grammar.specs.Predictive.{grammar, expect, loop_at, behind_jump}
-use Rattle.moo_grammar.specs.Depth.{Deep}
-use Rattle.moo_expression.specs.declared.cursor.Cursor.{Cursor}
-use Rattle.moo_expression.specs.declared.fault.Fault.{Fault}
-use Rattle.moo_expression.specs.declared.fault.Fault.TheVariants.{TooDeep, Memory}
-use Rattle.moo_expression.specs.Cursor.{left, Takes, Stays}
-use Rattle.moo_expression.specs.Places.{is_jump, IsJump, at_name}
+use Rattle.moo_syntax_token.specs.declared.keyword.Keyword.{Keyword}
+use Rattle.moo_syntax_token.specs.declared.keyword.Keyword.TheVariants.{Break, Continue}
+use Rattle.moo_syntax_token.specs.declared.sign.Sign.TheVariants.{Semicolon}
+use Rattle.moo_syntax_token.specs.declared.token.Token.{Token}
+use Rattle.moo_syntax_token.specs.declared.token.Token.TheVariants as token
+use Rattle.moo_syntax_token.specs.declared.token.Token.TheVariants.{Name}
+use Rattle.moo_syntax_ast.specs.Tree.{Stmt}
+use Rattle.moo_syntax_grammar.specs.declared.names.Names.{Names}
+use Rattle.moo_syntax_grammar.specs.Rules.{Rules, has_loop, may_jump}
+use Rattle.moo_syntax_grammar.specs.Tokens.{is_sign, is_keyword, name_at, next_passes}
+use Rattle.moo_syntax_grammar.specs.Grammar.{Sort, label}
+use Rattle.moo_syntax_grammar.specs.Machine.{Reading, give, Reads, gives, misses, by_form, by_rule, Fails, refuses, forbids, sees_fails, misses_fails}
+use Rattle.moo_syntax_grammar.specs.Predictive.{grammar, expect, loop_at, behind_jump}
+use Rattle.moo_syntax_grammar.specs.Depth.{Deep}
+use Rattle.moo_syntax.specs.declared.cursor.Cursor.{Cursor}
+use Rattle.moo_syntax.specs.declared.fault.Fault.{Fault}
+use Rattle.moo_syntax.specs.declared.fault.Fault.TheVariants.{TooDeep, Memory}
+use Rattle.moo_syntax.specs.Cursor.{left, Takes, Stays}
+use Rattle.moo_syntax.specs.Places.{is_jump, IsJump, at_name}
 use Rattle.moo_syntax.specs.Statements.{HasNotJumped}
 use Rattle.moo_syntax.proofs.Blocks.{statement_height_positive}
-use Rattle.moo_expression.specs.Outgrown.{can_give, can_take, can_miss, at_once}
-use Rattle.moo_expression.proofs.Steps.{took, took_fails, stayed, stayed_fails, admitted_deepens}
+use Rattle.moo_syntax.specs.Outgrown.{can_give, can_take, can_miss, at_once}
+use Rattle.moo_syntax.proofs.Steps.{took, took_fails, stayed, stayed_fails, admitted_deepens}
 
 -- a label that was read, or none
 pub label_reads : (old new : Cursor) (found : Option (List ℕ)) → MatchOption found (Stays (λ x. is_some (name_at x)) old new) (λ s. Takes (Name s) old new) → (g : Rules) → Reads (grammar g) Sort.label_name (grammar g label) (left old) found (left new)

@@ -1,3 +1,8 @@
+pub mod Options
+pub mod Outgrowing
+pub mod Deepening
+pub mod Lone
+pub mod Steps
 pub mod Blocks
 pub mod Jumps
 pub mod TextLengths

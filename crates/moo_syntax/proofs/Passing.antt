@@ -1,15 +1,15 @@
 -- The choices of the grammar take no bad token.
 use Rattle.std.proofs.Common.{ℕ, zero, suc, ◌≤◌, ◌-◌, List, [], ◌∷◌, ◌≡◌, refl, subst, Bool, true, false, None, not, ◌||◌, length, take as first, unwrap_or, arith}
-use Rattle.moo_token.specs.declared.sign.Sign.TheVariants.{RightParen}
-use Rattle.moo_token.specs.declared.token.Token.{Token}
-use Rattle.moo_token.specs.declared.token.Token.TheVariants as token
-use Rattle.moo_program.specs.Tree.{Expr, assign, call, breaks, continues}
-use Rattle.moo_grammar.specs.declared.level.Level.TheVariants.{Logic, Relation, Sum, Product}
-use Rattle.moo_grammar.specs.Tokens.{is_bad, name_at, next_passes}
-use Rattle.moo_grammar.specs.Rules.{Rules, may_assign, may_jump}
-use Rattle.moo_grammar.specs.Grammar.{Sort, Of, Kind, expression, conditional, chain, more, operand, power, unary, postfix, suffixes, primary, arguments, members, codes, statement, statements, arms, handlers, label, in_parens, sort, has_optional}
-use Rattle.moo_grammar.specs.Machine.{Reading, give, refuse, forbid, take, peek, phrase, Reads, gives, takes, sees, misses, reads, Why, Fails, refuses, forbids, takes_fails, sees_fails, misses_fails, phrase_fails, then_fails}
-use Rattle.moo_grammar.specs.Predictive.{grammar, expect, allowed, if_optional, behind_brace, behind_jump, mark}
+use Rattle.moo_syntax_token.specs.declared.sign.Sign.TheVariants.{RightParen}
+use Rattle.moo_syntax_token.specs.declared.token.Token.{Token}
+use Rattle.moo_syntax_token.specs.declared.token.Token.TheVariants as token
+use Rattle.moo_syntax_ast.specs.Tree.{Expr, assign, call, breaks, continues}
+use Rattle.moo_syntax_grammar.specs.declared.level.Level.TheVariants.{Logic, Relation, Sum, Product}
+use Rattle.moo_syntax_grammar.specs.Tokens.{is_bad, name_at, next_passes}
+use Rattle.moo_syntax_grammar.specs.Rules.{Rules, may_assign, may_jump}
+use Rattle.moo_syntax_grammar.specs.Grammar.{Sort, Of, Kind, expression, conditional, chain, more, operand, power, unary, postfix, suffixes, primary, arguments, members, codes, statement, statements, arms, handlers, label, in_parens, sort, has_optional}
+use Rattle.moo_syntax_grammar.specs.Machine.{Reading, give, refuse, forbid, take, peek, phrase, Reads, gives, takes, sees, misses, reads, Why, Fails, refuses, forbids, takes_fails, sees_fails, misses_fails, phrase_fails, then_fails}
+use Rattle.moo_syntax_grammar.specs.Predictive.{grammar, expect, allowed, if_optional, behind_brace, behind_jump, mark}
 use Rattle.moo_syntax.specs.Programs.{AreSound}
 use Rattle.moo_syntax.specs.Stops.{Passes, none, one}
 

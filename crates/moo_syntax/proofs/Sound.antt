@@ -1,16 +1,16 @@
 -- The program of all tokens that are read is the text's.
 use Rattle.std.proofs.Common.{ℕ, List, [], ◌∷◌, ◌++◌, subst, ⊎_elim}
-use Rattle.moo_token.specs.declared.token.Token.TheVariants as token
-use Rattle.moo_token.specs.declared.token.Spot.{Spot}
-use Rattle.moo_token.specs.Lexing.{IsTokens, IsReading}
-use Rattle.moo_token.proofs.Readings.{tokens_or_bad}
-use Rattle.moo_program.specs.Tree.{Block}
-use Rattle.moo_grammar.specs.Tokens.{words}
-use Rattle.moo_grammar.specs.declared.names.Names.{Names}
-use Rattle.moo_grammar.proofs.Sound.{AllSound, sound}
-use Rattle.moo_grammar.specs.Grammar.{IsProgram}
-use Rattle.moo_grammar.specs.Texts.{IsParsed, HasText}
-use Rattle.moo_grammar.proofs.Admitted.{program_under_any_names}
+use Rattle.moo_syntax_token.specs.declared.token.Token.TheVariants as token
+use Rattle.moo_syntax_token.specs.declared.token.Spot.{Spot}
+use Rattle.moo_syntax_token.specs.Lexing.{IsTokens, IsReading}
+use Rattle.moo_syntax_token.proofs.Readings.{tokens_or_bad}
+use Rattle.moo_syntax_ast.specs.Tree.{Block}
+use Rattle.moo_syntax_grammar.specs.Tokens.{words}
+use Rattle.moo_syntax_grammar.specs.declared.names.Names.{Names}
+use Rattle.moo_syntax_grammar.proofs.Sound.{AllSound, sound}
+use Rattle.moo_syntax_grammar.specs.Grammar.{IsProgram}
+use Rattle.moo_syntax_grammar.specs.Texts.{IsParsed, HasText}
+use Rattle.moo_syntax_grammar.proofs.Admitted.{program_under_any_names}
 use Rattle.moo_syntax.specs.Stops.{IsWhole}
 
 no_bad : (front : List Spot) (n : ℕ) → AllSound (words (front ++ record { token = token.Bad; line = n } ∷ [])) → ⊥

@@ -1,12 +1,12 @@
 -- A text has at least as many bytes as tokens.
 use Rattle.std.proofs.Common.{ℕ, ◌+◌, ◌≤◌, List, [], ◌∷◌, ◌≡◌, true, Some, length, drop, arith, length-drop}
 use Rattle.std.proofs.lemmas.List.Sums.{sum_by-cons}
-use Rattle.moo_token.specs.declared.token.Token.{Token}
-use Rattle.moo_token.specs.declared.token.Spot.{Spot}
-use Rattle.moo_token.specs.Tokens.{token_at}
-use Rattle.moo_token.specs.Lexing
-use Rattle.moo_token.specs.Lexing.{Ending, Place, outside, commented, Lexes, IsReading, begins_comment, ends_comment}
-use Rattle.moo_token.proofs.TokenLengths.{token_length}
+use Rattle.moo_syntax_token.specs.declared.token.Token.{Token}
+use Rattle.moo_syntax_token.specs.declared.token.Spot.{Spot}
+use Rattle.moo_syntax_token.specs.Tokens.{token_at}
+use Rattle.moo_syntax_token.specs.Lexing
+use Rattle.moo_syntax_token.specs.Lexing.{Ending, Place, outside, commented, Lexes, IsReading, begins_comment, ends_comment}
+use Rattle.moo_syntax_token.proofs.TokenLengths.{token_length}
 use Rattle.moo_syntax.specs.Programs.{text_length}
 
 -- a comment that is never closed has a token of its own

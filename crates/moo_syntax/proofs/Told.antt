@@ -2,17 +2,17 @@
 use Rattle.std.proofs.Common.{ℕ, ◌+◌, ◌≤◌, List, [], ◌∷◌, ◌≡◌, sym, ◌∙◌, ap, subst, true, false, Some, None, length, take, drop, arith, length-drop}
 use Rattle.std.proofs.Math.Seq.{take-append_seam, drop-append_seam}
 use Rattle.std.proofs.lemmas.List.{length-append}
-use Rattle.moo_token.specs.declared.sign.Sign.TheVariants.{Assign}
-use Rattle.moo_token.specs.declared.token.Token.{Token}
-use Rattle.moo_token.specs.declared.token.Spot.{Spot}
-use Rattle.moo_grammar.specs.declared.names.Names.{Names}
-use Rattle.moo_grammar.specs.Tokens.{words, is_sign, next_passes}
-use Rattle.moo_grammar.specs.Rules.{Rules, has_loop}
-use Rattle.moo_grammar.specs.Grammar.{Derives, conditional, statements, block}
-use Rattle.moo_grammar.specs.Machine.{by_rule, Fails}
-use Rattle.moo_grammar.specs.Predictive.{grammar}
-use Rattle.moo_grammar.proofs.Admitted.{admitted, loose_admits}
-use Rattle.moo_expression.specs.Places.{IsCalled, is_jump}
+use Rattle.moo_syntax_token.specs.declared.sign.Sign.TheVariants.{Assign}
+use Rattle.moo_syntax_token.specs.declared.token.Token.{Token}
+use Rattle.moo_syntax_token.specs.declared.token.Spot.{Spot}
+use Rattle.moo_syntax_grammar.specs.declared.names.Names.{Names}
+use Rattle.moo_syntax_grammar.specs.Tokens.{words, is_sign, next_passes}
+use Rattle.moo_syntax_grammar.specs.Rules.{Rules, has_loop}
+use Rattle.moo_syntax_grammar.specs.Grammar.{Derives, conditional, statements, block}
+use Rattle.moo_syntax_grammar.specs.Machine.{by_rule, Fails}
+use Rattle.moo_syntax_grammar.specs.Predictive.{grammar}
+use Rattle.moo_syntax_grammar.proofs.Admitted.{admitted, loose_admits}
+use Rattle.moo_syntax.specs.Places.{IsCalled, is_jump}
 use Rattle.moo_syntax.specs.Ground.{of_value, outside, ground_behind, ground_at}
 use Rattle.moo_syntax.specs.Programs.{with_targets, with_functions, with_loops, AssignsNoTarget, IsBadJump, outside_loops, of_no_loop}
 use Rattle.moo_syntax.proofs.Walks.{Place, Wrong, at_target, at_call, at_jump, at_label}

@@ -2,14 +2,14 @@
 use Rattle.std.proofs.Common.{ℕ, List, [], ◌∷◌, ◌++◌, ◌≡◌, ◌≢◌, ◌≤◌, refl, sym, subst, length, drop, arith}
 use Rattle.std.specs.Prelude.{All}
 use Rattle.std.proofs.lemmas.List.Elements.{All-head, All-drop, All-tail}
-use Rattle.moo_token.specs.declared.token.Spot.{Spot}
-use Rattle.moo_token.specs.Lexing.{IsReading, text_end}
-use Rattle.moo_token.specs.Reading.{IsOnLine}
-use Rattle.moo_token.proofs.Readings.{lines_within}
-use Rattle.moo_program.specs.Tree.{no_statement}
-use Rattle.moo_grammar.specs.declared.names.Names.{Names}
-use Rattle.moo_grammar.specs.Grammar.{no_statements}
-use Rattle.moo_grammar.specs.Texts.{IsParsed}
+use Rattle.moo_syntax_token.specs.declared.token.Spot.{Spot}
+use Rattle.moo_syntax_token.specs.Lexing.{IsReading, text_end}
+use Rattle.moo_syntax_token.specs.Reading.{IsOnLine}
+use Rattle.moo_syntax_token.proofs.Readings.{lines_within}
+use Rattle.moo_syntax_ast.specs.Tree.{no_statement}
+use Rattle.moo_syntax_grammar.specs.declared.names.Names.{Names}
+use Rattle.moo_syntax_grammar.specs.Grammar.{no_statements}
+use Rattle.moo_syntax_grammar.specs.Texts.{IsParsed}
 use Rattle.moo_syntax.specs.declared.syntax_fault.SyntaxFaultKind.{SyntaxFaultKind}
 use Rattle.moo_syntax.specs.declared.syntax_fault.SyntaxFaultKind.TheVariants.{BadToken, Unexpected, BadTarget, UnknownFunction, BadLoopName, TooDeep, Memory}
 use Rattle.moo_syntax.specs.Programs.{Blames, line_of}

@@ -1,18 +1,18 @@
 -- Readings of the grammar, with what the tokens before each place say of it, up to where a rule isn't kept.
 use Rattle.std.proofs.Common.{ℕ, List, [], ◌∷◌, ◌++◌, ◌≡◌, refl, sym, ◌∙◌, ap, subst, Bool, true, false, Option, Some, None, is_some, unwrap_or}
 use Rattle.std.proofs.lemmas.List.{append_assoc}
-use Rattle.moo_token.specs.declared.sign.Sign.{Sign}
-use Rattle.moo_token.specs.declared.keyword.Keyword.{Keyword}
-use Rattle.moo_token.specs.declared.token.Token.{Token}
-use Rattle.moo_token.specs.declared.token.Token.TheVariants as token
-use Rattle.moo_program.specs.Tree.{Expr}
-use Rattle.moo_grammar.specs.Rules.{Rules, may_assign, may_jump}
-use Rattle.moo_grammar.specs.Tokens.{is_sign, is_keyword, name_at, next_passes}
-use Rattle.moo_grammar.specs.Grammar.{Sort, Of, Kind, Derives, sort, expression, conditional, chain, more, operand, power, unary, postfix, suffixes, primary, arguments, members, codes, statement, statements, arms, handlers, label, in_parens}
-use Rattle.moo_grammar.specs.Machine.{Reading, give, refuse, forbid, take, peek, phrase}
-use Rattle.moo_grammar.specs.Predictive.{allowed, if_sign, expect, if_keyword, expect_keyword, if_name}
-use Rattle.moo_grammar.proofs.Leads.{sign_is, keyword_is}
-use Rattle.moo_expression.specs.Places.{is_jump}
+use Rattle.moo_syntax_token.specs.declared.sign.Sign.{Sign}
+use Rattle.moo_syntax_token.specs.declared.keyword.Keyword.{Keyword}
+use Rattle.moo_syntax_token.specs.declared.token.Token.{Token}
+use Rattle.moo_syntax_token.specs.declared.token.Token.TheVariants as token
+use Rattle.moo_syntax_ast.specs.Tree.{Expr}
+use Rattle.moo_syntax_grammar.specs.Rules.{Rules, may_assign, may_jump}
+use Rattle.moo_syntax_grammar.specs.Tokens.{is_sign, is_keyword, name_at, next_passes}
+use Rattle.moo_syntax_grammar.specs.Grammar.{Sort, Of, Kind, Derives, sort, expression, conditional, chain, more, operand, power, unary, postfix, suffixes, primary, arguments, members, codes, statement, statements, arms, handlers, label, in_parens}
+use Rattle.moo_syntax_grammar.specs.Machine.{Reading, give, refuse, forbid, take, peek, phrase}
+use Rattle.moo_syntax_grammar.specs.Predictive.{allowed, if_sign, expect, if_keyword, expect_keyword, if_name}
+use Rattle.moo_syntax_grammar.proofs.Leads.{sign_is, keyword_is}
+use Rattle.moo_syntax.specs.Places.{is_jump}
 use Rattle.moo_syntax.specs.Ground.{Ground, of_value, outside, naming_behind, loops_behind, ground_behind}
 
 -- a place among the tokens

@@ -1,34 +1,34 @@
 -- The consequences of the parser's outcome for whole texts.
 use Rattle.std.proofs.Common.{ℕ, zero, suc, ◌≤◌, ◌<◌, ap, Bool, true, List, [], ◌∷◌, ◌++◌, ◌≡◌, refl, sym, subst, length, take, drop, arith, ◌+◌, ◌-◌, ◌∙◌, length-drop}
 use Rattle.std.proofs.lemmas.List.{take-append-drop, drop_all}
-use Rattle.moo_token.specs.declared.token.Token.{Token}
-use Rattle.moo_token.specs.declared.token.Token.TheVariants as token
-use Rattle.moo_token.specs.declared.token.Spot.{Spot}
-use Rattle.moo_token.specs.Lexing.{IsReading}
-use Rattle.moo_token.proofs.Readings.{bad_is_last}
-use Rattle.moo_program.specs.Tree.{Block}
-use Rattle.moo_program.specs.Limits.{most_nodes}
-use Rattle.moo_grammar.specs.declared.names.Names.{Names}
-use Rattle.moo_grammar.specs.Rules.{Rules, Admits, loose, strict}
-use Rattle.moo_expression.specs.declared.fault.Fault.{Fault}
-use Rattle.moo_expression.specs.declared.fault.Fault.TheVariants.{Unexpected, BadTarget, UnknownFunction, BadLoopName, TooDeep, Memory}
-use Rattle.moo_expression.specs.declared.cursor.Cursor.{Cursor}
-use Rattle.moo_expression.specs.Cursor.{left}
-use Rattle.moo_expression.specs.Outcome.{ToldBy, why, HasFailed}
+use Rattle.moo_syntax_token.specs.declared.token.Token.{Token}
+use Rattle.moo_syntax_token.specs.declared.token.Token.TheVariants as token
+use Rattle.moo_syntax_token.specs.declared.token.Spot.{Spot}
+use Rattle.moo_syntax_token.specs.Lexing.{IsReading}
+use Rattle.moo_syntax_token.proofs.Readings.{bad_is_last}
+use Rattle.moo_syntax_ast.specs.Tree.{Block}
+use Rattle.moo_syntax_ast.specs.Limits.{most_nodes}
+use Rattle.moo_syntax_grammar.specs.declared.names.Names.{Names}
+use Rattle.moo_syntax_grammar.specs.Rules.{Rules, Admits, loose, strict}
+use Rattle.moo_syntax.specs.declared.fault.Fault.{Fault}
+use Rattle.moo_syntax.specs.declared.fault.Fault.TheVariants.{Unexpected, BadTarget, UnknownFunction, BadLoopName, TooDeep, Memory}
+use Rattle.moo_syntax.specs.declared.cursor.Cursor.{Cursor}
+use Rattle.moo_syntax.specs.Cursor.{left}
+use Rattle.moo_syntax.specs.Outcome.{ToldBy, why, HasFailed}
 use Rattle.moo_syntax.specs.Stops.{Passes, StopsBy}
-use Rattle.moo_grammar.specs.Tokens.{words, is_sign, is_bad, next_passes}
+use Rattle.moo_syntax_grammar.specs.Tokens.{words, is_sign, is_bad, next_passes}
 use Rattle.moo_syntax.specs.Programs.{SameUpTo, NoProgram, BeginsProgram, with_targets, with_functions, with_loops, IsBadToken, by_nodes, line_of}
-use Rattle.moo_expression.specs.Places.{is_jump, IsJump, at_keyword, at_name, IsCalled}
-use Rattle.moo_expression.specs.Outgrown.{Deepens}
-use Rattle.moo_token.specs.declared.sign.Sign.TheVariants as sign
-use Rattle.moo_grammar.specs.Grammar.{IsProgramBy, statements, block}
-use Rattle.moo_grammar.specs.Machine.{Reads, Why, by_rule, Fails}
-use Rattle.moo_grammar.specs.Predictive.{grammar}
-use Rattle.moo_grammar.specs.Agree.{Agree, at_end, here, next}
-use Rattle.moo_grammar.proofs.MachineLemmas.{whole, reads_once, reads_again, fails_again}
-use Rattle.moo_grammar.proofs.Complete.{complete}
-use Rattle.moo_grammar.proofs.Begun.{program_begun}
-use Rattle.moo_grammar.proofs.Admitted.{admitted, loose_admits}
+use Rattle.moo_syntax.specs.Places.{is_jump, IsJump, at_keyword, at_name, IsCalled}
+use Rattle.moo_syntax.specs.Outgrown.{Deepens}
+use Rattle.moo_syntax_token.specs.declared.sign.Sign.TheVariants as sign
+use Rattle.moo_syntax_grammar.specs.Grammar.{IsProgramBy, statements, block}
+use Rattle.moo_syntax_grammar.specs.Machine.{Reads, Why, by_rule, Fails}
+use Rattle.moo_syntax_grammar.specs.Predictive.{grammar}
+use Rattle.moo_syntax_grammar.specs.Agree.{Agree, at_end, here, next}
+use Rattle.moo_syntax_grammar.proofs.MachineLemmas.{whole, reads_once, reads_again, fails_again}
+use Rattle.moo_syntax_grammar.proofs.Complete.{complete}
+use Rattle.moo_syntax_grammar.proofs.Begun.{program_begun}
+use Rattle.moo_syntax_grammar.proofs.Admitted.{admitted, loose_admits}
 use Rattle.moo_syntax.proofs.Passing.{failure_passes}
 use Rattle.moo_syntax.proofs.Words.{words_drop, words_length}
 use Rattle.moo_syntax.proofs.Before.{here_at, next_at, each_before, begins_before}

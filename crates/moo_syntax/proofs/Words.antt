@@ -1,9 +1,9 @@
 -- The tokens without their lines.
 use Rattle.std.proofs.Common.{ℕ, zero, suc, List, [], ◌∷◌, ◌++◌, ◌≡◌, ◌<◌, ◌+◌, refl, sym, ap, ◌∙◌, length, get_or, take, drop, append_assoc}
 use Rattle.std.proofs.lemmas.List.{take-append-drop, take_more}
-use Rattle.moo_token.specs.declared.token.Token.{Token}
-use Rattle.moo_token.specs.declared.token.Spot.{Spot}
-use Rattle.moo_grammar.specs.Tokens.{words}
+use Rattle.moo_syntax_token.specs.declared.token.Token.{Token}
+use Rattle.moo_syntax_token.specs.declared.token.Spot.{Spot}
+use Rattle.moo_syntax_grammar.specs.Tokens.{words}
 
 pub words_drop : (n : ℕ) (ss : List Spot) → words (drop n ss) ≡ drop n (words ss)
 words_drop zero ss = refl

@@ -1,11 +1,11 @@
 -- The ground of a place: the loops around it and the kind of its next name, from the tokens before it.
 use Rattle.std.specs.Prelude.{ℕ, List, [], ◌∷◌, Option, Some, None, take}
-use Rattle.moo_token.specs.declared.sign.Sign.TheVariants.{Dot, Colon, Dollar}
-use Rattle.moo_token.specs.declared.keyword.Keyword.TheVariants.{For, EndFor, While, EndWhile, Except}
-use Rattle.moo_token.specs.declared.token.Token.{Token}
-use Rattle.moo_token.specs.declared.token.Token.TheVariants.{Name, Keyword, Sign}
-use Rattle.moo_token.specs.declared.token.Spot.{Spot}
-use Rattle.moo_grammar.specs.Tokens.{words}
+use Rattle.moo_syntax_token.specs.declared.sign.Sign.TheVariants.{Dot, Colon, Dollar}
+use Rattle.moo_syntax_token.specs.declared.keyword.Keyword.TheVariants.{For, EndFor, While, EndWhile, Except}
+use Rattle.moo_syntax_token.specs.declared.token.Token.{Token}
+use Rattle.moo_syntax_token.specs.declared.token.Token.TheVariants.{Name, Keyword, Sign}
+use Rattle.moo_syntax_token.specs.declared.token.Spot.{Spot}
+use Rattle.moo_syntax_grammar.specs.Tokens.{words}
 
 -- the kind of a name that comes next
 pub data Naming : Type 0 where

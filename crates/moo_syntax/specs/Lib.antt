@@ -1,3 +1,9 @@
+pub mod Places
+pub mod Cursor
+pub mod Items
+pub mod Height
+pub mod Outgrown
+pub mod Outcome
 pub mod Ground
 pub mod Programs
 pub mod FaultText

@@ -1,22 +1,22 @@
 -- The meaning of a fault for the text.
 use Rattle.std.specs.Prelude.{ℕ, suc, List, [], ◌∷◌, ◌++◌, ◌≡◌, ◌≤◌, ◌<◌, ◌+◌, Bool, true, false, Some, None, length, take, drop}
 use Rattle.std.specs.List.{sum_by}
-use Rattle.moo_token.specs.declared.sign.Sign.TheVariants.{Assign}
-use Rattle.moo_token.specs.declared.token.Token.{Token}
-use Rattle.moo_token.specs.declared.token.Token.TheVariants.{Bad, Name}
-use Rattle.moo_token.specs.declared.token.Spot.{Spot}
-use Rattle.moo_token.specs.Lexing.{IsReading, HasNoTokens}
-use Rattle.moo_program.specs.Tree.{Expr, Block}
-use Rattle.moo_program.specs.Target.{is_target}
-use Rattle.moo_program.specs.Limits.{AllFit, block_height, most_nodes, most_brackets}
-use Rattle.moo_program.specs.Listing.{listing}
-use Rattle.moo_grammar.specs.declared.names.Names.{Names}
-use Rattle.moo_grammar.specs.Tokens.{words, is_sign, is_bad, next_passes}
-use Rattle.moo_grammar.specs.Rules.{Rules, loose, may_call, has_loop}
-use Rattle.moo_grammar.specs.Grammar.{Derives, conditional, IsProgram, IsProgramBy}
-use Rattle.moo_grammar.specs.Brackets.{most_open}
-use Rattle.moo_grammar.specs.Texts.{IsWithin}
-use Rattle.moo_expression.specs.Places.{IsCalled, is_jump}
+use Rattle.moo_syntax_token.specs.declared.sign.Sign.TheVariants.{Assign}
+use Rattle.moo_syntax_token.specs.declared.token.Token.{Token}
+use Rattle.moo_syntax_token.specs.declared.token.Token.TheVariants.{Bad, Name}
+use Rattle.moo_syntax_token.specs.declared.token.Spot.{Spot}
+use Rattle.moo_syntax_token.specs.Lexing.{IsReading, HasNoTokens}
+use Rattle.moo_syntax_ast.specs.Tree.{Expr, Block}
+use Rattle.moo_syntax_ast.specs.Target.{is_target}
+use Rattle.moo_syntax_ast.specs.Limits.{AllFit, block_height, most_nodes, most_brackets}
+use Rattle.moo_syntax_ast.specs.Listing.{listing}
+use Rattle.moo_syntax_grammar.specs.declared.names.Names.{Names}
+use Rattle.moo_syntax_grammar.specs.Tokens.{words, is_sign, is_bad, next_passes}
+use Rattle.moo_syntax_grammar.specs.Rules.{Rules, loose, may_call, has_loop}
+use Rattle.moo_syntax_grammar.specs.Grammar.{Derives, conditional, IsProgram, IsProgramBy}
+use Rattle.moo_syntax_grammar.specs.Brackets.{most_open}
+use Rattle.moo_syntax_grammar.specs.Texts.{IsWithin}
+use Rattle.moo_syntax.specs.Places.{IsCalled, is_jump}
 use Rattle.moo_syntax.specs.declared.syntax_fault.SyntaxFaultKind.{SyntaxFaultKind}
 use Rattle.moo_syntax.specs.declared.syntax_fault.SyntaxFaultKind.TheVariants.{BadToken, Unexpected, BadTarget, UnknownFunction, BadLoopName, TooDeep, Memory}
 use Rattle.moo_syntax.specs.Ground.{of_value, ground_at}

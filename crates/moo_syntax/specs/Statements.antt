@@ -1,29 +1,29 @@
 -- The outcomes of the parser of statements.
 use Rattle.std.specs.Prelude.{ℕ, List, [], ◌∷◌, ◌≡◌, ◌≤◌, ◌<◌, ◌+◌, true, false, Option, Some}
-use Rattle.moo_token.specs.declared.token.Token.{Token}
-use Rattle.moo_token.specs.declared.token.Token.TheVariants.{Name}
-use Rattle.moo_token.specs.declared.sign.Sign.TheVariants.{RightBracket, DotDot, Semicolon}
-use Rattle.moo_token.specs.declared.keyword.Keyword.{Keyword}
-use Rattle.moo_token.specs.declared.keyword.Keyword.TheVariants.{EndFor, Except}
-use Rattle.moo_program.specs.declared.tree.Stmt.{Stmt}
-use Rattle.moo_program.specs.declared.tree.Arm.{Arm}
-use Rattle.moo_program.specs.declared.tree.Handler.{Handler}
-use Rattle.moo_program.specs.Tree
-use Rattle.moo_program.specs.Tree.{Block, Arms, Handlers, then, for_range, performs, no_handler}
-use Rattle.moo_program.specs.Limits.{handlers_height}
-use Rattle.moo_program.specs.View.{statement, with_arm, with_handler}
-use Rattle.moo_grammar.specs.declared.names.Names.{Names}
-use Rattle.moo_grammar.specs.Rules.{Rules, Admits, strict, has_loop}
-use Rattle.moo_grammar.specs.Grammar.{Sort, expression, statements, handlers}
-use Rattle.moo_grammar.specs.Machine.{Reading, give, peek, phrase, Reads, Fails}
-use Rattle.moo_grammar.specs.Predictive.{grammar, expect, expect_keyword, jump}
-use Rattle.moo_grammar.specs.Tokens.{is_keyword}
-use Rattle.moo_expression.specs.declared.cursor.Cursor.{Cursor}
-use Rattle.moo_expression.specs.declared.fault.Fault.{Fault}
-use Rattle.moo_expression.specs.declared.fault.Fault.TheVariants.{TooDeep}
-use Rattle.moo_expression.specs.Cursor.{left}
-use Rattle.moo_expression.specs.Outgrown.{Deepens}
-use Rattle.moo_expression.specs.Outcome.{ToldBy, why, Stands, LeadsTo}
+use Rattle.moo_syntax_token.specs.declared.token.Token.{Token}
+use Rattle.moo_syntax_token.specs.declared.token.Token.TheVariants.{Name}
+use Rattle.moo_syntax_token.specs.declared.sign.Sign.TheVariants.{RightBracket, DotDot, Semicolon}
+use Rattle.moo_syntax_token.specs.declared.keyword.Keyword.{Keyword}
+use Rattle.moo_syntax_token.specs.declared.keyword.Keyword.TheVariants.{EndFor, Except}
+use Rattle.moo_syntax_ast.specs.declared.tree.Stmt.{Stmt}
+use Rattle.moo_syntax_ast.specs.declared.tree.Arm.{Arm}
+use Rattle.moo_syntax_ast.specs.declared.tree.Handler.{Handler}
+use Rattle.moo_syntax_ast.specs.Tree
+use Rattle.moo_syntax_ast.specs.Tree.{Block, Arms, Handlers, then, for_range, performs, no_handler}
+use Rattle.moo_syntax_ast.specs.Limits.{handlers_height}
+use Rattle.moo_syntax_ast.specs.View.{statement, with_arm, with_handler}
+use Rattle.moo_syntax_grammar.specs.declared.names.Names.{Names}
+use Rattle.moo_syntax_grammar.specs.Rules.{Rules, Admits, strict, has_loop}
+use Rattle.moo_syntax_grammar.specs.Grammar.{Sort, expression, statements, handlers}
+use Rattle.moo_syntax_grammar.specs.Machine.{Reading, give, peek, phrase, Reads, Fails}
+use Rattle.moo_syntax_grammar.specs.Predictive.{grammar, expect, expect_keyword, jump}
+use Rattle.moo_syntax_grammar.specs.Tokens.{is_keyword}
+use Rattle.moo_syntax.specs.declared.cursor.Cursor.{Cursor}
+use Rattle.moo_syntax.specs.declared.fault.Fault.{Fault}
+use Rattle.moo_syntax.specs.declared.fault.Fault.TheVariants.{TooDeep}
+use Rattle.moo_syntax.specs.Cursor.{left}
+use Rattle.moo_syntax.specs.Outgrown.{Deepens}
+use Rattle.moo_syntax.specs.Outcome.{ToldBy, why, Stands, LeadsTo}
 
 -- statements before others
 abbrev pub before : List Stmt → Block → Block

@@ -1,17 +1,17 @@
 -- The parser's knowledge of the tokens when it stops.
 use Rattle.std.specs.Prelude.{ℕ, List, ◌∷◌, ◌≡◌, ◌≤◌, false, drop, length}
-use Rattle.moo_token.specs.declared.token.Token.{Token}
-use Rattle.moo_token.specs.declared.token.Spot.{Spot}
-use Rattle.moo_program.specs.Tree.{Block}
-use Rattle.moo_grammar.specs.declared.names.Names.{Names}
-use Rattle.moo_grammar.specs.Rules.{loose, may_call}
-use Rattle.moo_grammar.specs.Tokens.{words, is_bad}
-use Rattle.moo_grammar.specs.Grammar.{IsProgram}
-use Rattle.moo_grammar.specs.Texts.{IsWithin}
-use Rattle.moo_expression.specs.declared.fault.Fault.{Fault}
-use Rattle.moo_expression.specs.declared.fault.Fault.TheVariants.{Unexpected, BadTarget, UnknownFunction, BadLoopName, TooDeep, Memory}
+use Rattle.moo_syntax_token.specs.declared.token.Token.{Token}
+use Rattle.moo_syntax_token.specs.declared.token.Spot.{Spot}
+use Rattle.moo_syntax_ast.specs.Tree.{Block}
+use Rattle.moo_syntax_grammar.specs.declared.names.Names.{Names}
+use Rattle.moo_syntax_grammar.specs.Rules.{loose, may_call}
+use Rattle.moo_syntax_grammar.specs.Tokens.{words, is_bad}
+use Rattle.moo_syntax_grammar.specs.Grammar.{IsProgram}
+use Rattle.moo_syntax_grammar.specs.Texts.{IsWithin}
+use Rattle.moo_syntax.specs.declared.fault.Fault.{Fault}
+use Rattle.moo_syntax.specs.declared.fault.Fault.TheVariants.{Unexpected, BadTarget, UnknownFunction, BadLoopName, TooDeep, Memory}
 use Rattle.moo_syntax.specs.Programs.{AssignsNoTarget, IsBadJump, NoProgram, BeginsProgram, with_targets, with_functions, with_loops, IsOutside, Exceeds}
-use Rattle.moo_expression.specs.Places.{IsCalled}
+use Rattle.moo_syntax.specs.Places.{IsCalled}
 use Rattle.moo_syntax.specs.Ground.{of_value, ground_at}
 
 -- no program within the limits has these tokens, and a limit is exceeded at the place

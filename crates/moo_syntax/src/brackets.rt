@@ -1,11 +1,11 @@
 //! The limit on open brackets.
 ghost use Rattle.std.specs.Prelude.{◌≡◌, ◌<◌, ◌≤◌, ◌+◌, length, take, MatchOption};
-ghost use Rattle.moo_program.specs.Limits.{most_brackets};
-ghost use Rattle.moo_grammar.specs.Tokens.{words};
-ghost use Rattle.moo_grammar.specs.Brackets.{open_behind, most_open};
+ghost use Rattle.moo_syntax_ast.specs.Limits.{most_brackets};
+ghost use Rattle.moo_syntax_grammar.specs.Tokens.{words};
+ghost use Rattle.moo_syntax_grammar.specs.Brackets.{open_behind, most_open};
 
-use moo_program::MOST_BRACKETS;
-use moo_token::{Sign, Spot, Token};
+use moo_syntax_ast::MOST_BRACKETS;
+use moo_syntax_token::{Sign, Spot, Token};
 
 /// Returns how many brackets are open after the token.
 fn open_behind(opened: u32, token: &Token) -> u32

@@ -1,18 +1,18 @@
 //! The parser of `break` and `continue`.
 ghost use Rattle.std.specs.Prelude.{◌≡◌, ◌∷◌, ℕ, List, true, reverse, Some, IfOk, IfErr, MatchResult};
-ghost use Rattle.moo_token.specs.declared.token.Token.{Token};
-ghost use Rattle.moo_grammar.specs.declared.names.Names.{Names};
-ghost use Rattle.moo_grammar.specs.Tokens.{next_passes, is_keyword};
+ghost use Rattle.moo_syntax_token.specs.declared.token.Token.{Token};
+ghost use Rattle.moo_syntax_grammar.specs.declared.names.Names.{Names};
+ghost use Rattle.moo_syntax_grammar.specs.Tokens.{next_passes, is_keyword};
 ghost use Rattle.std.specs.List.{list_any};
-ghost use Rattle.moo_grammar.specs.Rules.{has_loop, is_named};
-ghost use Rattle.moo_expression.specs.Cursor.{left};
-ghost use Rattle.moo_expression.specs.Places.{is_jump};
-ghost use Rattle.moo_expression.specs.Outcome.{Moves};
+ghost use Rattle.moo_syntax_grammar.specs.Rules.{has_loop, is_named};
+ghost use Rattle.moo_syntax.specs.Cursor.{left};
+ghost use Rattle.moo_syntax.specs.Places.{is_jump};
+ghost use Rattle.moo_syntax.specs.Outcome.{Moves};
 ghost use Rattle.moo_syntax.specs.Statements.{IsStranger, Jumps, HasNotJumped};
-ghost use Rattle.moo_expression.specs.declared.fault.Fault.TheVariants.{BadLoopName, Memory};
+ghost use Rattle.moo_syntax.specs.declared.fault.Fault.TheVariants.{BadLoopName, Memory};
 
-use moo_expression::{Cursor, Fault, below};
-use moo_token::{Keyword, Sign, Token};
+use crate::{Cursor, Fault, below};
+use moo_syntax_token::{Keyword, Sign, Token};
 use moo_value::MooStr;
 
 /// Is true if one of the loops has the name, in any case.

@@ -1,10 +1,10 @@
 //! Laws of the faults that `parse` reports.
 ghost use Rattle.std.specs.Prelude.{◌≢◌, ◌≤◌, ◌<◌, ◌⊎◌, ℕ, List, length};
-ghost use Rattle.moo_program.specs.Tree.{Block};
-ghost use Rattle.moo_program.specs.Limits.{most_nodes};
-ghost use Rattle.moo_grammar.specs.declared.names.Names.{Names};
-ghost use Rattle.moo_grammar.specs.Tokens.{words};
-ghost use Rattle.moo_grammar.specs.Texts.{IsProgramOf, IsParsed};
+ghost use Rattle.moo_syntax_ast.specs.Tree.{Block};
+ghost use Rattle.moo_syntax_ast.specs.Limits.{most_nodes};
+ghost use Rattle.moo_syntax_grammar.specs.declared.names.Names.{Names};
+ghost use Rattle.moo_syntax_grammar.specs.Tokens.{words};
+ghost use Rattle.moo_syntax_grammar.specs.Texts.{IsProgramOf, IsParsed};
 ghost use Rattle.moo_syntax.specs.declared.syntax_fault.SyntaxFaultKind.{SyntaxFaultKind};
 ghost use Rattle.moo_syntax.specs.declared.syntax_fault.SyntaxFaultKind.TheVariants.{TooDeep, Memory};
 ghost use Rattle.moo_syntax.specs.Programs.{Blames, IsTooDeep, HasLongLine, text_length};

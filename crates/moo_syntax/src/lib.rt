@@ -2,14 +2,31 @@
 #![tactic(auto)]
 
 mod brackets;
+mod cursor;
+mod fault;
 mod jump;
 pub mod laws;
+mod levels;
+mod make;
+mod members;
+mod node;
+mod place;
+mod postfix;
+mod primary;
 mod reader;
+mod rules;
 mod statement;
 mod syntax_fault;
 
-pub use moo_grammar::{Names, Program};
-pub use moo_program::operator::{BinaryOperator, LogicOperator, UnaryOperator};
-pub use moo_program::{Arm, Codes, Expr, Handler, Item, Literal, Stmt};
+pub use cursor::Cursor;
+pub use fault::Fault;
+pub use levels::expression;
+pub use make::below;
+pub use moo_syntax_ast::operator::{BinaryOperator, LogicOperator, UnaryOperator};
+pub use moo_syntax_ast::{Arm, Codes, Expr, Handler, Item, Literal, Stmt};
+pub use moo_syntax_grammar::{Names, Program};
+pub use node::{Caught, Node};
+pub use place::Place;
+pub use primary::codes;
 pub use reader::{parse, parse_with};
 pub use syntax_fault::{SyntaxFault, SyntaxFaultKind};

@@ -1,20 +1,20 @@
 //! The parser's entry points.
 ghost use Rattle.std.specs.Prelude.{◌≡◌, ◌≤◌, ◌+◌, length, drop, ℕ, List, IfOk, IfErr, MatchOption};
-ghost use Rattle.moo_token.specs.Lexing.{IsReading};
-ghost use Rattle.moo_grammar.specs.Tokens.{words};
-ghost use Rattle.moo_program.specs.View.{block};
-ghost use Rattle.moo_grammar.specs.Texts.{IsParsed};
+ghost use Rattle.moo_syntax_token.specs.Lexing.{IsReading};
+ghost use Rattle.moo_syntax_grammar.specs.Tokens.{words};
+ghost use Rattle.moo_syntax_ast.specs.View.{block};
+ghost use Rattle.moo_syntax_grammar.specs.Texts.{IsParsed};
 ghost use Rattle.moo_syntax.specs.Programs.{Blames, line_of};
-ghost use Rattle.moo_expression.specs.Places.{IsCalled};
+ghost use Rattle.moo_syntax.specs.Places.{IsCalled};
 ghost use Rattle.moo_syntax.specs.Stops.{StopsBy, IsStuckAt, CallsUnknown, IsWhole};
 
 use crate::brackets::bracket_too_many;
 use crate::statement::statements;
 use crate::syntax_fault::{SyntaxFault, SyntaxFaultKind};
-use moo_expression::{Cursor, Fault};
-use moo_grammar::{Names, Program};
-use moo_program::{MOST_NODES, Stmt, fit_lines};
-use moo_token::{Known, Sign, Spot, tokens_with};
+use crate::{Cursor, Fault};
+use moo_syntax_ast::{MOST_NODES, Stmt, fit_lines};
+use moo_syntax_grammar::{Names, Program};
+use moo_syntax_token::{Known, Sign, Spot, tokens_with};
 use moo_value::MooStr;
 use std::alloc::Global;
 

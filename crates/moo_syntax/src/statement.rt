@@ -1,18 +1,18 @@
 //! The parser of statements, by recursive descent. `loops` holds the names of the loops around a statement, the
 //! innermost last; each function leaves it unchanged.
 ghost use Rattle.std.specs.Prelude.{◌≡◌, ◌<◌, ◌+◌, ◌∷◌, true, false, reverse, IfOk, IfErr, OnOk};
-ghost use Rattle.moo_program.specs.View.{root, block, arms_of, handlers_of, statement as tree_of};
-ghost use Rattle.moo_grammar.specs.Grammar as grammar;
-ghost use Rattle.moo_grammar.specs.Grammar.{stmt};
-ghost use Rattle.moo_grammar.specs.Predictive as choices;
-ghost use Rattle.moo_expression.specs.Outcome.{Moves, IsRead, IsReadBy, HasFailed, HasFailedBy};
+ghost use Rattle.moo_syntax_ast.specs.View.{root, block, arms_of, handlers_of, statement as tree_of};
+ghost use Rattle.moo_syntax_grammar.specs.Grammar as grammar;
+ghost use Rattle.moo_syntax_grammar.specs.Grammar.{stmt};
+ghost use Rattle.moo_syntax_grammar.specs.Predictive as choices;
+ghost use Rattle.moo_syntax.specs.Outcome.{Moves, IsRead, IsReadBy, HasFailed, HasFailedBy};
 ghost use Rattle.moo_syntax.specs.Statements.{IsHandler, behind_range, performing};
 
 use crate::jump::{jump, name_copy};
-use moo_expression::{Cursor, Fault, Node, Place, below, codes, expression};
-use moo_grammar::Names;
-use moo_program::{Arm, Handler, Name, Stmt};
-use moo_token::{Keyword, Sign};
+use crate::{Cursor, Fault, Node, Place, below, codes, expression};
+use moo_syntax_ast::{Arm, Handler, Name, Stmt};
+use moo_syntax_grammar::Names;
+use moo_syntax_token::{Keyword, Sign};
 use moo_value::MooStr;
 use std::alloc::Global;
 

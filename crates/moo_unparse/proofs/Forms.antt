@@ -5,32 +5,32 @@ use Rattle.std.specs.Int.{int_wrapping_neg, w32}
 use Rattle.std.proofs.Math.IntN.{neg_ℤ}
 use Rattle.std.proofs.lemmas.Int.{wrapping_neg_is, int_wrap_fits, SFits-int_wrap}
 use Rattle.std.proofs.lemmas.Bool.{cases_lt}
-use Rattle.moo_token.specs.declared.sign.Sign.{Sign}
-use Rattle.moo_token.specs.declared.sign.Sign.TheVariants as sign
-use Rattle.moo_token.specs.declared.keyword.Keyword.{Keyword}
-use Rattle.moo_token.specs.declared.keyword.Keyword.TheVariants as keyword
-use Rattle.moo_token.specs.declared.token.Token.{Token}
-use Rattle.moo_token.specs.declared.token.Token.TheVariants as token
-use Rattle.moo_program.specs.declared.operator.BinaryOperator.TheVariants as binary
-use Rattle.moo_program.specs.declared.operator.LogicOperator.TheVariants as logic
-use Rattle.moo_program.specs.declared.tree.Literal.{Literal}
-use Rattle.moo_program.specs.declared.tree.Literal.TheVariants as literal
-use Rattle.moo_program.specs.Tree
-use Rattle.moo_program.specs.Tree.{Expr, Items, Codes, Stmt, Arms, Handlers, Block}
-use Rattle.moo_program.specs.Listing.{is_compound, is_compound_base, constant_name, is_system_object}
-use Rattle.moo_program.specs.Target.{is_target}
+use Rattle.moo_syntax_token.specs.declared.sign.Sign.{Sign}
+use Rattle.moo_syntax_token.specs.declared.sign.Sign.TheVariants as sign
+use Rattle.moo_syntax_token.specs.declared.keyword.Keyword.{Keyword}
+use Rattle.moo_syntax_token.specs.declared.keyword.Keyword.TheVariants as keyword
+use Rattle.moo_syntax_token.specs.declared.token.Token.{Token}
+use Rattle.moo_syntax_token.specs.declared.token.Token.TheVariants as token
+use Rattle.moo_syntax_ast.specs.declared.operator.BinaryOperator.TheVariants as binary
+use Rattle.moo_syntax_ast.specs.declared.operator.LogicOperator.TheVariants as logic
+use Rattle.moo_syntax_ast.specs.declared.tree.Literal.{Literal}
+use Rattle.moo_syntax_ast.specs.declared.tree.Literal.TheVariants as literal
+use Rattle.moo_syntax_ast.specs.Tree
+use Rattle.moo_syntax_ast.specs.Tree.{Expr, Items, Codes, Stmt, Arms, Handlers, Block}
+use Rattle.moo_syntax_ast.specs.Listing.{is_compound, is_compound_base, constant_name, is_system_object}
+use Rattle.moo_syntax_ast.specs.Target.{is_target}
 use Rattle.moo_unparse.specs.declared.form.Parentheses.{Parentheses}
 use Rattle.moo_unparse.specs.declared.form.Part.{Part}
 use Rattle.moo_unparse.specs.declared.form.Part.TheVariants as part
 use Rattle.moo_unparse.specs.Parts.{rank, part_of, operator_part, left_of, right_of, needs}
-use Rattle.moo_grammar.specs.declared.level.Level.{Level}
-use Rattle.moo_grammar.specs.declared.level.Level.TheVariants as level
-use Rattle.moo_grammar.specs.declared.level.Operator.{Operator}
-use Rattle.moo_grammar.specs.declared.level.Operator.TheVariants as operator
-use Rattle.moo_grammar.specs.Tokens.{literal_at, operator_at, sign_operator}
-use Rattle.moo_grammar.specs.Rules.{Rules, may_assign}
-use Rattle.moo_grammar.specs.Grammar
-use Rattle.moo_grammar.specs.Grammar.{Kind, Of, sort, Derives, has_optional, text, system_object}
+use Rattle.moo_syntax_grammar.specs.declared.level.Level.{Level}
+use Rattle.moo_syntax_grammar.specs.declared.level.Level.TheVariants as level
+use Rattle.moo_syntax_grammar.specs.declared.level.Operator.{Operator}
+use Rattle.moo_syntax_grammar.specs.declared.level.Operator.TheVariants as operator
+use Rattle.moo_syntax_grammar.specs.Tokens.{literal_at, operator_at, sign_operator}
+use Rattle.moo_syntax_grammar.specs.Rules.{Rules, may_assign}
+use Rattle.moo_syntax_grammar.specs.Grammar
+use Rattle.moo_syntax_grammar.specs.Grammar.{Kind, Of, sort, Derives, has_optional, text, system_object}
 use Rattle.moo_unparse.proofs.Names.{constant_is, system_is}
 use Rattle.moo_unparse.proofs.Phrases.{IsPart, chain_then, looser, bare_rank, rank_most, level_part, left_chain, right_operand, at_level}
 use Rattle.moo_unparse.proofs.Scatters.{ends_in_scatter, some_scatter, scatter_in_codes, If}

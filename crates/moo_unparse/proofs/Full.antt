@@ -1,8 +1,8 @@
 -- The full listing is the one in the form of all parentheses and no blanks.
 use Rattle.std.proofs.Common.{[], ◌≡◌, refl, false}
-use Rattle.moo_program.specs.Tree
-use Rattle.moo_program.specs.Tree.{Expr, Items, Codes, Stmt, Arms, Handlers, Block}
-use Rattle.moo_program.specs.Listing as full
+use Rattle.moo_syntax_ast.specs.Tree
+use Rattle.moo_syntax_ast.specs.Tree.{Expr, Items, Codes, Stmt, Arms, Handlers, Block}
+use Rattle.moo_syntax_ast.specs.Listing as full
 use Rattle.moo_unparse.specs.declared.form.Parentheses.TheVariants.{All}
 use Rattle.moo_unparse.specs.declared.form.Form.{Form}
 use Rattle.moo_unparse.specs.Listings.{listed, listed_items, listed_codes, head, below, arm_lines, handlers_lines, lines, listing_in}

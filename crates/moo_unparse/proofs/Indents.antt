@@ -1,8 +1,8 @@
 -- Each listing with indents has the lines of the one without.
 use Rattle.std.proofs.Common.{ℕ, zero, suc, List, [], ◌∷◌, ◌++◌, ◌≡◌, refl, ap, subst, true, false, codes}
-use Rattle.moo_program.specs.Tree
-use Rattle.moo_program.specs.Tree.{Stmt, Arms, Handlers, Block}
-use Rattle.moo_program.specs.Listing as full
+use Rattle.moo_syntax_ast.specs.Tree
+use Rattle.moo_syntax_ast.specs.Tree.{Stmt, Arms, Handlers, Block}
+use Rattle.moo_syntax_ast.specs.Listing as full
 use Rattle.moo_unparse.specs.declared.form.Parentheses.{Parentheses}
 use Rattle.moo_unparse.specs.declared.form.Parentheses.TheVariants.{All, Needed}
 use Rattle.moo_unparse.specs.declared.form.Form.{Form}

@@ -1,8 +1,8 @@
 -- The texts of items, one after another.
 use Rattle.std.proofs.Common.{ℕ, List, ◌∷◌, ◌++◌, ◌≡◌, refl, codes}
-use Rattle.moo_program.specs.declared.tree.Item.{Item, Element', Splice', Optional, Defaulted'}
-use Rattle.moo_program.specs.View.{items_of}
-use Rattle.moo_program.specs.Listing.{further}
+use Rattle.moo_syntax_ast.specs.declared.tree.Item.{Item, Element', Splice', Optional, Defaulted'}
+use Rattle.moo_syntax_ast.specs.View.{items_of}
+use Rattle.moo_syntax_ast.specs.Listing.{further}
 use Rattle.moo_unparse.specs.declared.form.Parentheses.{Parentheses}
 use Rattle.moo_unparse.specs.Listings.{listed_items}
 use Rattle.moo_unparse.specs.Items.{listed_item}

@@ -1,12 +1,12 @@
 -- A listing of the program of a text is a text of that program, within the limits.
 use Rattle.std.proofs.Common.{ℕ, List, [], ◌≡◌, refl, subst, false, arith}
-use Rattle.moo_program.specs.Tree.{Block}
-use Rattle.moo_program.specs.Limits.{IsWithinLimits}
-use Rattle.moo_program.specs.Listing.{listing}
-use Rattle.moo_grammar.specs.declared.names.Names.{Names}
-use Rattle.moo_grammar.specs.Rules.{strict}
-use Rattle.moo_grammar.specs.Texts.{IsProgramOf, IsParsed}
-use Rattle.moo_grammar.proofs.Unique.{one_program_of_text}
+use Rattle.moo_syntax_ast.specs.Tree.{Block}
+use Rattle.moo_syntax_ast.specs.Limits.{IsWithinLimits}
+use Rattle.moo_syntax_ast.specs.Listing.{listing}
+use Rattle.moo_syntax_grammar.specs.declared.names.Names.{Names}
+use Rattle.moo_syntax_grammar.specs.Rules.{strict}
+use Rattle.moo_syntax_grammar.specs.Texts.{IsProgramOf, IsParsed}
+use Rattle.moo_syntax_grammar.proofs.Unique.{one_program_of_text}
 use Rattle.moo_unparse.specs.declared.form.Parentheses.TheVariants.{All}
 use Rattle.moo_unparse.specs.declared.form.Form.{Form}
 use Rattle.moo_unparse.specs.Listings.{listing_in}

@@ -1,14 +1,14 @@
 -- Arms and handlers line by line.
 use Rattle.std.proofs.Common.{ℕ, ◌+◌, ◌<◌, List, [], ◌∷◌, ◌++◌, ◌≡◌, refl, ap, sym, ◌∙◌, length, get_or, drop, append_assoc, codes, Box, Vec, Global}
 use Rattle.std.proofs.lemmas.List.{drop_more}
-use Rattle.moo_program.specs.declared.tree.Arm.{Arm, ElseIf', Else'}
-use Rattle.moo_program.specs.declared.tree.Arm.TheBlock as hidden
-use Rattle.moo_program.specs.declared.tree.Handler.{Handler, Except', ExceptAs'}
-use Rattle.moo_program.specs.declared.tree.Stmt as code
-use Rattle.moo_program.specs.declared.tree.Expr as expr
-use Rattle.moo_program.specs.Tree.{Handlers}
-use Rattle.moo_program.specs.View.{root, block, arms_of, with_arm, handlers_of, with_handler}
-use Rattle.moo_program.proofs.Rows.{row_block}
+use Rattle.moo_syntax_ast.specs.declared.tree.Arm.{Arm, ElseIf', Else'}
+use Rattle.moo_syntax_ast.specs.declared.tree.Arm.TheBlock as hidden
+use Rattle.moo_syntax_ast.specs.declared.tree.Handler.{Handler, Except', ExceptAs'}
+use Rattle.moo_syntax_ast.specs.declared.tree.Stmt as code
+use Rattle.moo_syntax_ast.specs.declared.tree.Expr as expr
+use Rattle.moo_syntax_ast.specs.Tree.{Handlers}
+use Rattle.moo_syntax_ast.specs.View.{root, block, arms_of, with_arm, handlers_of, with_handler}
+use Rattle.moo_syntax_ast.proofs.Rows.{row_block}
 use Rattle.moo_unparse.specs.declared.form.Form.{Form}
 use Rattle.moo_unparse.specs.Listings.{elseif_head, deeper, lines, arm_lines, handlers_lines}
 use Rattle.moo_unparse.specs.Lines.{handler_lines}

@@ -1,22 +1,22 @@
 -- The tokens of a listing, written in front of others.
 use Rattle.std.specs.Prelude.{ℕ, ℤ, pos, negsuc, List, ◌∷◌, ◌≡◌, Bool, true, false, Option, Some, None, FitsSigned}
 use Rattle.std.specs.Int.{int_wrapping_neg, w32}
-use Rattle.moo_token.specs.declared.sign.Sign.{Sign}
-use Rattle.moo_token.specs.declared.sign.Sign.TheVariants as sign
-use Rattle.moo_token.specs.declared.keyword.Keyword.TheVariants as keyword
-use Rattle.moo_token.specs.declared.token.Token.{Token}
-use Rattle.moo_token.specs.declared.token.Token.TheVariants as token
-use Rattle.moo_token.specs.Spelling.{is_name}
-use Rattle.moo_program.specs.declared.operator.UnaryOperator.{UnaryOperator}
-use Rattle.moo_program.specs.declared.operator.UnaryOperator.TheVariants.{Not, Negate}
-use Rattle.moo_program.specs.declared.operator.BinaryOperator.{BinaryOperator}
-use Rattle.moo_program.specs.declared.operator.BinaryOperator.TheVariants.{Add, Subtract, Multiply, Divide, Remainder, Power, Equal, NotEqual, Less, LessOrEqual, Greater, GreaterOrEqual, In}
-use Rattle.moo_program.specs.declared.operator.LogicOperator.{LogicOperator}
-use Rattle.moo_program.specs.declared.operator.LogicOperator.TheVariants.{And, Or}
-use Rattle.moo_program.specs.declared.tree.Literal.{Literal}
-use Rattle.moo_program.specs.declared.tree.Literal.TheVariants.{Integer, Object, Error, Str}
-use Rattle.moo_program.specs.Tree.{Expr, literal, variable, length_mark, unary, binary, logic, conditional, index, range, list, property, verb_call, call, assign, catch, catch_or, Items, no_items, element, splice, optional, defaulted, Codes, any_error, listed_errors, Stmt, return_nothing, returns, performs, branches, for_list, for_range, while_loop, breaks, continues, try_except, try_finally, Arms, no_else, otherwise, elseif, Handlers, no_handler, handler, Block, no_statement, then}
-use Rattle.moo_program.specs.Listing.{is_compound, is_compound_base, constant_name, is_system_object}
+use Rattle.moo_syntax_token.specs.declared.sign.Sign.{Sign}
+use Rattle.moo_syntax_token.specs.declared.sign.Sign.TheVariants as sign
+use Rattle.moo_syntax_token.specs.declared.keyword.Keyword.TheVariants as keyword
+use Rattle.moo_syntax_token.specs.declared.token.Token.{Token}
+use Rattle.moo_syntax_token.specs.declared.token.Token.TheVariants as token
+use Rattle.moo_syntax_token.specs.Spelling.{is_name}
+use Rattle.moo_syntax_ast.specs.declared.operator.UnaryOperator.{UnaryOperator}
+use Rattle.moo_syntax_ast.specs.declared.operator.UnaryOperator.TheVariants.{Not, Negate}
+use Rattle.moo_syntax_ast.specs.declared.operator.BinaryOperator.{BinaryOperator}
+use Rattle.moo_syntax_ast.specs.declared.operator.BinaryOperator.TheVariants.{Add, Subtract, Multiply, Divide, Remainder, Power, Equal, NotEqual, Less, LessOrEqual, Greater, GreaterOrEqual, In}
+use Rattle.moo_syntax_ast.specs.declared.operator.LogicOperator.{LogicOperator}
+use Rattle.moo_syntax_ast.specs.declared.operator.LogicOperator.TheVariants.{And, Or}
+use Rattle.moo_syntax_ast.specs.declared.tree.Literal.{Literal}
+use Rattle.moo_syntax_ast.specs.declared.tree.Literal.TheVariants.{Integer, Object, Error, Str}
+use Rattle.moo_syntax_ast.specs.Tree.{Expr, literal, variable, length_mark, unary, binary, logic, conditional, index, range, list, property, verb_call, call, assign, catch, catch_or, Items, no_items, element, splice, optional, defaulted, Codes, any_error, listed_errors, Stmt, return_nothing, returns, performs, branches, for_list, for_range, while_loop, breaks, continues, try_except, try_finally, Arms, no_else, otherwise, elseif, Handlers, no_handler, handler, Block, no_statement, then}
+use Rattle.moo_syntax_ast.specs.Listing.{is_compound, is_compound_base, constant_name, is_system_object}
 use Rattle.moo_unparse.specs.declared.form.Parentheses.{Parentheses}
 use Rattle.moo_unparse.specs.declared.form.Part.TheVariants as part
 use Rattle.moo_unparse.specs.Parts.{operator_part, left_of, right_of, needs}

@@ -1,10 +1,10 @@
 -- Names that are written out.
 use Rattle.std.proofs.Common.{ℕ, zero, pos, List, ◌≡◌, refl, ap, subst, Bool, true, false, Some}
-use Rattle.moo_token.specs.Spelling.{is_name}
-use Rattle.moo_program.specs.declared.tree.Literal.TheVariants as literal
-use Rattle.moo_program.specs.Tree
-use Rattle.moo_program.specs.Tree.{Expr}
-use Rattle.moo_program.specs.Listing.{some_if, constant_name, is_system_object}
+use Rattle.moo_syntax_token.specs.Spelling.{is_name}
+use Rattle.moo_syntax_ast.specs.declared.tree.Literal.TheVariants as literal
+use Rattle.moo_syntax_ast.specs.Tree
+use Rattle.moo_syntax_ast.specs.Tree.{Expr}
+use Rattle.moo_syntax_ast.specs.Listing.{some_if, constant_name, is_system_object}
 
 some_if_is : (c : Bool) (s w : List ℕ) → some_if c s ≡ Some w → (c ≡ true) × (s ≡ w)
 some_if_is true s w h = (refl, cc)

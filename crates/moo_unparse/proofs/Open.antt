@@ -1,22 +1,22 @@
 -- How many brackets are open in a listing: no more than there are nodes on a path.
 use Rattle.std.proofs.Common.{ℕ, ◌+◌, ◌≤◌, List, [], ◌∷◌, ◌≡◌, refl, Bool, true, false, Option, Some, None, pos, negsuc, arith}
-use Rattle.moo_token.specs.declared.sign.Sign.{Sign}
-use Rattle.moo_token.specs.declared.sign.Sign.TheVariants as sign
-use Rattle.moo_token.specs.declared.token.Token.{Token}
-use Rattle.moo_token.specs.declared.token.Token.TheVariants as token
-use Rattle.moo_program.specs.declared.operator.UnaryOperator.{UnaryOperator}
-use Rattle.moo_program.specs.declared.operator.UnaryOperator.TheVariants.{Not, Negate}
-use Rattle.moo_program.specs.declared.operator.BinaryOperator.{BinaryOperator}
-use Rattle.moo_program.specs.declared.operator.BinaryOperator.TheVariants.{Add, Subtract, Multiply, Divide, Remainder, Power, Equal, NotEqual, Less, LessOrEqual, Greater, GreaterOrEqual, In}
-use Rattle.moo_program.specs.declared.operator.LogicOperator.{LogicOperator}
-use Rattle.moo_program.specs.declared.operator.LogicOperator.TheVariants.{And, Or}
-use Rattle.moo_program.specs.declared.tree.Literal.{Literal}
-use Rattle.moo_program.specs.declared.tree.Literal.TheVariants as literal
-use Rattle.moo_program.specs.Tree
-use Rattle.moo_program.specs.Tree.{Expr, Items, Codes, Stmt, Arms, Handlers, Block}
-use Rattle.moo_program.specs.Listing.{is_compound, is_compound_base, constant_name, is_system_object}
-use Rattle.moo_program.specs.Limits.{height, items_height, codes_height, statement_height, arms_height, handlers_height, block_height}
-use Rattle.moo_grammar.specs.Brackets.{open_behind, most_open_behind, most_open}
+use Rattle.moo_syntax_token.specs.declared.sign.Sign.{Sign}
+use Rattle.moo_syntax_token.specs.declared.sign.Sign.TheVariants as sign
+use Rattle.moo_syntax_token.specs.declared.token.Token.{Token}
+use Rattle.moo_syntax_token.specs.declared.token.Token.TheVariants as token
+use Rattle.moo_syntax_ast.specs.declared.operator.UnaryOperator.{UnaryOperator}
+use Rattle.moo_syntax_ast.specs.declared.operator.UnaryOperator.TheVariants.{Not, Negate}
+use Rattle.moo_syntax_ast.specs.declared.operator.BinaryOperator.{BinaryOperator}
+use Rattle.moo_syntax_ast.specs.declared.operator.BinaryOperator.TheVariants.{Add, Subtract, Multiply, Divide, Remainder, Power, Equal, NotEqual, Less, LessOrEqual, Greater, GreaterOrEqual, In}
+use Rattle.moo_syntax_ast.specs.declared.operator.LogicOperator.{LogicOperator}
+use Rattle.moo_syntax_ast.specs.declared.operator.LogicOperator.TheVariants.{And, Or}
+use Rattle.moo_syntax_ast.specs.declared.tree.Literal.{Literal}
+use Rattle.moo_syntax_ast.specs.declared.tree.Literal.TheVariants as literal
+use Rattle.moo_syntax_ast.specs.Tree
+use Rattle.moo_syntax_ast.specs.Tree.{Expr, Items, Codes, Stmt, Arms, Handlers, Block}
+use Rattle.moo_syntax_ast.specs.Listing.{is_compound, is_compound_base, constant_name, is_system_object}
+use Rattle.moo_syntax_ast.specs.Limits.{height, items_height, codes_height, statement_height, arms_height, handlers_height, block_height}
+use Rattle.moo_syntax_grammar.specs.Brackets.{open_behind, most_open_behind, most_open}
 use Rattle.moo_unparse.specs.declared.form.Parentheses.{Parentheses}
 use Rattle.moo_unparse.specs.declared.form.Part.TheVariants as part
 use Rattle.moo_unparse.specs.Parts.{operator_part, left_of, right_of, needs}

@@ -1,15 +1,15 @@
 -- The parts of the grammar of expressions, each of which is one of the looser ones too.
 use Rattle.std.proofs.Common.{ℕ, zero, suc, ◌+◌, ◌-◌, ◌≤◌, List, ◌≡◌, subst, Bool, false, arith}
 use Rattle.std.proofs.lemmas.Bool.Decides.{nat_tests}
-use Rattle.moo_token.specs.declared.token.Token.{Token}
-use Rattle.moo_program.specs.Tree
-use Rattle.moo_program.specs.Tree.{Expr}
-use Rattle.moo_program.specs.Listing.{is_compound}
-use Rattle.moo_grammar.specs.declared.level.Level.{Level}
-use Rattle.moo_grammar.specs.declared.level.Level.TheVariants as level
-use Rattle.moo_grammar.specs.Rules.{Rules}
-use Rattle.moo_grammar.specs.Grammar
-use Rattle.moo_grammar.specs.Grammar.{Derives}
+use Rattle.moo_syntax_token.specs.declared.token.Token.{Token}
+use Rattle.moo_syntax_ast.specs.Tree
+use Rattle.moo_syntax_ast.specs.Tree.{Expr}
+use Rattle.moo_syntax_ast.specs.Listing.{is_compound}
+use Rattle.moo_syntax_grammar.specs.declared.level.Level.{Level}
+use Rattle.moo_syntax_grammar.specs.declared.level.Level.TheVariants as level
+use Rattle.moo_syntax_grammar.specs.Rules.{Rules}
+use Rattle.moo_syntax_grammar.specs.Grammar
+use Rattle.moo_syntax_grammar.specs.Grammar.{Derives}
 use Rattle.moo_unparse.specs.declared.form.Parentheses.{Parentheses}
 use Rattle.moo_unparse.specs.declared.form.Parentheses.TheVariants.{All, Needed}
 use Rattle.moo_unparse.specs.declared.form.Part.{Part}

@@ -9,37 +9,37 @@ use Rattle.std.proofs.lemmas.Bool.{cases_lt}
 use Rattle.std.proofs.lemmas.List.{take_at, drop_at}
 use Rattle.std.proofs.lemmas.Bool.Decides.{nat_tests}
 use Rattle.moo_value.specs.Text.{literal as text_of}
-use Rattle.moo_token.specs.declared.sign.Sign.{Sign}
-use Rattle.moo_token.specs.declared.sign.Sign.TheVariants as sign
-use Rattle.moo_token.specs.declared.keyword.Keyword.TheVariants as keyword
-use Rattle.moo_token.specs.declared.token.Token.{Token}
-use Rattle.moo_token.specs.declared.token.Token.TheVariants as token
-use Rattle.moo_token.specs.declared.token.Spot.{Spot}
-use Rattle.moo_token.specs.Tokens.{begins_name, is_digit, continues_name, number, wrapped, begins_fraction, integer_at, token_at}
-use Rattle.moo_token.specs.Lexing.{begins_comment, Lexes, outside, complete, text_end, line_end}
-use Rattle.moo_token.specs.Lexing
-use Rattle.moo_token.specs.Spelling.{spell as spelling, HasSpelling, joins, joins_sign, begins_with, sign_text, is_word, is_name}
-use Rattle.moo_token.proofs.SpelledWords.{error_is_word, name_is_word, both, front_length}
-use Rattle.moo_token.proofs.SpelledNumbers.{decimal_is}
-use Rattle.moo_token.proofs.Spellings.{lexes_spelling, lexes_blank}
+use Rattle.moo_syntax_token.specs.declared.sign.Sign.{Sign}
+use Rattle.moo_syntax_token.specs.declared.sign.Sign.TheVariants as sign
+use Rattle.moo_syntax_token.specs.declared.keyword.Keyword.TheVariants as keyword
+use Rattle.moo_syntax_token.specs.declared.token.Token.{Token}
+use Rattle.moo_syntax_token.specs.declared.token.Token.TheVariants as token
+use Rattle.moo_syntax_token.specs.declared.token.Spot.{Spot}
+use Rattle.moo_syntax_token.specs.Tokens.{begins_name, is_digit, continues_name, number, wrapped, begins_fraction, integer_at, token_at}
+use Rattle.moo_syntax_token.specs.Lexing.{begins_comment, Lexes, outside, complete, text_end, line_end}
+use Rattle.moo_syntax_token.specs.Lexing
+use Rattle.moo_syntax_token.specs.Spelling.{spell as spelling, HasSpelling, joins, joins_sign, begins_with, sign_text, is_word, is_name}
+use Rattle.moo_syntax_token.proofs.SpelledWords.{error_is_word, name_is_word, both, front_length}
+use Rattle.moo_syntax_token.proofs.SpelledNumbers.{decimal_is}
+use Rattle.moo_syntax_token.proofs.Spellings.{lexes_spelling, lexes_blank}
 use Rattle.moo_value.specs.Errors.{error_name}
-use Rattle.moo_program.specs.declared.operator.UnaryOperator.TheVariants as unary
-use Rattle.moo_program.specs.declared.operator.BinaryOperator.{BinaryOperator}
-use Rattle.moo_program.specs.declared.operator.BinaryOperator.TheVariants as binary
-use Rattle.moo_program.specs.declared.operator.LogicOperator.{LogicOperator}
-use Rattle.moo_program.specs.declared.operator.LogicOperator.TheVariants as logic
-use Rattle.moo_program.specs.declared.tree.Literal.{Literal}
-use Rattle.moo_program.specs.declared.tree.Literal.TheVariants as literal
-use Rattle.moo_program.specs.Tree
-use Rattle.moo_program.specs.Tree.{Expr, Items, Codes, Stmt, Block, literal_value}
-use Rattle.moo_program.specs.Listing
-use Rattle.moo_program.specs.Listing.{is_compound, is_compound_base, in_parentheses, constant_name, is_system_object, binary_sign, logic_sign}
+use Rattle.moo_syntax_ast.specs.declared.operator.UnaryOperator.TheVariants as unary
+use Rattle.moo_syntax_ast.specs.declared.operator.BinaryOperator.{BinaryOperator}
+use Rattle.moo_syntax_ast.specs.declared.operator.BinaryOperator.TheVariants as binary
+use Rattle.moo_syntax_ast.specs.declared.operator.LogicOperator.{LogicOperator}
+use Rattle.moo_syntax_ast.specs.declared.operator.LogicOperator.TheVariants as logic
+use Rattle.moo_syntax_ast.specs.declared.tree.Literal.{Literal}
+use Rattle.moo_syntax_ast.specs.declared.tree.Literal.TheVariants as literal
+use Rattle.moo_syntax_ast.specs.Tree
+use Rattle.moo_syntax_ast.specs.Tree.{Expr, Items, Codes, Stmt, Block, literal_value}
+use Rattle.moo_syntax_ast.specs.Listing
+use Rattle.moo_syntax_ast.specs.Listing.{is_compound, is_compound_base, in_parentheses, constant_name, is_system_object, binary_sign, logic_sign}
 use Rattle.moo_unparse.specs.declared.form.Parentheses.{Parentheses}
 use Rattle.moo_unparse.specs.declared.form.Parentheses.TheVariants.{All, Needed}
 use Rattle.moo_unparse.specs.declared.form.Part.TheVariants as part
 use Rattle.moo_unparse.specs.Parts.{rank, operator_part, left_of, right_of, needs}
 use Rattle.moo_unparse.specs.Listings.{listed, listed_items, listed_codes}
-use Rattle.moo_grammar.specs.Tokens.{words}
+use Rattle.moo_syntax_grammar.specs.Tokens.{words}
 use Rattle.moo_unparse.proofs.Names.{constant_is}
 use Rattle.moo_unparse.proofs.Listed.{binary_token, logic_mark, literal_tokens, parens, further, spell, spell_items, spell_codes, selected, IsSoundLiteral, IsSoundLabel, spell_label, IsSound, AreSound, AreSoundCodes}
 

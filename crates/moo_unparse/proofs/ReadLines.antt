@@ -1,16 +1,16 @@
 -- A listing of a program is read as its tokens, line by line.
 use Rattle.std.proofs.Common.{ℕ, suc, List, [], ◌∷◌, ◌++◌, ◌≡◌, refl, sym, Bool, Option, Some, None, append_assoc, subst, codes, true, false}
 use Rattle.std.proofs.lemmas.List.{append-nil}
-use Rattle.moo_token.specs.declared.sign.Sign.TheVariants as sign
-use Rattle.moo_token.specs.declared.keyword.Keyword.TheVariants as keyword
-use Rattle.moo_token.specs.declared.token.Token.{Token}
-use Rattle.moo_token.specs.declared.token.Token.TheVariants as token
-use Rattle.moo_token.specs.Lexing.{text_end, line_end}
-use Rattle.moo_token.specs.Tokens.{continues_name}
-use Rattle.moo_token.specs.Spelling.{begins_with, is_name}
-use Rattle.moo_program.specs.Tree
-use Rattle.moo_program.specs.Tree.{Expr, Codes, Stmt, Arms, Handlers, Block}
-use Rattle.moo_program.specs.Listing.{is_compound_base, labelled}
+use Rattle.moo_syntax_token.specs.declared.sign.Sign.TheVariants as sign
+use Rattle.moo_syntax_token.specs.declared.keyword.Keyword.TheVariants as keyword
+use Rattle.moo_syntax_token.specs.declared.token.Token.{Token}
+use Rattle.moo_syntax_token.specs.declared.token.Token.TheVariants as token
+use Rattle.moo_syntax_token.specs.Lexing.{text_end, line_end}
+use Rattle.moo_syntax_token.specs.Tokens.{continues_name}
+use Rattle.moo_syntax_token.specs.Spelling.{begins_with, is_name}
+use Rattle.moo_syntax_ast.specs.Tree
+use Rattle.moo_syntax_ast.specs.Tree.{Expr, Codes, Stmt, Arms, Handlers, Block}
+use Rattle.moo_syntax_ast.specs.Listing.{is_compound_base, labelled}
 use Rattle.moo_unparse.specs.declared.form.Parentheses.{Parentheses}
 use Rattle.moo_unparse.specs.declared.form.Form.{Form}
 use Rattle.moo_unparse.specs.Listings.{listed, head, elseif_head, except_head, step as blanks, deeper, below, arm_lines, handlers_lines, lines as listed_lines}
@@ -25,8 +25,8 @@ line : (text : List ℕ) (lines : List (List ℕ)) (ts us : List Token) → ((n 
 line text lines ts us k g n = let r = k (suc n) (g (suc n)) in record { spots = r.spots; lexes = line_end r.lexes; same = r.same }
 
 -- a keyword by itself
-word : (k : _) (lines : List (List ℕ)) (ts : List Token) (n : ℕ) → Reads n lines [] ts → Reads n lines (Rattle.moo_token.specs.Spelling.spelled_keyword k) (token.Keyword k ∷ ts)
-word k lines ts n r = subst (λ v. Reads n lines v (token.Keyword k ∷ ts)) (append-nil (Rattle.moo_token.specs.Spelling.spelled_keyword k)) (step (token.Keyword k) [] ts tt refl r)
+word : (k : _) (lines : List (List ℕ)) (ts : List Token) (n : ℕ) → Reads n lines [] ts → Reads n lines (Rattle.moo_syntax_token.specs.Spelling.spelled_keyword k) (token.Keyword k ∷ ts)
+word k lines ts n r = subst (λ v. Reads n lines v (token.Keyword k ∷ ts)) (append-nil (Rattle.moo_syntax_token.specs.Spelling.spelled_keyword k)) (step (token.Keyword k) [] ts tt refl r)
 
 -- a word ends before a label
 label_apart : (l : Option (List ℕ)) (rest : List ℕ) → begins_with continues_name rest ≡ false → begins_with continues_name (labelled l ++ rest) ≡ false

@@ -1,6 +1,6 @@
 -- A listing is refused where a line of it is.
 use Rattle.std.proofs.Common.{ℕ, List, [], ◌∷◌, ◌++◌, ◌≡◌, sym, subst}
-use Rattle.moo_program.specs.Limits.{FitsLine, AllFit}
+use Rattle.moo_syntax_ast.specs.Limits.{FitsLine, AllFit}
 use Rattle.moo_unparse.specs.declared.fault.ListFault.{ListFault}
 use Rattle.moo_unparse.specs.declared.fault.ListFault.TheVariants.{TooHeavy, Memory}
 use Rattle.moo_unparse.specs.Refused.{IsRefusedLine, IsRefusedListing}

@@ -1,20 +1,20 @@
 -- The places of names that may be left out: in braces that `=` follows.
 use Rattle.std.proofs.Common.{List, [], ◌∷◌, ◌≡◌, refl, sym, ◌∙◌, Bool, true, false, Some, ◌||◌}
-use Rattle.moo_token.specs.declared.sign.Sign.{Sign}
-use Rattle.moo_token.specs.declared.sign.Sign.TheVariants as sign
-use Rattle.moo_token.specs.declared.token.Token.{Token}
-use Rattle.moo_token.specs.declared.token.Token.TheVariants as token
-use Rattle.moo_program.specs.declared.tree.Literal.TheVariants as literal
-use Rattle.moo_program.specs.Tree
-use Rattle.moo_program.specs.Tree.{Expr, Items, Codes}
-use Rattle.moo_grammar.specs.declared.level.Level.{Level}
-use Rattle.moo_grammar.specs.declared.level.Level.TheVariants as level
-use Rattle.moo_grammar.specs.declared.level.Operator.{Operator}
-use Rattle.moo_grammar.specs.declared.level.Operator.TheVariants as operator
-use Rattle.moo_grammar.specs.Tokens.{operator_at, sign_operator, is_sign}
-use Rattle.moo_grammar.specs.Rules.{Rules}
-use Rattle.moo_grammar.specs.Grammar
-use Rattle.moo_grammar.specs.Grammar.{Kind, Of, sort, Derives, has_optional}
+use Rattle.moo_syntax_token.specs.declared.sign.Sign.{Sign}
+use Rattle.moo_syntax_token.specs.declared.sign.Sign.TheVariants as sign
+use Rattle.moo_syntax_token.specs.declared.token.Token.{Token}
+use Rattle.moo_syntax_token.specs.declared.token.Token.TheVariants as token
+use Rattle.moo_syntax_ast.specs.declared.tree.Literal.TheVariants as literal
+use Rattle.moo_syntax_ast.specs.Tree
+use Rattle.moo_syntax_ast.specs.Tree.{Expr, Items, Codes}
+use Rattle.moo_syntax_grammar.specs.declared.level.Level.{Level}
+use Rattle.moo_syntax_grammar.specs.declared.level.Level.TheVariants as level
+use Rattle.moo_syntax_grammar.specs.declared.level.Operator.{Operator}
+use Rattle.moo_syntax_grammar.specs.declared.level.Operator.TheVariants as operator
+use Rattle.moo_syntax_grammar.specs.Tokens.{operator_at, sign_operator, is_sign}
+use Rattle.moo_syntax_grammar.specs.Rules.{Rules}
+use Rattle.moo_syntax_grammar.specs.Grammar
+use Rattle.moo_syntax_grammar.specs.Grammar.{Kind, Of, sort, Derives, has_optional}
 
 -- the expression ends in braces with such a name
 abbrev pub ends_in_scatter : Expr → Bool

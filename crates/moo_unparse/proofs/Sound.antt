@@ -7,19 +7,19 @@ use Rattle.std.specs.Option.{option_map}
 use Rattle.std.proofs.lemmas.List.Elements.{recursion_from_All}
 use Rattle.moo_value.specs.declared.error_code.ErrorCode.{ErrorCode}
 use Rattle.moo_value.specs.Errors.{error_named}
-use Rattle.moo_token.specs.declared.sign.Sign.{Sign}
-use Rattle.moo_token.specs.declared.keyword.Keyword.{Keyword}
-use Rattle.moo_token.specs.declared.token.Token.{Token}
-use Rattle.moo_token.specs.declared.token.Token.TheVariants as token
-use Rattle.moo_token.specs.declared.token.Spot.{Spot}
-use Rattle.moo_token.specs.Words.{keyword_of}
-use Rattle.moo_token.specs.Signs.{sign_at}
-use Rattle.moo_token.specs.Tokens.{begins_name, is_digit, continues_name, begins_fraction, word, named, wrapped, integer_at, number_at, object_at, unquoted, token_at}
-use Rattle.moo_token.specs.Lexing
-use Rattle.moo_token.specs.Lexing.{Ending, Place, Lexes, IsTokens, complete}
-use Rattle.moo_token.specs.Spelling.{HoldsName}
-use Rattle.moo_token.proofs.Readings.{names_are_names}
-use Rattle.moo_grammar.specs.Tokens.{words}
+use Rattle.moo_syntax_token.specs.declared.sign.Sign.{Sign}
+use Rattle.moo_syntax_token.specs.declared.keyword.Keyword.{Keyword}
+use Rattle.moo_syntax_token.specs.declared.token.Token.{Token}
+use Rattle.moo_syntax_token.specs.declared.token.Token.TheVariants as token
+use Rattle.moo_syntax_token.specs.declared.token.Spot.{Spot}
+use Rattle.moo_syntax_token.specs.Words.{keyword_of}
+use Rattle.moo_syntax_token.specs.Signs.{sign_at}
+use Rattle.moo_syntax_token.specs.Tokens.{begins_name, is_digit, continues_name, begins_fraction, word, named, wrapped, integer_at, number_at, object_at, unquoted, token_at}
+use Rattle.moo_syntax_token.specs.Lexing
+use Rattle.moo_syntax_token.specs.Lexing.{Ending, Place, Lexes, IsTokens, complete}
+use Rattle.moo_syntax_token.specs.Spelling.{HoldsName}
+use Rattle.moo_syntax_token.proofs.Readings.{names_are_names}
+use Rattle.moo_syntax_grammar.specs.Tokens.{words}
 use Rattle.moo_unparse.proofs.Forms.{minus_fits}
 use Rattle.moo_unparse.proofs.Listed.{IsSoundToken}
 

@@ -12,12 +12,12 @@ use Rattle.moo_value.specs.Tree.{IsTextByte, IsText}
 use Rattle.moo_value.specs.Errors.{error_name}
 use Rattle.moo_value.specs.declared.error_code.ErrorCode.{ErrorCode}
 use Rattle.moo_value.specs.declared.error_code.ErrorCode.TheVariants as error
-use Rattle.moo_token.specs.declared.sign.Sign.{Sign}
-use Rattle.moo_token.specs.declared.sign.Sign.TheVariants as sign
-use Rattle.moo_token.specs.declared.keyword.Keyword.{Keyword}
-use Rattle.moo_token.specs.declared.keyword.Keyword.TheVariants as keyword
-use Rattle.moo_token.specs.Spelling.{sign_text}
-use Rattle.moo_token.specs.Words.{keyword_text}
+use Rattle.moo_syntax_token.specs.declared.sign.Sign.{Sign}
+use Rattle.moo_syntax_token.specs.declared.sign.Sign.TheVariants as sign
+use Rattle.moo_syntax_token.specs.declared.keyword.Keyword.{Keyword}
+use Rattle.moo_syntax_token.specs.declared.keyword.Keyword.TheVariants as keyword
+use Rattle.moo_syntax_token.specs.Spelling.{sign_text}
+use Rattle.moo_syntax_token.specs.Words.{keyword_text}
 
 abbrev pub passes : ℕ → Bool
 passes b = nat_eq b 9 || (nat_le 32 b && nat_le b 126)

@@ -4,7 +4,7 @@ use Rattle.std.specs.List.{All, flat_map, slice_index_or}
 use Rattle.std.proofs.lemmas.List.{take_more, flat_map_more}
 use Rattle.moo_value.specs.Tree.{IsText}
 use Rattle.moo_value.specs.Size.{IsString}
-use Rattle.moo_program.specs.Limits.{FitsLine, AllFit}
+use Rattle.moo_syntax_ast.specs.Limits.{FitsLine, AllFit}
 
 abbrev pub end : List ℕ → List ℕ
 end line = line ++ 10 ∷ []

@@ -1,7 +1,7 @@
 -- The lines of a handler, up to the next.
 use Rattle.std.specs.Prelude.{ℕ, List, ◌∷◌, ◌++◌, Some, None}
-use Rattle.moo_program.specs.View.{codes_of, statements}
-use Rattle.moo_program.specs.declared.tree.Handler.{Handler, Except', ExceptAs'}
+use Rattle.moo_syntax_ast.specs.View.{codes_of, statements}
+use Rattle.moo_syntax_ast.specs.declared.tree.Handler.{Handler, Except', ExceptAs'}
 use Rattle.moo_unparse.specs.declared.form.Form.{Form}
 use Rattle.moo_unparse.specs.Listings.{except_head, deeper, lines}
 

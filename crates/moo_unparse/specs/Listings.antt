@@ -1,8 +1,8 @@
 -- The listings of a program: with all parentheses or those that are needed, and with or without indents.
 use Rattle.std.specs.Prelude.{ℕ, List, [], ◌∷◌, ◌++◌, Bool, true, false, Option, codes}
 use Rattle.moo_value.specs.Text.{literal as text_of}
-use Rattle.moo_program.specs.Tree.{Expr, literal, variable, length_mark, unary, binary, logic, conditional, index, range, list, property, verb_call, call, assign, catch, catch_or, Items, no_items, element, splice, optional, defaulted, Codes, any_error, listed_errors, Stmt, return_nothing, returns, performs, branches, for_list, for_range, while_loop, breaks, continues, try_except, try_finally, Arms, no_else, otherwise, elseif, Handlers, no_handler, handler, Block, no_statement, then, literal_value}
-use Rattle.moo_program.specs.Listing.{unary_sign, binary_sign, logic_sign, is_compound, is_compound_base, in_parentheses, constant_name, is_system_object, selected, further, labelled}
+use Rattle.moo_syntax_ast.specs.Tree.{Expr, literal, variable, length_mark, unary, binary, logic, conditional, index, range, list, property, verb_call, call, assign, catch, catch_or, Items, no_items, element, splice, optional, defaulted, Codes, any_error, listed_errors, Stmt, return_nothing, returns, performs, branches, for_list, for_range, while_loop, breaks, continues, try_except, try_finally, Arms, no_else, otherwise, elseif, Handlers, no_handler, handler, Block, no_statement, then, literal_value}
+use Rattle.moo_syntax_ast.specs.Listing.{unary_sign, binary_sign, logic_sign, is_compound, is_compound_base, in_parentheses, constant_name, is_system_object, selected, further, labelled}
 use Rattle.moo_unparse.specs.declared.form.Parentheses.{Parentheses}
 use Rattle.moo_unparse.specs.declared.form.Parentheses.TheVariants.{All, Needed}
 use Rattle.moo_unparse.specs.declared.form.Form.{Form}

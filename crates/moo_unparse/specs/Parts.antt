@@ -1,9 +1,9 @@
 -- The operands that are in parentheses.
 use Rattle.std.specs.Prelude.{ℕ, Bool, nat_lt}
-use Rattle.moo_program.specs.declared.operator.BinaryOperator.{BinaryOperator}
-use Rattle.moo_program.specs.declared.operator.BinaryOperator.TheVariants as operator
-use Rattle.moo_program.specs.Tree.{Expr, unary, binary, logic, conditional, assign}
-use Rattle.moo_program.specs.Listing.{is_compound}
+use Rattle.moo_syntax_ast.specs.declared.operator.BinaryOperator.{BinaryOperator}
+use Rattle.moo_syntax_ast.specs.declared.operator.BinaryOperator.TheVariants as operator
+use Rattle.moo_syntax_ast.specs.Tree.{Expr, unary, binary, logic, conditional, assign}
+use Rattle.moo_syntax_ast.specs.Listing.{is_compound}
 use Rattle.moo_unparse.specs.declared.form.Parentheses.{Parentheses}
 use Rattle.moo_unparse.specs.declared.form.Parentheses.TheVariants.{All, Needed}
 use Rattle.moo_unparse.specs.declared.form.Part.{Part}

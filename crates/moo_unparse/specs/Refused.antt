@@ -1,6 +1,6 @@
 -- When a listing is refused.
 use Rattle.std.specs.Prelude.{ℕ, List}
-use Rattle.moo_program.specs.Limits.{FitsLine, AllFit}
+use Rattle.moo_syntax_ast.specs.Limits.{FitsLine, AllFit}
 use Rattle.moo_unparse.specs.declared.fault.ListFault.{ListFault}
 use Rattle.moo_unparse.specs.declared.fault.ListFault.TheVariants.{TooHeavy, Memory}
 

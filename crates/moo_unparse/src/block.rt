@@ -1,15 +1,15 @@
 //! The lines of statements.
 ghost use Rattle.std.specs.Prelude.{◌≡◌, ◌++◌, ◌∷◌, [], IfOk, OnOk};
-ghost use Rattle.moo_token.specs.Words.{keyword_text};
-ghost use Rattle.moo_program.specs.View.{statement as tree_of, block, arms_of, handlers_of};
+ghost use Rattle.moo_syntax_token.specs.Words.{keyword_text};
+ghost use Rattle.moo_syntax_ast.specs.View.{statement as tree_of, block, arms_of, handlers_of};
 ghost use Rattle.moo_unparse.specs.Lines.{handler_lines};
 ghost use Rattle.moo_unparse.specs.Listings.{deeper, below, lines as listed_lines, arm_lines, handlers_lines};
 
 use crate::form::Form;
 use crate::head::{elseif_line, except_as_line, except_line, head_line, keyword_line};
 use crate::line::Line;
-use moo_program::{Arm, Handler, Stmt};
-use moo_token::Keyword;
+use moo_syntax_ast::{Arm, Handler, Stmt};
+use moo_syntax_token::Keyword;
 use std::alloc::{AllocError, Global};
 
 // Returns the margin of the lines within a statement that has this margin.

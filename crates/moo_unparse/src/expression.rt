@@ -1,9 +1,9 @@
 //! The text of expressions.
 ghost use Rattle.std.specs.Prelude.{◌≡◌, ◌++◌, codes, OnOk};
-ghost use Rattle.moo_token.specs.Spelling.{sign_text};
-ghost use Rattle.moo_program.specs.Tree.{binary, logic, conditional, index, range, list, verb_call, call, assign, catch, catch_or};
-ghost use Rattle.moo_program.specs.View.{tree, items_of, codes_of};
-ghost use Rattle.moo_program.specs.Listing.{is_compound, is_compound_base, in_parentheses, constant_name, is_system_object, selected};
+ghost use Rattle.moo_syntax_token.specs.Spelling.{sign_text};
+ghost use Rattle.moo_syntax_ast.specs.Tree.{binary, logic, conditional, index, range, list, verb_call, call, assign, catch, catch_or};
+ghost use Rattle.moo_syntax_ast.specs.View.{tree, items_of, codes_of};
+ghost use Rattle.moo_syntax_ast.specs.Listing.{is_compound, is_compound_base, in_parentheses, constant_name, is_system_object, selected};
 ghost use Rattle.moo_unparse.specs.Parts.{needs, operator_part, left_of, right_of};
 ghost use Rattle.moo_unparse.specs.Listings.{listed, listed_items, listed_codes};
 ghost use Rattle.moo_unparse.specs.Items.{listed_item};
@@ -12,10 +12,10 @@ use crate::form::{Parentheses, Part, operator_part};
 use crate::line::Line;
 use crate::literal::write_literal;
 use crate::operator::{write_binary_operator, write_logic_operator, write_unary_operator};
-use moo_program::operator::{BinaryOperator, LogicOperator};
-use moo_program::shape::{constant_name, is_compound, is_compound_base, is_system_object};
-use moo_program::{Codes, Expr, Item, Name};
-use moo_token::Sign;
+use moo_syntax_ast::operator::{BinaryOperator, LogicOperator};
+use moo_syntax_ast::shape::{constant_name, is_compound, is_compound_base, is_system_object};
+use moo_syntax_ast::{Codes, Expr, Item, Name};
+use moo_syntax_token::Sign;
 use moo_value::MooStr;
 use std::alloc::AllocError;
 

@@ -1,11 +1,11 @@
 //! The forms of a listing.
 ghost use Rattle.std.specs.Prelude.{◌≡◌};
-ghost use Rattle.moo_program.specs.View.{tree};
+ghost use Rattle.moo_syntax_ast.specs.View.{tree};
 ghost use Rattle.moo_unparse.specs.Parts.{rank, operator_part, part_of, left_of, right_of, needs};
 
-use moo_program::Expr;
-use moo_program::operator::BinaryOperator;
-use moo_program::shape::is_compound;
+use moo_syntax_ast::Expr;
+use moo_syntax_ast::operator::BinaryOperator;
+use moo_syntax_ast::shape::is_compound;
 
 /// Which operands are put in parentheses.
 #[derive(Clone, Copy)]

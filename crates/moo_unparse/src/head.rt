@@ -1,15 +1,15 @@
 //! The first lines of statements, arms and handlers.
 ghost use Rattle.std.specs.Prelude.{◌≡◌, ◌++◌, codes, Some, None, IfOk, OnOk};
-ghost use Rattle.moo_token.specs.Words.{keyword_text};
-ghost use Rattle.moo_program.specs.View.{tree, codes_of, statement as tree_of};
-ghost use Rattle.moo_program.specs.Listing.{labelled};
+ghost use Rattle.moo_syntax_token.specs.Words.{keyword_text};
+ghost use Rattle.moo_syntax_ast.specs.View.{tree, codes_of, statement as tree_of};
+ghost use Rattle.moo_syntax_ast.specs.Listing.{labelled};
 ghost use Rattle.moo_unparse.specs.Listings.{listed, listed_codes, head, elseif_head, except_head};
 
 use crate::expression::{write_codes, write_expression};
 use crate::form::Parentheses;
 use crate::line::Line;
-use moo_program::{Codes, Expr, Name, Stmt};
-use moo_token::{Keyword, Sign};
+use moo_syntax_ast::{Codes, Expr, Name, Stmt};
+use moo_syntax_token::{Keyword, Sign};
 use moo_value::MooStr;
 use std::alloc::{AllocError, Global};
 

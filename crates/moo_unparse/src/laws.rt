@@ -1,11 +1,11 @@
 //! Laws of the listings of every program.
 ghost use Rattle.std.specs.Prelude.{◌≡◌, ℕ, List, Bool, true, false};
-ghost use Rattle.moo_program.specs.Tree.{Block};
-ghost use Rattle.moo_program.specs.Limits.{IsWithinLimits};
-ghost use Rattle.moo_program.specs.Listing.{listing};
-ghost use Rattle.moo_grammar.specs.declared.names.Names.{Names};
-ghost use Rattle.moo_grammar.specs.declared.names.Names.TheVariants.{Any};
-ghost use Rattle.moo_grammar.specs.Texts.{IsProgramOf, IsParsed, HasText};
+ghost use Rattle.moo_syntax_ast.specs.Tree.{Block};
+ghost use Rattle.moo_syntax_ast.specs.Limits.{IsWithinLimits};
+ghost use Rattle.moo_syntax_ast.specs.Listing.{listing};
+ghost use Rattle.moo_syntax_grammar.specs.declared.names.Names.{Names};
+ghost use Rattle.moo_syntax_grammar.specs.declared.names.Names.TheVariants.{Any};
+ghost use Rattle.moo_syntax_grammar.specs.Texts.{IsProgramOf, IsParsed, HasText};
 ghost use Rattle.moo_unparse.specs.Indents.{AreIndented};
 ghost use Rattle.moo_unparse.specs.Listings.{indented_listing, short_listing};
 

@@ -3,14 +3,14 @@ ghost use Rattle.std.specs.Prelude.{◌≡◌, ◌<◌, ◌∷◌, ◌++◌, [],
 ghost use Rattle.std.specs.Fmt.{signed_decimal};
 ghost use Rattle.moo_value.specs.Tree.{IsTextByte, IsText};
 ghost use Rattle.moo_value.specs.Text.{quoted};
-ghost use Rattle.moo_token.specs.Spelling.{sign_text};
-ghost use Rattle.moo_token.specs.Words.{keyword_text};
-ghost use Rattle.moo_program.specs.Limits.{FitsLine};
+ghost use Rattle.moo_syntax_token.specs.Spelling.{sign_text};
+ghost use Rattle.moo_syntax_token.specs.Words.{keyword_text};
+ghost use Rattle.moo_syntax_ast.specs.Limits.{FitsLine};
 ghost use Rattle.moo_unparse.specs.Refused.{IsRefusedLine};
 
 use crate::fault::ListFault;
 use itoa::Buffer;
-use moo_token::{Keyword, Sign};
+use moo_syntax_token::{Keyword, Sign};
 use moo_value::{MooStr, ValueFault, write_quoted};
 use std::alloc::{AllocError, Global};
 use std::marker::Model;

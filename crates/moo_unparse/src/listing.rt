@@ -3,8 +3,8 @@ ghost use Rattle.std.specs.Prelude.{◌≡◌, ◌++◌, ◌∷◌, [], IfOk, If
 ghost use Rattle.std.specs.List.{All, flat_map};
 ghost use Rattle.moo_value.specs.Size.{IsString};
 ghost use Rattle.moo_value.specs.Tree.{IsText};
-ghost use Rattle.moo_program.specs.View.{block};
-ghost use Rattle.moo_program.specs.Listing.{listing};
+ghost use Rattle.moo_syntax_ast.specs.View.{block};
+ghost use Rattle.moo_syntax_ast.specs.Listing.{listing};
 ghost use Rattle.moo_unparse.specs.Listings.{listing_in, indented_listing, short_listing};
 ghost use Rattle.moo_unparse.specs.Refused.{IsRefusedListing};
 
@@ -12,8 +12,8 @@ use crate::block::write_block;
 use crate::fault::{ListFault, Memory};
 use crate::form::{Form, Parentheses};
 use crate::line::Line;
-use moo_grammar::Program;
-use moo_program::Stmt;
+use moo_syntax_ast::Stmt;
+use moo_syntax_grammar::Program;
 use moo_value::MooStr;
 use std::alloc::{AllocError, Global};
 

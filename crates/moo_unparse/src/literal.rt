@@ -1,10 +1,10 @@
 //! The text of literals.
 ghost use Rattle.std.specs.Prelude.{◌≡◌, ◌++◌, OnOk};
 ghost use Rattle.moo_value.specs.Text.{literal as text_of};
-ghost use Rattle.moo_program.specs.Tree.{literal_value};
+ghost use Rattle.moo_syntax_ast.specs.Tree.{literal_value};
 
 use crate::line::Line;
-use moo_program::Literal;
+use moo_syntax_ast::Literal;
 use std::alloc::AllocError;
 
 pub(crate) fn write_literal(literal: &Literal, line: &mut Line) -> Result<(), AllocError>

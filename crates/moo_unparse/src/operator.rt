@@ -1,11 +1,11 @@
 //! The text of operators.
 ghost use Rattle.std.specs.Prelude.{◌≡◌, ◌++◌, OnOk};
-ghost use Rattle.moo_token.specs.Spelling.{sign_text};
-ghost use Rattle.moo_program.specs.Listing.{unary_sign, binary_sign, logic_sign};
+ghost use Rattle.moo_syntax_token.specs.Spelling.{sign_text};
+ghost use Rattle.moo_syntax_ast.specs.Listing.{unary_sign, binary_sign, logic_sign};
 
 use crate::line::Line;
-use moo_program::operator::{BinaryOperator, LogicOperator, UnaryOperator};
-use moo_token::{Keyword, Sign};
+use moo_syntax_ast::operator::{BinaryOperator, LogicOperator, UnaryOperator};
+use moo_syntax_token::{Keyword, Sign};
 use std::alloc::AllocError;
 
 pub(crate) fn write_unary_operator(

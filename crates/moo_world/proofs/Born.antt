@@ -4,15 +4,15 @@ use Rattle.std.specs.List.{find, filter_map, list_any}
 use Rattle.std.specs.Option.{unwrap_or, option_map, option_and_then}
 use Rattle.std.specs.Prelude.{slice_get}
 use Rattle.std.proofs.lemmas.Bool.{cases_Bool, eqb-false}
-use Rattle.moo_forest.specs.Forest.{ancestors}
-use Rattle.moo_object.specs.Names.{same_name}
-use Rattle.moo_object.specs.Cells.{Cell, Key, is_key, cell_at, cleared}
-use Rattle.moo_table.specs.World.{World, nothing, object_of, thing_of, cells_of, keys_along, IsWellFormed}
-use Rattle.moo_table.specs.Changes.{after_create}
-use Rattle.moo_table.specs.Properties.{definition_named, read, value_at, values_above}
-use Rattle.moo_table.proofs.Changing.{IsValidPlace}
-use Rattle.moo_table.proofs.Newborns.{made, way_of, object_before, object_new, off_way, same_ancestors, same_definitions, new_way, new_definitions, off_new_way}
-use Rattle.moo_table.proofs.Refitting.{fails}
+use Rattle.moo_world_tree.specs.Forest.{ancestors}
+use Rattle.moo_world_object.specs.Names.{same_name}
+use Rattle.moo_world_object.specs.Cells.{Cell, Key, is_key, cell_at, cleared}
+use Rattle.moo_world_table.specs.World.{World, nothing, object_of, thing_of, cells_of, keys_along, IsWellFormed}
+use Rattle.moo_world_table.specs.Changes.{after_create}
+use Rattle.moo_world_table.specs.Properties.{definition_named, read, value_at, values_above}
+use Rattle.moo_world_table.proofs.Changing.{IsValidPlace}
+use Rattle.moo_world_table.proofs.Newborns.{made, way_of, object_before, object_new, off_way, same_ancestors, same_definitions, new_way, new_definitions, off_new_way}
+use Rattle.moo_world_table.proofs.Refitting.{fails}
 use Rattle.moo_world.specs.Lookups.{IsCreated}
 use Rattle.moo_world.proofs.Fitted.{values_same}
 

@@ -7,18 +7,18 @@ use Rattle.std.proofs.lemmas.List.Folds.{find_at}
 use Rattle.std.proofs.lemmas.Option.{slice_get-get_or, slice_get_past}
 use Rattle.moo_value.specs.Compare.{folded}
 use Rattle.moo_value.specs.Tree.{Tree}
-use Rattle.moo_object.specs.BuiltIn.{built_in_of}
-use Rattle.moo_object.specs.declared.built_in_property.BuiltInProperty.{BuiltInProperty}
-use Rattle.moo_object.specs.Names.{same_name}
-use Rattle.moo_object.specs.Cells.{Cell, is_named, cell_named}
-use Rattle.moo_object.specs.Objects.{Object}
-use Rattle.moo_object.proofs.Names.{same_name-true}
-use Rattle.moo_table.specs.World.{World, nothing, object_of, thing_of, IsWellFormed}
-use Rattle.moo_table.specs.Changes.{changed_on, with_object, with_value_of, with_value_at}
-use Rattle.moo_table.specs.Properties.{read}
-use Rattle.moo_table.proofs.Found.{placed, placed_found, placed_value}
-use Rattle.moo_table.proofs.Single.{slot_changed}
-use Rattle.moo_table.proofs.VerbChanges.{thing_read}
+use Rattle.moo_world_object.specs.BuiltIn.{built_in_of}
+use Rattle.moo_world_object.specs.declared.built_in_property.BuiltInProperty.{BuiltInProperty}
+use Rattle.moo_world_object.specs.Names.{same_name}
+use Rattle.moo_world_object.specs.Cells.{Cell, is_named, cell_named}
+use Rattle.moo_world_object.specs.Objects.{Object}
+use Rattle.moo_world_object.proofs.Names.{same_name-true}
+use Rattle.moo_world_table.specs.World.{World, nothing, object_of, thing_of, IsWellFormed}
+use Rattle.moo_world_table.specs.Changes.{changed_on, with_object, with_value_of, with_value_at}
+use Rattle.moo_world_table.specs.Properties.{read}
+use Rattle.moo_world_table.proofs.Found.{placed, placed_found, placed_value}
+use Rattle.moo_world_table.proofs.Single.{slot_changed}
+use Rattle.moo_world_table.proofs.VerbChanges.{thing_read}
 use Rattle.moo_world.specs.Calls.{number_of}
 use Rattle.moo_world.specs.EditCalls.{world_set}
 use Rattle.moo_world.specs.Rights.{may_read_cell, may_write_cell}

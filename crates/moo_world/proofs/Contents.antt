@@ -2,14 +2,14 @@
 use Rattle.std.proofs.Common.{◌≡◌, ℕ, ◌<◌, ◌≤◌, List, [], ◌∷◌, Option, Some, None, true, false, cond, eqb, refl, sym, ◌∙◌, ap, ⊎_elim, arith, length}
 use Rattle.std.specs.List.{list_any, count_by, IsDistinct, AllByRecursion}
 use Rattle.std.proofs.lemmas.List.{get_or_past}
-use Rattle.moo_forest.proofs.Counting.{count-cons}
+use Rattle.moo_world_tree.proofs.Counting.{count-cons}
 use Rattle.std.proofs.lemmas.Map.Steps.{length-le_from_distinct_below}
 use Rattle.std.proofs.lemmas.Bool.{cases_Bool, cases_lt, eqb-true, eq-eqb, or_left, or_cases, false≢true}
 use Rattle.moo_value.specs.Size.{weight_limit}
-use Rattle.moo_forest.specs.Forest.{Links, IsForest, alone, above_of, below_of, is_within, ancestors, times_below}
-use Rattle.moo_forest.proofs.Walking.{any_counted}
-use Rattle.moo_forest.proofs.Dissolving.{above_apart}
-use Rattle.moo_table.specs.World.{World, IsWellFormed}
+use Rattle.moo_world_tree.specs.Forest.{Links, IsForest, alone, above_of, below_of, is_within, ancestors, times_below}
+use Rattle.moo_world_tree.proofs.Walking.{any_counted}
+use Rattle.moo_world_tree.proofs.Dissolving.{above_apart}
+use Rattle.moo_world_table.specs.World.{World, IsWellFormed}
 
 absent : (x : ℕ) (ys : List ℕ) → count_by (eqb x) ys ≡ 0 → AllByRecursion (λ y. eqb x y ≡ false) ys
 absent x [] none = tt

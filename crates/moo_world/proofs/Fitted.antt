@@ -7,15 +7,15 @@ use Rattle.std.proofs.lemmas.List.Elements.{All-head, All-tail}
 use Rattle.std.proofs.lemmas.Bool.{cases_Bool, eqb-true, eqb-false, eq-eqb, or_parts, or_cases, or_left, or_right, and_parts, false≢true}
 use Rattle.moo_value.specs.Compare.{folded}
 use Rattle.moo_value.specs.Tree.{Tree}
-use Rattle.moo_forest.specs.Forest.{Links, IsForest, IsWayUp, above_of, ancestors, is_within}
-use Rattle.moo_forest.proofs.Climbing.{way_up_is_ancestors, not_met}
-use Rattle.moo_object.specs.Names.{same_name}
-use Rattle.moo_object.specs.Cells.{Cell, Key, key_of, is_key, cell_at, cleared}
-use Rattle.moo_object.specs.Objects.{Object, fitted_cell, fitted_row}
-use Rattle.moo_table.specs.World.{World, nothing, object_of, thing_of, cells_of, keys_along, keys_defined_on, definitions, fitted_over, fitted_along, refitted}
-use Rattle.moo_table.specs.Properties.{definition_named, read, value_at, value_in, values_above}
-use Rattle.moo_table.proofs.FittedRows.{found_key, fitted_key, own_cells, IsOwnExact, keys_fitted}
-use Rattle.moo_table.proofs.Refitting.{IsFreeTree, cells_refitted, definer_elsewhere, key_within}
+use Rattle.moo_world_tree.specs.Forest.{Links, IsForest, IsWayUp, above_of, ancestors, is_within}
+use Rattle.moo_world_tree.proofs.Climbing.{way_up_is_ancestors, not_met}
+use Rattle.moo_world_object.specs.Names.{same_name}
+use Rattle.moo_world_object.specs.Cells.{Cell, Key, key_of, is_key, cell_at, cleared}
+use Rattle.moo_world_object.specs.Objects.{Object, fitted_cell, fitted_row}
+use Rattle.moo_world_table.specs.World.{World, nothing, object_of, thing_of, cells_of, keys_along, keys_defined_on, definitions, fitted_over, fitted_along, refitted}
+use Rattle.moo_world_table.specs.Properties.{definition_named, read, value_at, value_in, values_above}
+use Rattle.moo_world_table.proofs.FittedRows.{found_key, fitted_key, own_cells, IsOwnExact, keys_fitted}
+use Rattle.moo_world_table.proofs.Refitting.{IsFreeTree, cells_refitted, definer_elsewhere, key_within}
 use Rattle.moo_world.specs.Lookups.{IsFitted, IsSameOutside}
 
 -- a cell of an own definition is found among the own cells

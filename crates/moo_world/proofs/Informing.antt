@@ -3,8 +3,8 @@ use Rattle.std.proofs.Common.{◌≡◌, ℕ, List, Option, Some, None, Err, ref
 use Rattle.moo_value.specs.Compare.{folded}
 use Rattle.moo_value.specs.declared.error_code.ErrorCode.{ErrorCode}
 use Rattle.moo_value.specs.declared.error_code.ErrorCode.TheVariants.{PropertyNotFound}
-use Rattle.moo_object.specs.Cells.{Key}
-use Rattle.moo_table.specs.World.{World}
+use Rattle.moo_world_object.specs.Cells.{Key}
+use Rattle.moo_world_table.specs.World.{World}
 use Rattle.moo_world.specs.declared.fault.WorldFault.{WorldFault}
 use Rattle.moo_world.specs.declared.fault.WorldFault.TheVariants.{Raise, Memory}
 use Rattle.moo_world.specs.Calls.{Answers}

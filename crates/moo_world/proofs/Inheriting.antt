@@ -4,7 +4,7 @@ use Rattle.std.specs.Option.{option_map}
 use Rattle.std.proofs.lemmas.Bool.{eq-eqb, ne_eqb}
 use Rattle.moo_value.specs.declared.error_code.ErrorCode.{ErrorCode}
 use Rattle.moo_value.specs.declared.error_code.ErrorCode.TheVariants.{InvalidArgument, PropertyNotFound}
-use Rattle.moo_object.specs.Cells.{Key}
+use Rattle.moo_world_object.specs.Cells.{Key}
 use Rattle.moo_world.specs.EditCalls.{clear_definition_raises}
 
 -- a definition found on some object

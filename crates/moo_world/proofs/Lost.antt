@@ -4,14 +4,14 @@ use Rattle.std.specs.List.{filter}
 use Rattle.std.specs.Option.{unwrap_or}
 use Rattle.std.proofs.lemmas.List.{get_or-set_same, get_or-set_other}
 use Rattle.std.proofs.lemmas.Bool.{cases_Bool, cases_eq, eqb-true, eqb-false, and_parts}
-use Rattle.moo_object.specs.Names.{same_name}
-use Rattle.moo_object.proofs.Names.{same_name-true}
-use Rattle.moo_object.specs.Cells.{Cell, Key, key_of, is_key, cell_at}
-use Rattle.moo_object.specs.Objects.{Object}
-use Rattle.moo_table.specs.World.{World, nothing, object_of, thing_of}
-use Rattle.moo_table.specs.Changes.{without_cell, without_name, after_undefine}
-use Rattle.moo_table.specs.Recycling.{without_cells_of, after_recycle}
-use Rattle.moo_table.proofs.Changing.{valid_within}
+use Rattle.moo_world_object.specs.Names.{same_name}
+use Rattle.moo_world_object.proofs.Names.{same_name-true}
+use Rattle.moo_world_object.specs.Cells.{Cell, Key, key_of, is_key, cell_at}
+use Rattle.moo_world_object.specs.Objects.{Object}
+use Rattle.moo_world_table.specs.World.{World, nothing, object_of, thing_of}
+use Rattle.moo_world_table.specs.Changes.{without_cell, without_name, after_undefine}
+use Rattle.moo_world_table.specs.Recycling.{without_cells_of, after_recycle}
+use Rattle.moo_world_table.proofs.Changing.{valid_within}
 use Rattle.moo_world.specs.Lookups.{IsWithout, IsUndefined}
 
 -- what is at a number once each object was changed

@@ -4,17 +4,17 @@ use Rattle.std.specs.Prelude.{Result, Ok, Err}
 use Rattle.std.specs.Option.{option_map}
 use Rattle.moo_value.specs.declared.error_code.ErrorCode.{ErrorCode}
 use Rattle.moo_value.specs.declared.error_code.ErrorCode.TheVariants.{PropertyNotFound, InvalidArgument}
-use Rattle.moo_object.specs.BuiltIn.{built_in_of}
-use Rattle.moo_object.specs.Cells.{Cell, Key, cell_named}
-use Rattle.moo_table.specs.World.{World, thing_of, IsWellFormed}
-use Rattle.moo_table.specs.Properties.{definition_named, read}
-use Rattle.moo_forest.specs.Forest.{above_of}
-use Rattle.moo_table.proofs.Staying.{no_loop, no_clash, no_crowd, no_circle}
+use Rattle.moo_world_object.specs.BuiltIn.{built_in_of}
+use Rattle.moo_world_object.specs.Cells.{Cell, Key, cell_named}
+use Rattle.moo_world_table.specs.World.{World, thing_of, IsWellFormed}
+use Rattle.moo_world_table.specs.Properties.{definition_named, read}
+use Rattle.moo_world_tree.specs.Forest.{above_of}
+use Rattle.moo_world_table.proofs.Staying.{no_loop, no_clash, no_crowd, no_circle}
 use Rattle.moo_world.specs.Calls.{parent_raises, place_raises, RaisesFirst}
 use Rattle.moo_world.specs.PropertyCalls.{plain_raises, define_raises, add_property_raises, name_raises}
 use Rattle.moo_world.specs.declared.fault.WorldFault.{WorldFault}
 use Rattle.moo_world.specs.declared.fault.WorldFault.TheVariants.{Raise, Memory}
-use Rattle.moo_table.proofs.Valued.{read_defined, cell_defined}
+use Rattle.moo_world_table.proofs.Valued.{read_defined, cell_defined}
 
 pub plain_allowed : (w : World) (x : ℕ) (name : List ℕ) (d : Option ℕ) → option_map (λ n. (let k : Key = (n, name) in k)) d ≡ definition_named w x name → is_some d ≡ true → plain_raises w x name ≡ None
 plain_allowed w x name None is some = cc

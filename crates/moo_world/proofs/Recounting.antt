@@ -3,15 +3,15 @@ use Rattle.std.proofs.Common.{◌≡◌, ℕ, ◌<◌, ◌≤◌, ◌+◌, List,
 use Rattle.std.specs.List.{remove}
 use Rattle.std.proofs.lemmas.Bool.{ltb-true, ltb-false, lt-ltb, le-ltb}
 use Rattle.std.specs.Int.{from_bool}
-use Rattle.moo_program.specs.Tree.{Block}
+use Rattle.moo_syntax_ast.specs.Tree.{Block}
 use Rattle.moo_value.specs.declared.error_code.ErrorCode.{ErrorCode}
 use Rattle.moo_value.specs.declared.error_code.ErrorCode.TheVariants.{VerbNotFound, Quota}
-use Rattle.moo_object.specs.Verbs.{with_program}
-use Rattle.moo_object.specs.declared.verb.Verb.{Verb}
-use Rattle.moo_table.specs.World.{World, IsCounted, thing_of, programs_of, most}
-use Rattle.moo_table.specs.Changes.{without_verb, with_changed_verb}
-use Rattle.moo_table.specs.Verbs.{has_program, one_for, programs_with}
-use Rattle.moo_table.proofs.Counting.{programs_below, programs_with_it, programs_removed, programs_given}
+use Rattle.moo_world_object.specs.Verbs.{with_program}
+use Rattle.moo_world_object.specs.declared.verb.Verb.{Verb}
+use Rattle.moo_world_table.specs.World.{World, IsCounted, thing_of, programs_of, most}
+use Rattle.moo_world_table.specs.Changes.{without_verb, with_changed_verb}
+use Rattle.moo_world_table.specs.Verbs.{has_program, one_for, programs_with}
+use Rattle.moo_world_table.proofs.Counting.{programs_below, programs_with_it, programs_removed, programs_given}
 
 one_less : (vs : List Verb) (i : ℕ) → i < length vs → programs_of (remove vs i) + one_for (has_program vs i) ≡ programs_of vs
 one_less [] i low = absurd (omega (arith, low))

@@ -5,21 +5,21 @@ use Rattle.std.proofs.lemmas.List.{get_or-set_same, get_or-set_other}
 use Rattle.std.proofs.lemmas.Bool.{cases_Bool, ne_eqb, eqb-false, eq-eqb, or_parts, or_left, and_parts, and_from, false≢true}
 use Rattle.moo_value.specs.Compare.{folded}
 use Rattle.moo_value.specs.Tree.{Tree}
-use Rattle.moo_forest.specs.Forest.{ancestors, moved, is_within}
-use Rattle.moo_object.specs.Names.{same_name}
-use Rattle.moo_object.specs.Cells.{Cell, Key, key_of, is_key, cell_at}
-use Rattle.moo_object.specs.Objects.{Object}
-use Rattle.moo_object.proofs.Names.{eq-same_name}
+use Rattle.moo_world_tree.specs.Forest.{ancestors, moved, is_within}
+use Rattle.moo_world_object.specs.Names.{same_name}
+use Rattle.moo_world_object.specs.Cells.{Cell, Key, key_of, is_key, cell_at}
+use Rattle.moo_world_object.specs.Objects.{Object}
+use Rattle.moo_world_object.proofs.Names.{eq-same_name}
 use Rattle.std.specs.Option.{unwrap_or}
-use Rattle.moo_table.specs.World.{World, nothing, object_of, thing_of, clashes, crowds, with_cells, fitted_along, refitted, IsWellFormed}
-use Rattle.moo_table.specs.Changes.{after_chparent, after_define, with_definition, with_definition_on, would_loop}
-use Rattle.moo_table.specs.Properties.{has_name, definition_named, read}
-use Rattle.moo_table.specs.Steps.{IsDefinable}
-use Rattle.moo_table.proofs.FittedRows.{own_exact, already_fitted}
-use Rattle.moo_table.proofs.Refitting.{IsFreeTree, object_refitted, keys_refitted, cells_stay, fails, none_passes}
-use Rattle.moo_table.proofs.Changing.{IsValidPlace, parent_free, parent_changed, rejoined, valid_within}
-use Rattle.moo_table.proofs.Definitions.{defined_well_formed, own_then, still_valid, free_of}
-use Rattle.moo_table.proofs.Joining.{within_valid}
+use Rattle.moo_world_table.specs.World.{World, nothing, object_of, thing_of, clashes, crowds, with_cells, fitted_along, refitted, IsWellFormed}
+use Rattle.moo_world_table.specs.Changes.{after_chparent, after_define, with_definition, with_definition_on, would_loop}
+use Rattle.moo_world_table.specs.Properties.{has_name, definition_named, read}
+use Rattle.moo_world_table.specs.Steps.{IsDefinable}
+use Rattle.moo_world_table.proofs.FittedRows.{own_exact, already_fitted}
+use Rattle.moo_world_table.proofs.Refitting.{IsFreeTree, object_refitted, keys_refitted, cells_stay, fails, none_passes}
+use Rattle.moo_world_table.proofs.Changing.{IsValidPlace, parent_free, parent_changed, rejoined, valid_within}
+use Rattle.moo_world_table.proofs.Definitions.{defined_well_formed, own_then, still_valid, free_of}
+use Rattle.moo_world_table.proofs.Joining.{within_valid}
 use Rattle.moo_world.specs.Calls.{parent_raises}
 use Rattle.moo_world.specs.Lookups.{AreFitted, IsReparented, IsDefinedOn}
 use Rattle.moo_world.proofs.Fitted.{all_fitted, along_same, same_outside, found_behind}

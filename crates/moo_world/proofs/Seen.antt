@@ -7,17 +7,17 @@ use Rattle.std.proofs.lemmas.List.Folds.{find-append, list_any-append}
 use Rattle.std.proofs.lemmas.Bool.{cases_eq, eqb-true, or_parts, or_cases, false≢true}
 use Rattle.moo_value.specs.Compare.{folded}
 use Rattle.moo_value.specs.Tree.{Tree}
-use Rattle.moo_forest.specs.Forest.{Links, IsForest, IsWayUp, above_of, ancestors, is_within}
-use Rattle.moo_forest.proofs.Climbing.{way_up_is_ancestors}
-use Rattle.moo_object.specs.Names.{same_name}
-use Rattle.moo_object.specs.Cells.{Cell, Key, cell_at, cleared}
-use Rattle.moo_object.specs.Objects.{Object}
-use Rattle.moo_object.proofs.Names.{eq-same_name}
-use Rattle.moo_table.specs.World.{World, nothing, object_of, thing_of, cells_of, keys_defined_on, keys_along, IsWellFormed}
-use Rattle.moo_table.specs.Changes.{with_definition_on}
-use Rattle.moo_table.specs.Properties.{value_at}
-use Rattle.moo_table.specs.Steps.{IsDefinable}
-use Rattle.moo_table.proofs.Definitions.{keys_here, keys_there}
+use Rattle.moo_world_tree.specs.Forest.{Links, IsForest, IsWayUp, above_of, ancestors, is_within}
+use Rattle.moo_world_tree.proofs.Climbing.{way_up_is_ancestors}
+use Rattle.moo_world_object.specs.Names.{same_name}
+use Rattle.moo_world_object.specs.Cells.{Cell, Key, cell_at, cleared}
+use Rattle.moo_world_object.specs.Objects.{Object}
+use Rattle.moo_world_object.proofs.Names.{eq-same_name}
+use Rattle.moo_world_table.specs.World.{World, nothing, object_of, thing_of, cells_of, keys_defined_on, keys_along, IsWellFormed}
+use Rattle.moo_world_table.specs.Changes.{with_definition_on}
+use Rattle.moo_world_table.specs.Properties.{value_at}
+use Rattle.moo_world_table.specs.Steps.{IsDefinable}
+use Rattle.moo_world_table.proofs.Definitions.{keys_here, keys_there}
 use Rattle.moo_world.specs.Lookups.{IsFitted}
 
 -- the first value that is found on going up from y, which has a cell

@@ -8,20 +8,20 @@ use Rattle.std.proofs.lemmas.Bool.{cases_Bool, eq-eqb, or_parts, or_left, or_rig
 use Rattle.moo_value.specs.Compare.{folded}
 use Rattle.moo_value.specs.declared.error_code.ErrorCode.{ErrorCode}
 use Rattle.moo_value.specs.declared.error_code.ErrorCode.TheVariants.{InvalidArgument}
-use Rattle.moo_forest.specs.Forest.{ancestors, is_within}
-use Rattle.moo_object.specs.BuiltIn.{built_in_of}
-use Rattle.moo_object.specs.Names.{same_name}
-use Rattle.moo_object.specs.Cells.{Cell, Key, is_key, cell_at, at_key, renamed}
-use Rattle.moo_object.specs.Objects.{Object}
-use Rattle.moo_object.proofs.Names.{same_name-true, eq-same_name, ne-same_name}
-use Rattle.moo_table.specs.World.{World, object_of, thing_of, keys_defined_on, keys_along, definitions, IsWellFormed}
-use Rattle.moo_table.specs.Properties.{definition_named, read, value_at, has_name, is_taken}
-use Rattle.moo_table.specs.Renames.{after_rename}
-use Rattle.moo_table.specs.Steps.{IsRenamable}
-use Rattle.moo_table.proofs.FittedRows.{unnamed_key}
-use Rattle.moo_table.proofs.Joining.{within_low}
-use Rattle.moo_table.proofs.Refitting.{definer_elsewhere, key_within, none_passes}
-use Rattle.moo_table.proofs.Renamed.{cells_at, keys_on, is_that, renamed_key}
+use Rattle.moo_world_tree.specs.Forest.{ancestors, is_within}
+use Rattle.moo_world_object.specs.BuiltIn.{built_in_of}
+use Rattle.moo_world_object.specs.Names.{same_name}
+use Rattle.moo_world_object.specs.Cells.{Cell, Key, is_key, cell_at, at_key, renamed}
+use Rattle.moo_world_object.specs.Objects.{Object}
+use Rattle.moo_world_object.proofs.Names.{same_name-true, eq-same_name, ne-same_name}
+use Rattle.moo_world_table.specs.World.{World, object_of, thing_of, keys_defined_on, keys_along, definitions, IsWellFormed}
+use Rattle.moo_world_table.specs.Properties.{definition_named, read, value_at, has_name, is_taken}
+use Rattle.moo_world_table.specs.Renames.{after_rename}
+use Rattle.moo_world_table.specs.Steps.{IsRenamable}
+use Rattle.moo_world_table.proofs.FittedRows.{unnamed_key}
+use Rattle.moo_world_table.proofs.Joining.{within_low}
+use Rattle.moo_world_table.proofs.Refitting.{definer_elsewhere, key_within, none_passes}
+use Rattle.moo_world_table.proofs.Renamed.{cells_at, keys_on, is_that, renamed_key}
 use Rattle.moo_world.specs.InfoCalls.{rename_raises}
 use Rattle.moo_world.specs.Lookups.{IsRenamed}
 use Rattle.moo_world.proofs.Fitted.{elsewhere_none}

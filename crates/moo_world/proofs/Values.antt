@@ -7,15 +7,15 @@ use Rattle.std.proofs.lemmas.List.{get_or-set_same, get_or-set_other}
 use Rattle.std.proofs.lemmas.Bool.{cases_Bool, cases_eq, eqb-false, eq-eqb, or_parts, and_from, false≢true}
 use Rattle.moo_value.specs.Compare.{folded}
 use Rattle.moo_value.specs.Tree.{Tree}
-use Rattle.moo_forest.specs.Forest.{ancestors}
-use Rattle.moo_object.specs.Names.{same_name}
-use Rattle.moo_object.specs.Cells.{Cell, Key, key_of, is_key, cell_at, with_value}
-use Rattle.moo_object.specs.Objects.{Object}
-use Rattle.moo_object.proofs.Names.{same_name-true, eq-same_name}
-use Rattle.moo_table.specs.World.{World, nothing, object_of, thing_of, keys_defined_on, keys_along, definitions, IsWellFormed}
-use Rattle.moo_table.specs.Changes.{with_object, with_value_of}
-use Rattle.moo_table.specs.Properties.{definition_named, read, value_at}
-use Rattle.moo_table.proofs.Changing.{valid_within}
+use Rattle.moo_world_tree.specs.Forest.{ancestors}
+use Rattle.moo_world_object.specs.Names.{same_name}
+use Rattle.moo_world_object.specs.Cells.{Cell, Key, key_of, is_key, cell_at, with_value}
+use Rattle.moo_world_object.specs.Objects.{Object}
+use Rattle.moo_world_object.proofs.Names.{same_name-true, eq-same_name}
+use Rattle.moo_world_table.specs.World.{World, nothing, object_of, thing_of, keys_defined_on, keys_along, definitions, IsWellFormed}
+use Rattle.moo_world_table.specs.Changes.{with_object, with_value_of}
+use Rattle.moo_world_table.specs.Properties.{definition_named, read, value_at}
+use Rattle.moo_world_table.proofs.Changing.{valid_within}
 use Rattle.moo_world.specs.Lookups.{IsSet}
 use Rattle.moo_world.proofs.Fitted.{same_outside}
 use Rattle.moo_world.proofs.Lost.{key_is}

@@ -6,10 +6,10 @@ use Rattle.moo_value.specs.declared.error_code.ErrorCode.{ErrorCode}
 use Rattle.moo_value.specs.declared.error_code.ErrorCode.TheVariants.{Permission}
 use Rattle.moo_value.specs.Compare.{folded}
 use Rattle.moo_value.specs.Tree.{Tree}
-use Rattle.moo_object.specs.BuiltIn.{built_in_of}
-use Rattle.moo_object.specs.Cells.{Cell, is_named, cell_named}
-use Rattle.moo_table.specs.World.{World, thing_of}
-use Rattle.moo_table.specs.Properties.{read}
+use Rattle.moo_world_object.specs.BuiltIn.{built_in_of}
+use Rattle.moo_world_object.specs.Cells.{Cell, is_named, cell_named}
+use Rattle.moo_world_table.specs.World.{World, thing_of}
+use Rattle.moo_world_table.specs.Properties.{read}
 use Rattle.moo_world.specs.Calls.{number_of}
 use Rattle.moo_world.specs.EditCalls.{set_raises}
 use Rattle.moo_world.specs.NamedProperties.{get_raises, value_got}

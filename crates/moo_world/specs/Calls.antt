@@ -3,12 +3,12 @@ use Rattle.std.specs.Prelude.{◌≡◌, ℕ, zero, suc, ℤ, pos, negsuc, List,
 use Rattle.std.specs.Option.{option_map}
 use Rattle.moo_value.specs.declared.error_code.ErrorCode.{ErrorCode}
 use Rattle.moo_value.specs.declared.error_code.ErrorCode.TheVariants.{RecursiveMove, InvalidArgument, Permission, Quota}
-use Rattle.moo_forest.specs.Forest.{Links, above_of, moved}
-use Rattle.moo_object.specs.Objects.{Object}
+use Rattle.moo_world_tree.specs.Forest.{Links, above_of, moved}
+use Rattle.moo_world_object.specs.Objects.{Object}
 use Rattle.moo_world.specs.declared.fault.WorldFault.{WorldFault}
 use Rattle.moo_world.specs.declared.fault.WorldFault.TheVariants.{Raise, Memory}
-use Rattle.moo_table.specs.World.{World, object_of, clashes, crowds, most}
-use Rattle.moo_table.specs.Changes.{after_create, after_chparent, after_move, would_loop}
+use Rattle.moo_world_table.specs.World.{World, object_of, clashes, crowds, most}
+use Rattle.moo_world_table.specs.Changes.{after_create, after_chparent, after_move, would_loop}
 
 -- a call raises if it must, and else leads to `after`; if it raises or memory runs out, the world stays as it was
 abbrev pub Changes : {T : Type 0} → Result T WorldFault → World → World → Option ErrorCode → World → Type 0

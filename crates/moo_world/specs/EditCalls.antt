@@ -3,16 +3,16 @@ use Rattle.std.specs.Prelude.{ℕ, List, Option, Some, None, Bool, true, false, 
 use Rattle.moo_value.specs.Tree.{Tree, integer, object, error, string, list}
 use Rattle.moo_value.specs.declared.error_code.ErrorCode.{ErrorCode}
 use Rattle.moo_value.specs.declared.error_code.ErrorCode.TheVariants.{TypeMismatch, Permission, InvalidIndirection, InvalidArgument, PropertyNotFound}
-use Rattle.moo_object.specs.BuiltIn.{built_in_of}
-use Rattle.moo_object.specs.Cells.{Key}
-use Rattle.moo_object.specs.declared.built_in_property.BuiltInProperty.{BuiltInProperty}
-use Rattle.moo_object.specs.declared.built_in_property.BuiltInProperty.TheVariants as property
-use Rattle.moo_table.specs.World.{World}
-use Rattle.moo_table.specs.Changes.{with_object}
-use Rattle.moo_table.specs.Properties.{definition_named}
+use Rattle.moo_world_object.specs.BuiltIn.{built_in_of}
+use Rattle.moo_world_object.specs.Cells.{Key}
+use Rattle.moo_world_object.specs.declared.built_in_property.BuiltInProperty.{BuiltInProperty}
+use Rattle.moo_world_object.specs.declared.built_in_property.BuiltInProperty.TheVariants as property
+use Rattle.moo_world_table.specs.World.{World}
+use Rattle.moo_world_table.specs.Changes.{with_object}
+use Rattle.moo_world_table.specs.Properties.{definition_named}
 use Rattle.moo_world.specs.PropertyCalls.{plain_raises, unless_built_in}
 use Rattle.moo_world.specs.VerbCalls.{world_with_object}
-use Rattle.moo_table.specs.Edits.{with_named, with_clear}
+use Rattle.moo_world_table.specs.Edits.{with_named, with_clear}
 
 abbrev pub is_string : Tree → Bool
 is_string (integer i) = false

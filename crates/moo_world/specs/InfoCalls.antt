@@ -3,16 +3,16 @@ use Rattle.std.specs.Prelude.{ℕ, ℤ, List, Option, Some, None, ◌==◌, if�
 use Rattle.moo_value.specs.Compare.{folded}
 use Rattle.moo_value.specs.declared.error_code.ErrorCode.{ErrorCode}
 use Rattle.moo_value.specs.declared.error_code.ErrorCode.TheVariants.{InvalidArgument, PropertyNotFound}
-use Rattle.moo_object.specs.Names.{same_name}
-use Rattle.moo_object.specs.BuiltIn.{built_in_of}
-use Rattle.moo_object.specs.Cells.{Key}
-use Rattle.moo_object.specs.declared.cell.PropPerms.{PropPerms}
-use Rattle.moo_table.specs.World.{World}
-use Rattle.moo_table.specs.Changes.{with_object}
-use Rattle.moo_table.specs.Properties.{definition_named, is_taken}
-use Rattle.moo_table.specs.Edits.{with_cell_info}
+use Rattle.moo_world_object.specs.Names.{same_name}
+use Rattle.moo_world_object.specs.BuiltIn.{built_in_of}
+use Rattle.moo_world_object.specs.Cells.{Key}
+use Rattle.moo_world_object.specs.declared.cell.PropPerms.{PropPerms}
+use Rattle.moo_world_table.specs.World.{World}
+use Rattle.moo_world_table.specs.Changes.{with_object}
+use Rattle.moo_world_table.specs.Properties.{definition_named, is_taken}
+use Rattle.moo_world_table.specs.Edits.{with_cell_info}
 use Rattle.moo_world.specs.PropertyCalls.{unless_built_in}
-use Rattle.moo_table.specs.Renames.{after_rename}
+use Rattle.moo_world_table.specs.Renames.{after_rename}
 
 abbrev pub taken_raises : World → ℕ → List ℕ → Option ErrorCode
 taken_raises w x name = if is_taken w.objects w.inheritance x name then Some InvalidArgument else None

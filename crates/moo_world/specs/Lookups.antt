@@ -3,12 +3,12 @@ use Rattle.std.specs.Prelude.{◌≡◌, ◌≢◌, ◌⊎◌, ℕ, ℤ, List, O
 use Rattle.std.specs.Option.{option_map, option_and_then}
 use Rattle.moo_value.specs.Tree.{Tree}
 use Rattle.moo_value.specs.Compare.{folded}
-use Rattle.moo_forest.specs.Forest.{above_of, is_within}
-use Rattle.moo_object.specs.Cells.{Cell, Key, cell_at, cleared, renamed}
-use Rattle.moo_object.specs.Objects.{Object}
-use Rattle.moo_table.specs.World.{World, object_of, thing_of, cells_of}
-use Rattle.moo_table.specs.Changes.{with_definition_on}
-use Rattle.moo_table.specs.Properties.{definition_named, read}
+use Rattle.moo_world_tree.specs.Forest.{above_of, is_within}
+use Rattle.moo_world_object.specs.Cells.{Cell, Key, cell_at, cleared, renamed}
+use Rattle.moo_world_object.specs.Objects.{Object}
+use Rattle.moo_world_table.specs.World.{World, object_of, thing_of, cells_of}
+use Rattle.moo_world_table.specs.Changes.{with_definition_on}
+use Rattle.moo_world_table.specs.Properties.{definition_named, read}
 
 -- the cells of object y, by those that it had and by those of its parent, `above`
 pub record IsFitted (y : ℕ) (o : Object) (above cells : List Cell) : Type 0 where

@@ -3,13 +3,13 @@ use Rattle.std.specs.Prelude.{ℕ, ℤ, pos, negsuc, List, Option, Some, None, B
 use Rattle.moo_value.specs.Tree.{Tree, integer, object, string, list_of}
 use Rattle.moo_value.specs.declared.error_code.ErrorCode.{ErrorCode}
 use Rattle.moo_value.specs.declared.error_code.ErrorCode.TheVariants.{InvalidIndirection}
-use Rattle.moo_forest.specs.Forest.{above_of, below_of}
-use Rattle.moo_object.specs.BuiltIn.{built_in_of}
-use Rattle.moo_object.specs.declared.built_in_property.BuiltInProperty.{BuiltInProperty}
-use Rattle.moo_object.specs.declared.built_in_property.BuiltInProperty.TheVariants as property
-use Rattle.moo_object.specs.Objects.{Object}
-use Rattle.moo_table.specs.World.{World, thing_of}
-use Rattle.moo_table.specs.Properties.{read}
+use Rattle.moo_world_tree.specs.Forest.{above_of, below_of}
+use Rattle.moo_world_object.specs.BuiltIn.{built_in_of}
+use Rattle.moo_world_object.specs.declared.built_in_property.BuiltInProperty.{BuiltInProperty}
+use Rattle.moo_world_object.specs.declared.built_in_property.BuiltInProperty.TheVariants as property
+use Rattle.moo_world_object.specs.Objects.{Object}
+use Rattle.moo_world_table.specs.World.{World, thing_of}
+use Rattle.moo_world_table.specs.Properties.{read}
 use Rattle.moo_world.specs.PropertyCalls.{plain_raises}
 
 abbrev pub truth : Bool → Tree

@@ -2,10 +2,10 @@
 use Rattle.std.specs.Prelude.{ℕ, ℤ, List, Option, slice_get}
 use Rattle.std.specs.Option.{unwrap_or, option_and_then}
 use Rattle.moo_value.specs.Compare.{folded}
-use Rattle.moo_object.specs.Cells.{Cell, cell_named}
-use Rattle.moo_object.specs.Objects.{Object}
-use Rattle.moo_object.specs.declared.verb.Verb.{Verb}
-use Rattle.moo_table.specs.World.{World, nothing, object_of}
+use Rattle.moo_world_object.specs.Cells.{Cell, cell_named}
+use Rattle.moo_world_object.specs.Objects.{Object}
+use Rattle.moo_world_object.specs.declared.verb.Verb.{Verb}
+use Rattle.moo_world_table.specs.World.{World, nothing, object_of}
 use Rattle.moo_world.specs.Calls.{number_of}
 
 -- the object of a number, if it is valid

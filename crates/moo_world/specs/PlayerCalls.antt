@@ -2,8 +2,8 @@
 use Rattle.std.specs.Prelude.{ℕ, pos, Option, Some, None, Bool, nat_lt, length, if◌then◌else◌}
 use Rattle.moo_value.specs.declared.error_code.ErrorCode.{ErrorCode}
 use Rattle.moo_value.specs.declared.error_code.ErrorCode.TheVariants.{InvalidArgument, Quota}
-use Rattle.moo_table.specs.World.{World, most}
-use Rattle.moo_table.specs.Players.{players_with, after_set_player}
+use Rattle.moo_world_table.specs.World.{World, most}
+use Rattle.moo_world_table.specs.Players.{players_with, after_set_player}
 
 -- what making an object a player, or no player, raises
 abbrev pub set_player_raises : World → Option ℕ → Bool → Option ErrorCode

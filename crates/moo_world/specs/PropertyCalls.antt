@@ -4,14 +4,14 @@ use Rattle.std.specs.List.{list_any}
 use Rattle.moo_value.specs.Tree.{Tree}
 use Rattle.moo_value.specs.declared.error_code.ErrorCode.{ErrorCode}
 use Rattle.moo_value.specs.declared.error_code.ErrorCode.TheVariants.{InvalidArgument, PropertyNotFound, Quota}
-use Rattle.moo_object.specs.Names.{same_name}
-use Rattle.moo_object.specs.Cells.{own_cell}
-use Rattle.moo_object.specs.BuiltIn.{built_in_of}
-use Rattle.moo_object.specs.declared.cell.PropPerms.{PropPerms}
+use Rattle.moo_world_object.specs.Names.{same_name}
+use Rattle.moo_world_object.specs.Cells.{own_cell}
+use Rattle.moo_world_object.specs.BuiltIn.{built_in_of}
+use Rattle.moo_world_object.specs.declared.cell.PropPerms.{PropPerms}
 use Rattle.moo_value.specs.Compare.{folded}
-use Rattle.moo_table.specs.World.{World, thing_of}
-use Rattle.moo_table.specs.Changes.{after_define, after_undefine}
-use Rattle.moo_table.specs.Properties.{definition_named, is_taken, is_full}
+use Rattle.moo_world_table.specs.World.{World, thing_of}
+use Rattle.moo_world_table.specs.Changes.{after_define, after_undefine}
+use Rattle.moo_world_table.specs.Properties.{definition_named, is_taken, is_full}
 
 -- the error of looking a property up, if no built-in one has the name
 abbrev pub plain_raises : World → ℕ → List ℕ → Option ErrorCode

@@ -2,8 +2,8 @@
 use Rattle.std.specs.Prelude.{ℕ, Option, Some, None}
 use Rattle.moo_value.specs.declared.error_code.ErrorCode.{ErrorCode}
 use Rattle.moo_value.specs.declared.error_code.ErrorCode.TheVariants.{InvalidArgument}
-use Rattle.moo_table.specs.World.{World}
-use Rattle.moo_table.specs.Recycling.{after_recycle}
+use Rattle.moo_world_table.specs.World.{World}
+use Rattle.moo_world_table.specs.Recycling.{after_recycle}
 
 abbrev pub recycle_raises : Option ℕ → Option ErrorCode
 recycle_raises None = Some InvalidArgument

@@ -5,13 +5,13 @@ use Rattle.std.specs.Ordering.{int_eq}
 use Rattle.moo_value.specs.Compare.{folded}
 use Rattle.moo_world.specs.declared.rights.Action.{Action}
 use Rattle.moo_world.specs.declared.rights.Action.TheVariants as action
-use Rattle.moo_object.specs.BuiltIn.{built_in_of}
-use Rattle.moo_object.specs.declared.built_in_property.BuiltInProperty.{BuiltInProperty}
-use Rattle.moo_object.specs.declared.built_in_property.BuiltInProperty.TheVariants as property
-use Rattle.moo_object.specs.Cells.{Cell}
-use Rattle.moo_object.specs.Objects.{Object}
-use Rattle.moo_object.specs.declared.verb.Verb.{Verb}
-use Rattle.moo_table.specs.World.{World, nothing}
+use Rattle.moo_world_object.specs.BuiltIn.{built_in_of}
+use Rattle.moo_world_object.specs.declared.built_in_property.BuiltInProperty.{BuiltInProperty}
+use Rattle.moo_world_object.specs.declared.built_in_property.BuiltInProperty.TheVariants as property
+use Rattle.moo_world_object.specs.Cells.{Cell}
+use Rattle.moo_world_object.specs.Objects.{Object}
+use Rattle.moo_world_object.specs.declared.verb.Verb.{Verb}
+use Rattle.moo_world_table.specs.World.{World, nothing}
 use Rattle.moo_world.specs.Numbered.{object_numbered, verb_numbered, cell_numbered}
 
 abbrev pub is_wizard : World → ℤ → Bool

@@ -2,11 +2,11 @@
 use Rattle.std.specs.Prelude.{ℕ, pos, List, Option, Some, None, Bool, if◌then◌else◌, nat_lt, length}
 use Rattle.moo_value.specs.declared.error_code.ErrorCode.{ErrorCode}
 use Rattle.moo_value.specs.declared.error_code.ErrorCode.TheVariants.{InvalidArgument, VerbNotFound, Quota}
-use Rattle.moo_object.specs.Objects.{Object}
-use Rattle.moo_object.specs.Patterns.{has_word}
-use Rattle.moo_table.specs.World.{World, thing_of, most}
-use Rattle.moo_table.specs.Changes.{with_object}
-use Rattle.moo_table.specs.Verbs.{programs_with}
+use Rattle.moo_world_object.specs.Objects.{Object}
+use Rattle.moo_world_object.specs.Patterns.{has_word}
+use Rattle.moo_world_table.specs.World.{World, thing_of, most}
+use Rattle.moo_world_table.specs.Changes.{with_object}
+use Rattle.moo_world_table.specs.Verbs.{programs_with}
 use Rattle.moo_world.specs.declared.looking.VerbAt.{VerbAt}
 
 -- what looking at a verb of an object raises

@@ -6,10 +6,10 @@ ghost use Rattle.std.specs.Option.{option_map, option_copied};
 ghost use Rattle.std.specs.List.{position};
 ghost use Rattle.moo_value.specs.Compare.{folded};
 ghost use Rattle.moo_value.specs.View.{tree};
-ghost use Rattle.moo_object.specs.BuiltIn.{built_in_of};
-ghost use Rattle.moo_object.specs.Cells.{cell_named, is_named};
-ghost use Rattle.moo_table.specs.World.{object_of, thing_of};
-ghost use Rattle.moo_table.specs.Properties.{read};
+ghost use Rattle.moo_world_object.specs.BuiltIn.{built_in_of};
+ghost use Rattle.moo_world_object.specs.Cells.{cell_named, is_named};
+ghost use Rattle.moo_world_table.specs.World.{object_of, thing_of};
+ghost use Rattle.moo_world_table.specs.Properties.{read};
 ghost use Rattle.moo_world.specs.ByRight.{readable_cell, readable_at, readable_value, IsReadable, IsWritable, set_by_raises};
 ghost use Rattle.moo_world.specs.EditCalls.{world_set};
 ghost use Rattle.moo_world.specs.Calls.{Changes, number_of, TakesNoMemory};
@@ -17,12 +17,12 @@ ghost use Rattle.moo_world.specs.Calls.{Changes, number_of, TakesNoMemory};
 use crate::World;
 use crate::fault::WorldFault;
 use crate::rights::Rights;
-use moo_object::{PropCell, built_in, place_named};
-use moo_program::Text;
-use moo_table::looking::nearest_value;
-use moo_table::properties::{cell_in, cells_in, set_at_in};
-use moo_table::written::{nearest_written, place_written};
+use moo_syntax_ast::Text;
 use moo_value::{ErrorCode, Value};
+use moo_world_object::{PropCell, built_in, place_named};
+use moo_world_table::looking::nearest_value;
+use moo_world_table::properties::{cell_in, cells_in, set_at_in};
+use moo_world_table::written::{nearest_written, place_written};
 
 impl World {
     /// Returns the value of a property that is not built in, if the programmer may read it.

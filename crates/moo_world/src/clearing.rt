@@ -2,17 +2,17 @@
 
 ghost use Rattle.std.specs.Prelude.{◌≡◌, IsSome, Some};
 ghost use Rattle.moo_value.specs.Compare.{folded};
-ghost use Rattle.moo_table.specs.World.{object_of};
-ghost use Rattle.moo_table.specs.Properties.{definition_named};
+ghost use Rattle.moo_world_table.specs.World.{object_of};
+ghost use Rattle.moo_world_table.specs.Properties.{definition_named};
 ghost use Rattle.moo_world.specs.EditCalls.{clear_definition_raises, clear_property_raises, after_clear, world_clear};
 ghost use Rattle.moo_world.specs.Calls.{Answers, Changes, Tests, number_of, TakesNoMemory};
 
 use crate::World;
 use crate::fault::WorldFault;
-use moo_object::built_in;
-use moo_table::editing::clear_in;
-use moo_table::properties::definer_in;
 use moo_value::ErrorCode;
+use moo_world_object::built_in;
+use moo_world_table::editing::clear_in;
+use moo_world_table::properties::definer_in;
 
 impl World {
     /// Returns Ok if clearing a property raises nothing, else the fault that it raises.

@@ -2,16 +2,16 @@
 
 ghost use Rattle.std.specs.Prelude.{◌≡◌, take, ◌-◌, ◌<◌, Option, Some, length, IfOk, OnOk, IsSome, pos};
 ghost use Rattle.std.specs.Option.{ForSome};
-ghost use Rattle.moo_table.specs.World.{object_of, cells_of, most};
-ghost use Rattle.moo_table.specs.Changes.{after_create};
+ghost use Rattle.moo_world_table.specs.World.{object_of, cells_of, most};
+ghost use Rattle.moo_world_table.specs.Changes.{after_create};
 ghost use Rattle.moo_world.specs.Calls.{Changes, Tests, place_of, create_raises, world_create, TakesNoMemory, RaisesFirst};
 
 use crate::World;
 use crate::fault::WorldFault;
-use moo_object::Object;
-use moo_table::MOST;
-use moo_table::properties::cells_of;
 use moo_value::ErrorCode;
+use moo_world_object::Object;
+use moo_world_table::MOST;
+use moo_world_table::properties::cells_of;
 use std::alloc::Global;
 
 impl World {

@@ -3,21 +3,21 @@
 ghost use Rattle.std.specs.Prelude.{IsSome, Some, None};
 ghost use Rattle.moo_value.specs.Compare.{folded};
 ghost use Rattle.moo_value.specs.View.{tree};
-ghost use Rattle.moo_forest.specs.Walk.{IsWalkDown};
-ghost use Rattle.moo_object.specs.Cells.{own_cell};
-ghost use Rattle.moo_table.specs.World.{object_of};
-ghost use Rattle.moo_table.specs.Changes.{after_define};
+ghost use Rattle.moo_world_tree.specs.Walk.{IsWalkDown};
+ghost use Rattle.moo_world_object.specs.Cells.{own_cell};
+ghost use Rattle.moo_world_table.specs.World.{object_of};
+ghost use Rattle.moo_world_table.specs.Changes.{after_define};
 ghost use Rattle.moo_world.specs.PropertyCalls.{name_raises, define_raises, add_property_raises, world_define};
 ghost use Rattle.moo_world.specs.Calls.{Answers, Changes, Tests, number_of, RaisesFirst};
-ghost use Rattle.moo_table.specs.Steps.{IsDefinable};
+ghost use Rattle.moo_world_table.specs.Steps.{IsDefinable};
 
 use crate::World;
 use crate::fault::WorldFault;
-use moo_forest::Step;
-use moo_object::{PropCell, PropPerms, built_in};
-use moo_table::defining::{define_along, some_full, some_named};
-use moo_table::properties::cells_of;
 use moo_value::{ErrorCode, MooStr, Value};
+use moo_world_object::{PropCell, PropPerms, built_in};
+use moo_world_table::defining::{define_along, some_full, some_named};
+use moo_world_table::properties::cells_of;
+use moo_world_tree::Step;
 use std::alloc::Global;
 
 impl World {

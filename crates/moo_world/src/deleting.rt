@@ -2,16 +2,16 @@
 
 ghost use Rattle.std.specs.Prelude.{◌<◌, IsSome};
 ghost use Rattle.moo_value.specs.Compare.{folded};
-ghost use Rattle.moo_table.specs.World.{object_of};
-ghost use Rattle.moo_table.specs.Changes.{after_undefine};
+ghost use Rattle.moo_world_table.specs.World.{object_of};
+ghost use Rattle.moo_world_table.specs.Changes.{after_undefine};
 ghost use Rattle.moo_world.specs.PropertyCalls.{undefine_raises, delete_property_raises, world_undefine};
 ghost use Rattle.moo_world.specs.Calls.{Changes, Tests, number_of, TakesNoMemory, RaisesFirst};
 
 use crate::World;
 use crate::fault::WorldFault;
-use moo_object::built_in;
-use moo_table::deleting::{defines_in, forget_in, lose_along};
 use moo_value::ErrorCode;
+use moo_world_object::built_in;
+use moo_world_table::deleting::{defines_in, forget_in, lose_along};
 use std::alloc::Global;
 
 impl World {

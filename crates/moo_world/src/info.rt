@@ -3,17 +3,17 @@
 ghost use Rattle.std.specs.Prelude.{◌≡◌, IsSome, Some, is_some, not};
 ghost use Rattle.std.specs.Option.{option_map};
 ghost use Rattle.moo_value.specs.Compare.{folded};
-ghost use Rattle.moo_object.specs.Cells.{Cell, cell_named};
-ghost use Rattle.moo_table.specs.World.{object_of, thing_of};
+ghost use Rattle.moo_world_object.specs.Cells.{Cell, cell_named};
+ghost use Rattle.moo_world_table.specs.World.{object_of, thing_of};
 ghost use Rattle.moo_world.specs.Numbered.{cell_numbered};
 ghost use Rattle.moo_world.specs.PropertyCalls.{plain_raises, info_raises};
 ghost use Rattle.moo_world.specs.Calls.{Answers, number_of, TakesNoMemory};
 
 use crate::World;
 use crate::fault::WorldFault;
-use moo_object::{PropCell, PropPerms, built_in};
-use moo_table::properties::cell_in;
 use moo_value::ErrorCode;
+use moo_world_object::{PropCell, PropPerms, built_in};
+use moo_world_table::properties::cell_in;
 
 impl World {
     /// Returns the owner and the permissions of a property that is not built in, as the object has it.

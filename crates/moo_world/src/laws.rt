@@ -3,25 +3,25 @@
 ghost use Rattle.std.specs.Prelude.{◌≡◌, ◌<◌, length, None, Some, is_some, IsSome, true};
 ghost use Rattle.std.specs.Option.{ForSome};
 ghost use Rattle.moo_value.specs.Compare.{folded};
-ghost use Rattle.moo_forest.specs.Forest.{above_of, below_of};
+ghost use Rattle.moo_world_tree.specs.Forest.{above_of, below_of};
 ghost use Rattle.moo_value.specs.Size.{weight_limit};
 ghost use Rattle.moo_value.specs.View.{tree};
-ghost use Rattle.moo_object.specs.Cells.{own_cell};
-ghost use Rattle.moo_table.specs.Changes.{after_chparent, after_create, after_define, after_move, after_undefine, with_object, with_value_of};
+ghost use Rattle.moo_world_object.specs.Cells.{own_cell};
+ghost use Rattle.moo_world_table.specs.Changes.{after_chparent, after_create, after_define, after_move, after_undefine, with_object, with_value_of};
 ghost use Rattle.moo_world.specs.Calls.{parent_raises, place_raises};
 ghost use Rattle.moo_world.specs.PropertyCalls.{add_property_raises};
 ghost use Rattle.moo_world.specs.Lookups.{IsCreated, IsReparented, IsDefinedOn, IsRenamed, IsSet, IsWithout, IsUndefined};
-ghost use Rattle.moo_table.specs.Recycling.{after_recycle};
-ghost use Rattle.moo_table.specs.Renames.{after_rename};
+ghost use Rattle.moo_world_table.specs.Recycling.{after_recycle};
+ghost use Rattle.moo_world_table.specs.Renames.{after_rename};
 ghost use Rattle.moo_world.specs.InfoCalls.{rename_raises};
-ghost use Rattle.moo_table.specs.World.{IsWellFormed, object_of};
-ghost use Rattle.moo_table.specs.Restoring.{AreParts, restored_world};
-ghost use Rattle.moo_table.specs.Properties.{definition_named, read};
+ghost use Rattle.moo_world_table.specs.World.{IsWellFormed, object_of};
+ghost use Rattle.moo_world_table.specs.Restoring.{AreParts, restored_world};
+ghost use Rattle.moo_world_table.specs.Properties.{definition_named, read};
 
 use crate::World;
-use moo_forest::Forest;
-use moo_object::{Object, PropPerms};
 use moo_value::{MooStr, Value};
+use moo_world_object::{Object, PropPerms};
+use moo_world_tree::Forest;
 
 /// A property that is defined on an object or an ancestor has a value, and no other has one.
 pub fn a_defined_property_has_a_value(world: &World, x: usize, name: &[u8])

@@ -4,16 +4,16 @@ ghost use Rattle.std.specs.Prelude.{◌≡◌, ◌<◌, List, ℕ, IsSome, IfSom
 ghost use Rattle.std.specs.Option.{option_copied, option_map};
 ghost use Rattle.std.specs.List.{All};
 ghost use Rattle.std.specs.Borrow.{Bor};
-ghost use Rattle.moo_forest.specs.Forest.{above_of, below_of};
-ghost use Rattle.moo_table.specs.World.{object_of, most};
+ghost use Rattle.moo_world_tree.specs.Forest.{above_of, below_of};
+ghost use Rattle.moo_world_table.specs.World.{object_of, most};
 ghost use Rattle.moo_world.specs.NamedProperties.{number_of_place};
 ghost use Rattle.moo_world.specs.Numbered.{object_numbered};
 ghost use Rattle.moo_world.specs.Calls.{number_of};
 
 use crate::World;
 use crate::named::place_number;
-use moo_forest::{Below, Forest};
-use moo_object::Object;
+use moo_world_object::Object;
+use moo_world_tree::{Below, Forest};
 
 impl World {
     /// Returns the objects by their numbers, `None` for a number that is not valid.

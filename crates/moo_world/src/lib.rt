@@ -27,13 +27,13 @@ mod verbs;
 
 pub use fault::WorldFault;
 pub use looking::VerbAt;
-pub use moo_forest::Below;
-use moo_forest::Forest;
-pub use moo_object::{
+pub use moo_world_object::{
     BuiltInProperty, Flags, Need, Object, ObjectSpecifier, Preposition, PrepositionSpecifier,
     PropCell, PropPerms, Verb, VerbArgs, VerbPerms,
 };
-pub use moo_table::MOST;
+pub use moo_world_table::MOST;
+pub use moo_world_tree::Below;
+use moo_world_tree::Forest;
 pub use rights::{Action, Rights};
 use std::marker::Model;
 
@@ -49,10 +49,10 @@ pub struct World {
 }
 
 impl Model for World {
-    ghost use Rattle.moo_table.specs.World.{World as Contents, IsCounted};
+    ghost use Rattle.moo_world_table.specs.World.{World as Contents, IsCounted};
     ghost use Rattle.std.specs.Coded.{codes};
     ghost use Rattle.moo_value.specs.TreeCode.{tree_code};
-    ghost use Rattle.moo_program.specs.Code.{block_code};
+    ghost use Rattle.moo_syntax_ast.specs.Code.{block_code};
 
     ghost Value = { Contents };
 

@@ -2,15 +2,15 @@
 
 ghost use Rattle.std.specs.Prelude.{◌≡◌, ◌<◌, Some, IsSome, IfSome};
 ghost use Rattle.std.specs.Option.{option_map, option_and_then};
-ghost use Rattle.moo_forest.specs.Forest.{ancestors};
-ghost use Rattle.moo_table.specs.Verbs.{verb_found};
+ghost use Rattle.moo_world_tree.specs.Forest.{ancestors};
+ghost use Rattle.moo_world_table.specs.Verbs.{verb_found};
 ghost use Rattle.moo_world.specs.VerbCalls.{verb_place};
 ghost use Rattle.moo_world.specs.Calls.{number_of};
-ghost use Rattle.moo_table.specs.World.{object_of, most};
+ghost use Rattle.moo_world_table.specs.World.{object_of, most};
 
 use crate::World;
-use moo_object::Need;
-use moo_table::looking::nearest_verb;
+use moo_world_object::Need;
+use moo_world_table::looking::nearest_verb;
 
 /// The place of a verb: its object, and its index among the verbs of that object.
 #[derive(Clone, Copy, Debug, PartialEq, Eq)]

@@ -4,9 +4,9 @@ ghost use Rattle.std.specs.Prelude.{◌≡◌, ◌<◌, IsSome, Some, IfOk, None
 ghost use Rattle.std.specs.List.{All};
 ghost use Rattle.moo_value.specs.Compare.{folded};
 ghost use Rattle.moo_value.specs.View.{tree};
-ghost use Rattle.moo_object.specs.BuiltIn.{built_in_of};
-ghost use Rattle.moo_table.specs.World.{object_of, most, nothing};
-ghost use Rattle.moo_table.specs.Properties.{read};
+ghost use Rattle.moo_world_object.specs.BuiltIn.{built_in_of};
+ghost use Rattle.moo_world_table.specs.World.{object_of, most, nothing};
+ghost use Rattle.moo_world_table.specs.Properties.{read};
 ghost use Rattle.moo_world.specs.NamedProperties.{truth, number_of_place, objects_list, built_in_value, named_raises, named_value, get_raises, value_got, own_value};
 ghost use Rattle.moo_world.specs.Calls.{Answers, RaisesFirst, number_of};
 ghost use Rattle.std.specs.Option.{unwrap_or, ForSome};
@@ -14,9 +14,9 @@ ghost use Rattle.moo_value.specs.Tree.{object};
 
 use crate::World;
 use crate::fault::WorldFault;
-use moo_forest::Below;
-use moo_object::{BuiltInProperty, Object, built_in};
 use moo_value::{ErrorCode, MooList, Value};
+use moo_world_object::{BuiltInProperty, Object, built_in};
+use moo_world_tree::Below;
 use std::alloc::{AllocError, Global};
 
 impl World {

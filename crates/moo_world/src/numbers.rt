@@ -2,11 +2,11 @@
 
 ghost use Rattle.std.specs.Prelude.{◌≡◌, [], Option, length, IsSome, is_some};
 ghost use Rattle.std.specs.Option.{ForSome};
-ghost use Rattle.moo_table.specs.World.{object_of, IsWellFormed};
+ghost use Rattle.moo_world_table.specs.World.{object_of, IsWellFormed};
 ghost use Rattle.moo_world.specs.Calls.{number_of, place_of, highest};
 
 use crate::World;
-use moo_forest::Forest;
+use moo_world_tree::Forest;
 use std::alloc::Global;
 
 impl World {

@@ -2,20 +2,20 @@
 
 ghost use Rattle.std.specs.Prelude.{◌≡◌, IsSome, Some};
 ghost use Rattle.std.specs.Option.{ForSome};
-ghost use Rattle.moo_forest.specs.Forest.{above_of};
-ghost use Rattle.moo_forest.specs.Walk.{IsWalkDown};
-ghost use Rattle.moo_table.specs.World.{object_of};
-ghost use Rattle.moo_table.specs.Changes.{after_chparent};
+ghost use Rattle.moo_world_tree.specs.Forest.{above_of};
+ghost use Rattle.moo_world_tree.specs.Walk.{IsWalkDown};
+ghost use Rattle.moo_world_table.specs.World.{object_of};
+ghost use Rattle.moo_world_table.specs.Changes.{after_chparent};
 ghost use Rattle.moo_world.specs.Calls.{Changes, Tests, Answers, number_of, place_of, parent_raises, chparent_raises, world_chparent, TakesNoMemory, RaisesFirst, numbers_raise, IsThere};
 
 use crate::World;
 use crate::fault::WorldFault;
-use moo_forest::Step;
-use moo_table::clashing::names_clash;
-use moo_table::fitting::{put_rows, rows_below, some_crowded};
-use moo_table::places::would_loop;
-use moo_table::properties::cells_of;
 use moo_value::ErrorCode;
+use moo_world_table::clashing::names_clash;
+use moo_world_table::fitting::{put_rows, rows_below, some_crowded};
+use moo_world_table::places::would_loop;
+use moo_world_table::properties::cells_of;
+use moo_world_tree::Step;
 use std::alloc::Global;
 
 impl World {

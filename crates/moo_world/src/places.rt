@@ -2,15 +2,15 @@
 
 ghost use Rattle.std.specs.Prelude.{◌≡◌, ◌<◌, IsSome, Option};
 ghost use Rattle.std.specs.Option.{ForSome};
-ghost use Rattle.moo_forest.specs.Forest.{above_of};
-ghost use Rattle.moo_table.specs.World.{object_of};
-ghost use Rattle.moo_table.specs.Changes.{after_move, would_loop};
+ghost use Rattle.moo_world_tree.specs.Forest.{above_of};
+ghost use Rattle.moo_world_table.specs.World.{object_of};
+ghost use Rattle.moo_world_table.specs.Changes.{after_move, would_loop};
 ghost use Rattle.moo_world.specs.Calls.{Changes, Tests, number_of, place_of, place_raises, move_raises, world_move, TakesNoMemory, RaisesFirst, IsThere};
 
 use crate::World;
 use crate::fault::WorldFault;
-use moo_table::places::would_loop;
 use moo_value::ErrorCode;
+use moo_world_table::places::would_loop;
 
 impl World {
     /// Returns Ok if moving an object raises nothing, else the fault that it raises.

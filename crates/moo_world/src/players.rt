@@ -1,15 +1,15 @@
 //! The players.
 
 ghost use Rattle.std.specs.Prelude.{◌≡◌, not, IsSome, Some, false};
-ghost use Rattle.moo_table.specs.World.{object_of};
+ghost use Rattle.moo_world_table.specs.World.{object_of};
 ghost use Rattle.moo_world.specs.Calls.{Changes, Tests, number_of, TakesNoMemory, RaisesFirst};
-ghost use Rattle.moo_table.specs.Players.{after_set_player};
+ghost use Rattle.moo_world_table.specs.Players.{after_set_player};
 ghost use Rattle.moo_world.specs.PlayerCalls.{set_player_raises, world_set_player};
 
 use crate::World;
 use crate::fault::WorldFault;
-use moo_table::players::{list_player, mark_in, too_many};
 use moo_value::ErrorCode;
+use moo_world_table::players::{list_player, mark_in, too_many};
 
 impl World {
     /// Returns the numbers of the players, in order.

@@ -1,19 +1,19 @@
 //! The programs of verbs.
 
 ghost use Rattle.std.specs.Prelude.{◌≡◌, IsSome, Some, Option, is_some};
-ghost use Rattle.moo_object.specs.Verbs.{with_program};
-ghost use Rattle.moo_table.specs.World.{object_of};
-ghost use Rattle.moo_table.specs.Changes.{with_object, with_changed_verb};
-ghost use Rattle.moo_table.specs.Verbs.{programs_with};
+ghost use Rattle.moo_world_object.specs.Verbs.{with_program};
+ghost use Rattle.moo_world_table.specs.World.{object_of};
+ghost use Rattle.moo_world_table.specs.Changes.{with_object, with_changed_verb};
+ghost use Rattle.moo_world_table.specs.Verbs.{programs_with};
 ghost use Rattle.moo_world.specs.Calls.{Answers, Changes, Tests, number_of, TakesNoMemory};
 ghost use Rattle.moo_world.specs.VerbCalls.{program_raises, world_with_object};
 
 use crate::World;
 use crate::fault::WorldFault;
-use moo_grammar::Program;
-use moo_table::MOST;
-use moo_table::verbs::{has_program, set_program_in};
+use moo_syntax_grammar::Program;
 use moo_value::ErrorCode;
+use moo_world_table::MOST;
+use moo_world_table::verbs::{has_program, set_program_in};
 
 impl World {
     /// Returns Ok if giving a verb another program, or removing its program, raises nothing, else the fault that it

@@ -4,19 +4,19 @@ ghost use Rattle.std.specs.Prelude.{◌≡◌, IsSome, Some, List};
 ghost use Rattle.std.specs.Option.{option_map, option_copied, option_and_then};
 ghost use Rattle.moo_value.specs.Compare.{folded};
 ghost use Rattle.moo_value.specs.View.{tree};
-ghost use Rattle.moo_object.specs.Cells.{Cell};
-ghost use Rattle.moo_table.specs.World.{object_of, thing_of};
-ghost use Rattle.moo_table.specs.Changes.{with_object, with_value_of};
-ghost use Rattle.moo_table.specs.Properties.{read};
+ghost use Rattle.moo_world_object.specs.Cells.{Cell};
+ghost use Rattle.moo_world_table.specs.World.{object_of, thing_of};
+ghost use Rattle.moo_world_table.specs.Changes.{with_object, with_value_of};
+ghost use Rattle.moo_world_table.specs.Properties.{read};
 ghost use Rattle.moo_world.specs.PropertyCalls.{plain_raises};
 ghost use Rattle.moo_world.specs.Calls.{Changes, Tests, number_of, TakesNoMemory};
 ghost use Rattle.std.specs.Borrow.{Bor};
 
 use crate::World;
 use crate::fault::WorldFault;
-use moo_object::PropCell;
-use moo_table::properties::{cell_in, cells_in, definer_in, set_in};
 use moo_value::{ErrorCode, Value};
+use moo_world_object::PropCell;
+use moo_world_table::properties::{cell_in, cells_in, definer_in, set_in};
 
 impl World {
     /// Returns the value of a property that is not built in: that of the nearest of the object and its ancestors

@@ -3,23 +3,23 @@
 ghost use Rattle.std.specs.Prelude.{◌≡◌, IsSome, Some, None, OnOk, OnErr};
 ghost use Rattle.std.specs.Option.{option_copied};
 ghost use Rattle.moo_value.specs.Compare.{folded};
-ghost use Rattle.moo_table.specs.World.{object_of};
-ghost use Rattle.moo_table.specs.Changes.{with_object};
-ghost use Rattle.moo_table.specs.Properties.{definition_named};
-ghost use Rattle.moo_table.specs.Edits.{with_cell_info};
-ghost use Rattle.moo_table.specs.Renames.{after_rename};
-ghost use Rattle.moo_table.specs.Steps.{IsRenamable};
+ghost use Rattle.moo_world_table.specs.World.{object_of};
+ghost use Rattle.moo_world_table.specs.Changes.{with_object};
+ghost use Rattle.moo_world_table.specs.Properties.{definition_named};
+ghost use Rattle.moo_world_table.specs.Edits.{with_cell_info};
+ghost use Rattle.moo_world_table.specs.Renames.{after_rename};
+ghost use Rattle.moo_world_table.specs.Steps.{IsRenamable};
 ghost use Rattle.moo_world.specs.InfoCalls.{taken_raises, rename_raises, info_change_raises, set_info_raises, after_info, world_set_info};
 ghost use Rattle.moo_world.specs.Calls.{Answers, Changes, Tests, number_of, TakesNoMemory};
 
 use crate::World;
 use crate::fault::WorldFault;
-use moo_object::{PropPerms, built_in, same_name};
-use moo_table::defining::some_named;
-use moo_table::editing::set_info_in;
-use moo_table::properties::definer_in;
-use moo_table::renaming::{names_along, rename_along, respell_in};
 use moo_value::{ErrorCode, MooStr};
+use moo_world_object::{PropPerms, built_in, same_name};
+use moo_world_table::defining::some_named;
+use moo_world_table::editing::set_info_in;
+use moo_world_table::properties::definer_in;
+use moo_world_table::renaming::{names_along, rename_along, respell_in};
 use std::alloc::{AllocError, Global};
 
 impl World {

@@ -1,17 +1,17 @@
 //! Recycles objects.
 
 ghost use Rattle.std.specs.Prelude.{◌≡◌, IsSome, None};
-ghost use Rattle.moo_table.specs.World.{object_of};
-ghost use Rattle.moo_table.specs.Recycling.{after_recycle};
+ghost use Rattle.moo_world_table.specs.World.{object_of};
+ghost use Rattle.moo_world_table.specs.Recycling.{after_recycle};
 ghost use Rattle.moo_world.specs.Calls.{Changes, Tests, number_of, TakesNoMemory, RaisesFirst};
 ghost use Rattle.moo_world.specs.RecycleCalls.{recycle_raises, world_recycle};
 
 use crate::World;
 use crate::fault::WorldFault;
-use moo_table::players::take_player_out;
-use moo_table::recycling::{empty, lose_all_along};
-use moo_table::verbs::programs_on;
 use moo_value::ErrorCode;
+use moo_world_table::players::take_player_out;
+use moo_world_table::recycling::{empty, lose_all_along};
+use moo_world_table::verbs::programs_on;
 use std::alloc::Global;
 
 impl World {

@@ -1,12 +1,12 @@
 //! A world from given parts.
 
 ghost use Rattle.std.specs.Prelude.{◌≡◌};
-ghost use Rattle.moo_table.specs.World.{World as Contents, IsWellFormed};
+ghost use Rattle.moo_world_table.specs.World.{World as Contents, IsWellFormed};
 
 use crate::World;
-use moo_forest::Forest;
-use moo_object::Object;
-use moo_table::verbs::all_programs;
+use moo_world_object::Object;
+use moo_world_table::verbs::all_programs;
+use moo_world_tree::Forest;
 
 impl World {
     /// Returns the world of these objects, trees and players, as a database gives them.

@@ -2,12 +2,12 @@
 
 ghost use Rattle.std.specs.Prelude.{◌≡◌, is_some, not, Some};
 ghost use Rattle.std.specs.Option.{option_copied, option_map};
-ghost use Rattle.moo_object.specs.Cells.{Cell, cell_named};
+ghost use Rattle.moo_world_object.specs.Cells.{Cell, cell_named};
 ghost use Rattle.moo_world.specs.Numbered.{verb_numbered, cell_numbered};
 ghost use Rattle.moo_world.specs.Rights.{is_wizard, controls, may_own, may_read_object, may_write_object, may_inherit_from, may_read_this_verb, may_write_this_verb, may_read_cell, may_write_cell, may_set_built_in, may_read_property, may_write_property, may};
 
 use crate::World;
-use moo_object::{BuiltInProperty, Object, PropCell, Verb, built_in, cell_named};
+use moo_world_object::{BuiltInProperty, Object, PropCell, Verb, built_in, cell_named};
 
 /// What a programmer may do, and with what: read or set a property and its info, read or write an object, make one
 /// inherit from it, own it, read or write a verb by its place.

@@ -3,18 +3,18 @@
 ghost use Rattle.std.specs.Prelude.{◌≡◌, IsSome};
 ghost use Rattle.moo_value.specs.Compare.{folded};
 ghost use Rattle.moo_value.specs.View.{tree};
-ghost use Rattle.moo_object.specs.BuiltIn.{built_in_of};
-ghost use Rattle.moo_table.specs.World.{object_of};
-ghost use Rattle.moo_table.specs.Changes.{with_object};
-ghost use Rattle.moo_table.specs.Edits.{with_built_in, with_named};
+ghost use Rattle.moo_world_object.specs.BuiltIn.{built_in_of};
+ghost use Rattle.moo_world_table.specs.World.{object_of};
+ghost use Rattle.moo_world_table.specs.Changes.{with_object};
+ghost use Rattle.moo_world_table.specs.Edits.{with_built_in, with_named};
 ghost use Rattle.moo_world.specs.EditCalls.{set_built_in_raises, set_named_raises, set_raises, world_set};
 ghost use Rattle.moo_world.specs.Calls.{Changes, Tests, number_of, TakesNoMemory};
 
 use crate::World;
 use crate::fault::WorldFault;
-use moo_object::{BuiltInProperty, built_in};
-use moo_table::editing::set_built_in_in;
 use moo_value::{ErrorCode, Value};
+use moo_world_object::{BuiltInProperty, built_in};
+use moo_world_table::editing::set_built_in_in;
 
 impl World {
     /// Returns Ok if setting a property raises nothing, else the fault that it raises.

@@ -4,20 +4,20 @@ ghost use Rattle.std.specs.Prelude.{◌≡◌, ◌<◌, length, IsSome, IfOk, On
 ghost use Rattle.std.specs.Int.{w32};
 ghost use Rattle.std.specs.Option.{option_copied, option_map, option_and_then};
 ghost use Rattle.moo_value.specs.Size.{IsString};
-ghost use Rattle.moo_object.specs.Verbs.{with_verb_info, with_args};
-ghost use Rattle.moo_table.specs.World.{object_of, thing_of};
-ghost use Rattle.moo_table.specs.Changes.{with_object, with_verb, without_verb, with_changed_verb};
+ghost use Rattle.moo_world_object.specs.Verbs.{with_verb_info, with_args};
+ghost use Rattle.moo_world_table.specs.World.{object_of, thing_of};
+ghost use Rattle.moo_world_table.specs.Changes.{with_object, with_verb, without_verb, with_changed_verb};
 ghost use Rattle.moo_world.specs.Calls.{Changes, Tests, number_of, TakesNoMemory, RaisesFirst};
 ghost use Rattle.moo_world.specs.VerbCalls.{verb_raises, verb_info_raises, add_verb_raises, world_with_object};
 
 use crate::World;
 use crate::fault::WorldFault;
-use moo_object::{Verb, VerbArgs, VerbPerms, has_word};
-use moo_table::MOST;
-use moo_table::verbs::{
+use moo_value::{ErrorCode, MooStr};
+use moo_world_object::{Verb, VerbArgs, VerbPerms, has_word};
+use moo_world_table::MOST;
+use moo_world_table::verbs::{
     add_verb_in, remove_verb_in, set_verb_args_in, set_verb_info_in, verb_in, verbs_of,
 };
-use moo_value::{ErrorCode, MooStr};
 
 impl World {
     /// Returns a verb of a valid object, by its place.

@@ -1,7 +1,7 @@
 // A property of a built-in name: no call makes one, but a database may have it. Look-ups find the built-in one, calls on
 // properties find none, and its cells stand in rows and go where others go.
 use crate::script::stand_on;
-use moo_load::read_db;
+use moo_dbtext_read::read_db;
 use std::test::Fail;
 
 // A thing that defines `R`, 7, and `size`, 8, and a child of it with 9 in its own cell of `R`.

@@ -2,7 +2,7 @@
 use crate::args::{Args, string};
 use crate::looks::look;
 use crate::rights::rights;
-use moo_grammar::Program;
+use moo_syntax_grammar::Program;
 use moo_value::{ErrorCode, Value};
 use moo_world::{ObjectSpecifier, PrepositionSpecifier, VerbArgs, World, WorldFault};
 use std::alloc::Global;

@@ -1,7 +1,7 @@
 // Calls of the plain built-in functions.
 use moo_builtin::{Caller, call_plain};
+use moo_builtin_value::Outcome;
 use moo_value::{MooStr, Value};
-use moo_value_function::Outcome;
 use moo_world::{World, WorldFault};
 use std::alloc::Global;
 

@@ -2,9 +2,9 @@
 // node that leaves is found at the place that was noted for it, and the first behind the gaps that are known.
 ghost use Rattle.std.specs.Prelude.{◌≡◌, ◌<◌, IsTrue, false, length};
 ghost use Rattle.std.specs.Option.{ForSome};
-ghost use Rattle.moo_forest.specs.Forest.{is_within};
+ghost use Rattle.moo_world_tree.specs.Forest.{is_within};
 
-use moo_forest::Forest;
+use moo_world_tree::Forest;
 use std::alloc::{AllocError, Global};
 
 const NODES: usize = 1_000_000;

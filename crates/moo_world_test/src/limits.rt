@@ -2,7 +2,7 @@
 use crate::args::{NO_VERB_PERMS, string};
 use crate::calls::{NO_COMMAND, no_statements};
 use crate::script::stand_on;
-use moo_grammar::Program;
+use moo_syntax_grammar::Program;
 use moo_world::{MOST, World, WorldFault};
 use std::alloc::Global;
 use std::test::Fail;

@@ -1,7 +1,7 @@
 // The database texts of worlds that calls have built.
 use crate::script::stand_on;
 use crate::worlds::FOUR_OBJECTS;
-use moo_dump::write_world;
+use moo_dbtext::write_world;
 use moo_world::World;
 use std::alloc::Global;
 use std::test::Fail;

@@ -1,11 +1,11 @@
 -- The texts of permissions and specifiers parse back to them, by cases.
 use Rattle.std.proofs.Common.{◌≡◌, Bool, true, false, refl}
 use Rattle.std.specs.Prelude.{Some}
-use Rattle.moo_object.specs.declared.cell.PropPerms.{PropPerms}
-use Rattle.moo_object.specs.declared.verb.VerbPerms.{VerbPerms}
-use Rattle.moo_object.specs.declared.verb_args.ObjectSpecifier.TheVariants as specifier
-use Rattle.moo_object.specs.declared.verb_args.PrepositionSpecifier.TheVariants as preposition
-use Rattle.moo_object.specs.declared.verb_args.Preposition.TheVariants.{With, At, InFrontOf, Inside, OnTopOf, OutOf, Over, Through, Under, Behind, Beside, About, Being, Like, Off}
+use Rattle.moo_world_object.specs.declared.cell.PropPerms.{PropPerms}
+use Rattle.moo_world_object.specs.declared.verb.VerbPerms.{VerbPerms}
+use Rattle.moo_world_object.specs.declared.verb_args.ObjectSpecifier.TheVariants as specifier
+use Rattle.moo_world_object.specs.declared.verb_args.PrepositionSpecifier.TheVariants as preposition
+use Rattle.moo_world_object.specs.declared.verb_args.Preposition.TheVariants.{With, At, InFrontOf, Inside, OnTopOf, OutOf, Over, Through, Under, Behind, Beside, About, Being, Like, Off}
 use Rattle.moo_world_text.specs.Permissions.{prop_perms_text, prop_perms_of, verb_perms_text, verb_perms_of}
 use Rattle.moo_world_text.specs.Laws.{PropPermsAreReadBack, VerbPermsAreReadBack, ObjectSpecifiersAreReadBack, PrepositionSpecifiersAreReadBack}
 

@@ -1,9 +1,9 @@
 -- The texts of permissions and specifiers parse back to them.
 use Rattle.std.specs.Prelude.{◌≡◌, Some}
-use Rattle.moo_object.specs.declared.cell.PropPerms.{PropPerms}
-use Rattle.moo_object.specs.declared.verb.VerbPerms.{VerbPerms}
-use Rattle.moo_object.specs.declared.verb_args.ObjectSpecifier.{ObjectSpecifier}
-use Rattle.moo_object.specs.declared.verb_args.PrepositionSpecifier.{PrepositionSpecifier}
+use Rattle.moo_world_object.specs.declared.cell.PropPerms.{PropPerms}
+use Rattle.moo_world_object.specs.declared.verb.VerbPerms.{VerbPerms}
+use Rattle.moo_world_object.specs.declared.verb_args.ObjectSpecifier.{ObjectSpecifier}
+use Rattle.moo_world_object.specs.declared.verb_args.PrepositionSpecifier.{PrepositionSpecifier}
 use Rattle.moo_world_text.specs.Permissions.{prop_perms_text, prop_perms_of, verb_perms_text, verb_perms_of}
 use Rattle.moo_world_text.specs.Specifiers.{object_specifier_text, object_specifier_of, preposition_specifier_text, preposition_specifier_of}
 

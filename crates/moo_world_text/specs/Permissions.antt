@@ -2,8 +2,8 @@
 use Rattle.std.specs.Prelude.{ℕ, List, [], ◌∷◌, Bool, ◌==◌, map, filter, Option, Some, None, codes, if◌then◌else◌}
 use Rattle.std.specs.List.{list_any, list_all}
 use Rattle.std.specs.Char.{to_ascii_lowercase}
-use Rattle.moo_object.specs.declared.cell.PropPerms.{PropPerms}
-use Rattle.moo_object.specs.declared.verb.VerbPerms.{VerbPerms}
+use Rattle.moo_world_object.specs.declared.cell.PropPerms.{PropPerms}
+use Rattle.moo_world_object.specs.declared.verb.VerbPerms.{VerbPerms}
 
 -- the marked letters, in their order
 abbrev pub marked : List (Bool × ℕ) → List ℕ

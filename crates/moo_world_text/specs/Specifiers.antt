@@ -3,13 +3,13 @@ use Rattle.std.specs.Prelude.{ℕ, List, [], ◌∷◌, Bool, ◌==◌, ◌||◌
 use Rattle.std.specs.Option.{option_map}
 use Rattle.std.specs.List.{list_any, find, slice_split}
 use Rattle.moo_value.specs.Compare.{folded}
-use Rattle.moo_object.specs.Names.{same_name}
-use Rattle.moo_object.specs.declared.verb_args.ObjectSpecifier.{ObjectSpecifier}
-use Rattle.moo_object.specs.declared.verb_args.ObjectSpecifier.TheVariants as specifier
-use Rattle.moo_object.specs.declared.verb_args.PrepositionSpecifier.{PrepositionSpecifier}
-use Rattle.moo_object.specs.declared.verb_args.PrepositionSpecifier.TheVariants as preposition
-use Rattle.moo_object.specs.declared.verb_args.Preposition.{Preposition}
-use Rattle.moo_object.specs.declared.verb_args.Preposition.TheVariants.{With, At, InFrontOf, Inside, OnTopOf, OutOf, Over, Through, Under, Behind, Beside, About, Being, Like, Off}
+use Rattle.moo_world_object.specs.Names.{same_name}
+use Rattle.moo_world_object.specs.declared.verb_args.ObjectSpecifier.{ObjectSpecifier}
+use Rattle.moo_world_object.specs.declared.verb_args.ObjectSpecifier.TheVariants as specifier
+use Rattle.moo_world_object.specs.declared.verb_args.PrepositionSpecifier.{PrepositionSpecifier}
+use Rattle.moo_world_object.specs.declared.verb_args.PrepositionSpecifier.TheVariants as preposition
+use Rattle.moo_world_object.specs.declared.verb_args.Preposition.{Preposition}
+use Rattle.moo_world_object.specs.declared.verb_args.Preposition.TheVariants.{With, At, InFrontOf, Inside, OnTopOf, OutOf, Over, Through, Under, Behind, Beside, About, Being, Like, Off}
 
 -- the texts are the same, without regard to case
 abbrev pub same_text : List ℕ → List ℕ → Bool

@@ -4,8 +4,8 @@ ghost use Rattle.std.specs.List.{list_any};
 ghost use Rattle.std.specs.Char.{to_ascii_lowercase};
 ghost use Rattle.moo_world_text.specs.Permissions.{marked, prop_perms_text, verb_perms_text, is_letter, has_letter, is_one_of, has_only, prop_perms_of, verb_perms_of};
 
-use moo_object::{PropPerms, VerbPerms};
 use moo_value::MooStr;
+use moo_world_object::{PropPerms, VerbPerms};
 use std::alloc::{AllocError, Global};
 
 /// Returns the letters of a property's permissions, out of `rwc`.

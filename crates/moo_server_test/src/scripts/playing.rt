@@ -3,7 +3,7 @@
 
 use crate::scripts::streams::{Paper, Source};
 use log::sink::Memory;
-use moo_script::run_script;
+use moo_cli_script::run_script;
 use moo_server::LiveWorld;
 use std::alloc::Global;
 

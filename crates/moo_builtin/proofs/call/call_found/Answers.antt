@@ -1,6 +1,6 @@
 use Rattle.std.proofs.Common.{◌∙◌}
 use Rattle.moo_value.specs.View.{trees}
-use Rattle.moo_code_function.specs.Telling.{Faults}
+use Rattle.moo_builtin.specs.Telling.{Faults}
 use Rattle.moo_builtin.proofs.Joined.{unknown_called}
 use Rattle.moo_builtin.proofs.call.call_found.Goals as goal
 

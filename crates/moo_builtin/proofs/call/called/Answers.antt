@@ -1,6 +1,6 @@
 use Rattle.std.proofs.Common.{sym}
 use Rattle.moo_value.specs.View.{trees}
-use Rattle.moo_code_function.specs.Telling.{Faults}
+use Rattle.moo_builtin.specs.Telling.{Faults}
 use Rattle.moo_builtin.proofs.Joined.{function_called}
 use Rattle.moo_builtin.proofs.call.called.Goals as goal
 

@@ -2,7 +2,7 @@ use Rattle.std.proofs.Common.{rules, ◌≡◌, ◌∙◌, w32}
 use Rattle.std.proofs.lemmas.Int.{to_z-of_z}
 use mir.Val.{SFits}
 use Rattle.moo_value.specs.View.{trees}
-use Rattle.moo_code_function.specs.Telling.{Faults}
+use Rattle.moo_builtin.specs.Telling.{Faults}
 use Rattle.moo_builtin.proofs.Joined.{not_of_world, world_followed, code_followed, value_followed}
 use Rattle.moo_builtin.proofs.Lacking.{world_lacks, code_lacks, value_lacks}
 use Rattle.moo_builtin.proofs.call.followed.Goals as goal

@@ -1,7 +1,7 @@
 use Rattle.std.proofs.Common.{◌∙◌, sym, ap}
 use Rattle.std.specs.Option.{unwrap_or}
 use Rattle.std.specs.List.{position}
-use Rattle.moo_table.specs.World.{nothing}
+use Rattle.moo_world_table.specs.World.{nothing}
 use Rattle.moo_command.specs.Choice.{is_meant}
 use Rattle.moo_command.specs.Seen.{command_of}
 use Rattle.moo_command.proofs.choice.meant_in.Goals as goal

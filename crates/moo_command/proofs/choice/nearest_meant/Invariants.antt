@@ -1,6 +1,6 @@
 use Rattle.std.proofs.Common.{◌≡◌, ◌<◌, ◌-◌, ◌∷◌, length}
 use Rattle.std.specs.List.{filter_map}
-use Rattle.moo_forest.specs.Forest.{climb, above_of, ancestors}
+use Rattle.moo_world_tree.specs.Forest.{climb, above_of, ancestors}
 use Rattle.moo_command.specs.Choice.{meant_in}
 use Rattle.moo_command.specs.Seen.{command_of}
 use Rattle.moo_command.proofs.choice.nearest_meant.Given as goal

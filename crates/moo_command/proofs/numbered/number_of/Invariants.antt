@@ -1,6 +1,6 @@
 use Rattle.std.proofs.Common.{◌≡◌, min, take}
-use Rattle.moo_text_function.specs.Numerals.{number}
-use Rattle.moo_table.specs.World.{most}
+use Rattle.moo_builtin_value.specs.Numerals.{number}
+use Rattle.moo_world_table.specs.World.{most}
 use Rattle.moo_command.proofs.numbered.number_of.Given as goal
 
 abbrev pub invariant-loop-digit : goal.invariant-loop-digit

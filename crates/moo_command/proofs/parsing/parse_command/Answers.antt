@@ -2,7 +2,7 @@ use Rattle.std.proofs.Common.{◌≡◌, w32, SFits, rules, subst, ℤ}
 use Rattle.std.proofs.lemmas.Int.{to_z-of_z}
 use Rattle.std.proofs.lemmas.Result.{IfOk-weaker}
 use Rattle.moo_command.specs.Commands.{IsCommandOf, says}
-use Rattle.moo_words.specs.Typed.{IsTyped}
+use Rattle.moo_command.specs.FirstWord.{IsTyped}
 use Rattle.moo_command.specs.Typed.{expanded}
 use Rattle.moo_command.specs.Seen.{command_of}
 use Rattle.moo_command.proofs.Signs.{some_then}

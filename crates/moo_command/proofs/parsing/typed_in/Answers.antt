@@ -3,8 +3,8 @@ use Rattle.std.specs.Option.{option_map}
 use Rattle.std.proofs.lemmas.Result.{IfOk-weaker}
 use Rattle.std.proofs.lemmas.List.{length-drop}
 use Rattle.std.proofs.lemmas.Option.{IfSome_then}
-use Rattle.moo_words.specs.Words.{Words}
-use Rattle.moo_words.specs.Typed.{IsTyped, unindented}
+use Rattle.moo_command.specs.Words.{Words}
+use Rattle.moo_command.specs.FirstWord.{IsTyped, unindented}
 use Rattle.moo_command.specs.Typed.{expanded}
 use Rattle.moo_command.specs.Inner.{verb_leading}
 use Rattle.moo_command.proofs.Splits.{rest_whole}

@@ -1,5 +1,5 @@
-use Rattle.moo_dbvalue.specs.Lines.{limited, unlimited}
-use Rattle.moo_dump.proofs.Written.{written}
+use Rattle.moo_dbtext_object.specs.Lines.{limited, unlimited}
+use Rattle.moo_dbtext.proofs.Written.{written}
 use Rattle.moo_dbtext.proofs.Spelling.{spelled, spelled_within}
 use Rattle.moo_dbtext.proofs.laws.canonical_bytes_spell_the_saved_world.Goals as goal
 

@@ -1,6 +1,6 @@
 use Rattle.std.proofs.Common.{ℕ, List, sym, subst}
-use Rattle.moo_dbvalue.specs.Lines.{limited, unlimited}
-use Rattle.moo_saved.specs.Saved.{Saved, SpellsSaved, SpellsSavedWithin}
+use Rattle.moo_dbtext_object.specs.Lines.{limited, unlimited}
+use Rattle.moo_dbtext_read.specs.Saved.{Saved, SpellsSaved, SpellsSavedWithin}
 use Rattle.moo_dbtext.proofs.Spelling.{spelled, spelled_within}
 use Rattle.moo_dbtext.proofs.writing.write_world_and_connected.Goals as goal
 

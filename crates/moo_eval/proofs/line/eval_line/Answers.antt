@@ -1,12 +1,12 @@
 use Rattle.std.proofs.Common.{negsuc, [], ◌∷◌, ap, ◌∙◌, refl, subst}
-use Rattle.moo_grammar.specs.declared.names.Names.TheVariants.{Known}
-use Rattle.moo_grammar.specs.Texts.{IsParsed}
+use Rattle.moo_syntax_grammar.specs.declared.names.Names.TheVariants.{Known}
+use Rattle.moo_syntax_grammar.specs.Texts.{IsParsed}
 use Rattle.moo_syntax.specs.Programs.{Blames}
-use Rattle.moo_semantics.specs.Line.{refused, runs}
-use Rattle.moo_semantics.specs.Task.{TaskEnds}
-use Rattle.moo_code_function.specs.Telling.{Faults}
-use Rattle.moo_hook.specs.Evaluating.{typed_frame}
-use Rattle.moo_semantics.specs.Typed.{nowhere}
+use Rattle.moo_eval_semantics.specs.Line.{refused, runs}
+use Rattle.moo_eval_semantics.specs.Task.{TaskEnds}
+use Rattle.moo_builtin.specs.Telling.{Faults}
+use Rattle.moo_eval_call.specs.Evaluating.{typed_frame}
+use Rattle.moo_eval_semantics.specs.Typed.{nowhere}
 use Rattle.moo_eval.proofs.line.eval_line.Goals as goal
 
 pub returns-in-Ok : goal.returns-in-Ok

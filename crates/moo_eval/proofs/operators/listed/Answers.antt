@@ -1,7 +1,7 @@
 use Rattle.std.proofs.Common.{Ok, sym, ap, ◌∙◌}
 use Rattle.std.proofs.lemmas.Result.{err_from_is_err_and}
 use Rattle.moo_value.specs.Tree.{list_of}
-use Rattle.moo_outcome.specs.Outcome.{answers}
+use Rattle.moo_eval_frame.specs.Outcome.{answers}
 use Rattle.moo_eval.proofs.operators.listed.Goals as goal
 
 pub returns : goal.returns

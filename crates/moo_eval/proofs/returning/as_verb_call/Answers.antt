@@ -1,5 +1,5 @@
 use Rattle.std.proofs.Common.{refl}
-use Rattle.moo_program.proofs.Rows.{row_items}
+use Rattle.moo_syntax_ast.proofs.Rows.{row_items}
 use Rattle.moo_eval.proofs.returning.as_verb_call.Goals as goal
 
 pub returns-in-VerbCall : goal.returns-in-VerbCall

@@ -1,7 +1,7 @@
 use Rattle.std.proofs.Common.{rules, w32}
 use Rattle.std.proofs.lemmas.Int.{to_z-of_z}
 use mir.Val.{SFits}
-use Rattle.moo_outcome.specs.Seen.{seen_flow, IsKnown}
+use Rattle.moo_eval_frame.specs.Seen.{seen_flow, IsKnown}
 use Rattle.moo_eval.specs.Seen.{state_of}
 use Rattle.moo_eval.proofs.Ending.{task_ends, first_runs}
 use Rattle.moo_eval.proofs.task.run_frame.Goals as goal

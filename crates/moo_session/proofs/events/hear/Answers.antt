@@ -1,9 +1,9 @@
 use Rattle.std.proofs.Common.{◌≡◌, ℕ, List, ap, refl, subst}
 use Rattle.std.specs.Prelude.{OnOk}
-use Rattle.moo_code_function.specs.Telling.{Faults}
-use Rattle.moo_live.specs.Session.{Session}
-use Rattle.moo_live.specs.State.{state}
-use Rattle.moo_typing.specs.Typing.{MeetsLines}
+use Rattle.moo_builtin.specs.Telling.{Faults}
+use Rattle.moo_session_task.specs.Session.{Session}
+use Rattle.moo_session_task.specs.State.{state}
+use Rattle.moo_session.specs.Input.{MeetsLines}
 use Rattle.moo_session.proofs.Steps.{lines_met, nobody_heard, somebody_heard, not_refused}
 use Rattle.moo_session.proofs.events.hear.Goals as goal
 

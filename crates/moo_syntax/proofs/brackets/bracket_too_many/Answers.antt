@@ -1,8 +1,8 @@
 use Rattle.std.proofs.Common.{◌+◌, ◌<◌, ◌≤◌, ◌≡◌, ◌++◌, ◌∙◌, List, [], ◌∷◌, refl, sym, ap, take, subst, arith}
-use Rattle.moo_token.specs.declared.token.Token.{Token}
-use Rattle.moo_program.specs.Limits.{most_brackets}
-use Rattle.moo_grammar.specs.Tokens.{words}
-use Rattle.moo_grammar.specs.Brackets.{most_open}
+use Rattle.moo_syntax_token.specs.declared.token.Token.{Token}
+use Rattle.moo_syntax_ast.specs.Limits.{most_brackets}
+use Rattle.moo_syntax_grammar.specs.Tokens.{words}
+use Rattle.moo_syntax_grammar.specs.Brackets.{most_open}
 use Rattle.moo_syntax.proofs.Words.{words_front}
 use Rattle.moo_syntax.proofs.brackets.bracket_too_many.Goals as goal
 

@@ -1,9 +1,9 @@
 -- Whatever tokens are still to come decide.
 use Rattle.std.proofs.Common.{List, ◌≤◌, ◌<◌, ◌++◌, take}
-use Rattle.moo_token.specs.declared.token.Token.{Token}
-use Rattle.moo_program.specs.Limits.{most_brackets}
-use Rattle.moo_grammar.specs.Tokens.{words}
-use Rattle.moo_grammar.specs.Brackets.{most_open_behind, most_open}
+use Rattle.moo_syntax_token.specs.declared.token.Token.{Token}
+use Rattle.moo_syntax_ast.specs.Limits.{most_brackets}
+use Rattle.moo_syntax_grammar.specs.Tokens.{words}
+use Rattle.moo_syntax_grammar.specs.Brackets.{most_open_behind, most_open}
 use Rattle.moo_syntax.proofs.brackets.bracket_too_many.Given as goal
 
 abbrev pub invariant-loop-at : goal.invariant-loop-at

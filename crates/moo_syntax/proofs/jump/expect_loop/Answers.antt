@@ -1,8 +1,8 @@
 use Rattle.std.proofs.Common.{ℕ, List, Option, refl, sym, subst, ◌∙◌, ◌≡◌, is_some, false, true, reverse}
 use Rattle.std.specs.List.{list_any}
 use Rattle.std.proofs.lemmas.List.Sorted.{list_any-IsPermutation, IsPermutation-reverse}
-use Rattle.moo_grammar.specs.Tokens.{next_passes, name_at}
-use Rattle.moo_grammar.specs.Rules.{is_named}
+use Rattle.moo_syntax_grammar.specs.Tokens.{next_passes, name_at}
+use Rattle.moo_syntax_grammar.specs.Rules.{is_named}
 use Rattle.moo_syntax.proofs.jump.expect_loop.Goals as goal
 
 turned : (ls : List (Option (List ℕ))) (name : List ℕ) → list_any (is_named name) ls ≡ list_any (is_named name) (reverse ls)

@@ -1,13 +1,13 @@
 use Rattle.std.proofs.Common.{rules, refl, sym, subst, ◌∙◌, ◌≡◌, [], length, false, true, None, reverse, arith}
 use Rattle.std.proofs.lemmas.Result.{err_from_is_err_and}
-use Rattle.moo_grammar.specs.Rules.{has_loop}
-use Rattle.moo_grammar.specs.Tokens.{is_keyword, next_passes}
-use Rattle.moo_grammar.specs.Machine.{sees_fails}
-use Rattle.moo_grammar.specs.Predictive.{behind_jump}
-use Rattle.moo_grammar.proofs.Kept.{refused_fails}
-use Rattle.moo_expression.specs.Places.{at_keyword}
+use Rattle.moo_syntax_grammar.specs.Rules.{has_loop}
+use Rattle.moo_syntax_grammar.specs.Tokens.{is_keyword, next_passes}
+use Rattle.moo_syntax_grammar.specs.Machine.{sees_fails}
+use Rattle.moo_syntax_grammar.specs.Predictive.{behind_jump}
+use Rattle.moo_syntax_grammar.proofs.Kept.{refused_fails}
+use Rattle.moo_syntax.specs.Places.{at_keyword}
 use Rattle.moo_syntax.proofs.Jumps.{label_at, empty_list, loop_jumps, no_loop_jumps, some_loops, jump_name, jump_memory, jump_too_deep, jump_ends, jump_unended, jump_refused}
-use Rattle.moo_expression.proofs.Steps.{admitted, admitted_fails, passed}
+use Rattle.moo_syntax.proofs.Steps.{admitted, admitted_fails, passed}
 use Rattle.moo_syntax.proofs.jump.jump.Goals as goal
 
 pub returns-then-is_empty-clause-failed : goal.returns-then-is_empty-clause-failed

@@ -1,6 +1,6 @@
 use Rattle.std.proofs.Common.{arith, ap, ◌∙◌, ◌∷◌}
-use Rattle.moo_token.specs.declared.token.Token.TheVariants.{Name}
-use Rattle.moo_expression.specs.Cursor.{left}
+use Rattle.moo_syntax_token.specs.declared.token.Token.TheVariants.{Name}
+use Rattle.moo_syntax.specs.Cursor.{left}
 use Rattle.moo_syntax.proofs.reader.called_name.Goals as goal
 
 pub returns-then-take : goal.returns-then-take

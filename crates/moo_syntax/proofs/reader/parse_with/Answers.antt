@@ -1,4 +1,4 @@
-use Rattle.moo_program.specs.View.{block}
+use Rattle.moo_syntax_ast.specs.View.{block}
 use Rattle.moo_syntax.proofs.Sound.{parsed, has_text}
 use Rattle.moo_syntax.proofs.reader.parse_with.Goals as goal
 

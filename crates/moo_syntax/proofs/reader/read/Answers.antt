@@ -1,13 +1,13 @@
 use Rattle.std.proofs.Common.{rules, refl, subst, drop, length, ◌≤◌, arith, []}
-use Rattle.moo_program.specs.View.{block as tree_of}
-use Rattle.moo_grammar.specs.Tokens.{words}
-use Rattle.moo_grammar.specs.Rules.{loose, strict}
-use Rattle.moo_grammar.specs.Grammar.{IsProgram, statements, block}
-use Rattle.moo_grammar.specs.Machine.{Reads}
-use Rattle.moo_grammar.specs.Predictive.{grammar}
-use Rattle.moo_grammar.proofs.Admitted.{loose_admits}
-use Rattle.moo_grammar.proofs.Derived.{derived}
-use Rattle.moo_expression.proofs.Steps.{admits_itself}
+use Rattle.moo_syntax_ast.specs.View.{block as tree_of}
+use Rattle.moo_syntax_grammar.specs.Tokens.{words}
+use Rattle.moo_syntax_grammar.specs.Rules.{loose, strict}
+use Rattle.moo_syntax_grammar.specs.Grammar.{IsProgram, statements, block}
+use Rattle.moo_syntax_grammar.specs.Machine.{Reads}
+use Rattle.moo_syntax_grammar.specs.Predictive.{grammar}
+use Rattle.moo_syntax_grammar.proofs.Admitted.{loose_admits}
+use Rattle.moo_syntax_grammar.proofs.Derived.{derived}
+use Rattle.moo_syntax.proofs.Steps.{admits_itself}
 use Rattle.moo_syntax.proofs.Passing.{program_passes}
 use Rattle.moo_syntax.proofs.Whole.{stop_of, refused_before, nothing_left}
 use Rattle.moo_syntax.proofs.Exceeding.{exceed_by_lines, exceed_by_bracket}

@@ -1,5 +1,5 @@
 use Rattle.std.proofs.Common.{subst, ◌∙◌, ◌≡◌, ◌-◌, ap, arith, drop, false}
-use Rattle.moo_grammar.specs.Rules.{may_call}
+use Rattle.moo_syntax_grammar.specs.Rules.{may_call}
 use Rattle.moo_syntax.specs.Ground.{of_value, ground_at}
 use Rattle.moo_syntax.specs.Programs.{line_of}
 use Rattle.moo_syntax.proofs.Whole.{same_call}

@@ -1,26 +1,26 @@
 use Rattle.std.proofs.Common.{rules, refl, sym, ◌∙◌, ap, ◌+◌, reverse, length, true, false, [], Some, None, is_some, arith}
 use Rattle.std.proofs.lemmas.Result.{err_from_is_err_and}
 use Rattle.std.proofs.lemmas.List.{reverse-append}
-use Rattle.moo_token.specs.declared.sign.Sign.TheVariants.{LeftBracket}
-use Rattle.moo_token.specs.declared.keyword.Keyword.TheVariants.{In}
-use Rattle.moo_token.specs.declared.token.Token.TheVariants.{Name, Keyword, Sign}
-use Rattle.moo_program.specs.declared.tree.Arm.{ElseIf, Else}
-use Rattle.moo_program.specs.Tree.{breaks, continues}
-use Rattle.moo_program.specs.Limits.{block_height}
-use Rattle.moo_program.specs.View.{statement as tree_of}
-use Rattle.moo_program.proofs.Rows.{row_block, row_arms, row_handlers}
-use Rattle.moo_grammar.specs.Grammar.{Sort, statement}
-use Rattle.moo_grammar.specs.Machine.{gives, sees, misses, reads, refuses, sees_fails, misses_fails, phrase_fails, then_fails}
-use Rattle.moo_grammar.specs.Predictive.{grammar, behind_if, behind_for, behind_while, behind_return, behind_try}
-use Rattle.moo_grammar.specs.Tokens.{name_at}
-use Rattle.moo_expression.specs.Cursor.{left, Takes, Stays}
-use Rattle.moo_expression.specs.Outcome.{IsReadBy, HasFailedBy}
-use Rattle.moo_expression.specs.Outgrown.{can_read, can_take, at_once}
-use Rattle.moo_expression.proofs.Deepening.{at_any, sees_deepens, misses_deepens, then_deepens, phrase_deepens}
+use Rattle.moo_syntax_token.specs.declared.sign.Sign.TheVariants.{LeftBracket}
+use Rattle.moo_syntax_token.specs.declared.keyword.Keyword.TheVariants.{In}
+use Rattle.moo_syntax_token.specs.declared.token.Token.TheVariants.{Name, Keyword, Sign}
+use Rattle.moo_syntax_ast.specs.declared.tree.Arm.{ElseIf, Else}
+use Rattle.moo_syntax_ast.specs.Tree.{breaks, continues}
+use Rattle.moo_syntax_ast.specs.Limits.{block_height}
+use Rattle.moo_syntax_ast.specs.View.{statement as tree_of}
+use Rattle.moo_syntax_ast.proofs.Rows.{row_block, row_arms, row_handlers}
+use Rattle.moo_syntax_grammar.specs.Grammar.{Sort, statement}
+use Rattle.moo_syntax_grammar.specs.Machine.{gives, sees, misses, reads, refuses, sees_fails, misses_fails, phrase_fails, then_fails}
+use Rattle.moo_syntax_grammar.specs.Predictive.{grammar, behind_if, behind_for, behind_while, behind_return, behind_try}
+use Rattle.moo_syntax_grammar.specs.Tokens.{name_at}
+use Rattle.moo_syntax.specs.Cursor.{left, Takes, Stays}
+use Rattle.moo_syntax.specs.Outcome.{IsReadBy, HasFailedBy}
+use Rattle.moo_syntax.specs.Outgrown.{can_read, can_take, at_once}
+use Rattle.moo_syntax.proofs.Deepening.{at_any, sees_deepens, misses_deepens, then_deepens, phrase_deepens}
 use Rattle.moo_syntax.specs.Statements.{behind_range, performing}
 use Rattle.moo_syntax.proofs.Blocks.{before_nothing, before_push, block_height_push, statement_height_positive, arms_before_nothing, arms_before_push, arms_push, arms_height_push, handlers_before_push, handlers_push, with_handler_height, handlers_height_push}
 use Rattle.moo_syntax.proofs.Jumps.{label_reads, label_at, no_statement_room, break_jumps, continue_jumps}
-use Rattle.moo_expression.proofs.Steps.{took, took_fails, took_deepens, stayed, stayed_fails, stayed_deepens, told_admits, passed, refused, no_memory, too_high, if_ok, if_err, none_of}
+use Rattle.moo_syntax.proofs.Steps.{took, took_fails, took_deepens, stayed, stayed_fails, stayed_deepens, told_admits, passed, refused, no_memory, too_high, if_ok, if_err, none_of}
 use Rattle.moo_syntax.proofs.statement.+statements.Goals as goal
 
 pub statements-loop-alloc-init : goal.statements-loop-alloc-init

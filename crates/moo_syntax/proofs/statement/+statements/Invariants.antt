@@ -1,10 +1,10 @@
 -- Each call leaves fewer tokens to read, or goes to a part of what its caller reads; and what is read so far in each loop.
 use Rattle.std.proofs.Common.{◌+◌, ◌-◌, ◌*◌, ◌≤◌, ◌≡◌, length, reverse}
-use Rattle.moo_program.specs.Limits.{block_height, arms_height, handlers_height}
-use Rattle.moo_program.specs.View.{block, arms_of, handlers_of}
-use Rattle.moo_grammar.specs.Grammar.{statements, arms, handlers}
-use Rattle.moo_expression.specs.Cursor.{left}
-use Rattle.moo_expression.specs.Outcome.{Moves, GoesOn}
+use Rattle.moo_syntax_ast.specs.Limits.{block_height, arms_height, handlers_height}
+use Rattle.moo_syntax_ast.specs.View.{block, arms_of, handlers_of}
+use Rattle.moo_syntax_grammar.specs.Grammar.{statements, arms, handlers}
+use Rattle.moo_syntax.specs.Cursor.{left}
+use Rattle.moo_syntax.specs.Outcome.{Moves, GoesOn}
 use Rattle.moo_syntax.specs.Statements.{before, arms_before, handlers_before}
 use Rattle.moo_syntax.proofs.statement.+statements.Given as goal
 

@@ -1,9 +1,9 @@
 use Rattle.std.proofs.Common.{refl, arith}
 use Rattle.std.proofs.lemmas.Result.{err_from_is_err_and}
-use Rattle.moo_grammar.specs.Machine.{gives, reads, refuses, phrase_fails, then_fails}
-use Rattle.moo_grammar.specs.Predictive.{grammar}
-use Rattle.moo_expression.proofs.Deepening.{phrase_deepens}
-use Rattle.moo_expression.proofs.Steps.{took, took_fails, took_deepens, stayed_fails, passed, refused}
+use Rattle.moo_syntax_grammar.specs.Machine.{gives, reads, refuses, phrase_fails, then_fails}
+use Rattle.moo_syntax_grammar.specs.Predictive.{grammar}
+use Rattle.moo_syntax.proofs.Deepening.{phrase_deepens}
+use Rattle.moo_syntax.proofs.Steps.{took, took_fails, took_deepens, stayed_fails, passed, refused}
 use Rattle.moo_syntax.proofs.statement.in_parens.Goals as goal
 
 pub returns-in_err-expect-clause-failed : goal.returns-in_err-expect-clause-failed

@@ -1,10 +1,10 @@
 use Rattle.std.proofs.Common.{refl, arith}
 use Rattle.std.proofs.lemmas.Result.{err_from_is_err_and}
-use Rattle.moo_grammar.specs.Machine.{gives, reads, refuses, phrase_fails, then_fails}
-use Rattle.moo_grammar.specs.Predictive.{grammar}
-use Rattle.moo_expression.specs.Outgrown.{can_give}
-use Rattle.moo_expression.proofs.Deepening.{then_deepens, phrase_deepens, meets_at_once}
-use Rattle.moo_expression.proofs.Steps.{took, took_deepens, stayed_fails, passed, refused, too_high}
+use Rattle.moo_syntax_grammar.specs.Machine.{gives, reads, refuses, phrase_fails, then_fails}
+use Rattle.moo_syntax_grammar.specs.Predictive.{grammar}
+use Rattle.moo_syntax.specs.Outgrown.{can_give}
+use Rattle.moo_syntax.proofs.Deepening.{then_deepens, phrase_deepens, meets_at_once}
+use Rattle.moo_syntax.proofs.Steps.{took, took_deepens, stayed_fails, passed, refused, too_high}
 use Rattle.moo_syntax.proofs.statement.performed.Goals as goal
 
 pub returns-in_err-value-clause-failed : goal.returns-in_err-value-clause-failed

@@ -1,13 +1,13 @@
 use Rattle.std.proofs.Common.{refl, arith}
 use Rattle.std.proofs.lemmas.Result.{err_from_is_err_and}
-use Rattle.moo_token.specs.declared.sign.Sign.TheVariants.{Semicolon}
-use Rattle.moo_token.specs.declared.token.Token.TheVariants.{Sign}
-use Rattle.moo_grammar.specs.Machine.{gives, reads, refuses, phrase_fails, then_fails}
-use Rattle.moo_grammar.specs.Predictive.{grammar}
-use Rattle.moo_expression.specs.Outgrown.{can_give, can_take, at_once}
-use Rattle.moo_expression.proofs.Deepening.{phrase_deepens, at_any}
+use Rattle.moo_syntax_token.specs.declared.sign.Sign.TheVariants.{Semicolon}
+use Rattle.moo_syntax_token.specs.declared.token.Token.TheVariants.{Sign}
+use Rattle.moo_syntax_grammar.specs.Machine.{gives, reads, refuses, phrase_fails, then_fails}
+use Rattle.moo_syntax_grammar.specs.Predictive.{grammar}
+use Rattle.moo_syntax.specs.Outgrown.{can_give, can_take, at_once}
+use Rattle.moo_syntax.proofs.Deepening.{phrase_deepens, at_any}
 use Rattle.moo_syntax.proofs.Jumps.{no_statement_room}
-use Rattle.moo_expression.proofs.Steps.{took, stayed, stayed_fails, stayed_deepens, passed, refused, too_high}
+use Rattle.moo_syntax.proofs.Steps.{took, stayed, stayed_fails, stayed_deepens, passed, refused, too_high}
 use Rattle.moo_syntax.proofs.statement.returned.Goals as goal
 
 pub returns-in_err-room_below-clause-failed : goal.returns-in_err-room_below-clause-failed

@@ -3,8 +3,8 @@ use Rattle.std.specs.Prelude.{OnOk}
 use Rattle.moo_unparse.specs.Lines.{handler_lines}
 use Rattle.moo_unparse.specs.Listings.{elseif_head, except_head, deeper, lines, arm_lines, handlers_lines}
 use Rattle.moo_unparse.proofs.LineSteps.{written, elseif_at, else_at, handlers_at}
-use Rattle.moo_program.specs.View.{root, codes_of, block, arms_of, handlers_of}
-use Rattle.moo_program.proofs.Rows.{row_block, row_arms, row_handlers}
+use Rattle.moo_syntax_ast.specs.View.{root, codes_of, block, arms_of, handlers_of}
+use Rattle.moo_syntax_ast.proofs.Rows.{row_block, row_arms, row_handlers}
 use Rattle.moo_unparse.proofs.block.+lines.Goals as goal
 
 pub write_below-returns-in-ForList : goal.write_below-returns-in-ForList

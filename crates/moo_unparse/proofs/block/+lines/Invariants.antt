@@ -1,5 +1,5 @@
 use Rattle.std.proofs.Common.{◌≡◌, ◌++◌, drop}
-use Rattle.moo_program.specs.View.{block, arms_of, handlers_of}
+use Rattle.moo_syntax_ast.specs.View.{block, arms_of, handlers_of}
 use Rattle.moo_unparse.specs.Listings.{lines, arm_lines, handlers_lines}
 use Rattle.moo_unparse.proofs.block.+lines.Given as goal
 

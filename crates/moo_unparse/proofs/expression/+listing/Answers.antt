@@ -1,7 +1,7 @@
 use Rattle.std.proofs.Common.{◌≡◌, ◌+◌, refl, ap, arith}
-use Rattle.moo_program.specs.View.{tree, items_of, codes_of}
-use Rattle.moo_program.proofs.Rows.{row_items}
-use Rattle.moo_program.proofs.Sizes.{size, items_size, codes_size, size_of_first, size_within}
+use Rattle.moo_syntax_ast.specs.View.{tree, items_of, codes_of}
+use Rattle.moo_syntax_ast.proofs.Rows.{row_items}
+use Rattle.moo_syntax_ast.proofs.Sizes.{size, items_size, codes_size, size_of_first, size_within}
 use Rattle.moo_unparse.proofs.expression.+listing.Goals as goal
 
 pub write_expression-write_list-requires : goal.write_expression-write_list-requires

@@ -1,8 +1,8 @@
 use Rattle.std.proofs.Common.{◌≡◌, ◌+◌, ◌*◌, ◌++◌, drop}
-use Rattle.moo_program.specs.View.{tree, items_of, codes_of}
+use Rattle.moo_syntax_ast.specs.View.{tree, items_of, codes_of}
 use Rattle.moo_unparse.specs.Listings.{listed_items}
 use Rattle.moo_unparse.proofs.Items.{rest}
-use Rattle.moo_program.proofs.Sizes.{size, items_size, item_size, codes_size}
+use Rattle.moo_syntax_ast.proofs.Sizes.{size, items_size, item_size, codes_size}
 use Rattle.moo_unparse.proofs.expression.+listing.Given as goal
 
 abbrev pub invariant-write_items-loop-item : goal.invariant-write_items-loop-item

@@ -1,4 +1,4 @@
-use Rattle.moo_grammar.specs.declared.names.Names.TheVariants.{Any}
+use Rattle.moo_syntax_grammar.specs.declared.names.Names.TheVariants.{Any}
 use Rattle.moo_unparse.proofs.Law.{listing_is_parsed}
 use Rattle.moo_unparse.proofs.laws.programs_have_listings.Goals as goal
 

@@ -1,7 +1,7 @@
 use Rattle.std.proofs.Common.{◌∙◌, sym, ap, subst}
-use Rattle.moo_program.specs.Limits.{AllFit}
-use Rattle.moo_program.specs.View.{block}
-use Rattle.moo_program.specs.Listing.{listing}
+use Rattle.moo_syntax_ast.specs.Limits.{AllFit}
+use Rattle.moo_syntax_ast.specs.View.{block}
+use Rattle.moo_syntax_ast.specs.Listing.{listing}
 use Rattle.moo_unparse.proofs.Full.{full_is_a_form}
 use Rattle.moo_unparse.proofs.Refusals.{too_heavy}
 use Rattle.moo_unparse.proofs.listing.list_full.Goals as goal

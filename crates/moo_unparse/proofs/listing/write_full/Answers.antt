@@ -2,8 +2,8 @@ use Rattle.std.proofs.Common.{List, ℕ, ◌≡◌, ◌++◌, ◌∙◌, ap, sub
 use Rattle.std.specs.Prelude.{OnOk}
 use Rattle.std.specs.List.{All, flat_map}
 use Rattle.moo_value.specs.Tree.{IsText}
-use Rattle.moo_program.specs.View.{block}
-use Rattle.moo_program.specs.Listing.{listing}
+use Rattle.moo_syntax_ast.specs.View.{block}
+use Rattle.moo_syntax_ast.specs.Listing.{listing}
 use Rattle.moo_unparse.proofs.Full.{full_is_a_form}
 use Rattle.moo_unparse.proofs.Written.{end, are_strings}
 use Rattle.moo_unparse.proofs.listing.write_full.Goals as goal

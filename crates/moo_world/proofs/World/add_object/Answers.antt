@@ -1,12 +1,12 @@
 use Rattle.std.proofs.Common.{◌≡◌, ◌++◌, ◌∷◌, [], Some, refl, sym, ◌∙◌, ap, arith, length, subst, map, w32}
 use Rattle.std.proofs.lemmas.Int.{to_z-of_z}
 use Rattle.std.proofs.lemmas.Grind.{common_steps}
-use Rattle.moo_forest.specs.Forest.{alone, moved}
-use Rattle.moo_object.specs.Cells.{cleared}
-use Rattle.moo_table.specs.World.{World, cells_of}
-use Rattle.moo_table.proofs.Counting.{programs_added}
-use Rattle.moo_table.proofs.Changing.{IsValidPlace, valid_within}
-use Rattle.moo_table.proofs.Newborns.{create_well_formed, made}
+use Rattle.moo_world_tree.specs.Forest.{alone, moved}
+use Rattle.moo_world_object.specs.Cells.{cleared}
+use Rattle.moo_world_table.specs.World.{World, cells_of}
+use Rattle.moo_world_table.proofs.Counting.{programs_added}
+use Rattle.moo_world_table.proofs.Changing.{IsValidPlace, valid_within}
+use Rattle.moo_world_table.proofs.Newborns.{create_well_formed, made}
 use Rattle.moo_world.proofs.World.add_object.Goals as goal
 
 pub cells_of-requires : goal.cells_of-requires

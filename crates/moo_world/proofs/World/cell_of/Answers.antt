@@ -1,11 +1,11 @@
 use Rattle.std.proofs.Common.{IsSome, sym, ◌∙◌, ap, subst}
 use Rattle.std.specs.Option.{option_copied}
 use Rattle.moo_value.specs.Compare.{folded}
-use Rattle.moo_object.specs.Cells.{cell_named}
-use Rattle.moo_object.specs.Objects.{Object}
-use Rattle.moo_table.specs.World.{World, object_of, thing_of}
+use Rattle.moo_world_object.specs.Cells.{cell_named}
+use Rattle.moo_world_object.specs.Objects.{Object}
+use Rattle.moo_world_table.specs.World.{World, object_of, thing_of}
 use Rattle.moo_world.specs.PropertyCalls.{plain_raises}
-use Rattle.moo_table.proofs.VerbChanges.{thing_read}
+use Rattle.moo_world_table.proofs.VerbChanges.{thing_read}
 use Rattle.moo_world.proofs.Raising.{cell_allowed, cell_refused}
 use Rattle.moo_world.proofs.World.cell_of.Goals as goal
 

@@ -1,9 +1,9 @@
 use Rattle.std.proofs.Common.{sym, ◌∙◌, ap, subst, IsSome}
 use Rattle.moo_value.specs.Compare.{folded}
-use Rattle.moo_object.specs.Cells.{cell_named, is_named}
-use Rattle.moo_object.specs.Objects.{Object}
-use Rattle.moo_table.specs.World.{World, object_of, thing_of}
-use Rattle.moo_table.proofs.VerbChanges.{thing_read}
+use Rattle.moo_world_object.specs.Cells.{cell_named, is_named}
+use Rattle.moo_world_object.specs.Objects.{Object}
+use Rattle.moo_world_table.specs.World.{World, object_of, thing_of}
+use Rattle.moo_world_table.proofs.VerbChanges.{thing_read}
 use Rattle.moo_world.proofs.ByRight.{placed_cell, unplaced}
 use Rattle.moo_world.proofs.World.cell_written.Goals as goal
 

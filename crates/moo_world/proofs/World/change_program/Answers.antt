@@ -1,12 +1,12 @@
 use Rattle.std.proofs.Common.{◌≡◌, Some, sym, ◌∙◌, ap, subst, arith, length, IsSome}
-use Rattle.moo_object.specs.Verbs.{with_program}
-use Rattle.moo_table.specs.World.{World, object_of, thing_of}
-use Rattle.moo_table.specs.Changes.{with_object, with_changed_verb}
-use Rattle.moo_table.specs.Verbs.{programs_with}
+use Rattle.moo_world_object.specs.Verbs.{with_program}
+use Rattle.moo_world_table.specs.World.{World, object_of, thing_of}
+use Rattle.moo_world_table.specs.Changes.{with_object, with_changed_verb}
+use Rattle.moo_world_table.specs.Verbs.{programs_with}
 use Rattle.moo_world.specs.VerbCalls.{program_raises}
-use Rattle.moo_table.proofs.Changing.{valid_within}
-use Rattle.moo_table.proofs.Single.{slot_changed, object_recounted}
-use Rattle.moo_table.proofs.VerbChanges.{verb_changed, thing_read}
+use Rattle.moo_world_table.proofs.Changing.{valid_within}
+use Rattle.moo_world_table.proofs.Single.{slot_changed, object_recounted}
+use Rattle.moo_world_table.proofs.VerbChanges.{verb_changed, thing_read}
 use Rattle.moo_world.proofs.Recounting.{program_free, programs_then}
 use Rattle.moo_world.proofs.World.change_program.Goals as goal
 

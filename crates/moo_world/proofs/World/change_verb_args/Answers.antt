@@ -1,11 +1,11 @@
 use Rattle.std.proofs.Common.{Some, sym, ◌∙◌, ap, subst, arith, length, IsSome, refl}
-use Rattle.moo_object.specs.Verbs.{with_args}
-use Rattle.moo_table.specs.World.{World, object_of, thing_of}
-use Rattle.moo_table.specs.Changes.{with_object, with_changed_verb}
+use Rattle.moo_world_object.specs.Verbs.{with_args}
+use Rattle.moo_world_table.specs.World.{World, object_of, thing_of}
+use Rattle.moo_world_table.specs.Changes.{with_object, with_changed_verb}
 use Rattle.moo_world.specs.VerbCalls.{verb_raises}
-use Rattle.moo_table.proofs.Counting.{programs_as_before}
-use Rattle.moo_table.proofs.Single.{slot_changed, object_kept}
-use Rattle.moo_table.proofs.VerbChanges.{verb_changed, thing_read, verb_free}
+use Rattle.moo_world_table.proofs.Counting.{programs_as_before}
+use Rattle.moo_world_table.proofs.Single.{slot_changed, object_kept}
+use Rattle.moo_world_table.proofs.VerbChanges.{verb_changed, thing_read, verb_free}
 use Rattle.moo_world.proofs.World.change_verb_args.Goals as goal
 
 pub set_verb_args_in-requires : goal.set_verb_args_in-requires

@@ -1,14 +1,14 @@
 use Rattle.std.proofs.Common.{◌≡◌, Some, sym, ◌∙◌, ap, subst, arith, length, IsSome, w32, refl}
 use Rattle.std.proofs.lemmas.Int.{to_z-of_z}
 use Rattle.std.specs.Option.{option_map}
-use Rattle.moo_object.specs.Patterns.{has_word}
-use Rattle.moo_object.specs.Verbs.{with_verb_info}
-use Rattle.moo_table.specs.World.{World, object_of, thing_of}
-use Rattle.moo_table.specs.Changes.{with_object, with_changed_verb}
+use Rattle.moo_world_object.specs.Patterns.{has_word}
+use Rattle.moo_world_object.specs.Verbs.{with_verb_info}
+use Rattle.moo_world_table.specs.World.{World, object_of, thing_of}
+use Rattle.moo_world_table.specs.Changes.{with_object, with_changed_verb}
 use Rattle.moo_world.specs.VerbCalls.{verb_info_raises}
-use Rattle.moo_table.proofs.Counting.{programs_as_before}
-use Rattle.moo_table.proofs.Single.{slot_changed, object_kept}
-use Rattle.moo_table.proofs.VerbChanges.{verb_changed, thing_read, info_free}
+use Rattle.moo_world_table.proofs.Counting.{programs_as_before}
+use Rattle.moo_world_table.proofs.Single.{slot_changed, object_kept}
+use Rattle.moo_world_table.proofs.VerbChanges.{verb_changed, thing_read, info_free}
 use Rattle.moo_world.proofs.World.change_verb_info.Goals as goal
 
 pub set_verb_info_in-requires : goal.set_verb_info_in-requires

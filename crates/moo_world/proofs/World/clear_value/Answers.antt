@@ -1,12 +1,12 @@
 use Rattle.std.proofs.Common.{sym, ap, subst, IsSome, refl}
 use Rattle.moo_value.specs.Compare.{folded}
-use Rattle.moo_object.specs.Cells.{Key}
-use Rattle.moo_table.specs.World.{World, object_of, thing_of}
-use Rattle.moo_table.specs.Changes.{with_object}
-use Rattle.moo_table.specs.Edits.{with_clear}
-use Rattle.moo_table.specs.Properties.{definition_named}
-use Rattle.moo_table.proofs.Single.{slot_changed, object_kept}
-use Rattle.moo_table.proofs.Edited.{clear_kept}
+use Rattle.moo_world_object.specs.Cells.{Key}
+use Rattle.moo_world_table.specs.World.{World, object_of, thing_of}
+use Rattle.moo_world_table.specs.Changes.{with_object}
+use Rattle.moo_world_table.specs.Edits.{with_clear}
+use Rattle.moo_world_table.specs.Properties.{definition_named}
+use Rattle.moo_world_table.proofs.Single.{slot_changed, object_kept}
+use Rattle.moo_world_table.proofs.Edited.{clear_kept}
 use Rattle.moo_world.proofs.Inheriting.{inherited_is_other}
 use Rattle.moo_world.proofs.World.clear_value.Goals as goal
 

@@ -1,6 +1,6 @@
 use Rattle.std.proofs.Common.{◌<◌, sym, subst, arith, length}
 use Rattle.std.specs.List.{All}
-use Rattle.moo_forest.proofs.Dissolving.{listed_within}
+use Rattle.moo_world_tree.proofs.Dissolving.{listed_within}
 use Rattle.moo_world.proofs.World.contents_of.Goals as goal
 
 pub returns-clause-low : goal.returns-clause-low

@@ -3,15 +3,15 @@ use Rattle.std.specs.Option.{is_some}
 use Rattle.std.proofs.lemmas.Int.{to_z-of_z}
 use Rattle.moo_value.specs.Compare.{folded}
 use Rattle.moo_value.specs.View.{tree}
-use Rattle.moo_forest.specs.Walk.{IsWalkDown}
-use Rattle.moo_object.specs.BuiltIn.{built_in_of}
-use Rattle.moo_object.specs.Cells.{Cell, key_of, own_cell}
-use Rattle.moo_table.specs.World.{HasStored}
-use Rattle.moo_table.specs.Changes.{after_define}
+use Rattle.moo_world_tree.specs.Walk.{IsWalkDown}
+use Rattle.moo_world_object.specs.BuiltIn.{built_in_of}
+use Rattle.moo_world_object.specs.Cells.{Cell, key_of, own_cell}
+use Rattle.moo_world_table.specs.World.{HasStored}
+use Rattle.moo_world_table.specs.Changes.{after_define}
 use Rattle.moo_world.specs.Calls.{Changes}
 use Rattle.moo_world.specs.PropertyCalls.{add_property_raises, define_raises}
-use Rattle.moo_table.specs.Properties.{is_taken, is_full}
-use Rattle.moo_table.proofs.Allowing.{define_free, property_free}
+use Rattle.moo_world_table.specs.Properties.{is_taken, is_full}
+use Rattle.moo_world_table.proofs.Allowing.{define_free, property_free}
 use Rattle.moo_world.proofs.Raising.{name_allowed, nothing_first}
 use Rattle.moo_world.proofs.World.define.Goals as goal
 

@@ -1,4 +1,4 @@
-use Rattle.moo_table.proofs.WellFormed.{empty_counted}
+use Rattle.moo_world_table.proofs.WellFormed.{empty_counted}
 use Rattle.moo_world.proofs.World.empty.Goals as goal
 
 pub invariant_of-result : goal.invariant_of-result

@@ -1,6 +1,6 @@
 use Rattle.std.proofs.Common.{◌<◌, sym, subst, arith, length}
 use Rattle.std.specs.List.{All}
-use Rattle.moo_forest.proofs.Dissolving.{listed_within}
+use Rattle.moo_world_tree.proofs.Dissolving.{listed_within}
 use Rattle.moo_world.proofs.World.get_built_in.Goals as goal
 
 pub contents_value-requires : goal.contents_value-requires

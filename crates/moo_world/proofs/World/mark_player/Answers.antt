@@ -1,12 +1,12 @@
 use Rattle.std.proofs.Common.{◌≡◌, pos, Some, sym, ◌∙◌, ap, subst, arith, length, IsSome, refl, w32, to_z}
 use Rattle.std.proofs.lemmas.Int.{to_z_pos}
-use Rattle.moo_table.proofs.Changing.{valid_within}
-use Rattle.moo_table.specs.World.{World, object_of}
-use Rattle.moo_table.specs.Changes.{with_object}
-use Rattle.moo_table.specs.Players.{players_with, as_player, after_set_player}
+use Rattle.moo_world_table.proofs.Changing.{valid_within}
+use Rattle.moo_world_table.specs.World.{World, object_of}
+use Rattle.moo_world_table.specs.Changes.{with_object}
+use Rattle.moo_world_table.specs.Players.{players_with, as_player, after_set_player}
 use Rattle.moo_world.specs.PlayerCalls.{set_player_raises}
-use Rattle.moo_table.proofs.Single.{slot_changed, object_kept}
-use Rattle.moo_table.proofs.PlayerLists.{players_free, marked, numbers_listed, players_counted}
+use Rattle.moo_world_table.proofs.Single.{slot_changed, object_kept}
+use Rattle.moo_world_table.proofs.PlayerLists.{players_free, marked, numbers_listed, players_counted}
 use Rattle.moo_world.proofs.World.mark_player.Goals as goal
 
 pub invariant_of-self-2 : goal.invariant_of-self-2

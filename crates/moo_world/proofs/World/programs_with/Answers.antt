@@ -1,9 +1,9 @@
 use Rattle.std.proofs.Common.{◌≡◌, IsSome, sym, ◌∙◌, ap, subst, arith}
-use Rattle.moo_table.specs.World.{World, object_of, thing_of}
-use Rattle.moo_table.specs.Verbs.{has_program, one_for}
-use Rattle.moo_table.proofs.Changing.{valid_within}
-use Rattle.moo_table.proofs.Counting.{programs_with_it, programs_below}
-use Rattle.moo_table.proofs.VerbChanges.{thing_read}
+use Rattle.moo_world_table.specs.World.{World, object_of, thing_of}
+use Rattle.moo_world_table.specs.Verbs.{has_program, one_for}
+use Rattle.moo_world_table.proofs.Changing.{valid_within}
+use Rattle.moo_world_table.proofs.Counting.{programs_with_it, programs_below}
+use Rattle.moo_world_table.proofs.VerbChanges.{thing_read}
 use Rattle.moo_world.proofs.Recounting.{one_from}
 use Rattle.moo_world.proofs.World.programs_with.Goals as goal
 

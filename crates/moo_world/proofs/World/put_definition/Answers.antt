@@ -1,14 +1,14 @@
 use Rattle.std.proofs.Common.{◌≡◌, sym, ◌∙◌, ap, subst, arith, length, IsSome, refl}
-use Rattle.moo_forest.specs.Forest.{above_of}
-use Rattle.moo_forest.specs.Walk.{met, IsWalkDown}
-use Rattle.moo_table.specs.World.{World, object_of, cells_of}
-use Rattle.moo_table.specs.Steps.{defined_along, IsDefinable}
-use Rattle.moo_table.specs.Changes.{after_define}
-use Rattle.moo_table.proofs.Changing.{valid_within}
-use Rattle.moo_table.proofs.Counting.{programs_defined}
-use Rattle.moo_table.proofs.Joining.{walk_low}
-use Rattle.moo_table.proofs.Definitions.{defined_well_formed}
-use Rattle.moo_table.proofs.Placing.{defined_is}
+use Rattle.moo_world_tree.specs.Forest.{above_of}
+use Rattle.moo_world_tree.specs.Walk.{met, IsWalkDown}
+use Rattle.moo_world_table.specs.World.{World, object_of, cells_of}
+use Rattle.moo_world_table.specs.Steps.{defined_along, IsDefinable}
+use Rattle.moo_world_table.specs.Changes.{after_define}
+use Rattle.moo_world_table.proofs.Changing.{valid_within}
+use Rattle.moo_world_table.proofs.Counting.{programs_defined}
+use Rattle.moo_world_table.proofs.Joining.{walk_low}
+use Rattle.moo_world_table.proofs.Definitions.{defined_well_formed}
+use Rattle.moo_world_table.proofs.Placing.{defined_is}
 use Rattle.moo_world.proofs.World.put_definition.Goals as goal
 
 pub define_along-requires : goal.define_along-requires

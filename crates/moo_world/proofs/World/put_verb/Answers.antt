@@ -1,11 +1,11 @@
 use Rattle.std.proofs.Common.{Some, sym, ◌∙◌, ap, subst, length, IsSome}
-use Rattle.moo_object.specs.Patterns.{has_word}
-use Rattle.moo_table.specs.World.{World, object_of, thing_of}
-use Rattle.moo_table.specs.Changes.{with_object, with_verb}
+use Rattle.moo_world_object.specs.Patterns.{has_word}
+use Rattle.moo_world_table.specs.World.{World, object_of, thing_of}
+use Rattle.moo_world_table.specs.Changes.{with_object, with_verb}
 use Rattle.moo_world.specs.VerbCalls.{add_verb_raises}
-use Rattle.moo_table.proofs.Counting.{programs_with_one_more}
-use Rattle.moo_table.proofs.Single.{slot_changed, object_kept}
-use Rattle.moo_table.proofs.VerbChanges.{verb_added, thing_read, room_free}
+use Rattle.moo_world_table.proofs.Counting.{programs_with_one_more}
+use Rattle.moo_world_table.proofs.Single.{slot_changed, object_kept}
+use Rattle.moo_world_table.proofs.VerbChanges.{verb_added, thing_read, room_free}
 use Rattle.moo_world.proofs.World.put_verb.Goals as goal
 
 pub invariant_of-self-2 : goal.invariant_of-self-2

@@ -1,17 +1,17 @@
 use Rattle.std.proofs.Common.{◌≡◌, None, pos, refl, sym, ◌∙◌, ap, subst, arith, IsSome, set, w32, to_z, false}
 use Rattle.std.proofs.lemmas.Int.{to_z_pos}
-use Rattle.moo_forest.specs.Forest.{dissolved}
-use Rattle.moo_forest.specs.Walk.{met}
-use Rattle.moo_forest.proofs.Dissolving.{above_apart}
-use Rattle.moo_object.specs.Objects.{Object}
-use Rattle.moo_table.specs.World.{World, object_of, thing_of, programs_of}
-use Rattle.moo_table.specs.Steps.{changed_along}
-use Rattle.moo_table.specs.Players.{players_with}
-use Rattle.moo_table.specs.Recycling.{after_recycle, without_cells_of}
-use Rattle.moo_table.proofs.Changing.{valid_within}
-use Rattle.moo_table.proofs.Counting.{programs_recycled}
-use Rattle.moo_table.proofs.VerbChanges.{thing_read}
-use Rattle.moo_table.proofs.Leaving.{left_is, recycled_well_formed}
+use Rattle.moo_world_tree.specs.Forest.{dissolved}
+use Rattle.moo_world_tree.specs.Walk.{met}
+use Rattle.moo_world_tree.proofs.Dissolving.{above_apart}
+use Rattle.moo_world_object.specs.Objects.{Object}
+use Rattle.moo_world_table.specs.World.{World, object_of, thing_of, programs_of}
+use Rattle.moo_world_table.specs.Steps.{changed_along}
+use Rattle.moo_world_table.specs.Players.{players_with}
+use Rattle.moo_world_table.specs.Recycling.{after_recycle, without_cells_of}
+use Rattle.moo_world_table.proofs.Changing.{valid_within}
+use Rattle.moo_world_table.proofs.Counting.{programs_recycled}
+use Rattle.moo_world_table.proofs.VerbChanges.{thing_read}
+use Rattle.moo_world_table.proofs.Leaving.{left_is, recycled_well_formed}
 use Rattle.moo_world.proofs.World.remove_object.Goals as goal
 
 pub dissolve-requires-clause-apart : goal.dissolve-requires-clause-apart

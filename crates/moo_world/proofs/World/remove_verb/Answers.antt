@@ -1,11 +1,11 @@
 use Rattle.std.proofs.Common.{◌≡◌, Some, false, sym, ◌∙◌, ap, subst, arith, length, IsSome}
-use Rattle.moo_table.specs.World.{World, object_of, thing_of}
-use Rattle.moo_table.specs.Changes.{with_object, without_verb}
+use Rattle.moo_world_table.specs.World.{World, object_of, thing_of}
+use Rattle.moo_world_table.specs.Changes.{with_object, without_verb}
 use Rattle.moo_world.specs.VerbCalls.{verb_raises}
-use Rattle.moo_table.specs.Verbs.{programs_with}
-use Rattle.moo_table.proofs.Changing.{valid_within}
-use Rattle.moo_table.proofs.Single.{slot_changed, object_recounted}
-use Rattle.moo_table.proofs.VerbChanges.{verb_removed, thing_read, verb_free}
+use Rattle.moo_world_table.specs.Verbs.{programs_with}
+use Rattle.moo_world_table.proofs.Changing.{valid_within}
+use Rattle.moo_world_table.proofs.Single.{slot_changed, object_recounted}
+use Rattle.moo_world_table.proofs.VerbChanges.{verb_removed, thing_read, verb_free}
 use Rattle.moo_world.proofs.Recounting.{programs_left}
 use Rattle.moo_world.proofs.World.remove_verb.Goals as goal
 

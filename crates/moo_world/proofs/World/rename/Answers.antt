@@ -1,18 +1,18 @@
 use Rattle.std.proofs.Common.{ℕ, ◌<◌, sym, ◌∙◌, ap, subst, arith, length, IsSome, map, set}
 use Rattle.std.specs.Option.{option_map}
 use Rattle.moo_value.specs.Compare.{folded}
-use Rattle.moo_forest.specs.Walk.{met, step_at}
-use Rattle.moo_forest.specs.declared.walk.Step.{Step}
-use Rattle.moo_object.specs.Cells.{Key}
-use Rattle.moo_table.specs.World.{World, object_of}
-use Rattle.moo_table.specs.Steps.{changed_along, with_new_cell_name, IsRenamable}
-use Rattle.moo_table.specs.Edits.{with_respelled}
-use Rattle.moo_table.specs.Renames.{after_rename}
-use Rattle.moo_table.proofs.Changing.{valid_within}
-use Rattle.moo_table.proofs.Counting.{programs_renamed}
-use Rattle.moo_table.proofs.Joining.{walk_low}
-use Rattle.moo_table.proofs.Single.{slot_changed}
-use Rattle.moo_table.proofs.Renamed.{along_renamed, renamed_well_formed, renamed_valid}
+use Rattle.moo_world_tree.specs.Walk.{met, step_at}
+use Rattle.moo_world_tree.specs.declared.walk.Step.{Step}
+use Rattle.moo_world_object.specs.Cells.{Key}
+use Rattle.moo_world_table.specs.World.{World, object_of}
+use Rattle.moo_world_table.specs.Steps.{changed_along, with_new_cell_name, IsRenamable}
+use Rattle.moo_world_table.specs.Edits.{with_respelled}
+use Rattle.moo_world_table.specs.Renames.{after_rename}
+use Rattle.moo_world_table.proofs.Changing.{valid_within}
+use Rattle.moo_world_table.proofs.Counting.{programs_renamed}
+use Rattle.moo_world_table.proofs.Joining.{walk_low}
+use Rattle.moo_world_table.proofs.Single.{slot_changed}
+use Rattle.moo_world_table.proofs.Renamed.{along_renamed, renamed_well_formed, renamed_valid}
 use Rattle.moo_world.proofs.World.rename.Goals as goal
 
 pub rename_along-requires : goal.rename_along-requires

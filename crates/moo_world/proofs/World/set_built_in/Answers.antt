@@ -1,10 +1,10 @@
 use Rattle.std.proofs.Common.{sym, ap, subst, IsSome}
 use Rattle.moo_value.specs.View.{tree}
-use Rattle.moo_table.specs.World.{World, object_of, thing_of}
-use Rattle.moo_table.specs.Changes.{with_object}
-use Rattle.moo_table.specs.Edits.{with_built_in}
-use Rattle.moo_table.proofs.Single.{slot_changed, object_kept}
-use Rattle.moo_table.proofs.Edited.{built_in_kept, built_in_programs}
+use Rattle.moo_world_table.specs.World.{World, object_of, thing_of}
+use Rattle.moo_world_table.specs.Changes.{with_object}
+use Rattle.moo_world_table.specs.Edits.{with_built_in}
+use Rattle.moo_world_table.proofs.Single.{slot_changed, object_kept}
+use Rattle.moo_world_table.proofs.Edited.{built_in_kept, built_in_programs}
 use Rattle.moo_world.proofs.World.set_built_in.Goals as goal
 
 pub invariant_of-self : goal.invariant_of-self

@@ -3,10 +3,10 @@ use Rattle.std.proofs.lemmas.Int.{to_z-of_z}
 use mir.Val.{SFits}
 use Rattle.moo_value.specs.Compare.{folded}
 use Rattle.moo_value.specs.View.{tree}
-use Rattle.moo_table.specs.World.{World, object_of, thing_of, IsWellFormed}
-use Rattle.moo_table.specs.Changes.{with_object, with_value_of}
-use Rattle.moo_table.proofs.Single.{object_kept}
-use Rattle.moo_table.proofs.ValueChanges.{value_kept}
+use Rattle.moo_world_table.specs.World.{World, object_of, thing_of, IsWellFormed}
+use Rattle.moo_world_table.specs.Changes.{with_object, with_value_of}
+use Rattle.moo_world_table.proofs.Single.{object_kept}
+use Rattle.moo_world_table.proofs.ValueChanges.{value_kept}
 use Rattle.moo_world.specs.ByRight.{IsWritable}
 use Rattle.moo_world.proofs.ByRight.{put_here, writable_free, writable_sets}
 use Rattle.moo_world.proofs.World.set_found_by.Goals as goal

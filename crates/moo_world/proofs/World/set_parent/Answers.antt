@@ -1,16 +1,16 @@
 use Rattle.std.proofs.Common.{◌≡◌, ◌<◌, ℕ, sym, ◌∙◌, ap, subst, arith, length, IsSome, vec_len}
-use Rattle.moo_forest.specs.Forest.{moved}
-use Rattle.moo_forest.specs.Walk.{met, step_at, IsWalkDown}
-use Rattle.moo_object.specs.Cells.{AreDistinct}
-use Rattle.moo_table.specs.World.{World, object_of, thing_of, clashes, crowds}
-use Rattle.moo_table.specs.Steps.{with_rows}
-use Rattle.moo_table.specs.Changes.{after_chparent, would_loop}
+use Rattle.moo_world_tree.specs.Forest.{moved}
+use Rattle.moo_world_tree.specs.Walk.{met, step_at, IsWalkDown}
+use Rattle.moo_world_object.specs.Cells.{AreDistinct}
+use Rattle.moo_world_table.specs.World.{World, object_of, thing_of, clashes, crowds}
+use Rattle.moo_world_table.specs.Steps.{with_rows}
+use Rattle.moo_world_table.specs.Changes.{after_chparent, would_loop}
 use Rattle.moo_world.specs.Calls.{parent_raises}
-use Rattle.moo_table.proofs.Counting.{programs_refitted}
-use Rattle.moo_table.proofs.Changing.{IsValidPlace, parent_changed, parent_free, node_of, place_of_nodes, apart_from_test, valid_within}
-use Rattle.moo_table.proofs.FittedRows.{cells_distinct}
-use Rattle.moo_table.proofs.Joining.{rows_made, rows_ready, valid_as_lent, walk_valid}
-use Rattle.moo_table.proofs.Staying.{place_same, world_stays}
+use Rattle.moo_world_table.proofs.Counting.{programs_refitted}
+use Rattle.moo_world_table.proofs.Changing.{IsValidPlace, parent_changed, parent_free, node_of, place_of_nodes, apart_from_test, valid_within}
+use Rattle.moo_world_table.proofs.FittedRows.{cells_distinct}
+use Rattle.moo_world_table.proofs.Joining.{rows_made, rows_ready, valid_as_lent, walk_valid}
+use Rattle.moo_world_table.proofs.Staying.{place_same, world_stays}
 use Rattle.moo_world.proofs.Raising.{unmoved}
 use Rattle.moo_world.proofs.World.set_parent.Goals as goal
 

@@ -1,8 +1,8 @@
 use Rattle.std.proofs.Common.{sym, ◌∙◌, ap, subst, IsSome}
-use Rattle.moo_table.specs.World.{World, object_of}
-use Rattle.moo_table.specs.Changes.{would_loop}
+use Rattle.moo_world_table.specs.World.{World, object_of}
+use Rattle.moo_world_table.specs.Changes.{would_loop}
 use Rattle.moo_world.specs.Calls.{place_raises}
-use Rattle.moo_table.proofs.Changing.{IsValidPlace, place_changed, place_free}
+use Rattle.moo_world_table.proofs.Changing.{IsValidPlace, place_changed, place_free}
 use Rattle.moo_world.proofs.World.set_place.Goals as goal
 
 pub invariant_of-self-2 : goal.invariant_of-self-2

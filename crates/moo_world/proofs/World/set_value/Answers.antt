@@ -1,10 +1,10 @@
 use Rattle.std.proofs.Common.{sym, ap, subst, IsSome, refl}
 use Rattle.moo_value.specs.Compare.{folded}
 use Rattle.moo_value.specs.View.{tree}
-use Rattle.moo_table.specs.World.{World, object_of, thing_of}
-use Rattle.moo_table.specs.Changes.{with_object, with_value_of}
-use Rattle.moo_table.proofs.Single.{slot_changed, object_kept}
-use Rattle.moo_table.proofs.ValueChanges.{value_kept}
+use Rattle.moo_world_table.specs.World.{World, object_of, thing_of}
+use Rattle.moo_world_table.specs.Changes.{with_object, with_value_of}
+use Rattle.moo_world_table.proofs.Single.{slot_changed, object_kept}
+use Rattle.moo_world_table.proofs.ValueChanges.{value_kept}
 use Rattle.moo_world.proofs.World.set_value.Goals as goal
 
 pub invariant_of-self : goal.invariant_of-self

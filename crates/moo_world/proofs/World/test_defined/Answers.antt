@@ -1,8 +1,8 @@
 use Rattle.std.proofs.Common.{not, sym, ◌∙◌, ap, subst, IsSome}
 use Rattle.moo_value.specs.Compare.{folded}
-use Rattle.moo_table.specs.World.{World, object_of}
+use Rattle.moo_world_table.specs.World.{World, object_of}
 use Rattle.moo_world.specs.PropertyCalls.{plain_raises}
-use Rattle.moo_table.proofs.ValueChanges.{definition_is}
+use Rattle.moo_world_table.proofs.ValueChanges.{definition_is}
 use Rattle.moo_world.proofs.Raising.{plain_allowed, plain_refused}
 use Rattle.moo_world.proofs.World.test_defined.Goals as goal
 

@@ -1,14 +1,14 @@
 use Rattle.std.proofs.Common.{◌≡◌, ◌<◌, ℕ, leb, sym, ◌∙◌, ap, subst, arith, length, IsSome, refl}
 use Rattle.std.specs.List.{list_any}
 use Rattle.moo_value.specs.Compare.{folded}
-use Rattle.moo_forest.specs.Walk.{met, step_at, IsWalkDown}
-use Rattle.moo_object.specs.Cells.{is_named}
-use Rattle.moo_table.specs.World.{World, object_of, thing_of, most}
+use Rattle.moo_world_tree.specs.Walk.{met, step_at, IsWalkDown}
+use Rattle.moo_world_object.specs.Cells.{is_named}
+use Rattle.moo_world_table.specs.World.{World, object_of, thing_of, most}
 use Rattle.moo_world.specs.PropertyCalls.{define_raises}
-use Rattle.moo_table.specs.Properties.{is_taken, is_full}
-use Rattle.moo_table.proofs.Changing.{valid_within}
-use Rattle.moo_table.proofs.Joining.{walk_low}
-use Rattle.moo_table.proofs.Allowing.{taken_tested, full_tested}
+use Rattle.moo_world_table.specs.Properties.{is_taken, is_full}
+use Rattle.moo_world_table.proofs.Changing.{valid_within}
+use Rattle.moo_world_table.proofs.Joining.{walk_low}
+use Rattle.moo_world_table.proofs.Allowing.{taken_tested, full_tested}
 use Rattle.moo_world.proofs.World.test_definition.Goals as goal
 
 pub walk_down-requires : goal.walk_down-requires

@@ -2,11 +2,11 @@ use Rattle.std.proofs.Common.{sym, ◌∙◌, ap, subst, IsSome}
 use Rattle.std.proofs.lemmas.Result.{err_from_is_err_and}
 use Rattle.std.specs.Option.{option_copied}
 use Rattle.moo_value.specs.Compare.{folded}
-use Rattle.moo_object.specs.Cells.{Key}
-use Rattle.moo_table.specs.World.{World, object_of}
-use Rattle.moo_table.specs.Properties.{definition_named}
+use Rattle.moo_world_object.specs.Cells.{Key}
+use Rattle.moo_world_table.specs.World.{World, object_of}
+use Rattle.moo_world_table.specs.Properties.{definition_named}
 use Rattle.moo_world.specs.InfoCalls.{rename_raises}
-use Rattle.moo_table.proofs.ValueChanges.{definition_is}
+use Rattle.moo_world_table.proofs.ValueChanges.{definition_is}
 use Rattle.moo_world.proofs.Informing.{still_err, no_info, info_named, info_unnamed, found_then}
 use Rattle.moo_world.proofs.World.test_info.Goals as goal
 

@@ -1,9 +1,9 @@
 use Rattle.std.proofs.Common.{sym, ◌∙◌, ap, subst, IsSome}
 use Rattle.moo_value.specs.Compare.{folded}
-use Rattle.moo_table.specs.World.{World, object_of}
+use Rattle.moo_world_table.specs.World.{World, object_of}
 use Rattle.moo_world.specs.EditCalls.{clear_definition_raises}
-use Rattle.moo_table.specs.Properties.{definition_named}
-use Rattle.moo_table.proofs.ValueChanges.{definition_is}
+use Rattle.moo_world_table.specs.Properties.{definition_named}
+use Rattle.moo_world_table.proofs.ValueChanges.{definition_is}
 use Rattle.moo_world.proofs.Inheriting.{none_inherited, own_not_inherited, inherited_found}
 use Rattle.moo_world.proofs.World.test_inherited.Goals as goal
 

@@ -1,7 +1,7 @@
 use Rattle.std.proofs.Common.{sym, ◌∙◌, ap}
-use Rattle.moo_table.specs.World.{World}
+use Rattle.moo_world_table.specs.World.{World}
 use Rattle.moo_world.specs.Calls.{parent_raises}
-use Rattle.moo_table.proofs.Staying.{place_same}
+use Rattle.moo_world_table.proofs.Staying.{place_same}
 use Rattle.moo_world.proofs.Raising.{unmoved}
 use Rattle.moo_world.proofs.World.test_parent.Goals as goal
 

@@ -1,5 +1,5 @@
 use Rattle.std.proofs.Common.{sym, subst}
-use Rattle.moo_table.proofs.Changing.{IsValidPlace, place_of_nodes}
+use Rattle.moo_world_table.proofs.Changing.{IsValidPlace, place_of_nodes}
 use Rattle.moo_world.proofs.World.test_place.Goals as goal
 
 pub would_loop-requires : goal.would_loop-requires

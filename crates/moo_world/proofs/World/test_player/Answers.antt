@@ -1,9 +1,9 @@
 use Rattle.std.proofs.Common.{◌≡◌, pos, Some, true, false, ltb, sym, ◌∙◌, ap, subst, arith, length, IsSome, refl, w32, to_z}
 use Rattle.std.proofs.lemmas.Int.{to_z_pos}
-use Rattle.moo_table.specs.World.{World, object_of, most}
-use Rattle.moo_table.specs.Players.{players_with}
+use Rattle.moo_world_table.specs.World.{World, object_of, most}
+use Rattle.moo_world_table.specs.Players.{players_with}
 use Rattle.moo_world.specs.PlayerCalls.{set_player_raises}
-use Rattle.moo_table.proofs.Changing.{valid_within}
+use Rattle.moo_world_table.proofs.Changing.{valid_within}
 use Rattle.moo_world.proofs.World.test_player.Goals as goal
 
 pub too_many-requires : goal.too_many-requires

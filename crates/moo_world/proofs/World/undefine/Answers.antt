@@ -1,14 +1,14 @@
 use Rattle.std.proofs.Common.{◌<◌, ℕ, None, sym, ◌∙◌, ap, subst, arith, length, IsSome, set}
 use Rattle.std.proofs.lemmas.List.{get_or_read}
 use Rattle.moo_value.specs.Compare.{folded}
-use Rattle.moo_forest.specs.Walk.{met, step_at}
-use Rattle.moo_table.specs.World.{World, object_of}
-use Rattle.moo_table.specs.Changes.{without_name, without_cell, after_undefine}
-use Rattle.moo_table.specs.Steps.{changed_along}
-use Rattle.moo_table.proofs.Counting.{programs_undefined}
-use Rattle.moo_table.proofs.Changing.{valid_within}
-use Rattle.moo_table.proofs.Joining.{walk_low}
-use Rattle.moo_table.proofs.Removals.{lost_is, undefined_well_formed}
+use Rattle.moo_world_tree.specs.Walk.{met, step_at}
+use Rattle.moo_world_table.specs.World.{World, object_of}
+use Rattle.moo_world_table.specs.Changes.{without_name, without_cell, after_undefine}
+use Rattle.moo_world_table.specs.Steps.{changed_along}
+use Rattle.moo_world_table.proofs.Counting.{programs_undefined}
+use Rattle.moo_world_table.proofs.Changing.{valid_within}
+use Rattle.moo_world_table.proofs.Joining.{walk_low}
+use Rattle.moo_world_table.proofs.Removals.{lost_is, undefined_well_formed}
 use Rattle.moo_world.proofs.World.undefine.Goals as goal
 
 pub walk_down-requires : goal.walk_down-requires

@@ -1,13 +1,13 @@
 use Rattle.std.proofs.Common.{sym, ◌∙◌, ap, subst, IsSome}
 use Rattle.std.specs.Option.{option_copied}
 use Rattle.moo_value.specs.Compare.{folded}
-use Rattle.moo_object.specs.Cells.{cell_named}
-use Rattle.moo_object.specs.Objects.{Object}
-use Rattle.moo_table.specs.World.{World, object_of, thing_of}
-use Rattle.moo_table.specs.Properties.{read}
-use Rattle.moo_table.proofs.Found.{no_definition}
-use Rattle.moo_table.proofs.ValueChanges.{nothing_read}
-use Rattle.moo_table.proofs.VerbChanges.{thing_read}
+use Rattle.moo_world_object.specs.Cells.{cell_named}
+use Rattle.moo_world_object.specs.Objects.{Object}
+use Rattle.moo_world_table.specs.World.{World, object_of, thing_of}
+use Rattle.moo_world_table.specs.Properties.{read}
+use Rattle.moo_world_table.proofs.Found.{no_definition}
+use Rattle.moo_world_table.proofs.ValueChanges.{nothing_read}
+use Rattle.moo_world_table.proofs.VerbChanges.{thing_read}
 use Rattle.moo_world.proofs.World.value_from.Goals as goal
 
 pub value_of_cell-requires-clause-named : goal.value_of_cell-requires-clause-named

@@ -2,12 +2,12 @@ use Rattle.std.proofs.Common.{◌≡◌, ℕ, Some, sym, ◌∙◌, ap, subst, s
 use Rattle.std.specs.Option.{option_map, option_copied}
 use Rattle.moo_value.specs.Compare.{folded}
 use Rattle.moo_value.specs.View.{tree}
-use Rattle.moo_object.specs.Cells.{AreDistinct, Key, cell_named}
-use Rattle.moo_table.specs.World.{World, thing_of}
-use Rattle.moo_table.specs.Properties.{read, values_above}
-use Rattle.moo_table.proofs.FittedRows.{cells_distinct}
-use Rattle.moo_table.proofs.Found.{named_definition, own_read}
-use Rattle.moo_table.proofs.ValueChanges.{nearest_read}
+use Rattle.moo_world_object.specs.Cells.{AreDistinct, Key, cell_named}
+use Rattle.moo_world_table.specs.World.{World, thing_of}
+use Rattle.moo_world_table.specs.Properties.{read, values_above}
+use Rattle.moo_world_table.proofs.FittedRows.{cells_distinct}
+use Rattle.moo_world_table.proofs.Found.{named_definition, own_read}
+use Rattle.moo_world_table.proofs.ValueChanges.{nearest_read}
 use Rattle.moo_world.proofs.World.value_written.Goals as goal
 
 pub returns-in-Some : goal.returns-in-Some

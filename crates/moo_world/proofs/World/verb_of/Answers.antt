@@ -1,6 +1,6 @@
 use Rattle.std.proofs.Common.{sym, ◌∙◌, ap, subst, IsSome, slice_get}
-use Rattle.moo_table.specs.World.{World, object_of, thing_of}
-use Rattle.moo_table.proofs.VerbChanges.{thing_read}
+use Rattle.moo_world_table.specs.World.{World, object_of, thing_of}
+use Rattle.moo_world_table.proofs.VerbChanges.{thing_read}
 use Rattle.moo_world.proofs.World.verb_of.Goals as goal
 
 pub returns : goal.returns

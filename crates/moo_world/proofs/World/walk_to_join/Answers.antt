@@ -1,11 +1,11 @@
 use Rattle.std.proofs.Common.{◌≡◌, false, true, sym, ◌∙◌, ap, subst, IsSome, refl}
-use Rattle.moo_forest.specs.Forest.{above_of, moved}
-use Rattle.moo_forest.specs.Walk.{IsWalkDown}
-use Rattle.moo_table.specs.World.{World, object_of, clashes, crowds}
+use Rattle.moo_world_tree.specs.Forest.{above_of, moved}
+use Rattle.moo_world_tree.specs.Walk.{IsWalkDown}
+use Rattle.moo_world_table.specs.World.{World, object_of, clashes, crowds}
 use Rattle.moo_world.specs.Calls.{parent_raises}
-use Rattle.moo_table.specs.Changes.{would_loop}
-use Rattle.moo_table.proofs.Changing.{IsValidPlace, place_of_nodes}
-use Rattle.moo_table.proofs.Joining.{clash_read, crowd_read, names_clash_is, some_crowded_is}
+use Rattle.moo_world_table.specs.Changes.{would_loop}
+use Rattle.moo_world_table.proofs.Changing.{IsValidPlace, place_of_nodes}
+use Rattle.moo_world_table.proofs.Joining.{clash_read, crowd_read, names_clash_is, some_crowded_is}
 use Rattle.moo_world.proofs.World.walk_to_join.Goals as goal
 
 pub would_loop-requires : goal.would_loop-requires

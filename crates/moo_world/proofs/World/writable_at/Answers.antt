@@ -4,10 +4,10 @@ use mir.Val.{SFits}
 use Rattle.std.specs.List.{position}
 use Rattle.std.specs.Option.{option_copied}
 use Rattle.moo_value.specs.Compare.{folded}
-use Rattle.moo_object.specs.Cells.{is_named}
-use Rattle.moo_object.specs.Objects.{Object}
-use Rattle.moo_table.specs.World.{World, object_of, thing_of}
-use Rattle.moo_table.proofs.VerbChanges.{thing_read}
+use Rattle.moo_world_object.specs.Cells.{is_named}
+use Rattle.moo_world_object.specs.Objects.{Object}
+use Rattle.moo_world_table.specs.World.{World, object_of, thing_of}
+use Rattle.moo_world_table.proofs.VerbChanges.{thing_read}
 use Rattle.moo_world.specs.Rights.{may_write_cell}
 use Rattle.moo_world.proofs.ByRight.{writable_here}
 use Rattle.moo_world.proofs.World.writable_at.Goals as goal

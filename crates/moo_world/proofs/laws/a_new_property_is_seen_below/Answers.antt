@@ -2,10 +2,10 @@ use Rattle.std.proofs.Common.{refl}
 use Rattle.std.specs.Option.{is_some}
 use Rattle.moo_value.specs.Compare.{folded}
 use Rattle.moo_value.specs.View.{tree}
-use Rattle.moo_object.specs.BuiltIn.{built_in_of}
-use Rattle.moo_object.specs.Cells.{own_cell}
-use Rattle.moo_table.specs.Properties.{is_taken, is_full}
-use Rattle.moo_table.proofs.Allowing.{define_free, property_free}
+use Rattle.moo_world_object.specs.BuiltIn.{built_in_of}
+use Rattle.moo_world_object.specs.Cells.{own_cell}
+use Rattle.moo_world_table.specs.Properties.{is_taken, is_full}
+use Rattle.moo_world_table.proofs.Allowing.{define_free, property_free}
 use Rattle.moo_world.specs.PropertyCalls.{define_raises}
 use Rattle.moo_world.proofs.Reparented.{defined_on}
 use Rattle.moo_world.proofs.laws.a_new_property_is_seen_below.Goals as goal

@@ -1,4 +1,4 @@
-use Rattle.moo_table.proofs.Restored.{restored_same}
+use Rattle.moo_world_table.proofs.Restored.{restored_same}
 use Rattle.moo_world.proofs.laws.a_world_is_restored_as_it_was.Goals as goal
 
 pub returns : goal.returns

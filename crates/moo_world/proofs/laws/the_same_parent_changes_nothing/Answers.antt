@@ -1,4 +1,4 @@
-use Rattle.moo_table.proofs.Staying.{world_stays}
+use Rattle.moo_world_table.proofs.Staying.{world_stays}
 use Rattle.moo_world.proofs.Raising.{unmoved}
 use Rattle.moo_world.proofs.laws.the_same_parent_changes_nothing.Goals as goal
 

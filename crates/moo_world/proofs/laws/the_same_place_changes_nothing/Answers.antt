@@ -1,4 +1,4 @@
-use Rattle.moo_table.proofs.Staying.{place_stays}
+use Rattle.moo_world_table.proofs.Staying.{place_stays}
 use Rattle.moo_world.proofs.Raising.{left_there}
 use Rattle.moo_world.proofs.laws.the_same_place_changes_nothing.Goals as goal
 

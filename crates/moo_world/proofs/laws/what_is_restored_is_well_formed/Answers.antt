@@ -1,4 +1,4 @@
-use Rattle.moo_table.proofs.Restored.{restored_well_formed}
+use Rattle.moo_world_table.proofs.Restored.{restored_well_formed}
 use Rattle.moo_world.proofs.laws.what_is_restored_is_well_formed.Goals as goal
 
 pub returns : goal.returns

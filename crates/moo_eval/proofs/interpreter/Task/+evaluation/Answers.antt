@@ -3,46 +3,46 @@ use Rattle.std.proofs.lemmas.Result.{err_from_is_err_and, on_ok_weaker}
 use Rattle.std.proofs.lemmas.List.{append-nil}
 use Rattle.std.proofs.lemmas.Int.{to_z-of_z}
 use Rattle.std.proofs.Math.ListN.{drop_of_length-le}
-use Rattle.moo_outcome.specs.Outcome.{fails, stops, answers, passes, next}
+use Rattle.moo_eval_frame.specs.Outcome.{fails, stops, answers, passes, next}
 use Rattle.moo_value.specs.Tree.{integer}
 use Rattle.moo_value.specs.View.{tree, trees}
-use Rattle.moo_program.specs.View.{tree as expression, items_of, codes_of, block, handlers_of}
+use Rattle.moo_syntax_ast.specs.View.{tree as expression, items_of, codes_of, block, handlers_of}
 use Rattle.moo_eval.specs.declared.interpreter.Task.{Task}
-use Rattle.moo_outcome.specs.Seen.{context_of, stop_of, failure_of, seen_value, flow_of}
-use Rattle.moo_code_function.specs.Telling.{Faults}
-use Rattle.moo_function.specs.Names.{function_of}
-use Rattle.moo_hook.specs.Calls.{verb_caller}
+use Rattle.moo_eval_frame.specs.Seen.{context_of, stop_of, failure_of, seen_value, flow_of}
+use Rattle.moo_builtin.specs.Telling.{Faults}
+use Rattle.moo_syntax_function.specs.Names.{function_of}
+use Rattle.moo_eval_call.specs.VerbCalls.{verb_caller}
 use Rattle.moo_eval.specs.Seen.{state_of}
-use Rattle.moo_semantics.specs.Meaning.{Computes, EvaluatesAll, spent, begins, operands_end, places_end, applies, no_more, element_stops, element_then, splice_stops, splice_fails, splice_then, literal_is, variable_is, length_is, unary_is, binary_is, logic_decides, logic_goes_on, conditional_true, conditional_false, index_is, range_is, list_is, property_is, verb_fails, verb_runs, call_is, call_runs, is_done, hook_stops, hook_then, assign_is, catch_gives, catch_or_goes_on, target_ends, value_stops, assigns, root_ends, locates, parts_end, finds, inside, step_ends, enters, unread, spot_ends, steps_in, no_store, stores, none_missing, default_stops, default_then, Counts, statement_spent, statement_begins, selects, list_stops, list_fails, visits, span_stops, span_fails, counts, loops, breaks_out, continues_on, unprepared, tries, finally_skipped, finally_runs, ends, leaves, proceeds, none_selected, else_runs, test_stops, arm_runs, arm_passed, turn_spent, turns, loop_stops, loop_ends, loop_left, loop_then, all_visited, visit_left, visit_then, all_counted, count_left, count_then, nothing_raised, ticks_out, handles, Prepares, no_codes, codes_stop, codes_then, gives_zero, gives, evaluates}
+use Rattle.moo_eval_semantics.specs.Meaning.{Computes, EvaluatesAll, spent, begins, operands_end, places_end, applies, no_more, element_stops, element_then, splice_stops, splice_fails, splice_then, literal_is, variable_is, length_is, unary_is, binary_is, logic_decides, logic_goes_on, conditional_true, conditional_false, index_is, range_is, list_is, property_is, verb_fails, verb_runs, call_is, call_runs, is_done, hook_stops, hook_then, assign_is, catch_gives, catch_or_goes_on, target_ends, value_stops, assigns, root_ends, locates, parts_end, finds, inside, step_ends, enters, unread, spot_ends, steps_in, no_store, stores, none_missing, default_stops, default_then, Counts, statement_spent, statement_begins, selects, list_stops, list_fails, visits, span_stops, span_fails, counts, loops, breaks_out, continues_on, unprepared, tries, finally_skipped, finally_runs, ends, leaves, proceeds, none_selected, else_runs, test_stops, arm_runs, arm_passed, turn_spent, turns, loop_stops, loop_ends, loop_left, loop_then, all_visited, visit_left, visit_then, all_counted, count_left, count_then, nothing_raised, ticks_out, handles, Prepares, no_codes, codes_stop, codes_then, gives_zero, gives, evaluates}
 use Rattle.moo_value.specs.declared.error_code.ErrorCode.TheVariants.{TypeMismatch}
-use Rattle.moo_access.specs.SeenTarget.{path_of}
-use Rattle.moo_access.specs.SeenCalled.{entered_of}
-use Rattle.moo_fast_path.proofs.Refused.{none_left}
+use Rattle.moo_eval_access.specs.SeenTarget.{path_of}
+use Rattle.moo_eval_access.specs.SeenCalled.{entered_of}
+use Rattle.moo_eval_fast_stmt.proofs.Refused.{none_left}
 use Rattle.moo_eval.proofs.Hooking.{comes_on, takes_one}
 use Rattle.moo_eval.proofs.Caught.{guards_end, passes_on, known_caught}
-use Rattle.moo_program.specs.Tree as program
-use Rattle.moo_program.specs.Tree.{variable, splice, element, no_items}
+use Rattle.moo_syntax_ast.specs.Tree as program
+use Rattle.moo_syntax_ast.specs.Tree.{variable, splice, element, no_items}
 use Rattle.moo_eval.proofs.Lengthened.{lengthened, too_long, first_stops, first_fails, unspliced, second_stops, set_longer, set_error, not_set}
 use Rattle.moo_eval.specs.Growth.{SettlesAs}
 use Rattle.moo_eval.proofs.Appended.{appended, past_limits, no_list, variable_stops, last_stops}
-use Rattle.moo_fast_path.specs.Element.{sets_place}
+use Rattle.moo_eval_fast_stmt.specs.Element.{sets_place}
 use Rattle.moo_eval.proofs.Placed.{put, not_put, unheld, place_ends, value_ends, put_alone, passed_over, stopped}
 use Rattle.std.proofs.lemmas.Bool.{eqb-true}
 use Rattle.moo_eval.proofs.Foreseen.{nothing_left}
 use Rattle.moo_eval.proofs.Direct.{assigned, unassigned, performed, unperformed}
 use Rattle.moo_eval.proofs.Exits.{refused, gathered, unlisted, same_state, optional_ends, goes_on-not, state_at, guarded_on, property_put, runs_at}
-use Rattle.moo_outcome.proofs.Rest.{drop_next}
-use Rattle.moo_program.proofs.Rows.{row_items, row_block, row_arms, row_handlers}
+use Rattle.moo_eval_frame.proofs.Rest.{drop_next}
+use Rattle.moo_syntax_ast.proofs.Rows.{row_items, row_block, row_arms, row_handlers}
 use Rattle.std.specs.Prelude.{◌≤ℤ◌, true, false, option_copied}
 use mir.Syntax.{w32, w64}
 use mir.Val.{SFits, to_z, of_z}
-use Rattle.moo_outcome.specs.Leading.{after_turn, numbered}
-use Rattle.moo_outcome.specs.SeenHandling.{guarded_of}
+use Rattle.moo_eval_frame.specs.Leading.{after_turn, numbered}
+use Rattle.moo_eval_frame.specs.SeenHandling.{guarded_of}
 use Rattle.moo_eval.proofs.Counting.{after, between, narrow, next_number, not_before, not_below, reached}
 use Rattle.moo_eval.specs.Turning.{turn_left, turn_done}
 use Rattle.moo_eval.proofs.interpreter.Task.+evaluation.Goals.{visit_all-in-Some+in_ok-flow, visit_all-in_default+in-Some-get+in_ok-value+in_ok-flow-2, count-in-Some+in_ok-flow, count-in_default+then-number-from+in_ok-flow-2}
-use Rattle.moo_outcome.specs.Handling.{guarded}
-use Rattle.moo_semantics.specs.Operands.{before}
+use Rattle.moo_eval_frame.specs.Handling.{guarded}
+use Rattle.moo_eval_semantics.specs.Operands.{before}
 use Rattle.moo_eval.proofs.interpreter.Task.+evaluation.Goals as goal
 use Rattle.moo_eval.proofs.interpreter.Task.+evaluation.Goals.{evaluate_all-in-Element+in_ok-value-in-Element+in_ok-push-in-Element, evaluate_all-in-Splice+in_ok-value-in-Splice+in_ok-splice-in-Splice}
 

@@ -1,22 +1,22 @@
 use Rattle.std.proofs.Common.{◌+◌, ◌*◌, ◌≤◌, ◌<◌, drop, map, List, Result, None}
 use Rattle.moo_value.specs.Tree.{Tree}
 use Rattle.moo_value.specs.View.{trees}
-use Rattle.moo_program.specs.View.{tree, items_of, block, arms_of, handlers_of}
-use Rattle.moo_outcome.specs.Outcome.{Failure, Flow, Stop}
-use Rattle.moo_access.specs.State.{State}
-use Rattle.moo_access.specs.Target.{Path}
-use Rattle.moo_semantics.specs.Meaning.{EvaluatesAll, Locates, Enters, SetsDefaults, RunsAll, Selects, Loops, Visits, Counts, Prepares}
-use Rattle.moo_access.specs.SeenTarget.{root_seen, steps_of, spot_of}
-use Rattle.moo_outcome.specs.SeenScatter.{left_out_of}
-use Rattle.moo_outcome.specs.Seen.{context_of}
-use Rattle.moo_code_function.specs.Telling.{Faults}
+use Rattle.moo_syntax_ast.specs.View.{tree, items_of, block, arms_of, handlers_of}
+use Rattle.moo_eval_frame.specs.Outcome.{Failure, Flow, Stop}
+use Rattle.moo_eval_access.specs.State.{State}
+use Rattle.moo_eval_access.specs.Target.{Path}
+use Rattle.moo_eval_semantics.specs.Meaning.{EvaluatesAll, Locates, Enters, SetsDefaults, RunsAll, Selects, Loops, Visits, Counts, Prepares}
+use Rattle.moo_eval_access.specs.SeenTarget.{root_seen, steps_of, spot_of}
+use Rattle.moo_eval_frame.specs.SeenScatter.{left_out_of}
+use Rattle.moo_eval_frame.specs.Seen.{context_of}
+use Rattle.moo_builtin.specs.Telling.{Faults}
 use Rattle.moo_eval.specs.Seen.{state_of}
 use Rattle.moo_eval.specs.Hooks.{HasStatements, LeadsTo, pending_progress}
-use Rattle.moo_hook.specs.Seen.{progress_of}
+use Rattle.moo_eval_call.specs.SeenByHooks.{progress_of}
 use Rattle.std.specs.Prelude.{◌≤ℤ◌}
-use Rattle.moo_outcome.specs.Handling.{Guarded, guarded_before}
-use Rattle.moo_outcome.specs.SeenHandling.{guarded_of}
-use Rattle.moo_semantics.specs.Operands.{before}
+use Rattle.moo_eval_frame.specs.Handling.{Guarded, guarded_before}
+use Rattle.moo_eval_frame.specs.SeenHandling.{guarded_of}
+use Rattle.moo_eval_semantics.specs.Operands.{before}
 use Rattle.moo_eval.proofs.interpreter.Task.+evaluation.Given as goal
 
 -- Each node, statement and turn takes a tick; between two ticks the calls go down these ranks.

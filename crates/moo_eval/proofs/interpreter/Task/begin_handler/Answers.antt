@@ -1,9 +1,9 @@
 use Rattle.std.proofs.Common.{sym, ap, ◌∙◌}
 use Rattle.std.specs.Option.{option_map}
 use Rattle.std.proofs.lemmas.Result.{err_from_is_err_and}
-use Rattle.moo_outcome.specs.SeenHandling.{guarded_of}
-use Rattle.moo_semantics.specs.Meaning.{untaken, untold, takes}
-use Rattle.moo_fast_path.proofs.Refused.{none_left}
+use Rattle.moo_eval_frame.specs.SeenHandling.{guarded_of}
+use Rattle.moo_eval_semantics.specs.Meaning.{untaken, untold, takes}
+use Rattle.moo_eval_fast_stmt.proofs.Refused.{none_left}
 use Rattle.moo_eval.proofs.Exits.{same_state}
 use Rattle.moo_eval.proofs.interpreter.Task.begin_handler.Goals as goal
 

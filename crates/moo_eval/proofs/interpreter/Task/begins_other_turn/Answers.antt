@@ -3,7 +3,7 @@ use Rattle.std.proofs.lemmas.Bool.Decides.{nat_tests}
 use Rattle.std.proofs.lemmas.Int.{to_z-of_z}
 use mir.Val.{SFits}
 use Rattle.moo_value.specs.Tree.{integer}
-use Rattle.moo_call.specs.Seen.{state_at}
+use Rattle.moo_eval_call.specs.Seen.{state_at}
 use Rattle.moo_eval.proofs.Foreseen.{ticks_seen}
 use Rattle.moo_eval.proofs.Known.{worth_gives}
 use Rattle.moo_eval.proofs.interpreter.Task.begins_other_turn.Goals as goal

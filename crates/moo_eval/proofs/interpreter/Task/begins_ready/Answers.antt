@@ -1,7 +1,7 @@
 use Rattle.std.proofs.Common.{◌+◌, arith, rules}
 use mir.Syntax.{w32}
 use mir.Val.{SFits}
-use Rattle.moo_call.specs.Seen.{state_at}
+use Rattle.moo_eval_call.specs.Seen.{state_at}
 use Rattle.moo_eval.proofs.Foreseen.{ticks_seen}
 use Rattle.moo_eval.proofs.Known.{worth_gives}
 use Rattle.moo_eval.proofs.Turned.{tick_taken}

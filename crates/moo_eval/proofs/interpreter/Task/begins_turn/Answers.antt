@@ -1,7 +1,7 @@
 use Rattle.std.proofs.Common.{w32, refl, arith, rules}
 use Rattle.std.proofs.lemmas.Int.{to_z-of_z}
 use mir.Val.{SFits}
-use Rattle.moo_worth.proofs.AtOnce.{leaf_worth}
+use Rattle.moo_eval_fast_expr.proofs.AtOnce.{leaf_worth}
 use Rattle.moo_eval.proofs.interpreter.Task.begins_turn.Goals as goal
 
 pub returns-in-Binary-clause-tested : goal.returns-in-Binary-clause-tested

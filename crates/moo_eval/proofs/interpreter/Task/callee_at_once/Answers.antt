@@ -2,7 +2,7 @@ use Rattle.std.proofs.Common.{rules}
 use Rattle.std.proofs.lemmas.Int.{to_z-of_z}
 use mir.Syntax.{w32}
 use mir.Val.{SFits}
-use Rattle.moo_outcome.specs.Seen.{variables_of}
+use Rattle.moo_eval_frame.specs.Seen.{variables_of}
 use Rattle.moo_eval.proofs.Foreseen.{ticks_seen}
 use Rattle.moo_eval.proofs.Returned.{named_ahead}
 use Rattle.moo_eval.proofs.interpreter.Task.callee_at_once.Goals as goal

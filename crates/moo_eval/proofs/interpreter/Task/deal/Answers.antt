@@ -1,7 +1,7 @@
 use Rattle.std.proofs.Common.{sym, ap}
 use Rattle.std.proofs.lemmas.Result.{err_from_is_err_and}
-use Rattle.moo_outcome.specs.Outcome.{answers}
-use Rattle.moo_semantics.specs.Meaning.{scatter_fails, scatters}
+use Rattle.moo_eval_frame.specs.Outcome.{answers}
+use Rattle.moo_eval_semantics.specs.Meaning.{scatter_fails, scatters}
 use Rattle.moo_eval.proofs.Exits.{same_state}
 use Rattle.moo_eval.proofs.interpreter.Task.deal.Goals as goal
 

@@ -1,6 +1,6 @@
 use Rattle.std.proofs.Common.{◌-◌, length, drop, sym, ap, ◌∙◌}
 use Rattle.std.proofs.lemmas.List.{drop-drop}
-use Rattle.moo_worth.proofs.AtOnce.{map_some}
+use Rattle.moo_eval_fast_expr.proofs.AtOnce.{map_some}
 use Rattle.moo_eval.proofs.Turned.{rest_of, none_on}
 use Rattle.moo_eval.proofs.interpreter.Task.further_values.Goals as goal
 

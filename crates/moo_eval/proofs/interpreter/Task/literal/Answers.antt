@@ -1,6 +1,6 @@
 use Rattle.std.proofs.lemmas.Result.{err_from_is_err_and}
-use Rattle.moo_worth.specs.Leaves.{literal_leaf}
-use Rattle.moo_semantics.specs.Meaning.{spent}
+use Rattle.moo_eval_fast_expr.specs.Leaves.{literal_leaf}
+use Rattle.moo_eval_semantics.specs.Meaning.{spent}
 use Rattle.moo_eval.proofs.Direct.{leaf_gives}
 use Rattle.moo_eval.proofs.interpreter.Task.literal.Goals as goal
 

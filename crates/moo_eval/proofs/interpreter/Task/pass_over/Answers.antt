@@ -1,8 +1,8 @@
 use Rattle.std.proofs.Common.{◌∙◌, None, sym, subst}
 use Rattle.std.proofs.lemmas.Result.{err_from_is_err_and}
-use Rattle.moo_outcome.specs.Seen.{context_of}
-use Rattle.moo_code_function.specs.Telling.{Faults}
-use Rattle.moo_semantics.specs.Meaning.{Proceeds}
+use Rattle.moo_eval_frame.specs.Seen.{context_of}
+use Rattle.moo_builtin.specs.Telling.{Faults}
+use Rattle.moo_eval_semantics.specs.Meaning.{Proceeds}
 use Rattle.moo_eval.proofs.Hooking.{passed_over, same_step}
 use Rattle.moo_eval.proofs.interpreter.Task.pass_over.Goals as goal
 

@@ -1,7 +1,7 @@
 use Rattle.std.proofs.Common.{◌≡◌, ◌-◌, ◌+◌, arith, rules, subst}
 use Rattle.std.proofs.lemmas.Int.{to_z-of_z}
 use Rattle.moo_value.specs.Tree.{integer}
-use Rattle.moo_worth.specs.Worth.{IsWorth}
+use Rattle.moo_eval_fast_expr.specs.Worth.{IsWorth}
 use mir.Syntax.{w32}
 use mir.Val.{SFits}
 use Rattle.moo_eval.proofs.Foreseen.{set_ahead, ticks_seen}

@@ -4,11 +4,11 @@ use Rattle.std.proofs.Math.Facts.{sfits_lit}
 use mir.Syntax.{w32, w64}
 use mir.Val.{SFits, to_z, of_z}
 use Rattle.std.specs.Prelude.{◌≤ℤ◌}
-use Rattle.moo_program.specs.View.{block}
-use Rattle.moo_outcome.specs.Leading.{numbered}
-use Rattle.moo_code_function.specs.Telling.{Faults}
-use Rattle.moo_step.proofs.Steps.{ready_stays}
-use Rattle.moo_semantics.specs.Meaning.{Counts}
+use Rattle.moo_syntax_ast.specs.View.{block}
+use Rattle.moo_eval_frame.specs.Leading.{numbered}
+use Rattle.moo_builtin.specs.Telling.{Faults}
+use Rattle.moo_eval_fast_loop.proofs.Steps.{ready_stays}
+use Rattle.moo_eval_semantics.specs.Meaning.{Counts}
 use Rattle.moo_eval.specs.Seen.{state_of}
 use Rattle.moo_eval.specs.Turning.{turn_done}
 use Rattle.moo_eval.proofs.Counting.{between, narrow, next_number, not_below, reached}

@@ -1,5 +1,5 @@
 use Rattle.std.proofs.Common.{[], arith}
-use Rattle.moo_step.proofs.Steps.{ready_stays, test_stays}
+use Rattle.moo_eval_fast_loop.proofs.Steps.{ready_stays, test_stays}
 use Rattle.moo_eval.specs.Turning.{turn_done}
 use Rattle.moo_eval.proofs.Turned.{loops_within, turn_over}
 use Rattle.moo_eval.proofs.interpreter.Task.ready_turns.Goals as goal

@@ -1,13 +1,13 @@
 use Rattle.std.proofs.Common.{◌≤◌, ℕ, List, Option, Result}
-use Rattle.moo_program.specs.Tree.{Expr}
-use Rattle.moo_program.specs.View.{block}
-use Rattle.moo_program.specs.declared.tree.Stmt.{Stmt}
-use Rattle.moo_outcome.specs.Outcome.{Flow, Stop}
-use Rattle.moo_outcome.specs.State.{Context}
-use Rattle.moo_access.specs.State.{State}
-use Rattle.moo_code_function.specs.Telling.{Faults}
-use Rattle.moo_step.specs.Ready.{Stay, IsTestOf, AreReady}
-use Rattle.moo_semantics.specs.Meaning.{Loops}
+use Rattle.moo_syntax_ast.specs.Tree.{Expr}
+use Rattle.moo_syntax_ast.specs.View.{block}
+use Rattle.moo_syntax_ast.specs.declared.tree.Stmt.{Stmt}
+use Rattle.moo_eval_frame.specs.Outcome.{Flow, Stop}
+use Rattle.moo_eval_frame.specs.State.{Context}
+use Rattle.moo_eval_access.specs.State.{State}
+use Rattle.moo_builtin.specs.Telling.{Faults}
+use Rattle.moo_eval_fast_loop.specs.Ready.{Stay, IsTestOf, AreReady}
+use Rattle.moo_eval_semantics.specs.Meaning.{Loops}
 use Rattle.moo_eval.specs.Seen.{state_of}
 use Rattle.moo_eval.proofs.interpreter.Task.ready_turns.Given as goal
 

@@ -1,6 +1,6 @@
 use Rattle.std.proofs.Common.{[], ◌+◌, drop, ap, ◌∙◌, arith}
 use Rattle.std.proofs.lemmas.List.{drop-drop}
-use Rattle.moo_step.proofs.Steps.{ready_stays}
+use Rattle.moo_eval_fast_loop.proofs.Steps.{ready_stays}
 use Rattle.moo_eval.specs.Turning.{turn_done}
 use Rattle.moo_eval.proofs.Turned.{first_and_rest, visits_within, turn_over}
 use Rattle.moo_eval.proofs.interpreter.Task.ready_values.Goals as goal

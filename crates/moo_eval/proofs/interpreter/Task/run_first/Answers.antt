@@ -1,6 +1,6 @@
 use Rattle.std.proofs.Common.{arith, None}
-use Rattle.moo_outcome.specs.Seen.{context_of}
-use Rattle.moo_semantics.specs.Meaning.{proceeds}
+use Rattle.moo_eval_frame.specs.Seen.{context_of}
+use Rattle.moo_eval_semantics.specs.Meaning.{proceeds}
 use Rattle.moo_eval.proofs.interpreter.Task.run_first.Goals as goal
 
 pub loop-first-preserved : goal.loop-first-preserved

@@ -1,8 +1,8 @@
 use Rattle.std.proofs.Common.{[], ◌+◌, drop, arith}
-use Rattle.moo_program.specs.View.{statement}
-use Rattle.moo_outcome.proofs.Rest.{drop_next}
-use Rattle.moo_step.proofs.Steps.{ready_stays}
-use Rattle.moo_semantics.specs.Meaning.{proceeds}
+use Rattle.moo_syntax_ast.specs.View.{statement}
+use Rattle.moo_eval_frame.proofs.Rest.{drop_next}
+use Rattle.moo_eval_fast_loop.proofs.Steps.{ready_stays}
+use Rattle.moo_eval_semantics.specs.Meaning.{proceeds}
 use Rattle.moo_eval.proofs.InTurn.{ready_at}
 use Rattle.moo_eval.proofs.interpreter.Task.run_ready.Goals as goal
 

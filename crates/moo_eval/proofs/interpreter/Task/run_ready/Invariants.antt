@@ -1,12 +1,12 @@
 use Rattle.std.proofs.Common.{◌≤◌, List, Result, drop}
-use Rattle.moo_program.specs.View.{block}
-use Rattle.moo_program.specs.declared.tree.Stmt.{Stmt}
-use Rattle.moo_outcome.specs.Outcome.{Flow, Stop}
-use Rattle.moo_outcome.specs.State.{Context}
-use Rattle.moo_access.specs.State.{State}
-use Rattle.moo_code_function.specs.Telling.{Faults}
-use Rattle.moo_step.specs.Ready.{Stay, AreReady}
-use Rattle.moo_semantics.specs.Meaning.{RunsAll}
+use Rattle.moo_syntax_ast.specs.View.{block}
+use Rattle.moo_syntax_ast.specs.declared.tree.Stmt.{Stmt}
+use Rattle.moo_eval_frame.specs.Outcome.{Flow, Stop}
+use Rattle.moo_eval_frame.specs.State.{Context}
+use Rattle.moo_eval_access.specs.State.{State}
+use Rattle.moo_builtin.specs.Telling.{Faults}
+use Rattle.moo_eval_fast_loop.specs.Ready.{Stay, AreReady}
+use Rattle.moo_eval_semantics.specs.Meaning.{RunsAll}
 use Rattle.moo_eval.specs.Seen.{state_of}
 use Rattle.moo_eval.proofs.interpreter.Task.run_ready.Given as goal
 

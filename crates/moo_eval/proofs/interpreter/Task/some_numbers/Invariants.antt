@@ -1,11 +1,11 @@
 use Rattle.std.proofs.Common.{◌≤◌, None, negsuc, Result}
 use Rattle.std.specs.Prelude.{◌≤ℤ◌}
-use Rattle.moo_program.specs.View.{block}
-use Rattle.moo_outcome.specs.Outcome.{Flow, Stop}
-use Rattle.moo_outcome.specs.Seen.{context_of}
-use Rattle.moo_access.specs.State.{State}
-use Rattle.moo_code_function.specs.Telling.{Faults}
-use Rattle.moo_semantics.specs.Meaning.{Counts}
+use Rattle.moo_syntax_ast.specs.View.{block}
+use Rattle.moo_eval_frame.specs.Outcome.{Flow, Stop}
+use Rattle.moo_eval_frame.specs.Seen.{context_of}
+use Rattle.moo_eval_access.specs.State.{State}
+use Rattle.moo_builtin.specs.Telling.{Faults}
+use Rattle.moo_eval_semantics.specs.Meaning.{Counts}
 use Rattle.moo_eval.specs.Seen.{state_of}
 use Rattle.moo_eval.proofs.interpreter.Task.some_numbers.Given as goal
 

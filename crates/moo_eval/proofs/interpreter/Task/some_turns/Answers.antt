@@ -1,6 +1,6 @@
 use Rattle.std.proofs.Common.{arith, None, sym, ◌∙◌}
 use Rattle.std.proofs.lemmas.Bool.{eqb-true}
-use Rattle.moo_outcome.specs.Seen.{context_of}
+use Rattle.moo_eval_frame.specs.Seen.{context_of}
 use Rattle.moo_eval.specs.Turning.{turn_done}
 use Rattle.moo_eval.proofs.Foreseen.{nothing_left}
 use Rattle.moo_eval.proofs.Turned.{loops_within, turn_over}

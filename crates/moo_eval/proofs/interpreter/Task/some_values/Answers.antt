@@ -1,6 +1,6 @@
 use Rattle.std.proofs.Common.{arith, sym, ◌∙◌}
 use Rattle.std.proofs.lemmas.Bool.{eqb-true}
-use Rattle.moo_outcome.proofs.Rest.{drop_next}
+use Rattle.moo_eval_frame.proofs.Rest.{drop_next}
 use Rattle.moo_eval.specs.Turning.{turn_done}
 use Rattle.moo_eval.proofs.Foreseen.{nothing_left}
 use Rattle.moo_eval.proofs.Turned.{visits_within, turn_over}

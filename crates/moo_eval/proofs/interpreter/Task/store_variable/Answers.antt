@@ -1,11 +1,11 @@
 use Rattle.std.proofs.Common.{Err, sym, refl, subst}
 use Rattle.std.proofs.lemmas.Result.{err_from_is_err_and}
 use Rattle.moo_value.specs.View.{tree}
-use Rattle.moo_outcome.specs.Seen.{failure_of}
-use Rattle.moo_access.specs.Target.{named}
-use Rattle.moo_access.specs.SeenTarget.{steps_of}
-use Rattle.moo_code_function.specs.Telling.{Faults}
-use Rattle.moo_semantics.specs.Meaning.{Stores, no_store, stores, puts_variable}
+use Rattle.moo_eval_frame.specs.Seen.{failure_of}
+use Rattle.moo_eval_access.specs.Target.{named}
+use Rattle.moo_eval_access.specs.SeenTarget.{steps_of}
+use Rattle.moo_builtin.specs.Telling.{Faults}
+use Rattle.moo_eval_semantics.specs.Meaning.{Stores, no_store, stores, puts_variable}
 use Rattle.moo_eval.proofs.Exits.{same_state}
 use Rattle.moo_eval.specs.Seen.{state_of}
 use Rattle.moo_eval.proofs.interpreter.Task.store_variable.Goals as goal

@@ -1,9 +1,9 @@
 use Rattle.std.proofs.Common.{ap, sym}
 use Rattle.std.proofs.lemmas.Result.{err_from_is_err_and}
 use Rattle.moo_value.specs.declared.error_code.ErrorCode.TheVariants.{VariableNotFound}
-use Rattle.moo_outcome.specs.Outcome.{answers, or_error}
-use Rattle.moo_worth.specs.Leaves.{variable_leaf}
-use Rattle.moo_semantics.specs.Meaning.{spent}
+use Rattle.moo_eval_frame.specs.Outcome.{answers, or_error}
+use Rattle.moo_eval_fast_expr.specs.Leaves.{variable_leaf}
+use Rattle.moo_eval_semantics.specs.Meaning.{spent}
 use Rattle.moo_eval.proofs.Direct.{variable_read, leaf_gives}
 use Rattle.moo_eval.proofs.interpreter.Task.variable.Goals as goal
 

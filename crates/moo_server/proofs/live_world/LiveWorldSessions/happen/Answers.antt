@@ -1,9 +1,9 @@
 use Rattle.std.proofs.Common.{◌≡◌, Bool, refl, sym, ◌∙◌, subst}
 use Rattle.std.specs.Prelude.{◌&&◌, IfOk, not}
-use Rattle.moo_live.specs.declared.live.Live.{Live}
-use Rattle.moo_code_function.specs.Telling.{Faults}
-use Rattle.moo_layer.specs.declared.sessions.Asked.{Asked}
-use Rattle.moo_layer.specs.Sessions.{seen_happening}
+use Rattle.moo_session_task.specs.declared.live.Live.{Live}
+use Rattle.moo_builtin.specs.Telling.{Faults}
+use Rattle.moo_server_core.specs.declared.sessions.Asked.{Asked}
+use Rattle.moo_server_core.specs.Sessions.{seen_happening}
 use Rattle.moo_server.specs.Live.{Becomes}
 use Rattle.moo_server.proofs.Worlds.{dropped_any, moved}
 use Rattle.moo_server.proofs.live_world.LiveWorldSessions.happen.Goals as goal

@@ -1,10 +1,10 @@
 use Rattle.std.proofs.Common.{ℤ, List, ◌∙◌, ap, subst}
-use Rattle.moo_code_function.specs.Telling.{Faults}
+use Rattle.moo_builtin.specs.Telling.{Faults}
 use Rattle.moo_session.specs.Events.{Starts as StartsFrom}
 use Rattle.std.specs.Prelude.{◌++◌}
-use Rattle.moo_connection.specs.Streams.{stream}
-use Rattle.moo_outbox.specs.Outbox.{Outbox, log_under_way, log_waiting, sent_under_way, sent_waiting}
-use Rattle.moo_saved.specs.Saved.{saved_of}
+use Rattle.moo_session_connection.specs.Streams.{stream}
+use Rattle.moo_session_connection.specs.Outbox.{Outbox, log_under_way, log_waiting, sent_under_way, sent_waiting}
+use Rattle.moo_dbtext_read.specs.Saved.{saved_of}
 use Rattle.moo_server.specs.declared.live_world.LiveWorld.{LiveWorld}
 use Rattle.moo_server.proofs.Worlds.{started_of}
 use Rattle.moo_server.proofs.live_world.LiveWorldStarts.start.Goals as goal

@@ -1,4 +1,4 @@
-use Rattle.moo_code_function.specs.Telling.{Faults, chosen_by}
+use Rattle.moo_builtin.specs.Telling.{Faults, chosen_by}
 use Rattle.moo_server_law.proofs.Within.{runs_within}
 use Rattle.moo_server_law.proofs.laws.runs.a_chosen_run_may_be.Goals as goal
 

@@ -1,4 +1,4 @@
-use Rattle.moo_code_function.specs.Telling.{chosen_by}
+use Rattle.moo_builtin.specs.Telling.{chosen_by}
 use Rattle.moo_server_law.proofs.Layer.{one_run_of_sessions}
 use Rattle.moo_server_law.proofs.laws.runs.one_run.Goals as goal
 

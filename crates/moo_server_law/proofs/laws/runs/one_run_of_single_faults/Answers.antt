@@ -1,5 +1,5 @@
-use Rattle.moo_code_function.specs.Telling.{Faults}
-use Rattle.moo_semantics.specs.Laws.{faults_of}
+use Rattle.moo_builtin.specs.Telling.{Faults}
+use Rattle.moo_eval_semantics.specs.Laws.{faults_of}
 use Rattle.moo_server_law.proofs.Layer.{one_run_of_sessions}
 use Rattle.moo_server_law.proofs.laws.runs.one_run_of_single_faults.Goals as goal
 

@@ -1,6 +1,6 @@
 use Rattle.moo_server_law.proofs.Agreeing.{by_choice}
 use Rattle.moo_server_law.proofs.Unique.{one_result}
-use Rattle.moo_code_function.specs.Telling.{chosen_by}
+use Rattle.moo_builtin.specs.Telling.{chosen_by}
 use Rattle.moo_server_law.proofs.laws.sessions.at_most_one_result.Goals as goal
 
 pub returns : goal.returns

@@ -1,4 +1,4 @@
-use Rattle.moo_code_function.specs.Telling.{Faults, chosen_by}
+use Rattle.moo_builtin.specs.Telling.{Faults, chosen_by}
 use Rattle.moo_server_law.proofs.Agreeing.{within}
 use Rattle.moo_server_law.proofs.Unique.{all_within}
 use Rattle.moo_server_law.proofs.laws.sessions.chosen_faults_may_be_told.Goals as goal

@@ -1,4 +1,4 @@
-use Rattle.moo_code_function.specs.Telling.{Faults}
+use Rattle.moo_builtin.specs.Telling.{Faults}
 use Rattle.moo_server_law.proofs.Typed.{is_typed}
 use Rattle.moo_server_law.proofs.laws.sessions.lines_of_the_whole_stream.Goals as goal
 

@@ -1,4 +1,4 @@
-use Rattle.moo_code_function.specs.Telling.{Faults}
+use Rattle.moo_builtin.specs.Telling.{Faults}
 use Rattle.moo_server_law.proofs.Hookless.{leave_none}
 use Rattle.moo_server_law.proofs.laws.sessions.no_hook_is_left.Goals as goal
 

@@ -1,5 +1,5 @@
-use Rattle.moo_semantics.specs.Laws.{faults_of}
-use Rattle.moo_code_function.specs.Telling.{Faults}
+use Rattle.moo_eval_semantics.specs.Laws.{faults_of}
+use Rattle.moo_builtin.specs.Telling.{Faults}
 use Rattle.moo_server_law.proofs.Agreeing.{by_single_faults}
 use Rattle.moo_server_law.proofs.Unique.{one_result}
 use Rattle.moo_server_law.proofs.laws.sessions.one_result_of_single_faults.Goals as goal

@@ -1,6 +1,0 @@
-use Rattle.std.proofs.Common.{refl}
-use Rattle.moo_program.proofs.Rows.{row_items}
-use Rattle.moo_access.proofs.target.root_alone.Goals as goal
-
-pub returns-in-List : goal.returns-in-List
-returns-in-List c = rw (c.in-List.is, row_items, ← c.deref.ensures.value) refl

@@ -1,0 +1,8 @@
+pub mod TextBytes
+pub mod Replacing
+pub mod Digits
+pub mod Spelled
+pub mod Making
+pub mod Searched
+pub mod Joined
+pub mod NewLists

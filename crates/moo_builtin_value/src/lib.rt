@@ -1,0 +1,19 @@
+//! The built-in functions over values alone. An internal crate of `moo_builtin`.
+#![tactic(auto)]
+
+mod call;
+mod conversion;
+pub mod laws;
+mod lists;
+mod looks;
+mod made;
+mod numbers;
+mod numeral;
+mod place;
+mod strings;
+mod substitution;
+
+pub use call::{Outcome, answer, plain_answer, raised, settled};
+pub use conversion::{to_integer, to_literal, to_object, to_text};
+pub use place::{compare, index, last_index};
+pub use substitution::substitute;

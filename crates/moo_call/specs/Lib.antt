@@ -1,8 +1,0 @@
-pub mod Spliced
-pub mod Tasks
-pub mod Later
-pub mod Connections
-pub mod Asking
-pub mod Calls
-pub mod Seen
-pub mod Laws

@@ -1,0 +1,51 @@
+-- The reads of recovery from a disk, and its answers.
+use Rattle.std.specs.Prelude.{◌≡◌, ◌≢◌, ◌↔◌, ℕ, List, take, Option, Some, None, Result, Ok, Err}
+use Rattle.moo_dbtext_record.specs.declared.fault.DbFault.{DbFault}
+use Rattle.moo_dbtext_record.specs.declared.fault.DbFaultKind.TheVariants as kind
+use Rattle.moo_disk.specs.Disk.{DiskView, HasRisen, KeepsMain, KeepsSpare}
+use Rattle.moo_dbtext_read.specs.Saved.{saved_of}
+use Rattle.moo_dbtext_read.specs.declared.saved.Saved as stored
+use Rattle.moo_dbtext_read.specs.Loading.{IsLoaded, IsRefusedSo}
+use Rattle.moo_checkpoint.specs.declared.open_fault.OpenFault.{OpenFault}
+use Rattle.moo_checkpoint.specs.declared.open_fault.OpenFault.TheVariants.{Device, Db, Memory}
+
+-- Nothing was written: main and the spare are as before, and a crash leaves no more than before.
+pub record Keeps {D : Type 0} (view : D → DiskView) (Honest Stands : D → Type 0) (old new : D) : Type 0 where
+  pub main : Honest old → KeepsMain (view old) (view new)
+  pub spare : Honest old → KeepsSpare (view old) (view new)
+  pub stands : Stands old → Stands new
+  pub honest : Honest old ↔ Honest new
+
+-- If the device of an honest disk is reported, the count of failures has risen. If anything else is reported, it
+-- hasn't.
+abbrev pub CountsFault : Type 0 → ℕ → ℕ → OpenFault → Type 0
+CountsFault Honest before now Device = Honest → HasRisen before now
+CountsFault Honest before now (Db f) = now ≡ before
+CountsFault Honest before now Memory = now ≡ before
+
+-- nor has it if there is no error
+abbrev pub CountsDevice : {X : Type 0} → Type 0 → ℕ → ℕ → Result X OpenFault → Type 0
+CountsDevice Honest before now (Ok x) = now ≡ before
+CountsDevice Honest before now (Err e) = CountsFault Honest before now e
+
+-- the text up to a place, or all of it
+abbrev pub front_to : List ℕ → Option ℕ → List ℕ
+front_to text None = text
+front_to text (Some at) = take at text
+
+-- the report of a fault of the reader
+abbrev pub IsToldAs : DbFault → OpenFault → Type 0
+IsToldAs f Device = ⊥
+IsToldAs f (Db g) = (g ≡ f) × (f.kind ≢ kind.Memory)
+IsToldAs f Memory = f.kind ≡ kind.Memory
+
+-- the text is refused if that is reported
+abbrev pub Tells : List ℕ → OpenFault → Type 0
+Tells text Device = Unit {0}
+Tells text (Db f) = IsRefusedSo text f × (f.kind ≢ kind.Memory)
+Tells text Memory = Unit {0}
+
+-- the answers that are possible if main is this text
+abbrev pub Recovers : List ℕ → Result stored.Saved OpenFault → Type 0
+Recovers text (Ok s) = IsLoaded text (saved_of s)
+Recovers text (Err e) = Tells text e

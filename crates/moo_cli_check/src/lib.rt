@@ -1,0 +1,20 @@
+//! The command `moo check --all`, over a reader and a writer. It reports every program of a database that is refused.
+//! An internal crate of `moo`.
+#![tactic(auto)]
+
+mod check;
+mod check_all;
+mod copy;
+mod counts;
+mod fault;
+mod loading;
+mod readers;
+mod survey;
+mod told;
+
+pub use check::{check_watched, run_check};
+pub use check_all::{check_all_watched, run_check_all};
+pub use copy::{copy_watched, run_copy};
+pub use counts::counts_line;
+pub use loading::load;
+pub use moo_cli_io::{Refusal, Watch};

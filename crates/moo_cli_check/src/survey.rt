@@ -1,0 +1,147 @@
+//! The refused programs of a text that comes in pieces.
+ghost use Rattle.std.specs.Prelude.{◌≡◌, ◌++◌, ℕ, List, [], Ok, Some, OnOk, IfErr, IfNone, IfOk, IfSome};
+ghost use Rattle.moo_syntax_ast.specs.Tree.{Block};
+ghost use Rattle.moo_syntax_grammar.specs.declared.names.Names.TheVariants.{Any};
+ghost use Rattle.moo_syntax_grammar.specs.Texts.{IsParsed};
+ghost use Rattle.moo_dbtext_object.specs.Lines.{Line, limited};
+ghost use Rattle.moo_dbtext_record.specs.Programs.{entry_at};
+ghost use Rattle.moo_dbtext_record.specs.Sparing.{AreAlikeTaken};
+ghost use Rattle.moo_dbtext_record.specs.Answer.{IsGoing, IsWholeLine, Stops, HasNoEnd, taken_of, taken_on};
+ghost use Rattle.moo_dbtext_read.specs.Reading.{IsSourceRefused, ended_between, verb_at, sources_at};
+ghost use Rattle.moo_cli_check.specs.Reading.{IsBehind, IsNoted, IsEnded, IsWholly};
+
+use crate::fault::kind_of_source;
+use moo_dbtext_record::{DbFault, DbFaultKind, DbReader, RecordFault, first_line};
+use moo_syntax::{Names, parse};
+use std::alloc::Global;
+
+/// Takes a line with its end. Returns the object and verb whose program the line ends, if it ends one.
+fn take_line(
+    alloc: Global,
+    records: &mut DbReader,
+    line: &[u8],
+) -> Result<Option<(u32, u32)>, RecordFault>
+    requires { IsWholeLine line.now }
+    ensures steps { IsGoing records.old → OnOk result (taken_on limited (taken_of records.old) line.now ≡ Ok (taken_of records.new)) }
+    ensures stops { IsGoing records.old → IfErr result (λ e. Stops e (taken_on limited (taken_of records.old) line.now)) }
+    ensures ok { OnOk result (IsGoing records.new) }
+    ensures ended { IfOk result (λ verb. verb ≡ ended_between (verb_at records.old) (verb_at records.new)) }
+{
+    let verb = records.verb();
+    records.feed_line(alloc, line)?;
+    match records.verb() {
+        Some(_) => Ok(None),
+        None => Ok(verb),
+    }
+}
+
+/// Returns the fault of the source of a verb whose dot has come, or `None` if the source is a program.
+fn source_fault(alloc: Global, records: &DbReader, object: u32, verb: u32) -> Option<DbFault>
+    ensures none { IfNone result ((source : List Line) → entry_at (sources_at records.now) object verb ≡ Some source → (b : Block) × IsParsed Any source b) }
+    ensures some { IfSome result (λ e. (source : List Line) → entry_at (sources_at records.now) object verb ≡ Some source → IsSourceRefused (taken_of records.now).lines object verb source e) }
+{
+    let source = records.source(object, verb)?;
+    let Err(fault) = parse(alloc, source, Names::Any) else {
+        return None;
+    };
+    let lines = records.lines();
+    Some(DbFault {
+        line: lines.saturating_sub(source.len() as u64).saturating_sub(1),
+        kind: kind_of_source(object, verb, &fault),
+    })
+}
+
+/// Reads a text in pieces, parses each program at the dot that ends it, and collects those that are refused.
+#[derive(Drop)]
+pub(crate) struct Survey {
+    records: DbReader,
+    faults: Vec<DbFault>,
+}
+
+impl Survey {
+    /// Returns a reader that expects the first byte.
+    pub(crate) fn new(alloc: Global) -> Survey
+        ensures { IsBehind result [] }
+    {
+        Survey {
+            records: DbReader::new(alloc),
+            faults: Vec::new(alloc),
+        }
+    }
+
+    /// Checks the program of a verb whose dot has come, and drops its lines.
+    fn note(&mut self, alloc: Global, object: u32, verb: u32) -> Result<(), DbFault>
+        ensures noted { OnOk result ((source : List Line) → entry_at (sources_at self.old.records) object verb ≡ Some source → IsNoted self.old.faults.items self.new.faults.items (taken_of self.old.records).lines object verb source) }
+        ensures memory { IfErr result (λ e. e.kind ≡ DbFaultKind.Memory) }
+        ensures alike { AreAlikeTaken (taken_of self.old.records) (taken_of self.new.records) }
+        ensures going { IsGoing self.old.records → IsGoing self.new.records }
+    {
+        let noted = source_fault(alloc, &self.records, object, verb);
+        self.records.drop_source(alloc, object, verb);
+        let Some(fault) = noted else {
+            return Ok(());
+        };
+        if let DbFaultKind::Memory = fault.kind {
+            return Err(fault);
+        }
+        match self.faults.push(fault) {
+            Ok(()) => Ok(()),
+            Err(_) => Err(DbFault {
+                line: fault.line,
+                kind: DbFaultKind::Memory,
+            }),
+        }
+    }
+
+    /// Takes a line with its end.
+    fn line(&mut self, alloc: Global, line: &[u8]) -> Result<(), DbFault>
+        requires { IsWholeLine line.now }
+        ensures goes { (bytes : List ℕ) → IsBehind self.old bytes → OnOk result (IsBehind self.new (bytes ++ line.now)) }
+        ensures stops { (bytes : List ℕ) → IsBehind self.old bytes → IfErr result (IsEnded (bytes ++ line.now) self.new.faults.items) }
+    {
+        match take_line(alloc, &mut self.records, line)? {
+            Some((object, verb)) => self.note(alloc, object, verb),
+            None => Ok(()),
+        }
+    }
+
+    /// Takes a part of a line, without its end.
+    fn part(&mut self, alloc: Global, part: &[u8]) -> Result<(), DbFault>
+        requires { HasNoEnd part.now }
+        ensures goes { (bytes : List ℕ) → IsBehind self.old bytes → OnOk result (IsBehind self.new (bytes ++ part.now)) }
+        ensures stops { (bytes : List ℕ) → IsBehind self.old bytes → IfErr result (IsEnded (bytes ++ part.now) self.new.faults.items) }
+    {
+        self.records.feed(alloc, part)?;
+        Ok(())
+    }
+
+    /// Takes the next piece of the text.
+    pub(crate) fn feed(&mut self, alloc: Global, piece: &[u8]) -> Result<(), DbFault>
+        ensures goes { (bytes : List ℕ) → IsBehind self.old bytes → OnOk result (IsBehind self.new (bytes ++ piece.now)) }
+        ensures stops { (bytes : List ℕ) → IsBehind self.old bytes → IfErr result (IsEnded (bytes ++ piece.now) self.new.faults.items) }
+    {
+        let mut more = piece;
+        while let Some(size) = first_line(more) {
+            self.line(alloc, &more[..size])?;
+            more = &more[size..];
+        }
+        self.part(alloc, more)
+    }
+
+    /// Returns the refused programs so far.
+    pub(crate) fn into_faults(self) -> Vec<DbFault>
+        ensures { result ≡ self.faults }
+    {
+        self.faults
+    }
+
+    /// Returns the refused programs, once the whole text has been fed, and the fault of a line that ends them.
+    pub(crate) fn finish(self) -> (Vec<DbFault>, Option<DbFault>)
+        ensures { (bytes : List ℕ) → IsBehind self bytes → IsWholly bytes result.0.items result.1 }
+    {
+        if let Err(fault) = self.records.finish() {
+            return (self.faults, Some(DbFault::from(fault)));
+        }
+        (self.faults, None)
+    }
+}

@@ -1,0 +1,234 @@
+//! A disk over files, each call of which makes calls of the operating system.
+ghost use Rattle.std.specs.Prelude.{◌≡◌, IsSome};
+ghost use Rattle.moo_disk.specs.Disk.{Counts};
+ghost use Rattle.moo_cli_file_disk.specs.Files.{no_view};
+
+use crate::news::{News, Watched};
+use moo_disk::{Disk, DiskFault};
+use std::alloc::Global;
+use std::fs::{File, OpenFile, OpenOptions};
+use std::io::{ErrorKind, Read, Seek, SeekFrom, Write};
+use std::os::unix::fs::OpenOptionsExt;
+use std::path::Path;
+use std::rt::Files;
+use std::{fs, io};
+
+/// The permissions of a spare until it has those of main: only the owner may use it.
+const OWNERS_ALONE: u32 = 0o600;
+
+/// The file or folder of a call.
+#[derive(Clone, Copy, Debug, PartialEq, Eq)]
+enum Place {
+    Main,
+    Spare,
+    Folder,
+}
+
+/// The outcome of the last call.
+#[derive(Drop)]
+enum Last {
+    Went,
+    Written,
+    Failed(Place, io::Error),
+}
+
+/// Two files of one folder: the database, and the spare, whose name ends in `.new`. No contract says what the files
+/// hold. The contracts say only that each fault is counted, and that bytes go only to a spare of its own. That is a
+/// file which has been open since it was created, and is not main's.
+#[derive(Drop)]
+pub struct FileDisk<R: Files> {
+    files: R,
+    main: String,
+    spare: String,
+    folder: String,
+    /// The spare, open for writing from `create_spare` to `rename`.
+    writing: Option<R::File>,
+    /// The number of bytes written to the spare since it was created.
+    bytes: u64,
+    last: Last,
+    failures: u64,
+    calls: u64,
+}
+
+/// Returns the folder of a path.
+fn folder_of(path: &str) -> &str {
+    match Path::new(path).parent() {
+        Some(folder) if folder.as_str() != "" => folder.as_str(),
+        _ => ".",
+    }
+}
+
+impl<R: Files + Drop> FileDisk<R> {
+    /// Returns the disk of the database at this path. Resolves a symbolic link once, here, so that a checkpoint
+    /// replaces the file it leads to and not the link. Fails if there is no such file.
+    pub fn open(alloc: Global, files: R, path: &str) -> io::Result<FileDisk<R>> {
+        let main = files.canonicalize(alloc, path)?.into_string();
+        let folder = String::from_str(alloc, folder_of(main.as_str()))?;
+        let spare = format!(in alloc; "{}.new", main.as_str())?;
+        Ok(FileDisk {
+            files,
+            main,
+            spare,
+            folder,
+            writing: None,
+            bytes: 0,
+            last: Last::Went,
+            failures: 0,
+            calls: 0,
+        })
+    }
+}
+
+impl<R: Files> FileDisk<R> {
+    /// Returns the path of the spare.
+    pub fn spare(&self) -> &str {
+        self.spare.as_str()
+    }
+
+    /// Tests whether a spare can be created, and removes it again. Leaves an existing spare as it is. The error says
+    /// why none can be created.
+    pub fn try_spare(&self) -> io::Result<()> {
+        match self.create_new() {
+            Ok(_) => fs::remove_file(&self.files, self.spare.as_str()),
+            Err(error) if error.kind() == ErrorKind::AlreadyExists => Ok(()),
+            Err(error) => Err(error),
+        }
+    }
+
+    // Counts a call, and a failure if it failed.
+    fn counted<T: Drop>(&mut self, place: Place, answer: io::Result<T>) -> Result<T, DiskFault>
+        ensures fault { Counts self.old.failures self.new.failures result }
+        ensures same { self.new.writing ≡ self.old.writing }
+    {
+        self.calls = self.calls.wrapping_add(1);
+        match answer {
+            Ok(value) => {
+                self.last = Last::Went;
+                Ok(value)
+            }
+            Err(error) => {
+                self.failures = self.failures.saturating_add(1);
+                self.last = Last::Failed(place, error);
+                Err(DiskFault)
+            }
+        }
+    }
+
+    // Creates a file that was not there before, so that it can't be the file of main, even by a link.
+    fn create_new(&self) -> io::Result<R::File> {
+        OpenOptions::new()
+            .write(true)
+            .create_new(true)
+            .mode(OWNERS_ALONE)
+            .open(&self.files, self.spare.as_str())
+    }
+
+    // Creates a spare, in place of any file with its name. It gets main's permissions; before that, only the owner
+    // may use it.
+    fn fresh_spare(&self) -> io::Result<R::File> {
+        match fs::remove_file(&self.files, self.spare.as_str()) {
+            Err(error) if error.kind() != ErrorKind::NotFound => return Err(error),
+            _ => {}
+        }
+        let file = self.create_new()?;
+        file.set_permissions(fs::metadata(&self.files, self.main.as_str())?.permissions())?;
+        Ok(file)
+    }
+
+    fn read_from(&self, at: u64, buffer: &mut [u8]) -> io::Result<usize> {
+        let mut file = File::open(&self.files, self.main.as_str())?;
+        file.seek(SeekFrom::Start(at))?;
+        file.read(buffer)
+    }
+
+    // A folder opens for reading as a file does. Its sync makes the names in it stable.
+    fn sync_folder(&self) -> io::Result<()> {
+        File::open(&self.files, self.folder.as_str())?.sync_all()
+    }
+
+    fn name_of(&self, place: Place) -> &str {
+        match place {
+            Place::Main => self.main.as_str(),
+            Place::Spare => self.spare.as_str(),
+            Place::Folder => self.folder.as_str(),
+        }
+    }
+}
+
+impl<R: Files> Watched for FileDisk<R> {
+    fn calls(&self) -> u64 {
+        self.calls
+    }
+
+    fn news(&self) -> News<'_> {
+        match &self.last {
+            Last::Went => News::Went,
+            Last::Written => News::Written(self.bytes),
+            Last::Failed(place, error) => News::Failed(self.name_of(*place), error),
+        }
+    }
+}
+
+/// Returns the error of a call that needs an open spare if there is none.
+fn no_spare<T>() -> io::Result<T> {
+    Err(io::Error::from(ErrorKind::NotFound))
+}
+
+impl<R: Files> Disk for FileDisk<R> {
+    ghost view = { λ _. no_view };
+
+    ghost failures = { λ d. d.failures };
+
+    ghost honest = { λ _. ⊥ };
+
+    ghost stands = { λ d. IsSome d.writing };
+
+    fn create_spare(&mut self) -> Result<(), DiskFault> {
+        let created = self.fresh_spare();
+        let file = self.counted(Place::Spare, created)?;
+        self.writing = Some(file);
+        self.bytes = 0;
+        Ok(())
+    }
+
+    fn append(&mut self, bytes: &[u8]) -> Result<(), DiskFault> {
+        let written = match &mut self.writing {
+            Some(file) => file.write_all(bytes),
+            None => no_spare(),
+        };
+        self.bytes = self.bytes.saturating_add(bytes.len() as u64);
+        self.counted(Place::Spare, written)
+    }
+
+    fn sync_spare(&mut self) -> Result<(), DiskFault> {
+        let synced = match &self.writing {
+            Some(file) => file.sync_all(),
+            None => no_spare(),
+        };
+        self.counted(Place::Spare, synced)
+    }
+
+    fn rename(&mut self) -> Result<(), DiskFault> {
+        let renamed = fs::rename(&self.files, self.spare.as_str(), self.main.as_str());
+        self.writing = None;
+        self.counted(Place::Spare, renamed)
+    }
+
+    fn sync_names(&mut self) -> Result<(), DiskFault> {
+        let synced = self.sync_folder();
+        self.counted(Place::Folder, synced)?;
+        self.last = Last::Written;
+        Ok(())
+    }
+
+    fn read_main(&mut self, at: u64, buffer: &mut [u8]) -> Result<usize, DiskFault> {
+        let read = self.read_from(at, buffer);
+        self.counted(Place::Main, read)
+    }
+
+    ghost main_may_be_left = { λ _ honest. absurd honest };
+
+    ghost counts_now = { λ _ _ _ honest. absurd honest };
+
+    ghost only_now = { λ _ _ honest. absurd honest };
+}

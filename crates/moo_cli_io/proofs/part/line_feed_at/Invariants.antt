@@ -1,0 +1,5 @@
+use Rattle.std.proofs.Common.{◌≢◌, take, All}
+use Rattle.moo_cli_io.proofs.part.line_feed_at.Given as goal
+
+abbrev pub invariant-loop-i : goal.invariant-loop-i
+invariant-loop-i l = All (λ b. b ≢ 10) (take l.i l.bytes)

@@ -1,0 +1,12 @@
+use Rattle.std.proofs.Common.{inl, inr}
+use Rattle.moo_cli_script.proofs.Serving.{gives_up}
+use Rattle.moo_cli_script.proofs.program.script_watched.Goals as goal
+
+pub returns-in-Ok : goal.returns-in-Ok
+returns-in-Ok g c = inl c.in-Ok.ensures.answered
+
+pub returns-in-Err : goal.returns-in-Err
+returns-in-Err g c =
+    inr (gives_up (g.O.Write.contents c.args.output.now) (g.O.Write.contents c.serve.new.output) (g.O.Write.contents c.told_watched.new.output) c.serve.new.loading c.serve.new.watch
+    c.told_watched.new.watch c.in-Err.refusal c.told_watched.result c.in-Err.ensures.earned c.in-Err.ensures.grown c.told_watched.ensures.remembers c.told_watched.ensures.status
+    c.told_watched.ensures.told)

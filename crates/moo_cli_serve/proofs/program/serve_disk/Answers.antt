@@ -1,0 +1,37 @@
+use Rattle.std.proofs.Common.{inl, inr, refl}
+use Rattle.std.proofs.lemmas.Result.{err_from_is_err_and}
+use Rattle.moo_cli_serve.proofs.Serviced.{serves_so, stops_so}
+use Rattle.moo_cli_serve.proofs.program.serve_disk.Goals as goal
+
+pub returns-in_err-serving-clause-ended : goal.returns-in_err-serving-clause-ended
+returns-in_err-serving-clause-ended g c =
+    let p = err_from_is_err_and c.from_residual.result c.from_residual.ensures.1 in rw (p.1, p.2) (inl c.in_err-serving.ensures.refused)
+
+pub returns-in_err-address-clause-ended : goal.returns-in_err-address-clause-ended
+returns-in_err-address-clause-ended g c =
+    let s = c.in_ok-serving.serving in
+    let p = err_from_is_err_and c.from_residual-in_err-address.result c.from_residual-in_err-address.ensures.1 in rw (p.1, p.2) (inr (record {
+      start = s;
+      end = s;
+      begun = c.in_ok-serving.ensures.begun;
+      breaks = inl (c.in_err-address.ensures, refl);
+    }))
+
+pub returns-in_err-tell_address-clause-ended : goal.returns-in_err-tell_address-clause-ended
+returns-in_err-tell_address-clause-ended g c =
+    let s = c.in_ok-serving.serving in
+    let p = err_from_is_err_and c.from_residual-in_err-tell_address.result c.from_residual-in_err-tell_address.ensures.1 in rw (p.1, p.2) (inr (record {
+      start = s;
+      end = s;
+      begun = c.in_ok-serving.ensures.begun;
+      breaks = inl (c.in_err-tell_address.ensures, refl);
+    }))
+
+pub returns-clause-served : goal.returns-clause-served
+returns-clause-served g c =
+    serves_so g.S.Sessions.layer g.D.Disk.view g.D.Disk.honest g.D.Disk.failures _ _ _ c.in_ok-serving.serving c.serve.new.self c.serve.result c.in_ok-serving.ensures.begun c.serve.ensures.course
+    c.serve.ensures.served
+
+pub returns-clause-ended : goal.returns-clause-ended
+returns-clause-ended g c =
+    stops_so g.S.Sessions.layer g.D.Disk.view g.D.Disk.honest g.D.Disk.failures _ _ _ c.in_ok-serving.serving c.serve.new.self c.serve.result c.in_ok-serving.ensures.begun c.serve.ensures.ended

@@ -1,0 +1,72 @@
+use Rattle.std.proofs.Common.{[], inl, inr, refl, rules}
+use Rattle.std.proofs.lemmas.Result.{err_from_is_err_and}
+use Rattle.moo_cli_serve.specs.Rounds.{IsClosed}
+use Rattle.moo_cli_serve.proofs.Coursing.{course_none}
+use Rattle.moo_cli_serve.proofs.Rounding.{course_end, follows_end}
+use Rattle.moo_cli_serve.proofs.Serviced.{ends_hands}
+use Rattle.moo_cli_serve.proofs.serving.Serving.round.Goals as goal
+
+pub returns-then-is_closed-clause-follows : goal.returns-then-is_closed-clause-follows
+returns-then-is_closed-clause-follows g c = record { still = c.requires.still; continues = c.requires.continues }
+
+pub returns-then-is_closed-clause-course : goal.returns-then-is_closed-clause-course
+returns-then-is_closed-clause-course g c = ([], course_none g.S.Sessions.layer g.D.Disk.view g.D.Disk.honest c.args.self.now.server c.args.self.now.disk)
+
+pub returns-then-is_closed-clause-round : goal.returns-then-is_closed-clause-round
+returns-then-is_closed-clause-round g c = let closed : IsClosed c.args.self.now.server = search rules in inl (closed, refl)
+
+pub returns-then-is_closed-clause-over : goal.returns-then-is_closed-clause-over
+returns-then-is_closed-clause-over g c = let closed : IsClosed c.args.self.now.server = search rules in (λ over. closed, λ is. refl)
+
+pub turn-turned-requires : goal.turn-turned-requires
+turn-turned-requires g c = record { still = c.requires.still; continues = c.requires.continues }
+
+pub returns-in_err-turned-clause-follows : goal.returns-in_err-turned-clause-follows
+returns-in_err-turned-clause-follows g c =
+    follows_end g.S.Sessions.layer g.D.Disk.view g.D.Disk.honest g.D.Disk.stands
+    c.turn-turned.new.self.server c.log_lines.new.server c.turn-turned.new.self.disk c.in_err-turned.ensures.follows c.log_lines.ensures.handed
+
+pub returns-in_err-turned-clause-course : goal.returns-in_err-turned-clause-course
+returns-in_err-turned-clause-course g c =
+    course_end g.S.Sessions.layer g.D.Disk.view g.D.Disk.honest g.D.Disk.stands
+    c.args.self.now.server c.turn-turned.new.self.server c.log_lines.new.server c.args.self.now.disk c.turn-turned.new.self.disk c.in_err-turned.ensures.course c.log_lines.ensures.handed
+
+pub returns-in_err-turned-clause-round : goal.returns-in_err-turned-clause-round
+returns-in_err-turned-clause-round g c = search rules
+
+pub returns-in_err-turned-clause-over : goal.returns-in_err-turned-clause-over
+returns-in_err-turned-clause-over g c = search rules
+
+pub returns-clause-follows : goal.returns-clause-follows
+returns-clause-follows g c =
+    follows_end g.S.Sessions.layer g.D.Disk.view g.D.Disk.honest g.D.Disk.stands
+    c.turn-turned.new.self.server c.log_lines.new.server c.turn-turned.new.self.disk c.in_ok-turned.ensures.follows c.log_lines.ensures.handed
+
+pub returns-clause-course : goal.returns-clause-course
+returns-clause-course g c =
+    course_end g.S.Sessions.layer g.D.Disk.view g.D.Disk.honest g.D.Disk.stands
+    c.args.self.now.server c.turn-turned.new.self.server c.log_lines.new.server c.args.self.now.disk c.turn-turned.new.self.disk c.in_ok-turned.ensures.course c.log_lines.ensures.handed
+
+pub returns-clause-round : goal.returns-clause-round
+returns-clause-round g c = inr (record {
+  turned = c.turn-turned.new.self.server;
+  logs = c.log_lines.ensures;
+  rounds = c.in_ok-turned.ensures.round;
+  most_is = c.in_ok-turned.ensures.most;
+})
+
+pub returns-clause-over : goal.returns-clause-over
+returns-clause-over g c = c.found.ensures
+
+pub returns-then-is_closed-clause-ended : goal.returns-then-is_closed-clause-ended
+returns-then-is_closed-clause-ended g c = tt
+
+pub returns-in_err-turned-clause-ended : goal.returns-in_err-turned-clause-ended
+returns-in_err-turned-clause-ended g c =
+    let p = err_from_is_err_and c.from_residual.result c.from_residual.ensures.1 in
+    rw (p.1, p.2)
+    (ends_hands g.S.Sessions.layer g.D.Disk.view g.D.Disk.honest g.D.Disk.failures _
+    c.args.self.now c.turn-turned.new.self c.log_lines.new.server c.in_err-turned.ensures.ended c.log_lines.ensures.handed)
+
+pub returns-clause-ended : goal.returns-clause-ended
+returns-clause-ended g c = tt

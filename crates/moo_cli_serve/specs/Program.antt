@@ -1,0 +1,28 @@
+-- What `moo serve` does over a file, and the status that it answers.
+use Rattle.std.specs.Prelude.{◌≡◌, ◌⊎◌, ℕ}
+use Rattle.moo_cli_file_disk.specs.Files.{file_failures, file_honest, file_view}
+use Rattle.moo_cli_file_disk.specs.declared.file_disk.FileDisk.{FileDisk}
+use Rattle.moo_checkpoint.specs.declared.open_fault.OpenFault.TheVariants as opening
+use Rattle.moo_server_core.specs.Sessions.{Layer}
+use Rattle.moo_dbtext_read.specs.Saved.{Saved}
+use Rattle.moo_cli_serve.specs.Service.{Fails, Serves}
+use Rattle.moo_cli_serve.specs.Status.{fault_status}
+use Rattle.moo_cli_serve.specs.declared.fault.ServeFault.{ServeFault}
+use Rattle.moo_cli_serve.specs.declared.fault.ServeFault.TheVariants as the
+
+-- There is no disk: the file's name leads to none, or memory was wanting for it.
+abbrev pub NoDisk : ServeFault → Type 0
+NoDisk fault = (fault ≡ the.Open opening.Device) ⊎ (fault ≡ the.Memory)
+
+module _ {S Sessions : Type 0} (l : Layer S Sessions Saved) (F File Dir : Type 0) (most : ℕ) where
+  -- the disk over a file was served
+  abbrev pub ServesFile : ℕ → Type 0
+  ServesFile rounds = (disk : FileDisk F File Dir) × Serves l file_view file_honest disk most rounds
+
+  -- or it wasn't, or not to the end
+  abbrev pub FailsFile : ℕ → ServeFault → Type 0
+  FailsFile rounds fault = NoDisk fault ⊎ ((disk : FileDisk F File Dir) × Fails l file_view file_honest file_failures disk most rounds fault)
+
+  -- the status is 0 where it was served to the end, and else that of the fault
+  abbrev pub ShowsService : ℕ → ℕ → Type 0
+  ShowsService rounds status = (ServesFile rounds × (status ≡ 0)) ⊎ ((fault : ServeFault) × FailsFile rounds fault × (status ≡ fault_status fault))

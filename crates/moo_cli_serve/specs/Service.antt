@@ -1,0 +1,166 @@
+-- A server over a disk from its start to its end: how it is begun, the rounds that it makes, and why it ends.
+use Rattle.std.specs.Prelude.{◌≡◌, ◌≢◌, ◌⊎◌, ℕ, zero, suc, ◌<◌, ◌≤◌, List, [], ◌∷◌, ◌++◌, None, Err}
+use Rattle.slab.specs.Slab.{Slab}
+use Rattle.moo_disk.specs.Disk.{DiskView, KeepsMain, KeepsSpare}
+use Rattle.moo_dbtext_record.specs.declared.fault.DbFault.{DbFault}
+use Rattle.moo_dbtext_record.specs.declared.fault.DbFaultKind.TheVariants as kind
+use Rattle.moo_dbtext_read.specs.Saved.{Saved, SpellsSaved, SpellsSavedWithin}
+use Rattle.moo_dbtext_read.specs.Refusals.{Refuses as RefusesText}
+use Rattle.moo_checkpoint.specs.Recovering.{CountsFault}
+use Rattle.moo_checkpoint.specs.declared.open_fault.OpenFault.{OpenFault}
+use Rattle.moo_checkpoint.specs.declared.open_fault.OpenFault.TheVariants as opening
+use Rattle.moo_server_core.specs.Sessions.{Layer, Output}
+use Rattle.moo_cli_sockets.specs.declared.socket.Socket.{Socket}
+use Rattle.moo_cli_sockets.specs.Coming.{held}
+use Rattle.moo_server_core.specs.Calls.{Opened}
+use Rattle.moo_server_core.specs.Server.{Hands, Runs}
+use Rattle.moo_server_core.specs.declared.event.Cause.{Cause}
+use Rattle.moo_server_core.specs.declared.event.Event.{Event}
+use Rattle.moo_server_core.specs.declared.event.RunFault.{RunFault}
+use Rattle.moo_server_core.specs.declared.serving.Serving as inner
+use Rattle.moo_cli_serve.specs.Course.{Course, Given}
+use Rattle.moo_cli_serve.specs.Rounds.{Begins, IsClosed, Logs, Rounds}
+use Rattle.moo_cli_serve.specs.Writing.{Writes}
+use Rattle.moo_cli_serve.specs.declared.fault.ServeFault.{ServeFault}
+use Rattle.moo_cli_serve.specs.declared.fault.ServeFault.TheVariants as the
+use Rattle.moo_cli_serve.specs.declared.serving.Serving.{Serving}
+
+-- a fault of the sockets, the output or the memory: neither of the disk nor of an event
+abbrev pub IsOutside : ServeFault → Type 0
+IsOutside (the.Open fault) = ⊥
+IsOutside (the.Refused cause) = ⊥
+IsOutside fault = Unit {0}
+
+-- it waited: for its sockets, which hold what they held
+pub record Waits {S D : Type 0} (old new : Serving S D) : Type 0 where
+  pub server_is : new.server ≡ old.server
+  pub disk_is : new.disk ≡ old.disk
+  pub moment_is : new.moment ≡ old.moment
+  pub most_is : new.most_waiting ≡ old.most_waiting
+  pub sockets : (c : ℕ) → held new.sockets.sockets c ≡ held old.sockets.sockets c
+
+module _ {S Sessions D : Type 0} (l : Layer S Sessions Saved) (view : D → DiskView) (honest : D → Type 0) where
+  -- A server was begun from what a disk holds, at a moment: from a saved world that main spells. Nothing was written.
+  pub record IsBegunFrom (disk : D) (moment : ℕ) (server : inner.Serving S) (left : D) : Type 0 where
+    pub saved : Saved
+    pub spelled : honest disk → SpellsSaved (view disk).main_text saved
+    pub opened : Opened l view honest server disk left saved moment
+    pub spare : honest disk → KeepsSpare (view disk) (view left)
+
+  -- A server was begun over a disk, at the moment that counts as told. No connection has a socket.
+  pub record Begun (disk : D) (most : ℕ) (start : Serving S D) : Type 0 where
+    pub from : IsBegunFrom disk start.moment start.server start.disk
+    pub none : (c : ℕ) → held start.sockets.sockets c ≡ None
+    pub most_is : start.most_waiting ≡ most
+
+  -- a round was made
+  pub record Turns (old new : Serving S D) : Type 0 where
+    pub turned : inner.Serving S
+    pub logs : Logs l turned new.server
+    pub rounds : Rounds l view honest old.most_waiting old.moment new.moment old.server turned old.disk new.disk old.sockets.sockets new.sockets.sockets
+    pub most_is : new.most_waiting ≡ old.most_waiting
+
+  -- a round was made, and perhaps it waited behind it
+  abbrev pub Steps : Serving S D → Serving S D → Type 0
+  Steps old new = (turned : Serving S D) × Turns old turned × Waits turned new
+
+  -- so many rounds were made, one behind another
+  abbrev pub Makes : ℕ → Serving S D → Serving S D → Type 0
+  Makes zero old new = new ≡ old
+  Makes (suc n) old new = (mid : Serving S D) × Makes n old mid × Steps mid new
+
+  -- It went through so many rounds, or through fewer and was closed then.
+  pub record IsServed (rounds : ℕ) (old new : Serving S D) : Type 0 where
+    pub made : ℕ
+    pub makes : Makes made old new
+    pub few : made ≤ rounds
+    pub ends : IsClosed new.server ⊎ (made ≡ rounds)
+
+  -- a server was begun over a disk and served to its end, by calls of one event each
+  pub record Serves (disk : D) (most rounds : ℕ) : Type 0 where
+    pub start : Serving S D
+    pub end : Serving S D
+    pub begun : Begun disk most start
+    pub served : IsServed rounds start end
+    pub course : (events : List Event) × Course l view honest start.server start.disk events end.server end.disk
+
+module _ {D : Type 0} (view : D → DiskView) (honest : D → Type 0) (failures : D → ℕ) where
+  -- Why no server was begun over a disk, which was left so. Where its text is refused, this is what is told of it, and it spells no saved
+  -- world within the limits; where the device is told it has failed. Nothing was written.
+  pub record NotBegun (disk left : D) (fault : OpenFault) : Type 0 where
+    pub text : honest disk → (f : DbFault) → fault ≡ opening.Db f → RefusesText (view disk).main_text f × (f.kind ≢ kind.Memory)
+    pub none : honest disk → (f : DbFault) → fault ≡ opening.Db f → (saved : Saved) → ¬ SpellsSavedWithin (view disk).main_text saved
+    pub device : CountsFault (honest disk) (failures disk) (failures left) fault
+    pub main : honest disk → KeepsMain (view disk) (view left)
+    pub spare : honest disk → KeepsSpare (view disk) (view left)
+
+  abbrev pub LeavesUnbegun : D → D → ServeFault → Type 0
+  LeavesUnbegun disk left (the.Open fault) = NotBegun disk left fault
+  LeavesUnbegun disk left fault = ⊥
+
+module _ {S Sessions D : Type 0} (l : Layer S Sessions Saved) (view : D → DiskView) (honest : D → Type 0) (failures : D → ℕ) where
+  -- There are no rounds: no server was begun, or there are no sockets for the one that was.
+  abbrev pub NotStarted : D → ServeFault → Type 0
+  NotStarted disk (the.Open fault) = (left : D) × NotBegun view honest failures disk left fault
+  NotStarted disk (the.Sockets fault) = (moment : ℕ) × (server : inner.Serving S) × (left : D) × IsBegunFrom l view honest disk moment server left
+  NotStarted disk fault = ⊥
+
+  -- A server was given events of a list, in calls of one each, up to one that it refused in such a call for this cause; then some of what
+  -- waits was handed out.
+  pub record IsRefused (cause : Cause) (events : List Event) (before : inner.Serving S) (old : D) (after : inner.Serving S) (new : D) : Type 0 where
+    pub taken : List Event
+    pub event : Event
+    pub rest : List Event
+    pub all : events ≡ taken ++ event ∷ rest
+    pub mid : inner.Serving S
+    pub between : D
+    pub gives : Given l view honest before old taken mid between
+    pub fault : RunFault
+    pub left : inner.Serving S
+    pub runs : Runs l view honest failures mid left between new (event ∷ []) (Err fault)
+    pub cause_is : fault.cause ≡ cause
+    pub handed : (handed : Output) × Hands l handed left after
+
+  -- A round came to its writes, and a hang-up that came of them was refused for this cause.
+  pub record RefusesParted (cause : Cause) (most : ℕ) (first : List Event) (server : inner.Serving S) (old : D) (read : Slab Socket) (after : inner.Serving S) (new : D) : Type 0 where
+    pub given : inner.Serving S
+    pub between : D
+    pub gives : Given l view honest server old first given between
+    pub parted : List Event
+    pub written : inner.Serving S
+    pub left : Slab Socket
+    pub writes : Writes l most given written read left parted
+    pub handed : (handed : Output) × Hands l handed given written
+    pub refused : IsRefused cause parted written between after new
+
+  -- A round was begun, and broke off at an event that the server refused for this cause: one of those that are given first, or a hang-up
+  -- that came of the writes.
+  pub record RefusesRound (cause : Cause) (old : Serving S D) (moment : ℕ) (after : inner.Serving S) (new : D) : Type 0 where
+    pub first : List Event
+    pub read : Slab Socket
+    pub begins : Begins old.sockets.sockets read old.moment moment first
+    pub refused : IsRefused cause first old.server old.disk after new ⊎ RefusesParted cause old.most_waiting first old.server old.disk read after new
+
+  -- why a server that was begun ended before
+  abbrev pub EndsFor : ServeFault → Serving S D → Serving S D → Type 0
+  EndsFor (the.Refused cause) old new = RefusesRound cause old new.moment new.server new.disk
+  EndsFor fault old new = IsOutside fault
+
+  -- So many rounds were made, and one more was begun and broke off for this fault, behind calls of one event each.
+  pub record BreaksOff (rounds : ℕ) (fault : ServeFault) (old new : Serving S D) : Type 0 where
+    pub made : ℕ
+    pub mid : Serving S D
+    pub makes : Makes l view honest made old mid
+    pub fewer : made < rounds
+    pub course : (events : List Event) × Course l view honest mid.server mid.disk events new.server new.disk
+    pub ends : EndsFor fault mid new
+
+  -- A server was begun over a disk, and ended before for this fault: where it listens couldn't be told, or a round broke off.
+  pub record Stops (disk : D) (most rounds : ℕ) (fault : ServeFault) : Type 0 where
+    pub start : Serving S D
+    pub end : Serving S D
+    pub begun : Begun l view honest disk most start
+    pub breaks : (IsOutside fault × (end ≡ start)) ⊎ BreaksOff rounds fault start end
+
+  abbrev pub Fails : D → ℕ → ℕ → ServeFault → Type 0
+  Fails disk most rounds fault = NotStarted disk fault ⊎ Stops disk most rounds fault

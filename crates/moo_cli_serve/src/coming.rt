@@ -1,0 +1,44 @@
+//! What a round gives to a server first.
+ghost use Rattle.std.specs.Prelude.{◌≡◌, ◌++◌, ℕ, List, IfOk, OnOk};
+ghost use Rattle.moo_server_core.specs.declared.event.Event as given;
+ghost use Rattle.moo_cli_serve.specs.Rounds.{Begins, IsTold};
+
+use log::Log;
+use moo_cli_sockets::Sockets;
+use moo_server_core::Event;
+use std::alloc::AllocError;
+use std::rt::Clock;
+
+/// What came on the sockets, the moment, and a flush. The last moment that was told is set.
+pub fn come<L: Clock + Log>(
+    rt: &L,
+    sockets: &mut Sockets,
+    moment: &mut u32,
+) -> Result<Vec<Event>, AllocError>
+    ensures { IfOk result (λ events. Begins sockets.old.sockets sockets.new.sockets moment.old moment.new events.items) }
+{
+    let mut events = sockets.take(rt)?;
+    tell(now(rt), moment, &mut events)?;
+    events.push(Event::Flush)?;
+    Ok(events)
+}
+
+// The clock may be set back: then the last moment stands until it is passed.
+fn tell(now: Option<u32>, moment: &mut u32, events: &mut Vec<Event>) -> Result<(), AllocError>
+    ensures { OnOk result ((timed : List given.Event) × IsTold now moment.old moment.new timed × (events.new.items ≡ events.old.items ++ timed)) }
+{
+    match now {
+        Some(now) if now >= *moment => {
+            *moment = now;
+            events.push(Event::Moment(now))?;
+        }
+        _ => {}
+    }
+    Ok(())
+}
+
+/// Seconds since 1970, where the clock tells. They fit until 2106.
+pub fn now(clock: &impl Clock) -> Option<u32> {
+    let since = clock.since_1970().ok()?;
+    u32::try_from(since.as_secs()).ok()
+}

@@ -1,0 +1,88 @@
+//! What goes out in a round, and the connections that are closed then.
+ghost use Rattle.std.specs.Prelude.{◌≡◌, ◌≢◌, ℕ, List, IfOk, OnOk};
+ghost use Rattle.moo_server_core.specs.Sessions.{Output};
+ghost use Rattle.moo_server_core.specs.Server.{Hands, waiting_of};
+ghost use Rattle.moo_cli_serve.specs.Rounds.{Logs};
+ghost use Rattle.moo_cli_serve.specs.Writing.{IsLeft, IsWrittenTo, Writes, is_parted};
+
+use log::{Log, info, warn};
+use moo_cli_sockets::{Sockets, put};
+use moo_server_core::{Event, Serving, Starts};
+use std::alloc::{AllocError, Global};
+
+/// One write to each socket, of what waits for its connection: the hang-ups of those that are closed then.
+pub fn write_all<S: Starts, L: Log>(
+    rt: &L,
+    alloc: Global,
+    server: &mut Serving<S>,
+    sockets: &mut Sockets,
+    most_waiting: usize,
+) -> Result<Vec<Event>, AllocError>
+    ensures handed { (handed : Output) × Hands S.layer handed server.old server.new }
+    ensures written { IfOk result (λ events. Writes S.layer most_waiting server.old server.new sockets.old.sockets sockets.new.sockets events.items) }
+{
+    let mut parted = Vec::new(alloc);
+    for key in 0..sockets.capacity() {
+        let Ok(c) = u16::try_from(key) else { break };
+        let event = write(rt, server, sockets, c, most_waiting)?;
+        put(&mut parted, event)?;
+    }
+    Ok(parted)
+}
+
+// One write to a connection's socket, if it has one, and its hang-up where it is closed then.
+fn write<S: Starts, L: Log>(
+    rt: &L,
+    server: &mut Serving<S>,
+    sockets: &mut Sockets,
+    c: u16,
+    most_waiting: usize,
+) -> Result<Option<Event>, AllocError>
+    ensures handed { (handed : Output) × Hands S.layer handed server.old server.new }
+    ensures written { IfOk result (λ event. IsWrittenTo S.layer most_waiting server.old server.new sockets.old.sockets sockets.new.sockets c event) }
+    ensures others { OnOk result ((k : ℕ) → k ≢ c → IsLeft S.layer k server.old server.new sockets.old.sockets sockets.new.sockets) }
+    ensures log { (waiting_of S.layer server.new).logged ≡ (waiting_of S.layer server.old).logged }
+{
+    if !sockets.contains(c) {
+        return Ok(None);
+    }
+    let is_leaving = server.is_leaving(c);
+    let output = server.take_output(c);
+    let waiting = sockets.write(c, output)?;
+    if !is_parted(most_waiting, is_leaving, waiting) {
+        return Ok(None);
+    }
+    tell_waiting(rt, c, most_waiting, waiting);
+    sockets.close(c);
+    Ok(Some(Event::Hangup(c)))
+}
+
+// Whether one is hung up: the socket failed, or the connection leaves and nothing waits, or too much does.
+fn is_parted(most: usize, is_leaving: bool, waiting: Option<usize>) -> bool
+    ensures { result ≡ is_parted most is_leaving waiting }
+{
+    match waiting {
+        Some(waiting) => (is_leaving && waiting == 0) || waiting > most,
+        None => true,
+    }
+}
+
+fn tell_waiting<L: Log>(rt: &L, c: u16, most: usize, waiting: Option<usize>) {
+    if let Some(waiting) = waiting {
+        if waiting > most {
+            warn!(rt; target: "moo", "connection {c} is hung up: {waiting} bytes wait for it");
+        }
+    }
+}
+
+/// Writes the lines that wait for the log.
+pub fn log_lines<S: Starts, L: Log>(rt: &L, server: &mut Serving<S>)
+    ensures { Logs S.layer server.old server.new }
+{
+    let lines = server.take_log();
+    for line in &lines {
+        if let Ok(line) = str::from_utf8(line.as_bytes()) {
+            info!(rt; target: "moo", "{line}");
+        }
+    }
+}

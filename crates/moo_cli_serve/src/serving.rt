@@ -1,0 +1,242 @@
+//! Rounds of non-blocking calls between the sockets of connections and a server.
+ghost use Rattle.std.specs.Prelude.{◌≡◌, ◌⊎◌, ◌↔◌, List, IfErr, IfOk, IsTrue, OnOk, false, true};
+ghost use Rattle.moo_server_core.specs.Server.{Follows};
+ghost use Rattle.moo_server_core.specs.declared.event.Event as given;
+ghost use Rattle.moo_cli_serve.specs.Course.{Course};
+ghost use Rattle.moo_cli_serve.specs.Rounds.{IsClosed, Rounds};
+ghost use Rattle.moo_cli_serve.specs.Service.{Begun, BreaksOff, EndsFor, IsBegunFrom, IsOutside, IsServed, LeavesUnbegun, NotStarted, Steps, Turns, Waits};
+
+use crate::coming::{come, now};
+use crate::fault::ServeFault;
+use crate::giving::{give, give_if_open};
+use crate::leaving::{log_lines, write_all};
+use log::{Log, info, warn};
+use moo_cli_file_disk::{News, Watched};
+use moo_cli_sockets::Sockets;
+use moo_disk::Disk;
+use moo_server_core::{Phase, Serving as Server, Starts};
+use std::alloc::Global;
+use std::net::{IpAddr, Net, SocketAddr};
+use std::rt::Clock;
+
+/// The longest wait of an idle server, in seconds: a moment has whole ones.
+const WAIT_SECONDS: u64 = 1;
+
+/// What a round found.
+#[derive(Clone, Copy, Debug, PartialEq, Eq)]
+pub enum Round {
+    /// There may be more to do at once.
+    Busy,
+    /// Nothing can be done before a socket is ready or the clock goes on.
+    Idle,
+    /// The server is closed.
+    Over,
+}
+
+/// A server over a disk, and the sockets of its connections.
+#[derive(Drop)]
+pub struct Serving<S: Starts, D: Disk> {
+    alloc: Global,
+    sockets: Sockets,
+    server: Server<S>,
+    disk: D,
+    /// The last moment that was told.
+    moment: u32,
+    /// A connection for which more bytes wait is hung up.
+    most_waiting: usize,
+}
+
+impl<S: Starts, D: Disk + Watched> Serving<S, D> {
+    /// Opens a server on a disk, and listens on a port of an address. Port 0 takes any free one. Where the disk can't be read, why is told
+    /// in a line of the log.
+    pub fn open<N: Net + Clock + Log>(
+        rt: &N,
+        alloc: Global,
+        disk: D,
+        host: IpAddr,
+        port: u16,
+        most_waiting: usize,
+    ) -> Result<Serving<S, D>, ServeFault>
+    where
+        D: Drop,
+        ensures begun { IfOk result (Begun S.layer D.view D.honest disk most_waiting) }
+        ensures follows { IfOk result (λ serving. Follows S.layer D.view D.honest D.stands serving.server serving.disk) }
+        ensures refused { IfErr result (NotStarted S.layer D.view D.honest D.failures disk) }
+    {
+        let mut disk = disk;
+        let moment = now(rt).unwrap_or(0);
+        let server = begin(rt, alloc, &mut disk, moment)?;
+        let sockets = Sockets::open(rt, alloc, host, port)?;
+        Ok(Serving {
+            alloc,
+            sockets,
+            server,
+            disk,
+            moment,
+            most_waiting,
+        })
+    }
+
+    /// Where it listens.
+    pub fn address(&self) -> Result<SocketAddr, ServeFault>
+        ensures { IfErr result IsOutside }
+    {
+        let address = self.sockets.address()?;
+        Ok(address)
+    }
+
+    /// At most so many rounds, with a wait after each that found nothing. It ends early once the server is closed.
+    pub fn serve<L: Clock + Log>(&mut self, rt: &L, rounds: u64) -> Result<(), ServeFault>
+        requires { Follows S.layer D.view D.honest D.stands self.old.server self.old.disk }
+        ensures follows { Follows S.layer D.view D.honest D.stands self.new.server self.new.disk }
+        ensures course { (events : List given.Event) × Course S.layer D.view D.honest self.old.server self.old.disk events self.new.server self.new.disk }
+        ensures served { OnOk result (IsServed S.layer D.view D.honest rounds self.old self.new) }
+        ensures ended { IfErr result (λ fault. BreaksOff S.layer D.view D.honest D.failures rounds fault self.old self.new) }
+    {
+        for _made in 0..rounds {
+            let goes = self.step(rt)?;
+            if !goes {
+                return Ok(());
+            }
+        }
+        Ok(())
+    }
+
+    // A round, and a wait behind one that found nothing. It answers whether the server goes on.
+    fn step<L: Clock + Log>(&mut self, rt: &L) -> Result<bool, ServeFault>
+        requires { Follows S.layer D.view D.honest D.stands self.old.server self.old.disk }
+        ensures follows { Follows S.layer D.view D.honest D.stands self.new.server self.new.disk }
+        ensures course { (events : List given.Event) × Course S.layer D.view D.honest self.old.server self.old.disk events self.new.server self.new.disk }
+        ensures goes { IfOk result (λ goes. goes ≡ true → Steps S.layer D.view D.honest self.old self.new) }
+        ensures over { IfOk result (λ goes. goes ≡ false → IsClosed self.new.server × ((self.new ≡ self.old) ⊎ Steps S.layer D.view D.honest self.old self.new)) }
+        ensures ended { IfErr result (λ fault. EndsFor S.layer D.view D.honest D.failures fault self.old self.new) }
+    {
+        let found = self.round(rt)?;
+        match found {
+            Round::Busy => Ok(true),
+            Round::Idle => {
+                self.wait()?;
+                Ok(true)
+            }
+            Round::Over => Ok(false),
+        }
+    }
+
+    /// One round: what came on the sockets, the moment and a flush are given to the server, each event in a run of its own; then one write
+    /// to each socket for which bytes wait, and the hang-ups of those that are closed by it. Once the server is closed nothing is done.
+    #[tactic(none)]
+    pub fn round<L: Clock + Log>(&mut self, rt: &L) -> Result<Round, ServeFault>
+        requires { Follows S.layer D.view D.honest D.stands self.old.server self.old.disk }
+        ensures follows { Follows S.layer D.view D.honest D.stands self.new.server self.new.disk }
+        ensures course { (events : List given.Event) × Course S.layer D.view D.honest self.old.server self.old.disk events self.new.server self.new.disk }
+        ensures round { OnOk result ((IsClosed self.old.server × (self.new ≡ self.old)) ⊎ Turns S.layer D.view D.honest self.old self.new) }
+        ensures over { IfOk result (λ found. (found ≡ Round.Over) ↔ IsClosed self.new.server) }
+        ensures ended { IfErr result (λ fault. EndsFor S.layer D.view D.honest D.failures fault self.old self.new) }
+    {
+        if self.is_closed() {
+            return Ok(Round::Over);
+        }
+        let calls = self.disk.calls();
+        let turned = self.turn(rt);
+        log_lines(rt, &mut self.server);
+        turned?;
+        Ok(self.found(calls))
+    }
+
+    // A round of a server that isn't closed.
+    #[tactic(none)]
+    fn turn<L: Clock + Log>(&mut self, rt: &L) -> Result<(), ServeFault>
+        requires { Follows S.layer D.view D.honest D.stands self.old.server self.old.disk }
+        ensures follows { Follows S.layer D.view D.honest D.stands self.new.server self.new.disk }
+        ensures course { (events : List given.Event) × Course S.layer D.view D.honest self.old.server self.old.disk events self.new.server self.new.disk }
+        ensures round { OnOk result (Rounds S.layer D.view D.honest self.old.most_waiting self.old.moment self.new.moment self.old.server self.new.server self.old.disk self.new.disk
+            self.old.sockets.sockets self.new.sockets.sockets) }
+        ensures most { self.new.most_waiting ≡ self.old.most_waiting }
+        ensures ended { IfErr result (λ fault. EndsFor S.layer D.view D.honest D.failures fault self.old self.new) }
+    {
+        self.sockets.rest();
+        self.sockets.look(0)?;
+        let came = come(rt, &mut self.sockets, &mut self.moment)?;
+        let calls = self.disk.calls();
+        let given = give(&mut self.server, &mut self.disk, &came);
+        tell_checkpoint(rt, &self.disk, calls);
+        given?;
+        let parted = write_all(
+            rt,
+            self.alloc,
+            &mut self.server,
+            &mut self.sockets,
+            self.most_waiting,
+        )?;
+        give_if_open(&mut self.server, &mut self.disk, &parted)?;
+        Ok(())
+    }
+
+    fn is_closed(&self) -> bool
+        ensures { IsTrue result ↔ IsClosed self.now.server }
+    {
+        matches!(self.server.phase(), Phase::Closed)
+    }
+
+    // What a round found, before which the disk had made so many calls.
+    fn found(&self, calls: u64) -> Round
+        ensures { (result ≡ Round.Over) ↔ IsClosed self.now.server }
+    {
+        if self.is_closed() {
+            return Round::Over;
+        }
+        if self.sockets.is_busy() || self.disk.calls() != calls {
+            return Round::Busy;
+        }
+        Round::Idle
+    }
+
+    /// Waits until a socket is ready, for a second at most.
+    pub fn wait(&mut self) -> Result<(), ServeFault>
+        ensures waits { Waits self.old self.new }
+        ensures outside { IfErr result IsOutside }
+    {
+        self.sockets.look(WAIT_SECONDS)?;
+        Ok(())
+    }
+}
+
+// The server that begins from what a disk holds. Where it can't be read, why is told.
+fn begin<S: Starts, D: Disk + Watched, L: Log>(
+    rt: &L,
+    alloc: Global,
+    disk: &mut D,
+    moment: u32,
+) -> Result<Server<S>, ServeFault>
+    ensures begun { IfOk result (λ server. IsBegunFrom S.layer D.view D.honest disk.old moment server disk.new) }
+    ensures follows { IfOk result (λ server. Follows S.layer D.view D.honest D.stands server disk.new) }
+    ensures refused { IfErr result (LeavesUnbegun D.view D.honest D.failures disk.old disk.new) }
+{
+    match Server::<S>::open(alloc, disk, moment) {
+        Ok(server) => Ok(server),
+        Err(fault) => {
+            tell_failure(rt, disk);
+            Err(ServeFault::Open(fault))
+        }
+    }
+}
+
+// Tells what became of a checkpoint, where a call of the disk was its last: before, there had been so many.
+fn tell_checkpoint<D: Watched, L: Log>(rt: &L, disk: &D, calls: u64) {
+    if disk.calls() == calls {
+        return;
+    }
+    if let News::Written(bytes) = disk.news() {
+        info!(rt; target: "moo", "checkpoint done: {bytes} bytes");
+    }
+    if let News::Failed(file, error) = disk.news() {
+        warn!(rt; target: "moo", "checkpoint failed: {file}: {error}");
+    }
+}
+
+// Tells why the disk failed, if it did.
+fn tell_failure<D: Watched, L: Log>(rt: &L, disk: &D) {
+    if let News::Failed(file, error) = disk.news() {
+        warn!(rt; target: "moo", "{file}: {error}");
+    }
+}

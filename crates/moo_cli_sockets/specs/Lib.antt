@@ -1,0 +1,5 @@
+-- The bytes that wait for a socket.
+pub mod Waiting
+-- The input and the output of the sockets of connections.
+pub mod Coming
+pub mod Sending

@@ -1,0 +1,134 @@
+//! The input of sockets: new connections, bytes and ends.
+ghost use Rattle.std.specs.Prelude.{◌≡◌, ℕ, List, ◌++◌, IfOk, OnOk};
+ghost use Rattle.moo_server_core.specs.declared.event.Event as given;
+ghost use Rattle.moo_cli_sockets.specs.Coming.{Comes, Each, Follow, IsOpening, IsRead, held, only};
+
+use crate::sockets::Sockets;
+use crate::{Came, Socket};
+use log::{Log, warn};
+use mio::net::TcpStream;
+use mio::{Interest, Token};
+use moo_server_core::Event;
+use std::alloc::AllocError;
+use std::io;
+use std::io::ErrorKind;
+
+/// The greatest number of bytes in one read. One read is one event, and all its lines are done before the next turn.
+/// This is few enough for short turns, and enough for most lines that people type.
+const READ_MOST: usize = 256;
+
+impl Sockets {
+    /// Takes the input of one round: at most one new connection, and then one read of each socket that may have
+    /// bytes, by rising number. Closes at once a connection for which no number is left, and any socket that ended or
+    /// failed. Fails only if memory runs out.
+    pub fn take<L: Log>(&mut self, rt: &L) -> Result<Vec<Event>, AllocError>
+        ensures { IfOk result (λ events. Comes self.old.sockets self.new.sockets events.items) }
+    {
+        let mut events = Vec::new(self.alloc);
+        let opened = self.accept(rt)?;
+        put(&mut events, opened)?;
+        self.read_all(&mut events)?;
+        Ok(events)
+    }
+
+    // Accepts one new connection, if one waits. After a fault it is tried again later, and the other connections go
+    // on.
+    fn accept<L: Log>(&mut self, rt: &L) -> Result<Option<Event>, AllocError>
+        ensures { IfOk result (λ event. IsOpening self.old.sockets event × Follow (only event) self.old.sockets self.new.sockets) }
+    {
+        if !self.may_accept {
+            return Ok(None);
+        }
+        let stream = match self.listener.accept() {
+            Ok((stream, _)) => stream,
+            Err(error) => {
+                self.may_accept = error.kind() != ErrorKind::WouldBlock;
+                self.tell_refused(rt, &error);
+                return Ok(None);
+            }
+        };
+        self.is_busy = true;
+        self.is_told = false;
+        let Ok(c) = u16::try_from(self.sockets.vacant_key()) else {
+            warn!(rt; target: "moo", "a connection is refused: all numbers are taken");
+            return Ok(None);
+        };
+        self.keep(c, stream)
+    }
+
+    // Logs that no connection can be accepted, once until one is.
+    fn tell_refused<L: Log>(&mut self, rt: &L, error: &io::Error)
+        ensures { self.new.sockets ≡ self.old.sockets }
+    {
+        if self.may_accept && !self.is_told {
+            self.is_told = true;
+            warn!(rt; target: "moo", "no connection can be accepted: {error}");
+        }
+    }
+
+    // Keeps a new connection's socket under its number. Closes it if the system can't watch it.
+    fn keep(&mut self, c: u16, mut stream: TcpStream) -> Result<Option<Event>, AllocError>
+        requires { c ≡ self.old.sockets.vacant_key }
+        ensures { IfOk result (λ event. IsOpening self.old.sockets event × Follow (only event) self.old.sockets self.new.sockets) }
+    {
+        let both = Interest::READABLE | Interest::WRITABLE;
+        let token = Token(usize::from(c));
+        let registered = self.poll.registry().register(&mut stream, token, both);
+        if registered.is_err() || stream.set_nodelay(true).is_err() {
+            return Ok(None);
+        }
+        self.sockets.reserve(1)?;
+        self.sockets
+            .insert_reserved(Socket::new(self.alloc, stream));
+        Ok(Some(Event::Open(c)))
+    }
+
+    // Reads once from each socket that may have bytes.
+    fn read_all(&mut self, events: &mut Vec<Event>) -> Result<(), AllocError>
+        ensures { OnOk result ((n : ℕ) × (reads : List given.Event) × Each (λ c event. IsRead (held self.old.sockets c) c event) n reads × Follow reads self.old.sockets self.new.sockets
+            × (events.new.items ≡ events.old.items ++ reads)) }
+    {
+        for key in 0..self.sockets.capacity() {
+            let Ok(c) = u16::try_from(key) else { break };
+            let event = self.read(c)?;
+            put(events, event)?;
+        }
+        Ok(())
+    }
+
+    // Reads once from a socket. Its end or a fault is a hang-up.
+    fn read(&mut self, c: u16) -> Result<Option<Event>, AllocError>
+        ensures { IfOk result (λ event. IsRead (held self.old.sockets c) c event × Follow (only event) self.old.sockets self.new.sockets) }
+    {
+        let Some(socket) = self.sockets.get_mut(usize::from(c)) else {
+            return Ok(None);
+        };
+        if !socket.may_read() {
+            return Ok(None);
+        }
+        let mut buffer = [0u8; READ_MOST];
+        match socket.read(&mut buffer) {
+            Came::Bytes(count) => {
+                self.is_busy = true;
+                let piece = buffer[..count].to_vec(self.alloc)?;
+                Ok(Some(Event::Bytes(c, piece)))
+            }
+            Came::NothingYet => Ok(None),
+            Came::End => {
+                self.is_busy = true;
+                self.close(c);
+                Ok(Some(Event::Hangup(c)))
+            }
+        }
+    }
+}
+
+/// Appends an event, if there is one.
+pub fn put(events: &mut Vec<Event>, event: Option<Event>) -> Result<(), AllocError>
+    ensures { OnOk result (events.new.items ≡ events.old.items ++ only event) }
+{
+    if let Some(event) = event {
+        events.push(event)?;
+    }
+    Ok(())
+}

@@ -1,5 +1,0 @@
-pub mod Heavy
-pub mod Lines
-pub mod Coming
-pub mod Once
-pub mod Wider

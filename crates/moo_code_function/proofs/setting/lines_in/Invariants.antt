@@ -1,8 +1,0 @@
-use Rattle.std.proofs.Common.{◌≡◌, drop}
-use Rattle.moo_value.specs.View.{trees}
-use Rattle.moo_code_function.specs.Setting.{lines_in}
-use Rattle.moo_code_function.proofs.Lines.{behind_all}
-use Rattle.moo_code_function.proofs.setting.lines_in.Given as goal
-
-abbrev pub invariant-loop-element : goal.invariant-loop-element
-invariant-loop-element l = lines_in (trees l.elements) ≡ behind_all l.lines.items (lines_in (trees (drop l.element-index l.elements)))

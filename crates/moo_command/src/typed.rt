@@ -1,0 +1,51 @@
+//! The first word of a line, the rest as it was typed, and the words of the rest.
+ghost use Rattle.std.specs.Prelude.{◌≡◌, ◌≤◌, IfOk, IfSome, IfNone, [], drop, length};
+ghost use Rattle.moo_command.specs.Words.{Words};
+ghost use Rattle.moo_command.specs.FirstWord.{IsTyped, unindented};
+
+use crate::reading::{read_word, read_words, skip_blanks};
+use moo_value::MooStr;
+use std::alloc::{AllocError, Global};
+
+/// The first word of a line, the rest as it was typed, and the words of the rest.
+#[derive(Drop)]
+pub struct Typed {
+    pub verb: MooStr,
+    pub rest: MooStr,
+    pub args: Vec<MooStr>,
+}
+
+/// Splits a line of any length into its first word and the rest. Returns `None` if it has no word. Fails only if
+/// memory runs out.
+pub fn read_typed(alloc: Global, line: &MooStr) -> Result<Option<Typed>, AllocError>
+    ensures some { IfOk result (λ typed. IfSome typed (λ t. IsTyped line.now t.verb t.rest t.args.items)) }
+    ensures none { IfOk result (λ typed. IfNone typed (Words line.now [])) }
+{
+    let bytes = line.as_bytes();
+    let at = skip_blanks(bytes, 0);
+    if at == bytes.len() {
+        return Ok(None);
+    }
+    let (verb, behind) = read_word(alloc, bytes, at)?;
+    let typed = typed_behind(alloc, verb, line, behind)?;
+    Ok(Some(typed))
+}
+
+/// Splits the line from offset `behind` on, after this verb. Fails only if memory runs out.
+pub fn typed_behind(
+    alloc: Global,
+    verb: MooStr,
+    line: &MooStr,
+    behind: usize,
+) -> Result<Typed, AllocError>
+    requires { behind ≤ length line.now }
+    ensures verb { IfOk result (λ t. t.verb ≡ verb) }
+    ensures rest { IfOk result (λ t. t.rest ≡ unindented (drop behind line.now)) }
+    ensures args { IfOk result (λ t. Words (drop behind line.now) t.args.items) }
+{
+    let bytes = line.as_bytes();
+    let at = skip_blanks(bytes, behind);
+    let rest = line.part(alloc, at, bytes.len())?;
+    let args = read_words(alloc, bytes, behind)?;
+    Ok(Typed { verb, rest, args })
+}

@@ -1,5 +1,0 @@
-pub mod Places
-pub mod Known
-pub mod Players
-pub mod Rows
-pub mod Search

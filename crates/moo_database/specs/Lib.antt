@@ -1,2 +1,0 @@
--- The output of `moo check` and `moo copy`.
-pub mod Database

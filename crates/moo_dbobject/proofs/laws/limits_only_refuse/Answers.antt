@@ -1,5 +1,0 @@
-use Rattle.moo_dbobject.proofs.ObjectCut.{object_cut}
-use Rattle.moo_dbobject.proofs.laws.limits_only_refuse.Goals as goal
-
-pub returns : goal.returns
-returns c = λ d line. object_cut d.awaited d line

@@ -1,5 +1,0 @@
-use Rattle.moo_dbobject.proofs.ObjectAgain.{object_again}
-use Rattle.moo_dbobject.proofs.laws.written_objects_are_read.Goals as goal
-
-pub returns : goal.returns
-returns c = λ s o note rest h k. object_again s o note h k rest

@@ -1,5 +1,0 @@
-use Rattle.moo_dbprogram.proofs.Order.{one_by_choice, same_fault}
-use Rattle.moo_dbprogram.proofs.laws.one_fault_by_choice.Goals as goal
-
-pub returns : goal.returns
-returns c = λ choice bytes d e h k by also known other. same_fault d e (one_by_choice choice bytes d e h k by also known other)

@@ -1,7 +1,0 @@
-use Rattle.std.proofs.Common.{◌≡◌, take, drop}
-use Rattle.moo_dbrecord.specs.Headings.{parts_of}
-use Rattle.moo_dbrecord.proofs.HeadingLaws.{led}
-use Rattle.moo_dbrecord.proofs.heading.parts.Given as goal
-
-abbrev pub invariant-loop-i : goal.invariant-loop-i
-invariant-loop-i l = led (take l.i l.line) (parts_of l.at (drop l.i l.line)) ≡ parts_of l.at l.line

@@ -1,5 +1,0 @@
-use Rattle.moo_dbrecord.proofs.HeadingLaws.{stripped}
-use Rattle.moo_dbrecord.proofs.heading.rest_behind.Goals as goal
-
-pub returns : goal.returns
-returns c = stripped c.args.front.now c.args.line.now c.strip_prefix.result c.strip_prefix.ensures.cases

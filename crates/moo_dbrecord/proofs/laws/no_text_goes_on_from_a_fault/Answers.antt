@@ -1,5 +1,0 @@
-use Rattle.moo_dbrecord.proofs.AnswerAgain.{no_spelling}
-use Rattle.moo_dbrecord.proofs.laws.no_text_goes_on_from_a_fault.Goals as goal
-
-pub returns : goal.returns
-returns c = no_spelling

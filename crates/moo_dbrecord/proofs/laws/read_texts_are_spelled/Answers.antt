@@ -1,5 +1,0 @@
-use Rattle.moo_dbrecord.proofs.AnswerFound.{answer_found}
-use Rattle.moo_dbrecord.proofs.laws.read_texts_are_spelled.Goals as goal
-
-pub returns : goal.returns
-returns c = answer_found

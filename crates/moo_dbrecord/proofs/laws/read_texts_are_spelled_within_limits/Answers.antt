@@ -1,5 +1,0 @@
-use Rattle.moo_dbrecord.proofs.DumpSmall.{answer_spelled}
-use Rattle.moo_dbrecord.proofs.laws.read_texts_are_spelled_within_limits.Goals as goal
-
-pub returns : goal.returns
-returns c = answer_spelled

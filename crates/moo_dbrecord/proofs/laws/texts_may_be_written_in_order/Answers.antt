@@ -1,5 +1,0 @@
-use Rattle.moo_dbrecord.proofs.CanonicalText.{canonical_written}
-use Rattle.moo_dbrecord.proofs.laws.texts_may_be_written_in_order.Goals as goal
-
-pub returns : goal.returns
-returns c = canonical_written

@@ -1,8 +1,0 @@
-use Rattle.std.proofs.Common.{refl}
-use Rattle.moo_dbvalue.specs.Lines.{unlines}
-use Rattle.moo_dbrecord.specs.Writing.{canonical, canonical_lines}
-use Rattle.moo_dbrecord.proofs.AnswerAgain.{answer_again}
-use Rattle.moo_dbrecord.proofs.laws.the_writers_lines_are_read.Goals as goal
-
-pub returns : goal.returns
-returns c = λ s t h. answer_again s (unlines (canonical_lines t)) t (canonical t.programs) h refl

@@ -1,5 +1,0 @@
-use Rattle.moo_dbrecord.proofs.CanonicalText.{canonical_spells}
-use Rattle.moo_dbrecord.proofs.laws.the_writers_lines_spell_the_text.Goals as goal
-
-pub returns : goal.returns
-returns c = canonical_spells

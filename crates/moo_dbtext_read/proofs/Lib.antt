@@ -1,0 +1,14 @@
+pub mod Cases
+pub mod Blame
+pub mod Rows
+pub mod Behind
+pub mod Refused
+pub mod ProgramWhole
+pub mod ProgramOrder
+pub mod Lengths
+pub mod Worlds
+pub mod Whole
+pub mod Pieces
+pub mod Turns
+pub mod Order
+pub mod One

@@ -1,0 +1,5 @@
+use Rattle.moo_dbtext_read.proofs.Order as order
+use Rattle.moo_dbtext_read.proofs.laws.one_answer.Goals as goal
+
+pub returns : goal.returns
+returns c = order.one_answer

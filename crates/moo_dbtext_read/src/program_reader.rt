@@ -1,0 +1,277 @@
+//! A reader of texts that come in pieces, with the programs in them.
+ghost use Rattle.std.specs.Prelude.{◌≡◌, ◌++◌, ℕ, List, [], Some, Ok, OnOk, IfErr, IfOk, IsErrOf, MatchResult};
+ghost use Rattle.moo_dbtext_object.specs.Lines.{Line, limited};
+ghost use Rattle.moo_dbtext_record.specs.Programs.{entry_at};
+ghost use Rattle.moo_dbtext_record.specs.Texts.{Text, Spells, SpellsWithin, text_of};
+ghost use Rattle.moo_dbtext_record.specs.Sparing.{AreAlikeTaken, has_objects};
+ghost use Rattle.moo_dbtext_record.specs.Answer.{IsGoing, IsWholeLine, Stops, HasNoEnd, taken_of, taken_on, begin, front_lines, Stand, StandWithoutLimits};
+ghost use Rattle.moo_dbtext_record.specs.declared.fault.ProgramFault.{ProgramFault};
+ghost use Rattle.moo_dbtext_record.specs.declared.fault.DbFault.{DbFault};
+ghost use Rattle.moo_dbtext_read.specs.Says.{IsParsedAs, programs_of, Says, HasPrograms, HasProgramsWithin};
+ghost use Rattle.moo_dbtext_read.specs.Faults.{IsProgramFault, IsOfLine, IsOfLimits};
+ghost use Rattle.moo_dbtext_read.specs.Reading.{IsBehind, IsRefused, HasRead, IsWell, HasRefused, Answers, lines_of, ended_between, verb_at, sources_at, place_of, IsSourceRefused};
+
+use crate::database::Database;
+use crate::fault::kind_of_source;
+use crate::program_rows::put_program;
+use moo_dbtext_record::{DbFault, DbFaultKind, DbReader, Dump, RecordFault, first_line};
+use moo_syntax::{Names, parse_with};
+use moo_syntax_grammar::Program;
+use moo_syntax_token::Known;
+use std::alloc::Global;
+
+/// Takes a line with its end. Returns the object and verb whose program the line ends, if it ends one.
+#[inline(always)]
+fn take_line(
+    alloc: Global,
+    records: &mut DbReader,
+    line: &[u8],
+) -> Result<Option<(u32, u32)>, RecordFault>
+    requires { IsWholeLine line.now }
+    ensures steps { IsGoing records.old → OnOk result (taken_on limited (taken_of records.old) line.now ≡ Ok (taken_of records.new)) }
+    ensures stops { IsGoing records.old → IfErr result (λ e. Stops e (taken_on limited (taken_of records.old) line.now)) }
+    ensures ok { OnOk result (IsGoing records.new) }
+    ensures ended { IfOk result (λ verb. verb ≡ ended_between (verb_at records.old) (verb_at records.new)) }
+{
+    let verb = records.verb();
+    records.feed_line(alloc, line)?;
+    match records.verb() {
+        Some(_) => Ok(None),
+        None => Ok(verb),
+    }
+}
+
+/// Parses the source of a verb. Returns `None` if it has none.
+fn program_of(
+    alloc: Global,
+    known: &mut Known,
+    records: &DbReader,
+    object: u32,
+    verb: u32,
+) -> Result<Option<Program>, DbFault>
+    ensures parsed { IfOk result (λ program. IsParsedAs (entry_at (sources_at records.now) object verb) program) }
+    ensures refused { IfErr result (λ e. (source : List Line) → entry_at (sources_at records.now) object verb ≡ Some source → IsSourceRefused (taken_of records.now).lines object verb source e) }
+{
+    let Some(source) = records.source(object, verb) else {
+        return Ok(None);
+    };
+    match parse_with(alloc, known, source, Names::Any) {
+        Ok(program) => Ok(Some(program)),
+        Err(fault) => {
+            let lines = records.lines();
+            Err(DbFault {
+                line: lines.saturating_sub(source.len() as u64).saturating_sub(1),
+                kind: kind_of_source(object, verb, &fault),
+            })
+        }
+    }
+}
+
+/// Returns the contents of a text, with these programs in place of its sources.
+fn with_programs(dump: Dump, programs: Vec<Vec<Option<Program>>>) -> Database
+    ensures { result ≡ record { players = dump.players; objects = dump.objects; programs = programs; connections = dump.connections } }
+{
+    Database {
+        players: dump.players,
+        objects: dump.objects,
+        programs,
+        connections: dump.connections,
+    }
+}
+
+/// Reads a text in pieces, and parses each program at the dot that ends it. After a fault each call returns that
+/// fault.
+#[derive(Drop)]
+pub struct ProgramReader {
+    records: DbReader,
+    programs: Vec<Vec<Option<Program>>>,
+    /// The names that are used in the programs.
+    known: Known,
+    failed: Option<DbFault>,
+}
+
+impl ProgramReader {
+    /// Returns a reader that expects the first byte.
+    pub fn new(alloc: Global) -> ProgramReader
+        ensures taken { HasRead result [] }
+        ensures well { IsWell result }
+    {
+        ProgramReader {
+            records: DbReader::new(alloc),
+            programs: Vec::new(alloc),
+            known: Known::new(alloc),
+            failed: None,
+        }
+    }
+
+    /// Returns the number of lines that have ended.
+    pub fn lines(&self) -> u64
+        ensures { result ≡ lines_of self.now }
+    {
+        self.records.lines()
+    }
+
+    /// Parses and keeps the program of a verb whose dot has come, and drops its lines.
+    #[inline(never)]
+    fn keep(&mut self, alloc: Global, object: u32, verb: u32) -> Result<(), DbFault>
+        ensures there { OnOk result ((source : List Line) → entry_at (sources_at self.old.records) object verb ≡ Some source → IsParsedAs (Some source) (entry_at (programs_of self.new.programs) object verb)) }
+        ensures others { OnOk result ((o v : ℕ) → (o ≡ object → v ≡ verb → ⊥) → entry_at (programs_of self.new.programs) o v ≡ entry_at (programs_of self.old.programs) o v) }
+        ensures refused { IfErr result (λ e. (source : List Line) → entry_at (sources_at self.old.records) object verb ≡ Some source → IsSourceRefused (taken_of self.old.records).lines object verb source e) }
+        ensures alike { AreAlikeTaken (taken_of self.old.records) (taken_of self.new.records) }
+        ensures going { IsGoing self.old.records → IsGoing self.new.records }
+        ensures same { self.new.failed ≡ self.old.failed }
+    {
+        let Some(program) = program_of(alloc, &mut self.known, &self.records, object, verb)? else {
+            return Ok(());
+        };
+        match put_program(
+            alloc,
+            &mut self.programs,
+            object as usize,
+            verb as usize,
+            program,
+        ) {
+            Ok(()) => {
+                self.records.drop_source(alloc, object, verb);
+                Ok(())
+            }
+            Err(_) => Err(DbFault {
+                line: self.records.lines(),
+                kind: DbFaultKind::Memory,
+            }),
+        }
+    }
+
+    /// Takes a line with its end.
+    #[inline(always)]
+    fn line(&mut self, alloc: Global, line: &[u8]) -> Result<(), DbFault>
+        requires { IsWholeLine line.now }
+        ensures goes { (bytes : List ℕ) → IsBehind self.old bytes → OnOk result (IsBehind self.new (bytes ++ line.now)) }
+        ensures stops { (bytes : List ℕ) → IsBehind self.old bytes → IfErr result (IsRefused (bytes ++ line.now) (taken_on limited begin (bytes ++ line.now))) }
+        ensures same { self.new.failed ≡ self.old.failed }
+    {
+        match take_line(alloc, &mut self.records, line)? {
+            Some((object, verb)) => self.keep(alloc, object, verb),
+            None => Ok(()),
+        }
+    }
+
+    /// Takes a part of a line, without its end.
+    fn part(&mut self, alloc: Global, part: &[u8]) -> Result<(), DbFault>
+        requires { HasNoEnd part.now }
+        ensures goes { (bytes : List ℕ) → IsBehind self.old bytes → OnOk result (IsBehind self.new (bytes ++ part.now)) }
+        ensures stops { (bytes : List ℕ) → IsBehind self.old bytes → IfErr result (IsRefused (bytes ++ part.now) (taken_on limited begin (bytes ++ part.now))) }
+        ensures same { self.new.failed ≡ self.old.failed }
+    {
+        self.records.feed(alloc, part)?;
+        Ok(())
+    }
+
+    fn take(&mut self, alloc: Global, piece: &[u8]) -> Result<(), DbFault>
+        ensures goes { (bytes : List ℕ) → IsBehind self.old bytes → OnOk result (IsBehind self.new (bytes ++ piece.now)) }
+        ensures stops { (bytes : List ℕ) → IsBehind self.old bytes → IfErr result (IsRefused (bytes ++ piece.now) (taken_on limited begin (bytes ++ piece.now))) }
+        ensures same { self.new.failed ≡ self.old.failed }
+    {
+        let mut more = piece;
+        while let Some(size) = first_line(more) {
+            self.line(alloc, &more[..size])?;
+            more = &more[size..];
+        }
+        self.part(alloc, more)
+    }
+
+    /// Takes the next piece of the text. Returns the first fault, of a line or a program, or `Memory`.
+    pub fn feed(&mut self, alloc: Global, piece: &[u8]) -> Result<(), DbFault>
+        ensures taken { (bytes : List ℕ) → HasRead self.old bytes → HasRead self.new (bytes ++ piece.now) }
+        ensures ok { OnOk result (IsWell self.new) }
+        ensures failed { IfErr result (HasRefused self.new) }
+        ensures again { (e : DbFault) → HasRefused self.old e → IsErrOf result e }
+    {
+        if let Some(fault) = self.failed {
+            return Err(fault);
+        }
+        let taken = self.take(alloc, piece);
+        if let Err(fault) = taken {
+            self.failed = Some(fault);
+        }
+        taken
+    }
+
+    /// Takes the next line with its end, as `feed` does, without a search for the end.
+    pub fn feed_line(&mut self, alloc: Global, line: &[u8]) -> Result<(), DbFault>
+        requires { IsWholeLine line.now }
+        ensures taken { (bytes : List ℕ) → HasRead self.old bytes → HasRead self.new (bytes ++ line.now) }
+        ensures ok { OnOk result (IsWell self.new) }
+        ensures failed { IfErr result (HasRefused self.new) }
+        ensures again { (e : DbFault) → HasRefused self.old e → IsErrOf result e }
+    {
+        if let Some(fault) = self.failed {
+            return Err(fault);
+        }
+        let taken = self.line(alloc, line);
+        if let Err(fault) = taken {
+            self.failed = Some(fault);
+        }
+        taken
+    }
+
+    /// Returns what the lines so far hold. The lines of a program are dropped at its dot.
+    pub fn dump(&self) -> &Dump
+        ensures { text_of result.now ≡ (place_of self.now).text }
+    {
+        self.records.dump()
+    }
+
+    /// Returns whether all objects have come.
+    pub fn has_objects(&self) -> bool
+        ensures { result ≡ has_objects (place_of self.now).section }
+    {
+        self.records.has_objects()
+    }
+
+    /// Returns the contents, once the whole text has been fed. Fails if a line is missing or has no end, or with an
+    /// earlier fault.
+    pub fn finish(self) -> Result<Database, DbFault>
+        ensures answer { (bytes : List ℕ) → HasRead self bytes → Answers result bytes }
+        ensures again { (e : DbFault) → HasRefused self e → IsErrOf result e }
+    {
+        if let Some(fault) = self.failed {
+            return Err(fault);
+        }
+        let dump = self.records.finish()?;
+        Ok(with_programs(dump, self.programs))
+    }
+}
+
+fn read_all(alloc: Global, bytes: &[u8]) -> Result<Database, DbFault>
+    ensures { Answers result bytes.now }
+{
+    let mut reader = ProgramReader::new(alloc);
+    reader.feed(alloc, bytes)?;
+    reader.finish()
+}
+
+/// Reads a whole text with its programs. Returns the first fault, or `Memory`.
+pub fn read_programs(alloc: Global, bytes: &[u8]) -> Result<Database, DbFault>
+    // The bytes spell, within the limits, a text with the contents that are returned.
+    ensures found { IfOk result (λ d. (t : Text) × (SpellsWithin bytes.now t × Says t d)) }
+    // If the bytes spell a text whose sources are programs, the reader returns its contents, unless memory runs out
+    // or a limit is exceeded.
+    ensures only { (t : Text) → Spells bytes.now t → HasPrograms t → MatchResult result (Says t) (λ e. IsOfLimits e.kind) }
+    // If text and programs are within the limits, the reader returns the contents, unless memory runs out.
+    ensures within { (t : Text) → SpellsWithin bytes.now t → HasProgramsWithin t → MatchResult result (Says t) (λ e. e.kind ≡ DbFaultKind.Memory) }
+    // No text begins with the lines up to the reported one.
+    ensures place { IfErr result (λ e. IsOfLine e.kind → (more : List ℕ) (t : Text) → ¬ (Spells (front_lines e.line bytes.now ++ more) t)) }
+    // If a program is reported, the bytes have it there, and its source is no program.
+    ensures program { IfErr result (λ e. (object verb : ℕ) (fault : ProgramFault) → e.kind ≡ DbFaultKind.Program object verb fault → IsProgramFault bytes.now e.line object verb fault) }
+    // If a size is reported, no text within the limits begins with the lines up to that one.
+    ensures size { IfErr result (λ e. e.kind ≡ DbFaultKind.TooLarge → (more : List ℕ) (t : Text) → ¬ (SpellsWithin (front_lines e.line bytes.now ++ more) t)) }
+    // A size is reported only of a line that would be right without limits,
+    ensures large { IfErr result (λ e. e.kind ≡ DbFaultKind.TooLarge → StandWithoutLimits e.line bytes.now) }
+    // and that is wrong with them.
+    ensures past { IfErr result (λ e. e.kind ≡ DbFaultKind.TooLarge → ¬ (Stand limited e.line bytes.now)) }
+    // The answer is that of a reader that is fed these bytes in any pieces.
+    ensures exact { Answers result bytes.now }
+{
+    read_all(alloc, bytes)
+}

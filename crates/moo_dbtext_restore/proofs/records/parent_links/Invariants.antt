@@ -1,0 +1,8 @@
+use Rattle.std.proofs.Common.{◌≡◌, map, take}
+use Rattle.std.specs.Option.{option_map}
+use Rattle.moo_dbtext_object.specs.Objects.{object_of}
+use Rattle.moo_dbtext_restore.specs.Records.{parent_links_of}
+use Rattle.moo_dbtext_restore.proofs.records.parent_links.Given as goal
+
+abbrev pub invariant-loop-object : goal.invariant-loop-object
+invariant-loop-object l = l.links.items ≡ parent_links_of (map (option_map object_of) (take l.object-index l.objects))

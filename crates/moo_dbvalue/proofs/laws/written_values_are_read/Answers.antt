@@ -1,5 +1,0 @@
-use Rattle.moo_dbvalue.proofs.ValueAgain.{value_again}
-use Rattle.moo_dbvalue.proofs.laws.written_values_are_read.Goals as goal
-
-pub returns : goal.returns
-returns c = λ s t rest h k. value_again s t h k rest

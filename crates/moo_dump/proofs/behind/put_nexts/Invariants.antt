@@ -1,8 +1,0 @@
-use Rattle.std.proofs.Common.{◌≡◌, ℕ, None, get_or}
-use Rattle.moo_forest.specs.Forest.{above_of}
-use Rattle.moo_dump.proofs.Behinds.{next_until}
-use Rattle.moo_dump.proofs.behind.put_nexts.Given as goal
-
--- the lists of the numbers below x are done
-abbrev pub invariant-loop-x : goal.invariant-loop-x
-invariant-loop-x l = (y : ℕ) → get_or l.next y None ≡ next_until l.tree l.x (above_of l.tree y) y

@@ -1,5 +1,0 @@
-use Rattle.moo_dump.proofs.Written.{written}
-use Rattle.moo_dump.proofs.laws.worlds_are_writable.Goals as goal
-
-pub returns : goal.returns
-returns c = λ s w connected f h few. written s w connected f h few

@@ -1,6 +1,0 @@
--- The next number in the lists of a tree.
-pub mod Behind
--- Properties that the types of a world keep.
-pub mod Held
--- The text of a world.
-pub mod Texts

@@ -1,0 +1,13 @@
+use Rattle.std.proofs.Common.{None, w32}
+use Rattle.std.proofs.lemmas.Int.{to_z-of_z}
+use Rattle.moo_value.specs.View.{trees}
+use Rattle.moo_eval_frame.specs.Seen.{context_of, variables_of, seen_by}
+use Rattle.moo_eval_access.specs.SeenCalled.{entered_of}
+use Rattle.moo_eval_access.proofs.Entered.{listed}
+use Rattle.moo_eval_access.proofs.entering.enter_verb_from.Goals as goal
+
+pub returns : goal.returns
+returns c =
+    let from = to_z-of_z w32 c.args.from c.ranges.from in
+    let this = to_z-of_z w32 c.args.this c.ranges.this in
+    λ k. listed c.args.world.now (context_of c.args.stack.now None) (variables_of c.args.active.now.variables) c.args.active.now.programmer c.args.this c.args.from c.args.name.now (trees c.args.args.items) _ (seen_by entered_of c.enter_found.result) c.in_ok-args.ensures.ok c.in_ok-args.ensures.same (simp from at c.in_ok-found.ensures.ok) (simp this at (c.enter_found.ensures k))

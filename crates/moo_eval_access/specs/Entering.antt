@@ -1,0 +1,158 @@
+-- How a call enters a verb.
+use Rattle.std.specs.Prelude.{ℕ, suc, ℤ, List, [], ◌∷◌, codes, Option, None, Some, Result, Ok, Err, Bool, nat_lt, is_some, if◌then◌else◌}
+use Rattle.std.specs.Option.{unwrap_or, option_map, option_and_then}
+use Rattle.moo_value.specs.declared.error_code.ErrorCode.{ErrorCode}
+use Rattle.moo_value.specs.declared.error_code.ErrorCode.TheVariants.{TypeMismatch, InvalidIndirection, VerbNotFound, MaximumRecursion}
+use Rattle.moo_value.specs.Tree.{Tree, integer, object, error, string, list}
+use Rattle.moo_syntax_ast.specs.Tree.{no_statement}
+use Rattle.moo_builtin_operator.specs.Places.{made_list}
+use Rattle.moo_world_object.specs.declared.verb.Verb.{Verb}
+use Rattle.moo_world_object.specs.declared.verb.Need.TheVariants as need
+use Rattle.moo_world_table.specs.World.{World}
+use Rattle.moo_world_table.specs.Verbs.{verb_found}
+use Rattle.moo_world.specs.declared.looking.VerbAt.{VerbAt}
+use Rattle.moo_world.specs.Calls.{number_of}
+use Rattle.moo_world.specs.VerbCalls.{verb_place}
+use Rattle.moo_world.specs.Numbered.{object_numbered, verb_numbered}
+use Rattle.moo_world.specs.Rights.{is_wizard}
+use Rattle.moo_eval_frame.specs.Variables.{bind, first_bindings, value_of_name, with_variable}
+use Rattle.moo_eval_frame.specs.State.{Context, entries}
+use Rattle.moo_eval_frame.specs.Outcome.{or_error}
+use Rattle.moo_eval_frame.specs.declared.frame.Frame.{Frame}
+use Rattle.moo_eval_frame.specs.declared.frame.TraceEntry.{TraceEntry}
+use Rattle.moo_eval_frame.specs.Frames.{frame_count}
+use Rattle.moo_eval_access.specs.declared.entering.Call.{Call}
+
+-- what a called verb begins with
+pub record Entered : Type 0 where
+  pub context : Context
+  -- by their folded names
+  pub variables : List ℕ → Option Tree
+  pub programmer : ℤ
+
+-- the object that has a verb, and the verb
+abbrev pub verb_there : World → VerbAt → Option (ℤ × Verb)
+verb_there w place = option_map (λ v. (place.definer, v)) (verb_numbered w place.definer place.index)
+
+-- the first verb that matches, of those that can be executed
+abbrev pub called_verb : World → ℤ → List ℕ → Option (ℤ × Verb)
+called_verb w o name =
+    option_and_then (verb_there w) (option_map verb_place (option_and_then (verb_found w need.Call name) (number_of w.objects o)))
+
+-- the verb that a call on an object runs, and the object that has it
+abbrev pub found_verb : World → ℤ → List ℕ → Result (ℤ × Verb) ErrorCode
+found_verb w o name = if is_some (object_numbered w o) then or_error (called_verb w o name) VerbNotFound else Err InvalidIndirection
+
+-- how many frames there are, the running one among them
+abbrev pub frames : List TraceEntry → ℕ
+frames callers = suc (frame_count callers)
+
+abbrev pub most_frames : ℕ
+most_frames = 50
+
+-- a frame is left for what is called next
+abbrev pub has_frame_left : List TraceEntry → Bool
+has_frame_left callers = nat_lt (frames callers) most_frames
+
+-- the object that a variable holds, if it holds one
+abbrev pub object_or : ℤ → Option Tree → ℤ
+object_or other None = other
+object_or other (Some (integer i)) = other
+object_or other (Some (object o)) = o
+object_or other (Some (error code)) = other
+object_or other (Some (string text)) = other
+object_or other (Some (list es)) = other
+
+-- the player of a called verb: that of the caller's frame, or what its variable holds if a wizard calls
+abbrev pub player_of_call : World → Frame → (List ℕ → Option Tree) → ℤ → ℤ
+player_of_call w f variables programmer = if is_wizard w programmer then object_or f.player (variables (codes "player")) else f.player
+
+-- The frame of a verb, with the object that has it: its owner is the programmer, and it has the d bit of its verb. A verb
+-- without a program runs as one with an empty program.
+abbrev pub verb_frame : ℤ × Verb → Call → Frame
+verb_frame found call = record {
+  program = unwrap_or found.1.program no_statement;
+  d = found.1.perms.debug;
+  programmer = found.1.owner;
+  this = call.this;
+  definer = found.0;
+  caller = call.caller;
+  player = call.player;
+  dobj = call.dobj;
+  iobj = call.iobj;
+  names = found.1.names;
+  verb = call.verb;
+  argstr = call.argstr;
+  dobjstr = call.dobjstr;
+  prepstr = call.prepstr;
+  iobjstr = call.iobjstr;
+  args = call.args;
+}
+
+-- the frame of a verb that is called on an object from another frame, which hands on what it knows of the command
+abbrev pub called_frame : Frame → ℤ → ℤ → ℤ × Verb → List ℕ → List Tree → Frame
+called_frame f player this found name vs = verb_frame found (record {
+  this = this;
+  caller = f.this;
+  player = player;
+  dobj = f.dobj;
+  iobj = f.iobj;
+  verb = name;
+  argstr = f.argstr;
+  dobjstr = f.dobjstr;
+  prepstr = f.prepstr;
+  iobjstr = f.iobjstr;
+  args = vs;
+})
+
+-- the variables of the command
+abbrev pub command_names : List (List ℕ)
+command_names = codes "argstr" ∷ codes "dobj" ∷ codes "dobjstr" ∷ codes "prepstr" ∷ codes "iobj" ∷ codes "iobjstr" ∷ []
+
+-- with the value of a variable from elsewhere, if it is set there
+abbrev pub with_taken : (List ℕ → Option Tree) → List ℕ → Option Tree → List ℕ → Option Tree
+with_taken variables name None = variables
+with_taken variables name (Some v) = with_variable variables (bind name v)
+
+-- with the values of these variables from elsewhere
+abbrev pub taken_over : (List ℕ → Option Tree) → List (List ℕ) → (List ℕ → Option Tree) → List ℕ → Option Tree
+taken_over elsewhere [] variables = variables
+taken_over elsewhere (name ∷ names) variables = taken_over elsewhere names (with_taken variables name (elsewhere name))
+
+-- the variables of a called verb: those of its frame, with those of the command as in the caller
+abbrev pub called_variables : Frame → (List ℕ → Option Tree) → List ℕ → Option Tree
+called_variables f variables = taken_over variables command_names (value_of_name (first_bindings f))
+
+-- a frame that is entered from a context
+abbrev pub entered : Context → (List ℕ → Option Tree) → ℤ → Frame → Entered
+entered c variables programmer f = record {
+  context = record { frame = f; callers = entries c.frame programmer c.callers; indexed = None; surroundings = c.surroundings };
+  variables = called_variables f variables;
+  programmer = f.programmer;
+}
+
+-- a verb that was found is entered if a frame is left for it
+abbrev pub entered_found : World → Context → (List ℕ → Option Tree) → ℤ → ℤ → List ℕ → List Tree → Result (ℤ × Verb) ErrorCode → Result Entered ErrorCode
+entered_found w c variables programmer this name vs (Err code) = Err code
+entered_found w c variables programmer this name vs (Ok found) =
+    if has_frame_left c.callers
+    then Ok (entered c variables programmer (called_frame c.frame (player_of_call w c.frame variables programmer) this found name vs))
+    else Err MaximumRecursion
+
+abbrev pub entered_by : World → Context → (List ℕ → Option Tree) → ℤ → Tree → Tree → List Tree → Result Entered ErrorCode
+entered_by w c variables programmer (object this) (string name) vs = entered_found w c variables programmer this name vs (found_verb w this name)
+entered_by w c variables programmer _ _ vs = Err TypeMismatch
+
+-- the list of the arguments comes first
+abbrev pub after_list : {A : Type 0} → Result Tree ErrorCode → Result A ErrorCode → Result A ErrorCode
+after_list (Ok args) r = r
+after_list (Err code) r = Err code
+
+-- What a call of a verb begins with: its arguments have to be a list within the limits, the object valid, with a verb of
+-- that name that can be executed, and a frame has to be left.
+abbrev pub entered_verb : World → Context → (List ℕ → Option Tree) → ℤ → Tree → Tree → List Tree → Result Entered ErrorCode
+entered_verb w c variables programmer base name vs = after_list (made_list vs) (entered_by w c variables programmer base name vs)
+
+-- the entered verb of a name that is found from one object on, and runs on another
+abbrev pub entered_from : World → Context → (List ℕ → Option Tree) → ℤ → ℤ → ℤ → List ℕ → List Tree → Result Entered ErrorCode
+entered_from w c variables programmer this from name vs = after_list (made_list vs) (entered_found w c variables programmer this name vs (found_verb w from name))

@@ -1,0 +1,78 @@
+//! Properties of objects: 'Getting and Setting the Values of Properties' of the LambdaMOO Programmer's Manual,
+//! 'Expressions' of docs/LANGUAGE.md.
+ghost use Rattle.std.specs.Prelude.{◌≡◌, None, IfErr};
+ghost use Rattle.moo_value.specs.View.{tree};
+ghost use Rattle.moo_value.specs.Tree.{object, string};
+ghost use Rattle.moo_eval_access.specs.Calls.{read_raises, read_property, write_property};
+ghost use Rattle.moo_eval_frame.specs.Outcome.{answers};
+ghost use Rattle.moo_eval_frame.specs.Seen.{seen_answer, seen_by, IsKnownFailure, LacksOnlyIn};
+
+use crate::fault::failed;
+use moo_eval_frame::Failure;
+use moo_value::{ErrorCode, MooStr, Value};
+use moo_world::{Rights, World};
+use std::alloc::Global;
+
+/// Returns the value of a property, read with the rights of a programmer. E_TYPE if the base is no object or the name
+/// no string, E_INVIND if the object isn't valid, E_PROPNF if it has no such property, E_PERM if the programmer may
+/// not read it.
+pub fn read_property(
+    alloc: Global,
+    world: &World,
+    programmer: i32,
+    base: &Value,
+    name: &Value,
+) -> Result<Value, Failure>
+    ensures value { IsKnownFailure result → answers (read_property world.now programmer (tree base.now) (tree name.now)) ≡ seen_answer result }
+    ensures memory { IfErr result (LacksOnlyIn (read_raises world.now (tree base.now) (tree name.now) ≡ None)) }
+{
+    let (Value::Obj(o), Value::Str(name)) = (base, name) else {
+        return Err(Failure::Fails(ErrorCode::TypeMismatch));
+    };
+    match world.readable_value(programmer, *o, name.as_bytes()) {
+        Some(value) => Ok(value.try_clone()?),
+        None => read_in_order(alloc, world, programmer, *o, name),
+    }
+}
+
+// Reads any property, the built-in ones too, testing one condition after the other.
+#[inline(never)]
+fn read_in_order(
+    alloc: Global,
+    world: &World,
+    programmer: i32,
+    o: i32,
+    name: &MooStr,
+) -> Result<Value, Failure>
+    ensures value { IsKnownFailure result → answers (read_property world.now programmer (object o) (string name.now)) ≡ seen_answer result }
+    ensures memory { IfErr result (LacksOnlyIn (read_raises world.now (object o) (string name.now) ≡ None)) }
+{
+    let value = world.get(alloc, o, name.as_bytes()).map_err(failed)?;
+    if Rights::may_read_property(world, programmer, o, name.as_bytes()) {
+        Ok(value)
+    } else {
+        Err(Failure::Fails(ErrorCode::Permission))
+    }
+}
+
+/// Sets a property, with the rights of a programmer. E_TYPE, E_INVIND and E_PROPNF as `read_property`. For a built-in
+/// property then E_TYPE for a name that is no string or an owner that is no object, and E_PERM for the location and
+/// the contents. Last E_PERM if the programmer may not set it. If it is refused, nothing changes.
+pub fn write_property(
+    world: &mut World,
+    programmer: i32,
+    base: &Value,
+    name: &Value,
+    value: Value,
+) -> Result<(), Failure>
+    ensures world { answers (write_property world.old programmer (tree base.now) (tree name.now) (tree value)) ≡ seen_by (λ _. world.new) result }
+    ensures kept { IfErr result (λ _. world.new ≡ world.old) }
+{
+    let (Value::Obj(o), Value::Str(name)) = (base, name) else {
+        return Err(Failure::Fails(ErrorCode::TypeMismatch));
+    };
+    match world.set_by(programmer, *o, name.as_bytes(), value) {
+        Ok(()) => Ok(()),
+        Err(fault) => Err(failed(fault)),
+    }
+}

@@ -1,0 +1,251 @@
+//! Targets of assignments: 'Replacing an Element of a List or String' and 'Replacing a Subsequence of a List or String'
+//! of the LambdaMOO Programmer's Manual, 'Assignment' of docs/LANGUAGE.md.
+ghost use Rattle.std.specs.Prelude.{◌≡◌, ◌∷◌, [], Ok, Err, map, IfOk, IfErr, IfSome, IfNone, OnOk};
+ghost use Rattle.moo_value.specs.Tree.{Tree};
+ghost use Rattle.moo_value.specs.View.{tree};
+ghost use Rattle.moo_syntax_ast.specs.View.{tree as expression};
+ghost use Rattle.moo_syntax_ast.specs.Tree.{property, no_items};
+ghost use Rattle.moo_builtin_operator.specs.Answer.{Gives};
+ghost use Rattle.moo_eval_frame.specs.Outcome.{answers};
+ghost use Rattle.moo_eval_access.specs.Target.{root_of, root_parts, root_from, spots, part_at, with_part, root_value, held, rebuilt};
+ghost use Rattle.moo_eval_frame.specs.Seen.{variables_of, seen_answer, seen_by, failure_of, IsKnownFailure, HadMemoryIn};
+ghost use Rattle.moo_eval_access.specs.SeenTarget.{root_seen, places_of, step_of, steps_of, spot_of};
+ghost use Rattle.moo_eval_frame.specs.Variables.{bind, with_variable};
+ghost use Rattle.moo_eval_access.specs.LetGo.{IsLetGo};
+
+use crate::object::read_property;
+use moo_builtin_operator as operation;
+use moo_builtin_operator::OperationFault;
+use moo_eval_frame::{Activation, Failure, Variables, read_variable};
+use moo_syntax_ast::{Expr, Item, Name};
+use moo_value::{ErrorCode, Value};
+use moo_world::World;
+use std::alloc::{AllocError, Global};
+
+/// The syntax of a target: the root, and the indexes and ranges that follow it.
+#[derive(Drop)]
+pub struct Target<'a> {
+    pub root: &'a Expr,
+    pub spots: Vec<Spot<'a>>,
+}
+
+/// An index or a range in a target.
+#[derive(Drop)]
+pub enum Spot<'a> {
+    Element(&'a Expr),
+    Part(&'a Expr, &'a Expr),
+}
+
+/// What an assignment sets.
+#[derive(Drop)]
+pub enum Root<'a> {
+    Variable(&'a Name),
+    /// A property, by the values of its base and of its name.
+    Property(Value, Value),
+    Scatter(&'a [Item]),
+}
+
+/// The places in a container.
+#[derive(Drop)]
+pub enum Places {
+    Element(Value),
+    /// From the first to the last.
+    Part(Value, Value),
+}
+
+/// A container, and the places in it.
+#[derive(Drop)]
+pub struct Step {
+    pub container: Value,
+    pub places: Places,
+}
+
+/// What an assignment sets, and the containers from its own to the innermost.
+#[derive(Drop)]
+pub struct Path<'a> {
+    pub root: Root<'a>,
+    pub steps: Vec<Step>,
+}
+
+/// Splits a target into its root and its indexes and ranges.
+pub fn taken_apart<'a>(alloc: Global, target: &'a Expr) -> Result<Target<'a>, AllocError>
+    ensures root { IfOk result (λ t. expression t.root.now ≡ root_of (expression target.now)) }
+    ensures spots { IfOk result (λ t. map spot_of t.spots.items ≡ spots (expression target.now)) }
+{
+    match target {
+        Expr::Index(base, place) => {
+            let mut parts = taken_apart(alloc, base)?;
+            parts.spots.push(Spot::Element(place))?;
+            Ok(parts)
+        }
+        Expr::Range(base, low, high) => {
+            let mut parts = taken_apart(alloc, base)?;
+            parts.spots.push(Spot::Part(low, high))?;
+            Ok(parts)
+        }
+        root => Ok(Target {
+            root,
+            spots: Vec::new(alloc),
+        }),
+    }
+}
+
+/// Returns the base and the name of a property expression.
+pub fn as_property(root: &Expr) -> Option<(&Expr, &Expr)>
+    ensures some { IfSome result (λ p. expression root.now ≡ property (expression p.0.now) (expression p.1.now)) }
+    ensures none { IfNone result (root_parts (expression root.now) ≡ no_items) }
+{
+    match root {
+        Expr::Property(base, name) => Some((base, name)),
+        _ => None,
+    }
+}
+
+/// Returns what a root without indexes names. An expression that is no target is E_TYPE; no program has it before
+/// `=`.
+pub fn root_alone(root: &Expr) -> Result<Root<'_>, Failure>
+    ensures { answers (root_from (expression root.now) []) ≡ seen_by root_seen result }
+{
+    match root {
+        Expr::Variable(name) => Ok(Root::Variable(name)),
+        Expr::List(items) => Ok(Root::Scatter(items)),
+        _ => Err(Failure::Fails(ErrorCode::TypeMismatch)),
+    }
+}
+
+impl<'a> Root<'a> {
+    fn value(&self, alloc: Global, world: &World, active: &Activation) -> Result<Value, Failure>
+        ensures { IsKnownFailure result → answers (root_value world.now active.now.programmer (root_seen self.now) (variables_of active.now.variables)) ≡ seen_answer result }
+    {
+        match self {
+            Root::Variable(name) => read_variable(active, name),
+            Root::Property(base, name) => {
+                read_property(alloc, world, active.programmer, base, name)
+            }
+            Root::Scatter(_) => Err(Failure::Fails(ErrorCode::TypeMismatch)),
+        }
+    }
+}
+
+impl Step {
+    // Returns the part of the container at the places.
+    fn value(&self, alloc: Global) -> Result<Value, OperationFault>
+        ensures { Gives result (part_at (tree self.now.container) (places_of self.now.places)) }
+    {
+        match &self.places {
+            Places::Element(place) => operation::index(alloc, &self.container, place),
+            Places::Part(low, high) => operation::range(alloc, &self.container, low, high),
+        }
+    }
+
+    // Returns the container with another value at the places.
+    fn with(self, alloc: Global, value: Value) -> Result<Value, OperationFault>
+        ensures { Gives result (with_part (tree self.container) (places_of self.places) (tree value)) }
+    {
+        let Step { container, places } = self;
+        match places {
+            Places::Element(place) => operation::with_index(alloc, container, &place, value),
+            Places::Part(low, high) => operation::with_range(
+                alloc, &container, &low, &high, &value,
+            ),
+        }
+    }
+}
+
+impl<'a> Path<'a> {
+    /// Returns the value at the end of the path: E_VARNF for a variable that isn't set, the errors of
+    /// `read_property`, E_TYPE and E_RANGE for a place that the innermost container doesn't have.
+    pub fn value(&self, alloc: Global, world: &World, active: &Activation) -> Result<Value, Failure>
+        ensures { IsKnownFailure result → answers (held world.now active.now.programmer (root_seen self.now.root) (steps_of self.now.steps.items) (variables_of active.now.variables)) ≡ seen_answer result }
+    {
+        match self.steps.split_last() {
+            None => self.root.value(alloc, world, active),
+            Some((step, _)) => Ok(step.value(alloc)?),
+        }
+    }
+}
+
+/// Returns the outermost container with the value at the end of the steps, or the value itself if there is no step.
+/// Raises the error of the first container, from the innermost on, that doesn't take its new part: E_TYPE, E_RANGE,
+/// E_INVARG or E_QUOTA.
+pub fn rebuilt(alloc: Global, steps: Vec<Step>, value: Value) -> Result<Value, Failure>
+    ensures { IsKnownFailure result → answers (rebuilt (steps_of steps.items) (Ok (tree value))) ≡ seen_answer result }
+{
+    let mut steps = steps;
+    let mut whole = value;
+    while let Some(step) = steps.pop() {
+        whole = step.with(alloc, whole)?;
+    }
+    Ok(whole)
+}
+
+/// Appends a step into a container.
+pub fn push_step(path: &mut Path<'_>, step: Step) -> Result<(), AllocError>
+    ensures root { OnOk result (path.new.root ≡ path.old.root) }
+    ensures steps { OnOk result (steps_of path.new.steps.items ≡ step_of step ∷ steps_of path.old.steps.items) }
+{
+    path.steps.push(step)?;
+    Ok(())
+}
+
+/// Sets a variable, or the part of it at the end of the steps. Raises the errors of `rebuilt`; the variable then
+/// keeps its value. A list that nothing else shares is changed in place.
+pub fn set_variable(
+    alloc: Global,
+    variables: &mut Variables,
+    name: &Name,
+    steps: Vec<Step>,
+    value: Value,
+) -> Result<(), Failure>
+    ensures ok { OnOk result ((w : Tree) × (answers (rebuilt (steps_of steps.items) (Ok (tree value))) ≡ Ok w) × (variables_of variables.new ≡ with_variable (variables_of variables.old) (bind name.now w))) }
+    ensures err { IfErr result (λ failure. HadMemoryIn failure → answers (rebuilt (steps_of steps.items) (Ok (tree value))) ≡ Err (failure_of failure)) }
+    ensures kept { IfErr result (λ failure. HadMemoryIn failure → variables_of variables.new ≡ variables_of variables.old) }
+{
+    let mut inner = steps;
+    if inner.is_empty() {
+        variables.set(name, value)?;
+        return Ok(());
+    }
+    let outer = inner.remove(0);
+    let value = rebuilt(alloc, inner, value)?;
+    set_part(alloc, variables, name, outer, value)
+}
+
+fn set_part(
+    alloc: Global,
+    variables: &mut Variables,
+    name: &Name,
+    step: Step,
+    value: Value,
+) -> Result<(), Failure>
+    ensures ok { OnOk result ((w : Tree) × (with_part (tree step.container) (places_of step.places) (tree value) ≡ Ok w) × (variables_of variables.new ≡ with_variable (variables_of variables.old) (bind name.now w))) }
+    ensures err { IfErr result (λ failure. HadMemoryIn failure → answers (with_part (tree step.container) (places_of step.places) (tree value)) ≡ Err (failure_of failure)) }
+    ensures kept { IfErr result (λ failure. HadMemoryIn failure → variables_of variables.new ≡ variables_of variables.old) }
+{
+    let_go(variables, name, &step, &value)?;
+    let whole = step.with(alloc, value)?;
+    variables.set(name, whole)?;
+    Ok(())
+}
+
+// Sets the variable to 0 if its container takes the value. Then the step alone holds the container, if nothing else
+// does.
+fn let_go(
+    variables: &mut Variables,
+    name: &Name,
+    step: &Step,
+    value: &Value,
+) -> Result<(), AllocError>
+    ensures { OnOk result (IsLetGo (variables_of variables.old) name.now (with_part (tree step.now.container) (places_of step.now.places) (tree value.now)) (variables_of variables.new)) }
+{
+    let Places::Element(place) = &step.places else {
+        return Ok(());
+    };
+    match operation::index_refusal(&step.container, place, value) {
+        Some(_) => Ok(()),
+        None => {
+            variables.set(name, Value::Int(0))?;
+            Ok(())
+        }
+    }
+}

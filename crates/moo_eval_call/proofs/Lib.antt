@@ -1,0 +1,20 @@
+pub mod Unique
+pub mod Onward
+pub mod Wider
+mod Unchanged
+pub mod Counted
+pub mod Stretches
+pub mod Extremes
+pub mod Texts
+pub mod AnyNumber
+pub mod Evaluated
+pub mod Fewer
+pub mod Hooked
+pub mod Moves
+pub mod Passed
+pub mod Quotas
+pub mod Raised
+pub mod Turning
+pub mod HookUnique
+pub mod HookOnward
+pub mod HookWider

@@ -1,0 +1,103 @@
+-- What functions over values alone give.
+use Rattle.std.proofs.Common.{◌≡◌, ℕ, ◌<◌, ◌-◌, List, true, Option, Some, None, IfSome, Result, Ok, Err, ap, refl, ◌∙◌}
+use Rattle.std.specs.Result.{result_ok}
+use Rattle.moo_value.specs.declared.error_code.ErrorCode.{ErrorCode}
+use Rattle.moo_value.specs.declared.value.Value.{Value}
+use Rattle.moo_value.specs.View.{tree}
+use Rattle.moo_value.specs.Tree.{Tree}
+use Rattle.moo_syntax_ast.specs.Tree.{Items, call}
+use Rattle.moo_syntax_function.specs.declared.function.Function.{Function}
+use Rattle.moo_syntax_function.specs.declared.function.Function.TheVariants as function
+use Rattle.moo_syntax_function.specs.Names.{function_of}
+use Rattle.moo_builtin_operator.specs.declared.fault.OperationFault.{OperationFault}
+use Rattle.moo_builtin_value.specs.Calls.{plain_answer, GivesSome}
+use Rattle.moo_eval_frame.specs.declared.frame.Activation.{Activation}
+use Rattle.moo_world_table.specs.World.{World}
+use Rattle.moo_eval_fast_expr.specs.Functions.{is_timeless}
+use Rattle.moo_eval_fast_expr.specs.Worth.{IsWorth, AreWorth, function_known}
+
+-- what such a function gives, it gives at any moment
+at_any_moment : (g : Function) (m : ℕ) (vs : List Tree) → is_timeless g ≡ true → plain_answer g m vs ≡ plain_answer g 0 vs
+at_any_moment function.TypeOf m vs h = refl
+at_any_moment function.Length m vs h = refl
+at_any_moment function.ToText m vs h = refl
+at_any_moment function.ToLiteral m vs h = refl
+at_any_moment function.ToInteger m vs h = refl
+at_any_moment function.ToNumber m vs h = refl
+at_any_moment function.ToObject m vs h = refl
+at_any_moment function.Equal m vs h = refl
+at_any_moment function.Compare m vs h = refl
+at_any_moment function.Minimum m vs h = refl
+at_any_moment function.Maximum m vs h = refl
+at_any_moment function.Absolute m vs h = refl
+at_any_moment function.Index m vs h = refl
+at_any_moment function.LastIndex m vs h = refl
+at_any_moment function.Substitute m vs h = refl
+at_any_moment function.ListAppend m vs h = refl
+at_any_moment function.ListInsert m vs h = refl
+at_any_moment function.ListSet m vs h = refl
+at_any_moment function.ListDelete m vs h = refl
+at_any_moment function.SetAdd m vs h = refl
+at_any_moment function.SetRemove m vs h = refl
+at_any_moment function.IsMember m vs h = refl
+at_any_moment function.Valid m vs h = refl
+at_any_moment function.Parent m vs h = refl
+at_any_moment function.Children m vs h = refl
+at_any_moment function.MaximumObject m vs h = refl
+at_any_moment function.Players m vs h = refl
+at_any_moment function.IsPlayer m vs h = refl
+at_any_moment function.SetPlayerFlag m vs h = refl
+at_any_moment function.Properties m vs h = refl
+at_any_moment function.Verbs m vs h = refl
+at_any_moment function.PropertyInfo m vs h = refl
+at_any_moment function.SetPropertyInfo m vs h = refl
+at_any_moment function.AddProperty m vs h = refl
+at_any_moment function.DeleteProperty m vs h = refl
+at_any_moment function.IsClearProperty m vs h = refl
+at_any_moment function.ClearProperty m vs h = refl
+at_any_moment function.VerbInfo m vs h = refl
+at_any_moment function.VerbArguments m vs h = refl
+at_any_moment function.VerbCode m vs h = refl
+at_any_moment function.SetVerbInfo m vs h = refl
+at_any_moment function.SetVerbArguments m vs h = refl
+at_any_moment function.SetVerbCode m vs h = refl
+at_any_moment function.AddVerb m vs h = refl
+at_any_moment function.DeleteVerb m vs h = refl
+at_any_moment function.ChangeParent m vs h = refl
+at_any_moment function.Time m vs h = absurd cc
+at_any_moment function.ServerVersion m vs h = refl
+at_any_moment function.Create m vs h = refl
+at_any_moment function.Recycle m vs h = refl
+at_any_moment function.Move m vs h = refl
+at_any_moment function.Pass m vs h = refl
+at_any_moment function.Eval m vs h = refl
+at_any_moment function.Raise m vs h = refl
+at_any_moment function.Callers m vs h = refl
+at_any_moment function.CallerPermissions m vs h = refl
+at_any_moment function.SetTaskPermissions m vs h = refl
+at_any_moment function.TicksLeft m vs h = refl
+at_any_moment function.Notify m vs h = refl
+at_any_moment function.BootPlayer m vs h = refl
+at_any_moment function.ConnectedPlayers m vs h = refl
+at_any_moment function.IdleSeconds m vs h = refl
+at_any_moment function.ConnectedSeconds m vs h = refl
+at_any_moment function.DumpDatabase m vs h = refl
+at_any_moment function.Shutdown m vs h = refl
+at_any_moment function.ServerLog m vs h = refl
+
+-- a value that it gives
+given_value : (g : Function) (vs : List Tree) (v : Value) (r : Option (Result Tree ErrorCode)) → GivesSome g vs (Some (Ok v)) r → r ≡ Some (Ok (tree v))
+given_value g vs v None h = absurd h
+given_value g vs v (Some r) h = ap Some h
+
+given_always : (g : Function) (vs : List Tree) (v : Value) → is_timeless g ≡ true → GivesSome g vs (Some (Ok v)) (plain_answer g 0 vs) → (moment : ℕ) → plain_answer g moment vs ≡ Some (Ok (tree v))
+given_always g vs v t h = λ moment. at_any_moment g moment vs t ∙ given_value g vs v (plain_answer g 0 vs) h
+
+-- what is left of an answer where it raises nothing
+pub given_some : (g : Function) (vs : List Tree) (a : Result Value OperationFault) → is_timeless g ≡ true → GivesSome g vs (Some a) (plain_answer g 0 vs) → IfSome (result_ok a) (λ v. (moment : ℕ) → plain_answer g moment vs ≡ Some (Ok (tree v)))
+given_some g vs (Ok v) t h = given_always g vs v t h
+given_some g vs (Err e) t h = tt
+
+-- a call takes a tick and what its arguments take
+pub function_worth : (w : World) (active : Activation) {f : List ℕ} {g : Function} {items : Items} {vs : List Tree} {v : Tree} {n n' n'' : ℕ} → (0 < n) × (n' ≡ n - 1) → AreWorth w active n' items vs n'' → function_of f ≡ Some g → ((moment : ℕ) → plain_answer g moment vs ≡ Some (Ok v)) → IsWorth w active n (call f items) v n''
+function_worth w active z g h m = function_known z.0 z.1 g h m

@@ -1,0 +1,157 @@
+//! Operators on integers that can't fail.
+ghost use Rattle.std.specs.Prelude.{◌≡◌, ◌+ℤ◌, ◌-ℤ◌, ◌*ℤ◌, neg_ℤ, int_div, Ok, IfSome};
+ghost use Rattle.std.specs.Int.{int_wrap, w32, IsNonZero};
+ghost use Rattle.moo_value.specs.Tree.{integer};
+ghost use Rattle.moo_value.specs.View.{tree};
+ghost use Rattle.moo_builtin_operator.specs.Answer.{Gives};
+ghost use Rattle.moo_builtin_operator.specs.Arithmetic.{quotient, remainder};
+ghost use Rattle.moo_builtin_operator.specs.Operators.{unary_of, binary_of};
+ghost use Rattle.moo_builtin_operator.specs.Truth.{is_true, is_decided, truth_value};
+
+use moo_builtin_operator as operation;
+use moo_builtin_operator::OperationFault;
+use moo_syntax_ast::operator::{BinaryOperator, LogicOperator, UnaryOperator};
+use moo_value::Value;
+use std::alloc::Global;
+
+/// What an operator between two operands gives. Two integers are looked at first.
+#[inline]
+pub fn binary(
+    alloc: Global,
+    operator: BinaryOperator,
+    a: &Value,
+    b: &Value,
+) -> Result<Value, OperationFault>
+    ensures { Gives result (binary_of operator (tree a.now) (tree b.now)) }
+{
+    match integers(operator, a, b) {
+        Some(number) => Ok(Value::Int(number)),
+        None => operation::binary(alloc, operator, a, b),
+    }
+}
+
+// What an operator gives for two values, where they are integers and it can't fail.
+#[inline]
+fn integers(operator: BinaryOperator, a: &Value, b: &Value) -> Option<i32>
+    ensures { IfSome result (λ n. binary_of operator (tree a.now) (tree b.now) ≡ Ok (integer n)) }
+{
+    match (a, b) {
+        (Value::Int(a), Value::Int(b)) => number_of(operator, *a, *b),
+        _ => None,
+    }
+}
+
+/// The number that an operator gives for two integers, or `None` where it may fail.
+#[inline(always)]
+pub fn number_of(operator: BinaryOperator, a: i32, b: i32) -> Option<i32>
+    ensures { IfSome result (λ n. binary_of operator (integer a) (integer b) ≡ Ok (integer n)) }
+{
+    match operator {
+        BinaryOperator::Add => Some(sum(a, b)),
+        BinaryOperator::Subtract => Some(difference(a, b)),
+        BinaryOperator::Multiply => Some(product(a, b)),
+        BinaryOperator::Divide => quotient(a, b),
+        BinaryOperator::Remainder => remainder(a, b),
+        BinaryOperator::Equal => Some(truth(a == b)),
+        BinaryOperator::NotEqual => Some(truth(a != b)),
+        BinaryOperator::Less => Some(truth(a.cmp(&b).is_lt())),
+        BinaryOperator::LessOrEqual => Some(truth(a.cmp(&b).is_le())),
+        BinaryOperator::Greater => Some(truth(a.cmp(&b).is_gt())),
+        BinaryOperator::GreaterOrEqual => Some(truth(a.cmp(&b).is_ge())),
+        _ => None,
+    }
+}
+
+#[inline]
+fn sum(a: i32, b: i32) -> i32
+    ensures { result ≡ int_wrap w32 (a +ℤ b) }
+{
+    a.wrapping_add(b)
+}
+
+#[inline]
+fn difference(a: i32, b: i32) -> i32
+    ensures { result ≡ int_wrap w32 (a -ℤ b) }
+{
+    a.wrapping_sub(b)
+}
+
+#[inline]
+fn product(a: i32, b: i32) -> i32
+    ensures { result ≡ int_wrap w32 (a *ℤ b) }
+{
+    a.wrapping_mul(b)
+}
+
+#[inline]
+fn quotient(a: i32, b: i32) -> Option<i32>
+    ensures { IfSome result (λ n. quotient a b ≡ Ok (integer n)) }
+{
+    if b == 0 {
+        return None;
+    }
+    Some(wrapped_quotient(a, b))
+}
+
+#[inline]
+fn wrapped_quotient(a: i32, b: i32) -> i32
+    requires { IsNonZero w32 b }
+    ensures { result ≡ int_wrap w32 (int_div a b) }
+{
+    a.wrapping_div(b)
+}
+
+#[inline]
+fn remainder(a: i32, b: i32) -> Option<i32>
+    ensures { IfSome result (λ n. remainder a b ≡ Ok (integer n)) }
+{
+    if b == 0 {
+        return None;
+    }
+    Some(a.wrapping_rem(b))
+}
+
+// 1 or 0.
+#[inline]
+fn truth(test: bool) -> i32
+    ensures { integer result ≡ truth_value test }
+{
+    i32::from(test)
+}
+
+/// The number that an operator gives in front of an integer.
+#[inline(always)]
+pub(crate) fn number_behind(operator: UnaryOperator, a: i32) -> i32
+    ensures { unary_of operator (integer a) ≡ Ok (integer result) }
+{
+    match operator {
+        UnaryOperator::Not => truth(!is_other_than_0(a)),
+        UnaryOperator::Negate => negated(a),
+    }
+}
+
+#[inline]
+fn negated(a: i32) -> i32
+    ensures { result ≡ int_wrap w32 (neg_ℤ a) }
+{
+    a.wrapping_neg()
+}
+
+/// Whether a first operand decides that is this integer.
+#[inline(always)]
+pub(crate) fn decides(operator: LogicOperator, number: i32) -> bool
+    ensures { result ≡ is_decided operator (integer number) }
+{
+    match operator {
+        LogicOperator::And => !is_other_than_0(number),
+        LogicOperator::Or => is_other_than_0(number),
+    }
+}
+
+/// Whether an integer counts as true.
+#[inline]
+pub fn is_other_than_0(number: i32) -> bool
+    ensures { result ≡ is_true (integer number) }
+{
+    number != 0
+}

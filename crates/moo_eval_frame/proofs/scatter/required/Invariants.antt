@@ -1,0 +1,10 @@
+use Rattle.std.proofs.Common.{◌≡◌, ◌+◌, ◌≤◌, drop}
+use Rattle.moo_syntax_ast.specs.View.{items_of}
+use Rattle.moo_eval_frame.specs.Scatter.{required}
+use Rattle.moo_eval_frame.proofs.scatter.required.Given as goal
+
+abbrev pub invariant-loop-item : goal.invariant-loop-item
+invariant-loop-item l = record {
+  count : l.count + required (items_of (drop l.item-index l.items)) ≡ required (items_of l.items);
+  bound : l.count ≤ l.item-index;
+}

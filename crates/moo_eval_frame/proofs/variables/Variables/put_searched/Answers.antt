@@ -1,0 +1,12 @@
+use Rattle.std.proofs.Common.{ap, ◌∙◌}
+use Rattle.moo_eval_frame.specs.Seen.{value_among, slot_value}
+use Rattle.moo_eval_frame.proofs.Stored.{set_slot}
+use Rattle.moo_eval_frame.proofs.variables.Variables.put_searched.Goals as goal
+
+pub returns-in-Some-clause-own : goal.returns-in-Some-clause-own
+returns-in-Some-clause-own c =
+    let found = c.in-Some.ensures.some in
+    let old = c.args.self.now in
+    λ t.
+    ap (λ own. slot_value own.names own.values (value_among old.others.items)) c.set.ensures
+    ∙ set_slot c.args.name.now c.args.value old.own.names old.own.values (value_among old.others.items) c.in-Some.slot found.0 found.1

@@ -1,0 +1,101 @@
+-- The values of the names that every frame has, as a frame keeps them.
+use Rattle.std.specs.Prelude.{pos, List, [], ◌∷◌, Option, Some}
+use Rattle.moo_value.specs.declared.value.Value.{Value}
+use Rattle.moo_value.specs.Tree.{Tree, integer, object, string, list_of}
+use Rattle.moo_value.specs.View.{tree}
+use Rattle.moo_syntax_ast.specs.declared.given.Given.{Given}
+use Rattle.moo_syntax_ast.specs.declared.given.Given.TheVariants as given
+use Rattle.moo_eval_frame.specs.declared.frame.Frame.{Frame}
+use Rattle.moo_eval_frame.specs.declared.shared_values.SharedValues.{SharedValues}
+use Rattle.moo_eval_frame.specs.declared.given_values.GivenValues.{GivenValues}
+
+-- in the order of the names
+abbrev pub given_values : GivenValues → List (Option Value)
+given_values v =
+    Some v.shared.value.num
+    ∷ Some v.shared.value.int
+    ∷ Some v.shared.value.obj
+    ∷ Some v.shared.value.str
+    ∷ Some v.shared.value.err
+    ∷ Some v.shared.value.list
+    ∷ Some v.shared.value.float
+    ∷ Some v.player
+    ∷ Some v.this
+    ∷ Some v.caller
+    ∷ Some v.shared.value.dobj
+    ∷ Some v.shared.value.iobj
+    ∷ Some v.verb
+    ∷ Some v.shared.value.argstr
+    ∷ Some v.shared.value.dobjstr
+    ∷ Some v.shared.value.prepstr
+    ∷ Some v.shared.value.iobjstr
+    ∷ Some v.args
+    ∷ []
+
+-- with one of the shared ones set
+abbrev pub with_shared : SharedValues → Given → Value → SharedValues
+with_shared s given.Num v = record s { num = v }
+with_shared s given.Int v = record s { int = v }
+with_shared s given.Obj v = record s { obj = v }
+with_shared s given.Str v = record s { str = v }
+with_shared s given.Err v = record s { err = v }
+with_shared s given.List v = record s { list = v }
+with_shared s given.Float v = record s { float = v }
+with_shared s given.Player v = s
+with_shared s given.This v = s
+with_shared s given.Caller v = s
+with_shared s given.Dobj v = record s { dobj = v }
+with_shared s given.Iobj v = record s { iobj = v }
+with_shared s given.Verb v = s
+with_shared s given.Argstr v = record s { argstr = v }
+with_shared s given.Dobjstr v = record s { dobjstr = v }
+with_shared s given.Prepstr v = record s { prepstr = v }
+with_shared s given.Iobjstr v = record s { iobjstr = v }
+with_shared s given.Args v = s
+
+-- what the names of types have
+abbrev pub types_of : SharedValues → List Tree
+types_of s = tree s.num ∷ tree s.int ∷ tree s.obj ∷ tree s.str ∷ tree s.err ∷ tree s.list ∷ tree s.float ∷ []
+
+-- and have at first
+abbrev pub types : List Tree
+types =
+    integer (pos 0)
+    ∷ integer (pos 0)
+    ∷ integer (pos 1)
+    ∷ integer (pos 2)
+    ∷ integer (pos 3)
+    ∷ integer (pos 4)
+    ∷ integer (pos 9)
+    ∷ []
+
+-- the values of the variables of the command
+abbrev pub command_of : SharedValues → List Tree
+command_of s = tree s.dobj ∷ tree s.iobj ∷ tree s.argstr ∷ tree s.dobjstr ∷ tree s.prepstr ∷ tree s.iobjstr ∷ []
+
+-- the values of these variables from a frame
+abbrev pub command_in : Frame → List Tree
+command_in f = object f.dobj ∷ object f.iobj ∷ string f.argstr ∷ string f.dobjstr ∷ string f.prepstr ∷ string f.iobjstr ∷ []
+
+-- the values of a frame that has these shared ones, in the order of the names
+abbrev pub values_with : Frame → SharedValues → List (Option Tree)
+values_with f s =
+    Some (tree s.num)
+    ∷ Some (tree s.int)
+    ∷ Some (tree s.obj)
+    ∷ Some (tree s.str)
+    ∷ Some (tree s.err)
+    ∷ Some (tree s.list)
+    ∷ Some (tree s.float)
+    ∷ Some (object f.player)
+    ∷ Some (object f.this)
+    ∷ Some (object f.caller)
+    ∷ Some (tree s.dobj)
+    ∷ Some (tree s.iobj)
+    ∷ Some (string f.verb)
+    ∷ Some (tree s.argstr)
+    ∷ Some (tree s.dobjstr)
+    ∷ Some (tree s.prepstr)
+    ∷ Some (tree s.iobjstr)
+    ∷ Some (list_of f.args)
+    ∷ []

@@ -1,0 +1,67 @@
+//! Which errors a catch handles.
+ghost use Rattle.std.specs.Prelude.{◌≡◌, IfErr, IsErrAnd};
+ghost use Rattle.std.specs.List.{list_any};
+ghost use Rattle.moo_value.specs.Tree.{error};
+ghost use Rattle.moo_value.specs.View.{tree, trees};
+ghost use Rattle.moo_builtin_operator.specs.Truth.{same_tree};
+ghost use Rattle.moo_syntax_ast.specs.View.{codes_of};
+ghost use Rattle.moo_eval_frame.specs.Catching.{is_caught, caught, coded};
+ghost use Rattle.moo_eval_frame.specs.Seen.{seen_value, seen_answers, seen_codes, trace_of, IsKnown, IsKnownFailure, LacksOnlyWhere, MayLack};
+
+use crate::frame::{Activation, CallStack};
+use crate::outcome::{Failure, Stop, raised};
+use moo_syntax_ast::Codes;
+use moo_value::{ErrorCode, Value};
+use std::alloc::Global;
+
+/// Returns the values of the codes of a handler. Without the d bit, codes that fail name no error.
+pub fn settle_codes(
+    alloc: Global,
+    stack: &CallStack<'_>,
+    active: &Activation,
+    outcome: Result<Vec<Value>, Failure>,
+) -> Result<Vec<Value>, Stop>
+    ensures outcome { IsKnown result → coded stack.now.running.d (trace_of stack.now active.now) (seen_answers outcome) ≡ seen_codes result }
+    ensures known { IsKnown result → IsKnownFailure outcome }
+    ensures memory { IfErr result (LacksOnlyWhere (IsErrAnd outcome (MayLack stack.now.running.d))) }
+{
+    match outcome {
+        Ok(values) => Ok(values),
+        Err(Failure::Fails(_)) if !stack.running.d => Ok(Vec::new(alloc)),
+        Err(failure) => Err(raised(alloc, stack, active, failure)),
+    }
+}
+
+/// Returns the error that a catch of these codes handles, if one was raised. `values` are the values of the codes.
+pub fn caught(codes: &Codes, values: &[Value], outcome: &Result<Value, Stop>) -> Option<ErrorCode>
+    ensures { result ≡ caught (codes_of codes.now) (trees values.now) (seen_value outcome.now) }
+{
+    match outcome {
+        Err(Stop::Raised(raise)) if is_caught(codes, values, raise.code) => Some(raise.code),
+        _ => None,
+    }
+}
+
+pub(crate) fn is_caught(codes: &Codes, values: &[Value], code: ErrorCode) -> bool
+    ensures { result ≡ is_caught (codes_of codes.now) (trees values.now) code }
+{
+    match codes {
+        Codes::Any => true,
+        Codes::Listed(_) => is_among(code, values),
+    }
+}
+
+fn is_among(code: ErrorCode, values: &[Value]) -> bool
+    ensures { result ≡ list_any (λ v. same_tree (error code) (tree v)) values.now }
+{
+    values.iter().any(|value| is_error(value, code))
+}
+
+fn is_error(value: &Value, code: ErrorCode) -> bool
+    ensures { result ≡ same_tree (error code) (tree value.now) }
+{
+    match value {
+        Value::Err(error) => *error == code,
+        _ => false,
+    }
+}

@@ -1,0 +1,161 @@
+//! Frames, and their lines in a traceback: 'Naming Values Within a Verb' and 'MOO Tasks' of the LambdaMOO
+//! Programmer's Manual, 'Variables' and 'Tracebacks' of docs/LANGUAGE.md. Objects are given by their numbers, #-1 for
+//! none.
+ghost use Rattle.std.specs.Prelude.{◌≡◌, IfOk};
+ghost use Rattle.moo_eval_frame.specs.State.{trace_frame};
+ghost use Rattle.moo_eval_frame.specs.Seen.{trace_of};
+
+use crate::callers::Callers;
+use crate::surroundings::Surroundings;
+use crate::variables::Variables;
+use moo_syntax_grammar::Program;
+use moo_value::{MooList, MooStr};
+use std::alloc::{AllocError, Global};
+
+/// A program that is to run, and the values that its code begins with.
+#[derive(Drop)]
+pub struct Frame {
+    pub program: Program,
+    /// The d bit: errors are raised. Without it an expression that fails has the error as its value.
+    pub d: bool,
+    /// With whose rights the code begins.
+    pub programmer: i32,
+    /// The object that the verb was called on.
+    pub this: i32,
+    /// The object that has the verb.
+    pub definer: i32,
+    /// The object whose verb made the call: its `this`.
+    pub caller: i32,
+    /// The player who began the task, or another that a wizard called for.
+    pub player: i32,
+    /// The direct object of the command.
+    pub dobj: i32,
+    /// The indirect object of the command.
+    pub iobj: i32,
+    /// All names of the verb.
+    pub names: MooStr,
+    /// The name that it was called by.
+    pub verb: MooStr,
+    /// The text after the first word of the command.
+    pub argstr: MooStr,
+    /// The words of the direct object.
+    pub dobjstr: MooStr,
+    /// The preposition, as the command has it.
+    pub prepstr: MooStr,
+    /// The words of the indirect object.
+    pub iobjstr: MooStr,
+    /// The arguments of the call, or the words of the command.
+    pub args: MooList,
+}
+
+/// The data of one frame of a task, as a traceback, `callers` and a handler show it.
+#[derive(Drop)]
+pub struct TraceFrame {
+    /// The object that the verb was called on.
+    pub this: i32,
+    /// The name that it was called by.
+    pub verb: MooStr,
+    /// With whose rights the frame runs now.
+    pub programmer: i32,
+    /// The object that has the verb.
+    pub definer: i32,
+    pub player: i32,
+    /// All names of the verb, which a traceback shows.
+    pub names: MooStr,
+}
+
+/// A step from the running code down to the one that began the task.
+#[derive(Drop)]
+pub enum TraceEntry {
+    /// A frame of a verb, or of a program that is typed in.
+    Verb(TraceFrame),
+    /// A built-in function that called the entry before it, by its name.
+    BuiltIn(MooStr),
+}
+
+/// The running frame and its callers, with the surroundings of the task.
+#[derive(Drop)]
+pub struct CallStack<'a> {
+    pub running: Frame,
+    /// The nearest first.
+    pub callers: Callers,
+    pub surroundings: &'a Surroundings<'a>,
+}
+
+impl TraceFrame {
+    fn try_clone(&self) -> Result<TraceFrame, AllocError>
+        ensures { IfOk result (λ copy. copy ≡ self.now) }
+    {
+        Ok(TraceFrame {
+            this: self.this,
+            verb: self.verb.try_clone()?,
+            programmer: self.programmer,
+            definer: self.definer,
+            player: self.player,
+            names: self.names.try_clone()?,
+        })
+    }
+}
+
+impl TraceEntry {
+    pub(crate) fn try_clone(&self) -> Result<TraceEntry, AllocError>
+        ensures { IfOk result (λ copy. copy ≡ self.now) }
+    {
+        match self {
+            TraceEntry::Verb(frame) => Ok(TraceEntry::Verb(frame.try_clone()?)),
+            TraceEntry::BuiltIn(name) => Ok(TraceEntry::BuiltIn(name.try_clone()?)),
+        }
+    }
+}
+
+impl Frame {
+    /// Returns the data of the frame while it runs for this programmer.
+    #[inline(always)]
+    fn trace_frame(&self, programmer: i32) -> Result<TraceFrame, AllocError>
+        ensures { IfOk result (λ told. told ≡ trace_frame self.now programmer) }
+    {
+        Ok(TraceFrame {
+            this: self.this,
+            verb: self.verb.try_clone()?,
+            programmer,
+            definer: self.definer,
+            player: self.player,
+            names: self.names.try_clone()?,
+        })
+    }
+}
+
+impl CallStack<'_> {
+    /// Returns the entries from the running frame down.
+    pub fn trace(&self, alloc: Global, active: &Activation) -> Result<Vec<TraceEntry>, AllocError>
+        ensures { IfOk result (λ all. all.items ≡ trace_of self.now active.now) }
+    {
+        let running = self.running.trace_frame(active.programmer)?;
+        let mut all = Vec::new(alloc);
+        all.push(TraceEntry::Verb(running))?;
+        self.callers.append_to(&mut all)?;
+        Ok(all)
+    }
+
+    /// Returns the callers of a verb that the running frame calls.
+    #[inline(always)]
+    pub fn callers_of_called(
+        &self,
+        alloc: Global,
+        active: &Activation,
+    ) -> Result<Callers, AllocError>
+        ensures { IfOk result (λ all. all ≡ trace_of self.now active.now) }
+    {
+        let running = self.running.trace_frame(active.programmer)?;
+        let callers = self.callers.try_clone()?;
+        callers.with_nearest(alloc, TraceEntry::Verb(running))
+    }
+}
+
+/// The state of a frame that changes while it runs.
+#[derive(Drop)]
+pub struct Activation {
+    pub variables: Variables,
+    /// With whose rights the code goes on: `set_task_perms` changes it.
+    pub programmer: i32,
+}

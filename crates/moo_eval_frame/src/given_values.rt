@@ -1,0 +1,154 @@
+//! The values of the variables that every frame has.
+ghost use Rattle.std.specs.Prelude.{◌≡◌, Some, None, get_or, set, IsTrue, IsFalse, IfOk, OnOk};
+ghost use Rattle.moo_syntax_ast.specs.Given.{given_slot};
+ghost use Rattle.moo_eval_frame.specs.GivenValues.{given_values, values_with, types_of, types, command_of, command_in};
+ghost use Rattle.moo_eval_frame.specs.Seen.{seen_values};
+
+use crate::frame::Frame;
+use crate::shared_values::{SharedValues, set_shared};
+use moo_syntax_ast::Given;
+use moo_value::Value;
+use std::alloc::{AllocError, Global};
+use std::rc::Rc;
+
+/// Holds the values of the names that every frame has: its own, and those that it shares with the frame that called
+/// it.
+#[derive(Drop)]
+pub(crate) struct GivenValues {
+    alloc: Global,
+    player: Value,
+    this: Value,
+    caller: Value,
+    verb: Value,
+    args: Value,
+    shared: Rc<SharedValues>,
+}
+
+impl GivenValues {
+    /// Returns the values that the first frame of a task begins with.
+    pub(crate) fn first(alloc: Global, frame: &Frame) -> Result<GivenValues, AllocError>
+        ensures values { IfOk result (λ given. seen_values (given_values given) ≡ values_with frame.now given.shared.value) }
+        ensures types { IfOk result (λ given. types_of given.shared.value ≡ types) }
+        ensures command { IfOk result (λ given. command_of given.shared.value ≡ command_in frame.now) }
+    {
+        let shared = Rc::new(alloc, SharedValues::first(frame)?)?;
+        GivenValues::with_shared(alloc, frame, shared)
+    }
+
+    /// Returns the values that the frame of a called verb begins with, from those of its caller.
+    #[inline(always)]
+    pub(crate) fn handed(&self, frame: &Frame) -> Result<GivenValues, AllocError>
+        ensures values { IfOk result (λ given. seen_values (given_values given) ≡ values_with frame.now given.shared.value) }
+        ensures types { IfOk result (λ given. types_of given.shared.value ≡ types) }
+        ensures command { IfOk result (λ given. command_of given.shared.value ≡ command_of self.now.shared.value) }
+    {
+        let shared = self.handed_shared()?;
+        GivenValues::with_shared(self.alloc, frame, shared)
+    }
+
+    // Returns the block that a called verb shares with its caller, if the names of types have the values that a frame
+    // begins with.
+    #[inline(always)]
+    fn handed_shared(&self) -> Result<Rc<SharedValues>, AllocError>
+        ensures types { IfOk result (λ shared. types_of shared.value ≡ types) }
+        ensures command { IfOk result (λ shared. command_of shared.value ≡ command_of self.now.shared.value) }
+    {
+        if self.shared.has_types() {
+            self.shared.clone()
+        } else {
+            self.fresh_shared()
+        }
+    }
+
+    // Returns a block with the caller's values of the command, and the names of types as a frame begins with them.
+    // Not inlined, so that other calls need no stack space for it.
+    #[cold]
+    #[inline(never)]
+    fn fresh_shared(&self) -> Result<Rc<SharedValues>, AllocError>
+        ensures types { IfOk result (λ shared. types_of shared.value ≡ types) }
+        ensures command { IfOk result (λ shared. command_of shared.value ≡ command_of self.now.shared.value) }
+    {
+        Ok(Rc::new(self.alloc, self.shared.with_types()?)?)
+    }
+
+    // Returns the values of a frame, with these shared ones.
+    #[inline(always)]
+    fn with_shared(
+        alloc: Global,
+        frame: &Frame,
+        shared: Rc<SharedValues>,
+    ) -> Result<GivenValues, AllocError>
+        ensures values { IfOk result (λ given. seen_values (given_values given) ≡ values_with frame.now shared.value) }
+        ensures shared { IfOk result (λ given. given.shared.value ≡ shared.value) }
+    {
+        let verb = frame.verb.try_clone()?;
+        let args = frame.args.try_clone()?;
+        Ok(GivenValues {
+            alloc,
+            player: Value::Obj(frame.player),
+            this: Value::Obj(frame.this),
+            caller: Value::Obj(frame.caller),
+            verb: Value::Str(verb),
+            args: Value::List(args),
+            shared,
+        })
+    }
+
+    /// Returns the value of a name.
+    #[inline(always)]
+    pub(crate) fn get(&self, given: Given) -> &Value
+        ensures { Some result.now ≡ get_or (given_values self.now) (given_slot given) None }
+    {
+        match given {
+            Given::Player => &self.player,
+            Given::This => &self.this,
+            Given::Caller => &self.caller,
+            Given::Verb => &self.verb,
+            Given::Args => &self.args,
+            Given::Num => &self.shared.num,
+            Given::Int => &self.shared.int,
+            Given::Obj => &self.shared.obj,
+            Given::Str => &self.shared.str,
+            Given::Err => &self.shared.err,
+            Given::List => &self.shared.list,
+            Given::Float => &self.shared.float,
+            Given::Dobj => &self.shared.dobj,
+            Given::Iobj => &self.shared.iobj,
+            Given::Argstr => &self.shared.argstr,
+            Given::Dobjstr => &self.shared.dobjstr,
+            Given::Prepstr => &self.shared.prepstr,
+            Given::Iobjstr => &self.shared.iobjstr,
+        }
+    }
+
+    /// Sets the value of a name.
+    pub(crate) fn set(&mut self, given: Given, value: Value) -> Result<(), AllocError>
+        ensures { OnOk result (given_values self.new ≡ set (given_values self.old) (given_slot given) (Some value)) }
+    {
+        match given {
+            Given::Player => self.player = value,
+            Given::This => self.this = value,
+            Given::Caller => self.caller = value,
+            Given::Verb => self.verb = value,
+            Given::Args => self.args = value,
+            _ => set_shared(self.alloc, &mut self.shared, given, value)?,
+        }
+        Ok(())
+    }
+
+    /// Sets the value of a name that the frame doesn't share, and returns whether it is one.
+    pub(crate) fn put(&mut self, given: Given, value: Value) -> bool
+        ensures put { IsTrue result → given_values self.new ≡ set (given_values self.old) (given_slot given) (Some value) }
+        ensures kept { IsFalse result → self.new ≡ self.old }
+    {
+        match given {
+            Given::Player => self.player = value,
+            Given::This => self.this = value,
+            Given::Caller => self.caller = value,
+            Given::Verb => self.verb = value,
+            Given::Args => self.args = value,
+            _ => return false,
+        }
+        true
+    }
+}

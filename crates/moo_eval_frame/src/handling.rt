@@ -1,0 +1,188 @@
+//! Handlers of a `try`: which one takes an error, and what its variable is set to.
+ghost use Rattle.std.specs.Prelude.{◌≡◌, ◌++◌, ◌∷◌, [], List, Ok, Err, map, option_copied, option_map, IfErr, OnOk, IsSome};
+ghost use Rattle.moo_value.specs.Tree.{Tree};
+ghost use Rattle.moo_value.specs.View.{trees};
+ghost use Rattle.moo_syntax_ast.specs.Tree.{Handlers, handler};
+ghost use Rattle.moo_syntax_ast.specs.View.{with_handler, codes_of, block};
+ghost use Rattle.moo_eval_frame.specs.Outcome as meaning;
+ghost use Rattle.moo_eval_frame.specs.Outcome.{answers, raised_by};
+ghost use Rattle.moo_eval_frame.specs.Variables.{Binding, with_all};
+ghost use Rattle.moo_eval_frame.specs.Handling.{guarded, chosen, frame_list, entry_lists, frame_lists, above, told, told_as};
+ghost use Rattle.moo_eval_frame.specs.Catching.{is_caught};
+ghost use Rattle.moo_eval_frame.specs.Seen.{variables_of, raise_of, stop_of, failure_of, trace_of, seen_answer, seen_answers, HadMemory, HadMemoryIn, IsKnownFailure, LacksOnlyWhere};
+ghost use Rattle.moo_eval_frame.specs.SeenHandling.{guarded_of};
+
+use crate::access::push;
+use crate::callers::Callers;
+use crate::catching::is_caught;
+use crate::frame::{Activation, CallStack, TraceEntry, TraceFrame};
+use crate::outcome::{Failure, Raise, Stop, raised};
+use moo_builtin_operator as operation;
+use moo_syntax_ast::{Codes, Handler, Name, Stmt};
+use moo_value::{ErrorCode, Value};
+use std::alloc::{AllocError, Global};
+
+/// The variable that a handler sets, if any, its codes and its statements.
+#[derive(Drop)]
+pub struct HandlerParts<'a> {
+    pub name: Option<&'a Name>,
+    pub codes: &'a Codes,
+    pub body: &'a [Stmt],
+}
+
+/// A handler with the values of its codes.
+#[derive(Drop)]
+pub struct Guarded<'a> {
+    pub name: Option<&'a Name>,
+    pub codes: &'a Codes,
+    pub body: &'a [Stmt],
+    pub values: Vec<Value>,
+}
+
+/// Returns the parts of a handler.
+pub fn handler_parts(value: &Handler) -> HandlerParts<'_>
+    ensures { (hs : Handlers) → with_handler value.now hs ≡ handler (option_copied result.name) (codes_of result.codes.now) (block result.body.now) hs }
+{
+    match value {
+        Handler::Except(codes, body) => HandlerParts {
+            name: None,
+            codes,
+            body,
+        },
+        Handler::ExceptAs(name, codes, body) => HandlerParts {
+            name: Some(name),
+            codes,
+            body,
+        },
+    }
+}
+
+/// Appends a handler, with the values of its codes.
+pub fn push_guarded<'a>(
+    all: &mut Vec<Guarded<'a>>,
+    parts: HandlerParts<'a>,
+    values: Vec<Value>,
+) -> Result<(), AllocError>
+    ensures { OnOk result (map guarded_of all.new.items ≡ map guarded_of all.old.items ++ guarded (option_copied parts.entry.name) (codes_of parts.entry.codes.now) (block parts.entry.body.now) (trees values.items) ∷ []) }
+{
+    all.push(Guarded {
+        name: parts.name,
+        codes: parts.codes,
+        body: parts.body,
+        values,
+    })?;
+    Ok(())
+}
+
+impl Guarded<'_> {
+    fn takes(&self, code: ErrorCode) -> bool
+        ensures { result ≡ is_caught (codes_of self.now.codes.now) (trees self.now.values.items) code }
+    {
+        is_caught(self.codes, &self.values, code)
+    }
+}
+
+/// Returns the first handler that names the error.
+pub fn chosen<'g, 'a>(all: &'g [Guarded<'a>], code: ErrorCode) -> Option<&'g Guarded<'a>>
+    ensures { option_map (λ g. guarded_of g.now) result ≡ chosen (map guarded_of all.now) code }
+{
+    for guarded in all {
+        if guarded.takes(code) {
+            return Some(guarded);
+        }
+    }
+    None
+}
+
+// Returns `{this, verb, programmer, definer, player}`.
+fn frame_list(alloc: Global, frame: &TraceFrame) -> Result<Value, Failure>
+    ensures { IsKnownFailure result → answers (frame_list frame.now) ≡ seen_answer result }
+{
+    let mut values = Vec::new(alloc);
+    push(&mut values, Value::Obj(frame.this))?;
+    push(&mut values, Value::Str(frame.verb.try_clone()?))?;
+    push(&mut values, Value::Obj(frame.programmer))?;
+    push(&mut values, Value::Obj(frame.definer))?;
+    push(&mut values, Value::Obj(frame.player))?;
+    Ok(operation::list(alloc, values)?)
+}
+
+// Appends the list of an entry that is a frame; a built-in function has none.
+fn push_entry(alloc: Global, values: &mut Vec<Value>, entry: &TraceEntry) -> Result<(), Failure>
+    ensures ok { OnOk result ((more : List Tree) × (entry_lists entry.now ≡ Ok more) × (trees values.new.items ≡ trees values.old.items ++ more)) }
+    ensures err { IfErr result (λ failure. HadMemoryIn failure → answers (entry_lists entry.now) ≡ Err (failure_of failure)) }
+{
+    let TraceEntry::Verb(frame) = entry else {
+        return Ok(());
+    };
+    let value = frame_list(alloc, frame)?;
+    push(values, value)?;
+    Ok(())
+}
+
+/// Returns the frames of a trace, the first one first.
+pub fn frame_lists(alloc: Global, trace: &[TraceEntry]) -> Result<Vec<Value>, Failure>
+    ensures { IsKnownFailure result → answers (frame_lists trace.now) ≡ seen_answers result }
+{
+    let mut values = Vec::new(alloc);
+    for entry in trace {
+        push_entry(alloc, &mut values, entry)?;
+    }
+    Ok(values)
+}
+
+// Returns the entries of a trace down to the frame that has these callers.
+fn above<'a>(callers: &Callers, trace: &'a [TraceEntry]) -> &'a [TraceEntry]
+    ensures { result.now ≡ above callers.now trace.now }
+{
+    let mut count = trace.len();
+    let mut rest = callers;
+    while let Some((_, behind)) = rest.split_first() {
+        count = count.saturating_sub(1);
+        rest = behind;
+    }
+    &trace[..count]
+}
+
+// Returns `{code, message, value, frames}`, with the frames from the raising one to that which has these callers.
+fn told(alloc: Global, callers: &Callers, raise: Raise) -> Result<Value, Failure>
+    ensures { IsKnownFailure result → answers (told callers.now (raise_of raise)) ≡ seen_answer result }
+{
+    let Raise { code, account } = raise;
+    let account = Box::into_inner(account);
+    let frames = frame_lists(alloc, above(callers, &account.trace))?;
+    let frames = operation::list(alloc, frames)?;
+    let mut values = Vec::new(alloc);
+    push(&mut values, Value::Err(code))?;
+    push(&mut values, Value::Str(account.message))?;
+    push(&mut values, account.value)?;
+    push(&mut values, frames)?;
+    Ok(operation::list(alloc, values)?)
+}
+
+/// Sets the variable of a handler, if it has one, to `{code, message, value, frames}`. The frames go from the raising
+/// one to the handler's own. Past the limits E_QUOTA is raised, whatever the d bit.
+pub fn set_caught(
+    alloc: Global,
+    stack: &CallStack<'_>,
+    active: &mut Activation,
+    name: Option<&Name>,
+    raise: Raise,
+) -> Result<(), Stop>
+    ensures ok { OnOk result ((bs : List Binding) × (told_as stack.now.callers (option_copied name.entry) (raise_of raise) ≡ Ok bs) × (variables_of active.new.variables ≡ with_all (variables_of active.old.variables) bs)) }
+    ensures programmer { active.new.programmer ≡ active.old.programmer }
+    ensures err { IfErr result (λ stop. HadMemory stop → (failure : meaning.Failure) × (answers (told_as stack.now.callers (option_copied name.entry) (raise_of raise)) ≡ Err failure) × (stop_of stop ≡ raised_by (trace_of stack.now active.old) failure)) }
+    ensures kept { IfErr result (λ stop. HadMemory stop → active.new ≡ active.old) }
+    ensures memory { IfErr result (LacksOnlyWhere (IsSome name.entry)) }
+{
+    let Some(name) = name else {
+        return Ok(());
+    };
+    match told(alloc, &stack.callers, raise) {
+        Ok(value) => {
+            active.variables.set(name, value)?;
+            Ok(())
+        }
+        Err(failure) => Err(raised(alloc, stack, active, failure)),
+    }
+}

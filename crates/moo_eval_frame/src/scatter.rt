@@ -1,0 +1,271 @@
+//! Scatters: how the values of a list are assigned to names.
+ghost use Rattle.std.specs.Prelude.{◌≡◌, ◌+◌, ◌||◌, ◌++◌, ◌∷◌, [], ◌≤◌, cond, Ok, Err, map, drop, length, IfOk, IfErr, OnOk, IfSome, IfNone};
+ghost use Rattle.moo_value.specs.View.{tree};
+ghost use Rattle.moo_syntax_ast.specs.Tree.{Items, element, splice, optional};
+ghost use Rattle.moo_syntax_ast.specs.View.{items_of, with_item};
+ghost use Rattle.moo_syntax_ast.specs.View as view;
+ghost use Rattle.moo_eval_frame.specs.Variables.{with_all};
+ghost use Rattle.moo_eval_frame.specs.Scatter.{required, optionals, takes_rest, fits, dealt, binds, shares, lacking, given, missing};
+ghost use Rattle.moo_eval_frame.specs.Seen.{variables_of};
+ghost use Rattle.moo_eval_frame.specs.SeenScatter.{left_out_of, left_out_by, share_of};
+
+use crate::frame::Activation;
+use moo_syntax_ast::{Expr, Item, Name};
+use moo_value::{ErrorCode, MooList, Value};
+use std::alloc::{AllocError, Global};
+
+/// A name that gets no value from a list, and the expression of its default.
+#[derive(Drop)]
+pub struct LeftOut<'a> {
+    pub name: &'a Name,
+    pub value: &'a Expr,
+}
+
+/// Returns the list whose elements are assigned: E_TYPE for a value that is no list, E_ARGS for a wrong count.
+pub fn dealt<'a>(items: &[Item], value: &'a Value) -> Result<&'a MooList, ErrorCode>
+    ensures ok { IfOk result (λ list. dealt (items_of items.now) (tree value.now) ≡ Ok list.now) }
+    ensures err { IfErr result (λ code. dealt (items_of items.now) (tree value.now) ≡ Err code) }
+{
+    let Value::List(list) = value else {
+        return Err(ErrorCode::TypeMismatch);
+    };
+    if fits(items, list.len()) {
+        Ok(list)
+    } else {
+        Err(ErrorCode::Arguments)
+    }
+}
+
+fn fits(items: &[Item], count: usize) -> bool
+    ensures { result ≡ fits (items_of items.now) count }
+{
+    let required = required(items);
+    if count < required {
+        return false;
+    }
+    takes_rest(items) || count - required <= optionals(items)
+}
+
+fn is_required(item: &Item) -> bool
+    ensures { (xs : Items) → required (with_item item.now xs) ≡ cond result 1 0 + required xs }
+{
+    matches!(item, Item::Element(_))
+}
+
+fn is_optional(item: &Item) -> bool
+    ensures { (xs : Items) → optionals (with_item item.now xs) ≡ cond result 1 0 + optionals xs }
+{
+    matches!(item, Item::Optional(_) | Item::Defaulted(_, _))
+}
+
+fn is_rest(item: &Item) -> bool
+    ensures { (xs : Items) → takes_rest (with_item item.now xs) ≡ (result || takes_rest xs) }
+{
+    matches!(item, Item::Splice(_))
+}
+
+// Returns how many names have to get a value.
+fn required(items: &[Item]) -> usize
+    ensures count { result ≡ required (items_of items.now) }
+    ensures bound { result ≤ length items.now }
+{
+    let mut count = 0;
+    for item in items {
+        count += usize::from(is_required(item));
+    }
+    count
+}
+
+// Returns how many names may be left out.
+fn optionals(items: &[Item]) -> usize
+    ensures count { result ≡ optionals (items_of items.now) }
+    ensures bound { result ≤ length items.now }
+{
+    let mut count = 0;
+    for item in items {
+        count += usize::from(is_optional(item));
+    }
+    count
+}
+
+// Returns whether a name takes all that the others leave.
+fn takes_rest(items: &[Item]) -> bool
+    ensures { result ≡ takes_rest (items_of items.now) }
+{
+    for item in items {
+        if is_rest(item) {
+            return true;
+        }
+    }
+    false
+}
+
+// What is left to be assigned: the values from `next` on, of which `spare` are for names that may be left out, and
+// `rest` for the name that takes what the others leave.
+#[derive(Drop)]
+struct Dealing<'a> {
+    list: &'a MooList,
+    next: usize,
+    spare: usize,
+    rest: usize,
+}
+
+/// Sets the names that get an element of the list, from the left.
+pub fn set_shares(
+    alloc: Global,
+    active: &mut Activation,
+    items: &[Item],
+    list: &MooList,
+) -> Result<(), AllocError>
+    ensures variables { OnOk result (variables_of active.new.variables ≡ with_all (variables_of active.old.variables) (given (items_of items.now) list.now)) }
+    ensures programmer { OnOk result (active.new.programmer ≡ active.old.programmer) }
+{
+    let spare = list.len().saturating_sub(required(items));
+    let mut dealing = Dealing {
+        list,
+        next: 0,
+        spare,
+        rest: spare.saturating_sub(optionals(items)),
+    };
+    for item in items {
+        let share = dealing.share(alloc, item)?;
+        set_share(active, share)?;
+    }
+    Ok(())
+}
+
+fn set_share(active: &mut Activation, share: Option<(&Name, Value)>) -> Result<(), AllocError>
+    ensures variables { OnOk result (variables_of active.new.variables ≡ with_all (variables_of active.old.variables) (share_of share.entry)) }
+    ensures programmer { OnOk result (active.new.programmer ≡ active.old.programmer) }
+{
+    if let Some((name, value)) = share {
+        active.variables.set(name, value)?;
+    }
+    Ok(())
+}
+
+impl<'a> Dealing<'a> {
+    // Returns what an item gets, if it gets anything.
+    fn share<'b>(
+        &mut self,
+        alloc: Global,
+        item: &'b Item,
+    ) -> Result<Option<(&'b Name, Value)>, AllocError>
+        ensures share { IfOk result (λ share. (xs : Items) → shares (with_item item.now xs) self.old.spare self.old.rest (drop self.old.next self.old.list.now) ≡ share_of share ++ shares xs self.new.spare self.new.rest (drop self.new.next self.new.list.now)) }
+    {
+        match item {
+            Item::Element(target) => self.one(target),
+            Item::Splice(target) => self.others(alloc, target),
+            Item::Optional(name) | Item::Defaulted(name, _) => self.spared(name),
+        }
+    }
+
+    // Returns the next value, for a name that has to get one.
+    fn one<'b>(&mut self, target: &'b Expr) -> Result<Option<(&'b Name, Value)>, AllocError>
+        ensures share { IfOk result (λ share. (xs : Items) → shares (element (view.tree target.now) xs) self.old.spare self.old.rest (drop self.old.next self.old.list.now) ≡ share_of share ++ shares xs self.new.spare self.new.rest (drop self.new.next self.new.list.now)) }
+    {
+        match self.next_value()? {
+            Some(value) => Ok(named(target, value)),
+            None => Ok(None),
+        }
+    }
+
+    // Returns the next value, for a name that may be left out.
+    fn spared<'b>(&mut self, name: &'b Name) -> Result<Option<(&'b Name, Value)>, AllocError>
+        ensures share { IfOk result (λ share. (xs : Items) → shares (optional name.now xs) self.old.spare self.old.rest (drop self.old.next self.old.list.now) ≡ share_of share ++ shares xs self.new.spare self.new.rest (drop self.new.next self.new.list.now)) }
+    {
+        if self.spare == 0 {
+            return Ok(None);
+        }
+        self.spare -= 1;
+        match self.next_value()? {
+            Some(value) => Ok(Some((name, value))),
+            None => Ok(None),
+        }
+    }
+
+    // Returns the values that the other names leave.
+    fn others<'b>(
+        &mut self,
+        alloc: Global,
+        target: &'b Expr,
+    ) -> Result<Option<(&'b Name, Value)>, AllocError>
+        ensures share { IfOk result (λ share. (xs : Items) → shares (splice (view.tree target.now) xs) self.old.spare self.old.rest (drop self.old.next self.old.list.now) ≡ share_of share ++ shares xs self.new.spare self.new.rest (drop self.new.next self.new.list.now)) }
+    {
+        let from = self.next.min(self.list.len());
+        let to = from.saturating_add(self.rest).min(self.list.len());
+        self.next = to;
+        let value = Value::List(self.list.part(alloc, from, to)?);
+        Ok(named(target, value))
+    }
+
+    fn next_value(&mut self) -> Result<Option<Value>, AllocError>
+        ensures some { IfOk result (λ next. IfSome next (λ value. drop self.old.next self.old.list.now ≡ tree value ∷ drop self.new.next self.new.list.now)) }
+        ensures none { IfOk result (λ next. IfNone next (drop self.old.next self.old.list.now ≡ [])) }
+        ensures kept { IfOk result (λ next. IfNone next (self.new ≡ self.old)) }
+        ensures list { OnOk result (self.new.list ≡ self.old.list) }
+        ensures spare { OnOk result (self.new.spare ≡ self.old.spare) }
+        ensures rest { OnOk result (self.new.rest ≡ self.old.rest) }
+    {
+        let Some(value) = self.list.elements().get(self.next) else {
+            return Ok(None);
+        };
+        let value = value.try_clone()?;
+        self.next += 1;
+        Ok(Some(value))
+    }
+}
+
+// Returns a value for a variable. A scatter of a program has no other targets.
+fn named(target: &Expr, value: Value) -> Option<(&Name, Value)>
+    ensures { share_of result ≡ binds (view.tree target.now) (tree value) }
+{
+    match target {
+        Expr::Variable(name) => Some((name, value)),
+        _ => None,
+    }
+}
+
+/// Returns the names that the list leaves out, if they have a default.
+pub fn missing<'a>(
+    alloc: Global,
+    items: &'a [Item],
+    list: &MooList,
+) -> Result<Vec<LeftOut<'a>>, AllocError>
+    ensures { IfOk result (λ names. map left_out_of names.items ≡ missing (items_of items.now) list.now) }
+{
+    let mut spare = list.len().saturating_sub(required(items));
+    let mut names = Vec::new(alloc);
+    for item in items {
+        push_left_out(&mut names, left_out(&mut spare, item))?;
+    }
+    Ok(names)
+}
+
+// Returns the name of an item, if no value is left for it and it has a default.
+fn left_out<'a>(spare: &mut usize, item: &'a Item) -> Option<LeftOut<'a>>
+    ensures { (xs : Items) → lacking (with_item item.now xs) spare.old ≡ left_out_by result ++ lacking xs spare.new }
+{
+    let default = match item {
+        Item::Element(_) | Item::Splice(_) => return None,
+        Item::Optional(_) => None,
+        Item::Defaulted(name, value) => Some(LeftOut { name, value }),
+    };
+    if *spare > 0 {
+        *spare -= 1;
+        return None;
+    }
+    default
+}
+
+fn push_left_out<'a>(
+    names: &mut Vec<LeftOut<'a>>,
+    name: Option<LeftOut<'a>>,
+) -> Result<(), AllocError>
+    ensures { OnOk result (map left_out_of names.new.items ≡ map left_out_of names.old.items ++ left_out_by name.entry) }
+{
+    if let Some(name) = name {
+        names.push(name)?;
+    }
+    Ok(())
+}

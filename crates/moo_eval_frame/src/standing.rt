@@ -1,0 +1,77 @@
+//! Variables by their slots.
+ghost use Rattle.std.specs.Prelude.{◌≡◌, ◌<◌, ◌++◌, ◌∷◌, [], ℕ, List, Some, length, slice_set, IsTrue, IsFalse, IfSome};
+ghost use Rattle.moo_value.specs.Tree.{Tree, integer, list_of};
+ghost use Rattle.moo_value.specs.Size.{IsWithinLimits};
+ghost use Rattle.moo_value.specs.View.{tree};
+ghost use Rattle.moo_value.specs.Compare.{folded};
+ghost use Rattle.moo_eval_frame.specs.Variables.{bind, with_variable};
+ghost use Rattle.moo_eval_frame.specs.Seen.{variables_of};
+ghost use Rattle.moo_eval_frame.specs.Held.{IsHeld};
+ghost use Rattle.moo_eval_frame.specs.Standing.{StandsIn};
+
+use crate::variables::Variables;
+use moo_syntax_ast::Name;
+use moo_value::Value;
+
+impl Variables {
+    /// Returns the slot of a variable that is set, if it is found without a search. The variable keeps its slot as
+    /// long as the frame runs.
+    pub fn standing(&self, name: &Name) -> Option<usize>
+        ensures { IfSome result (λ slot. StandsIn self.now name.now slot) }
+    {
+        self.own.known_slot(name)
+    }
+
+    /// Returns the value in a slot.
+    #[inline(always)]
+    pub fn standing_value(&self, slot: usize) -> &Value
+        requires { IsHeld self.now.own slot }
+        ensures { (name : List ℕ) → StandsIn self.now name slot → variables_of self.now (folded name) ≡ Some (tree result.now) }
+    {
+        self.own.held(slot)
+    }
+
+    /// Sets the variable in a slot.
+    #[inline(always)]
+    pub fn put_standing(&mut self, slot: usize, value: Value)
+        requires { IsHeld self.old.own slot }
+        ensures put { (name : List ℕ) → StandsIn self.old name slot → variables_of self.new ≡ with_variable (variables_of self.old) (bind name (tree value)) }
+        ensures stand { (name : List ℕ) (other : ℕ) → StandsIn self.old name other → StandsIn self.new name other }
+    {
+        self.own.set_held(slot, value);
+    }
+
+    /// Sets the variable in a slot to an integer. A variable that holds an integer is changed in place.
+    #[inline(always)]
+    pub fn put_standing_integer(&mut self, slot: usize, number: i32)
+        requires { IsHeld self.old.own slot }
+        ensures put { (name : List ℕ) → StandsIn self.old name slot → variables_of self.new ≡ with_variable (variables_of self.old) (bind name (integer number)) }
+        ensures stand { (name : List ℕ) (other : ℕ) → StandsIn self.old name other → StandsIn self.new name other }
+    {
+        self.own.set_held_integer(slot, number);
+    }
+
+    /// Replaces an integer at a place of the list in a slot by another, if nothing else shares the list, and returns
+    /// whether it did. `index` counts from 0. Allocates nothing.
+    #[inline(always)]
+    pub fn put_standing_element(&mut self, slot: usize, index: usize, number: i32) -> bool
+        requires { IsHeld self.old.own slot }
+        ensures put { IsTrue result → (name : List ℕ) → StandsIn self.old name slot → (ts : List Tree) × (variables_of self.old (folded name) ≡ Some (list_of ts)) × (index < length ts) × IsWithinLimits (list_of (slice_set ts index (integer number))) × (variables_of self.new ≡ with_variable (variables_of self.old) (bind name (list_of (slice_set ts index (integer number))))) }
+        ensures stand { (name : List ℕ) (other : ℕ) → StandsIn self.old name other → StandsIn self.new name other }
+        ensures kept { IsFalse result → self.new ≡ self.old }
+    {
+        self.own.put_held_element(slot, index, number)
+    }
+
+    /// Appends a value to the list in a slot, and returns whether it did. Nothing else may share the list, the longer
+    /// list has to be within the limits, and memory has to be available; else the value is dropped.
+    #[inline(always)]
+    pub fn push_standing(&mut self, slot: usize, value: Value) -> bool
+        requires { IsHeld self.old.own slot }
+        ensures put { IsTrue result → (name : List ℕ) → StandsIn self.old name slot → (ts : List Tree) × (variables_of self.old (folded name) ≡ Some (list_of ts)) × IsWithinLimits (list_of (ts ++ tree value ∷ [])) × (variables_of self.new ≡ with_variable (variables_of self.old) (bind name (list_of (ts ++ tree value ∷ [])))) }
+        ensures stand { (name : List ℕ) (other : ℕ) → StandsIn self.old name other → StandsIn self.new name other }
+        ensures kept { IsFalse result → self.new ≡ self.old }
+    {
+        self.own.push_held(slot, value)
+    }
+}

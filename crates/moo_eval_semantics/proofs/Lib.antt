@@ -1,0 +1,18 @@
+pub mod Called
+pub mod Moving
+pub mod Creating
+pub mod HookRecycling
+mod Moved
+mod Unique
+mod UniqueTask
+mod Onward
+mod Wider
+mod Choices
+mod Room
+mod Ticking
+mod Following
+mod Recycling
+mod Agreed
+mod Begun
+mod Entering
+mod Functions

@@ -1,0 +1,15 @@
+pub mod Verbs
+pub mod Moves
+pub mod Creates
+pub mod Recycles
+pub mod MoveCreateRecycle
+pub mod Operands
+pub mod Meaning
+pub mod Frames
+pub mod Notices
+pub mod Task
+pub mod Typed
+pub mod Line
+pub mod Laws
+pub mod HookLaws
+pub mod Functions

@@ -1,8 +1,0 @@
-use Rattle.std.proofs.Common.{◌≡◌, eqb, take}
-use Rattle.std.specs.List.{count_by}
-use Rattle.moo_forest.specs.Gapped.{present}
-use Rattle.moo_forest.proofs.gapped.slot_of.Given as goal
-
--- the node isn't in the slots before i
-abbrev pub invariant-loop-i : goal.invariant-loop-i
-invariant-loop-i l = count_by (eqb l.x) (present (take l.i l.slots)) ≡ 0

@@ -1,5 +1,0 @@
-use Rattle.std.proofs.Common.{◌≡◌}
-use Rattle.moo_forest.proofs.places.note_all.Given as goal
-
-abbrev pub invariant-loop-up : goal.invariant-loop-up
-invariant-loop-up l = l.nodes.items ≡ l.initial.nodes.items

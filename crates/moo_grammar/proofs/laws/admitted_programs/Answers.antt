@@ -1,5 +1,0 @@
-use Rattle.moo_grammar.proofs.Admitted.{admitted}
-use Rattle.moo_grammar.proofs.laws.admitted_programs.Goals as goal
-
-pub returns : goal.returns
-returns c = λ g h ts b a d. admitted a d

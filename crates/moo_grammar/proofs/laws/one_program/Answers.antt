@@ -1,5 +1,0 @@
-use Rattle.moo_grammar.proofs.Unique as unique
-use Rattle.moo_grammar.proofs.laws.one_program.Goals as goal
-
-pub returns : goal.returns
-returns c = unique.one_program

@@ -1,5 +1,0 @@
-use Rattle.moo_grammar.proofs.Admitted.{strict_is_loose}
-use Rattle.moo_grammar.proofs.laws.programs_are_loose.Goals as goal
-
-pub returns : goal.returns
-returns c = strict_is_loose

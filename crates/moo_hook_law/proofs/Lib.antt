@@ -1,4 +1,0 @@
-pub mod Called
-pub mod Moving
-pub mod Creating
-pub mod Recycling

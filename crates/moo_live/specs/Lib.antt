@@ -1,5 +1,0 @@
-pub mod Session
-pub mod State
-pub mod Sending
-pub mod Leaving
-pub mod Notices

@@ -1,5 +1,0 @@
-use Rattle.moo_load.proofs.Pieces.{refusal_says}
-use Rattle.moo_load.proofs.laws.a_refusal_says_why.Goals as goal
-
-pub returns : goal.returns
-returns c = refusal_says

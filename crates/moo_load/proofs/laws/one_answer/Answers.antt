@@ -1,5 +1,0 @@
-use Rattle.moo_load.proofs.Order as order
-use Rattle.moo_load.proofs.laws.one_answer.Goals as goal
-
-pub returns : goal.returns
-returns c = order.one_answer

@@ -1,6 +1,0 @@
-use Rattle.std.proofs.Common.{refl}
-use Rattle.moo_load.proofs.Turns.{loading_nothing}
-use Rattle.moo_load.proofs.world_reader.WorldReader.new.Goals as goal
-
-pub returns : goal.returns
-returns c = loading_nothing (record { programs = c.new.result; is_checked = _; failed = _ }) c.new.ensures.taken c.new.ensures.well refl

@@ -1,4 +1,0 @@
-use Rattle.moo_object.proofs.verb_list.VerbList.new.Goals as goal
-
-pub invariant_of-result : goal.invariant_of-result
-invariant_of-result c = rw c.new-2.ensures.items tt

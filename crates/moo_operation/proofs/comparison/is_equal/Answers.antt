@@ -1,5 +1,0 @@
-use Rattle.moo_operation.proofs.Equality.{equal_is}
-use Rattle.moo_operation.proofs.comparison.is_equal.Goals as goal
-
-pub returns : goal.returns
-returns c = equal_is _ _ c.equal.result c.equal.ensures

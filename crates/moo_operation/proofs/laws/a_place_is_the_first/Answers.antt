@@ -1,5 +1,0 @@
-use Rattle.moo_operation.proofs.Found.{first_place}
-use Rattle.moo_operation.proofs.laws.a_place_is_the_first.Goals as goal
-
-pub returns : goal.returns
-returns c = first_place

@@ -1,5 +1,0 @@
-use Rattle.moo_operation.proofs.Ranges.{indexes_range, measures_range}
-use Rattle.moo_operation.proofs.laws.a_range_is_a_part.Goals as goal
-
-pub returns : goal.returns
-returns c = record { elements = indexes_range; length = measures_range }

@@ -1,5 +1,0 @@
-use Rattle.moo_operation.proofs.Lawful.{wrapped_is}
-use Rattle.moo_operation.proofs.laws.wrapping_keeps_the_residue.Goals as goal
-
-pub returns : goal.returns
-returns c = wrapped_is

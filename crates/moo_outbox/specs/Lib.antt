@@ -1,2 +1,0 @@
-pub mod Outbox
-pub mod Rows

@@ -1,9 +1,0 @@
-use Rattle.std.proofs.Common.{ap}
-use Rattle.moo_program.specs.Given.{given_names}
-use Rattle.moo_outcome.specs.GivenValues.{given_values}
-use Rattle.moo_outcome.specs.Seen.{slot_value, variables_of}
-use Rattle.moo_outcome.proofs.variables.Variables.with_given.Goals as goal
-
-pub returns : goal.returns
-unfolding variables_of
-returns c = rw c.new.ensures.items (ap (slot_value given_names (given_values c.args.given)) c.in_ok-own.ensures)

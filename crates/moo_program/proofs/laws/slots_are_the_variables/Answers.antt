@@ -1,5 +1,0 @@
-use Rattle.moo_program.proofs.EachOnce as variables
-use Rattle.moo_program.proofs.laws.slots_are_the_variables.Goals as goal
-
-pub returns : goal.returns
-returns c = record { once = variables.once; each = variables.each; order = variables.order }

@@ -1,6 +1,0 @@
-use Rattle.moo_program.specs.View.{block}
-use Rattle.moo_program.proofs.LineLengths.{fits_listing}
-use Rattle.moo_program.proofs.lines.fit_lines.Goals as goal
-
-pub returns : goal.returns
-returns c = rw c.block_fits.ensures (fits_listing (block c.args.statements.now))

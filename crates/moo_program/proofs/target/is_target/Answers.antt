@@ -1,5 +1,0 @@
-use Rattle.moo_program.proofs.Rows.{row_items}
-use Rattle.moo_program.proofs.target.is_target.Goals as goal
-
-pub returns-in-List : goal.returns-in-List
-returns-in-List c = rw (c.in-List.is, row_items) (rw c.deref-in-List.ensures.value at c.is_scatter.ensures)

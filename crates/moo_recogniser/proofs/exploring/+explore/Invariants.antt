@@ -1,4 +1,0 @@
-use Rattle.moo_recogniser.proofs.exploring.+explore.Given as goal
-
-abbrev pub decreases-explore : goal.decreases-explore
-decreases-explore l = l.left

@@ -1,2 +1,0 @@
--- The reading of a start.
-pub mod Recovering

@@ -1,6 +1,0 @@
-use Rattle.moo_restore.specs.Names.{with_objects}
-use Rattle.moo_restore.proofs.Counting.{IsCounting}
-use Rattle.moo_restore.proofs.counts.first_miscounted.Given as goal
-
-abbrev pub invariant-loop-visit : goal.invariant-loop-visit
-invariant-loop-visit l = IsCounting (with_objects l.objects) l.tour l.visit-index l.definitions l.first

@@ -1,5 +1,0 @@
-use Rattle.moo_restore.proofs.Trees.{tree_is_sound}
-use Rattle.moo_restore.proofs.laws.links_of_a_forest_are_sound.Goals as goal
-
-pub returns : goal.returns
-returns c = λ tree x forest says. tree_is_sound c.args._links.now tree forest says x

@@ -1,5 +1,0 @@
-use Rattle.moo_restore.proofs.Same.{one_world}
-use Rattle.moo_restore.proofs.laws.records_say_one_world.Goals as goal
-
-pub returns : goal.returns
-returns c = λ r v w s t. one_world r v w s t

@@ -1,5 +1,0 @@
-use Rattle.moo_restore.proofs.Worlds.{shaped}
-use Rattle.moo_restore.proofs.laws.well_formed_worlds_are_shaped.Goals as goal
-
-pub returns : goal.returns
-returns c = shaped

@@ -1,5 +1,0 @@
-use Rattle.moo_restore.proofs.Touring.{AreListedTo}
-use Rattle.moo_restore.proofs.tour.lists_below.Given as goal
-
-abbrev pub invariant-loop-y : goal.invariant-loop-y
-invariant-loop-y l = AreListedTo l.links l.nodes.items l.y

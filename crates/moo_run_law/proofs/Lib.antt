@@ -1,2 +1,0 @@
-mod Kept
-pub mod OneRun

@@ -1,5 +1,0 @@
-use Rattle.moo_run_law.proofs.OneRun.{one_run_of}
-use Rattle.moo_run_law.proofs.laws.one_run.Goals as goal
-
-pub returns : goal.returns
-returns g c single = one_run_of g.S.Sessions.layer.meaning g.S.Sessions.layer.meaning single

@@ -1,2 +1,0 @@
--- A saved world, and the bytes that spell it.
-pub mod Saved

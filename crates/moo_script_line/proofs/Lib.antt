@@ -1,5 +1,0 @@
-pub mod Forms
-pub mod Hexes
-pub mod Numbers
-pub mod OneStep
-pub mod Splits

@@ -1,5 +1,0 @@
-use Rattle.moo_script_line.proofs.Numbers.{IsReadSoFar}
-use Rattle.moo_script_line.proofs.number.number.Given as goal
-
-abbrev pub invariant-loop-byte : goal.invariant-loop-byte
-invariant-loop-byte l = IsReadSoFar l.most l.digits l.byte-index l.value

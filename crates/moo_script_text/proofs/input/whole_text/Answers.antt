@@ -1,5 +1,0 @@
-use Rattle.moo_script_text.proofs.Taking.{whole}
-use Rattle.moo_script_text.proofs.input.whole_text.Goals as goal
-
-pub returns-clause-text : goal.returns-clause-text
-returns-clause-text g c = whole (g.F.Read.remaining c.args.database.now) c.new-text.result.items c.read_all.new.text.items c.new-text.ensures.items c.in_ok-read_all.ensures.text

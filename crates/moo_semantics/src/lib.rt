@@ -1,4 +1,0 @@
-//! The meaning of programs: the big-step relation of evaluation, and its laws. An internal crate of `moo_eval`.
-#![tactic(auto)]
-
-pub mod laws;

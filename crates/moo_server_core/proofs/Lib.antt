@@ -1,0 +1,13 @@
+mod Living
+mod Kept
+pub mod OneRun
+mod Calling
+mod Coming
+mod Heard
+mod Idle
+pub mod Joining
+pub mod Marked
+mod Out
+mod Reported
+mod Running
+mod Taken

@@ -1,0 +1,62 @@
+-- The report of a checkpoint.
+use Rattle.std.proofs.Common.{◌≡◌, ◌≢◌, ◌↔◌, ℕ, List, Option, Some, None, Result, Ok, Err, OnOk, Bool, refl, sym, ◌∙◌, ap, subst, inl}
+use Rattle.std.specs.Prelude.{if◌then◌else◌}
+use Rattle.moo_disk.specs.Disk.{DiskView, LeavesOnly}
+use Rattle.moo_checkpoint.specs.Checkpoint.{text_of}
+use Rattle.moo_checkpoint.proofs.TurnLemmas.{continues_within, fresh_continues}
+use Rattle.moo_server_core.specs.declared.event.Course.TheVariants.{Closed}
+use Rattle.moo_server_core.specs.declared.serving.Open.{Open}
+use Rattle.moo_server_core.specs.declared.serving.Serving.{Serving}
+use Rattle.moo_server_core.specs.Traces.{Report, Done, Failed}
+use Rattle.moo_server_core.specs.Crash.{IsOneOf}
+use Rattle.moo_server_core.specs.Turns.{CountsReport}
+use Rattle.moo_server_core.specs.Sessions.{Finishes, Layer, Meaning, Output, then_out}
+use Rattle.moo_server_core.specs.Meaning.{Hears, State, is_done}
+use Rattle.moo_server_core.specs.Server.{OpenFollows, Opens, Turns, is_last_of, state_of, text_of_open, under_way_of}
+
+pub on_ok_map : {T E P Q : Type 0} (result : Result T E) → (P → Q) → OnOk result P → OnOk result Q
+on_ok_map (Ok x) f p = f p
+on_ok_map (Err e) f p = p
+
+-- a disk that shows what the one within shows goes on exactly where that one does
+pub follows_within : {D E : Type 0} (view : D → DiskView) (honest stands : D → Type 0) (inner : E → D) (writing : Option Open) (disk : E)
+    → OpenFollows view honest stands writing (inner disk)
+    ↔ OpenFollows (λ e. view (inner e)) (λ e. honest (inner e)) (λ e. stands (inner e)) writing disk
+follows_within view honest stands inner None disk = (λ t. t, λ t. t)
+follows_within view honest stands inner (Some o) disk = continues_within view honest stands inner o.checkpoint disk
+
+some_is : {r s : Report} → Some r ≡ Some s → r ≡ s
+some_is is = cc
+
+-- a mark's checkpoint may be given any disk
+pub opens_follow : {Sessions Saved D : Type 0} (m : Meaning Sessions Saved) (view : D → DiskView) (honest stands : D → Type 0) (mark : Option Saved) (old new : Option Open) (disk : D)
+    → Opens m mark old new → OpenFollows view honest stands old disk → OpenFollows view honest stands new disk
+opens_follow m view honest stands None old new disk opens follows = subst (λ (w : Option Open). OpenFollows view honest stands w disk) (sym opens) follows
+opens_follow m view honest stands (Some saved) old new disk opens follows =
+    subst (λ (w : Option Open). OpenFollows view honest stands w disk) (sym opens.1) (fresh_continues view honest stands opens.0.checkpoint disk opens.2)
+
+module _ {S Sessions Saved : Type 0} (l : Layer S Sessions Saved) {D : Type 0} (view : D → DiskView) (honest : D → Type 0) (failures : D → ℕ) where
+  -- a turn that ended the checkpoint, and what `checkpoint_finished` did
+  pub turns : (before after : Serving S) (taken : Option Open) (o : Open) (old new : D) (report : Report)
+      → before.writing ≡ Some o → taken ≡ None → after.writing ≡ taken
+      → (report ≡ Done → honest old → LeavesOnly (text_of o.checkpoint) (view new)) → CountsReport (Some report) (failures old) (failures new)
+      → ((out : Output) × (mid : State Sessions) × Hears l.meaning (Finishes (is_done report)) (state_of l (record before { writing = taken })) out mid
+      × (state_of l after ≡ record mid { course = if o.is_last then Closed else mid.course }) × (under_way_of l after ≡ then_out (under_way_of l before) out))
+      → (r : Option Report) × (out : Output) × Turns l.meaning view honest failures (state_of l before) (state_of l after) before.writing after.writing old new r out
+      × (under_way_of l after ≡ then_out (under_way_of l before) out)
+  turns before after taken o old new report was none left done counts h = (
+    Some report,
+    h.0,
+    record {
+      reports = (refl, o.is_last, ap is_last_of was, h.1, hears, h.3);
+      unreported = λ is. absurd (cc);
+      one_less = λ is. absurd (cc);
+      reported = λ _. left ∙ none;
+      done = λ is h' c left'. subst (λ (texts : List (List ℕ)). IsOneOf texts c) (sym (ap text_of_open was)) (inl (done (some_is is) h' c left'));
+      counts = counts;
+    },
+    h.4,
+  )
+    where
+      hears : Hears l.meaning (Finishes (is_done report)) (record (state_of l before) { writing = None }) h.0 h.1
+      hears = subst (λ (w : Option Bool). Hears l.meaning (Finishes (is_done report)) (record (state_of l before) { writing = w }) h.0 h.1) (ap is_last_of none) h.2

@@ -1,0 +1,52 @@
+-- What a crash may leave, by the marks and the reports of events.
+use Rattle.std.specs.Prelude.{◌≡◌, ◌≢◌, ◌⊎◌, ℕ, List, [], ◌∷◌, ◌++◌, Option, Some, None}
+use Rattle.moo_disk.specs.Disk.{DiskView, Gains}
+use Rattle.moo_server_core.specs.Traces.{Report, Done, Trace}
+
+-- one of these texts is c
+abbrev pub IsOneOf : List (List ℕ) → List ℕ → Type 0
+IsOneOf [] c = ⊥
+IsOneOf (text ∷ texts) c = (c ≡ text) ⊎ IsOneOf texts c
+
+-- a text, if there is one
+abbrev pub only_text : Option (List ℕ) → List (List ℕ)
+only_text None = []
+only_text (Some text) = text ∷ []
+
+-- the texts of the marks
+abbrev pub texts_of_marks : List Trace → List (List ℕ)
+texts_of_marks [] = []
+texts_of_marks (trace ∷ traces) = only_text trace.mark ++ texts_of_marks traces
+
+-- the last one alone
+abbrev pub last_of : {A : Type 0} → List A → List A
+last_of [] = []
+last_of (x ∷ []) = x ∷ []
+last_of (x ∷ y ∷ xs) = last_of (y ∷ xs)
+
+-- after a report done, the mark before it is the earliest that counts
+abbrev pub after_report : Option Report → List (List ℕ) → List (List ℕ)
+after_report None texts = texts
+after_report (Some Done) texts = last_of texts
+after_report (Some report) texts = texts
+
+-- the texts of the marks from that of the last report done on; where none is done, those before too
+abbrev pub since_done : List (List ℕ) → List Trace → List (List ℕ)
+since_done texts [] = texts
+since_done texts (trace ∷ traces) = since_done (after_report trace.report texts ++ only_text trace.mark) traces
+
+-- no report says done
+abbrev pub NoneDone : List Trace → Type 0
+NoneDone [] = Unit {0}
+NoneDone (trace ∷ traces) = (trace.report ≢ Some Done) × NoneDone traces
+
+-- Events carry a disk from old to new. `texts` and `after` have the text that is on its way before them and after them,
+-- if there is one, and `earlier` are the texts of the marks before.
+pub record Survives {D : Type 0} (view : D → DiskView) (old new : D) (texts after : List (List ℕ)) (traces : List Trace) : Type 0 where
+  -- at each moment a crash leaves what it left before, the text that was on its way, or that of a mark
+  pub gains : Gains (IsOneOf (texts ++ texts_of_marks traces)) (view old) (view new)
+  -- in the end none from before the mark of the last report done
+  pub left : (earlier : List (List ℕ)) (c : List ℕ) → (view new).may_leave c
+      → (NoneDone traces × (view old).may_leave c) ⊎ IsOneOf (since_done (earlier ++ texts) traces) c
+  -- the text that is on its way then is that of the last mark
+  pub latest : (earlier : List (List ℕ)) (text : List ℕ) → after ≡ text ∷ [] → last_of (since_done (earlier ++ texts) traces) ≡ text ∷ []

@@ -1,0 +1,12 @@
+pub mod Sessions
+pub mod Lives
+pub mod Marks
+pub mod Runs
+pub mod Calls
+pub mod Courses
+pub mod Crash
+pub mod Meaning
+pub mod Seen
+pub mod Server
+pub mod Traces
+pub mod Turns

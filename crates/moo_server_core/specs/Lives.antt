@@ -1,0 +1,161 @@
+-- Lives of a server over one disk, each ended by a crash, or by an end of the server alone.
+use Rattle.std.specs.Prelude.{◌≡◌, ◌≢◌, ◌⊎◌, ◌<◌, ◌≤◌, ℕ, List, [], ◌∷◌, length, map, take, slice_get, All, Some, Result, Ok, Err}
+use Rattle.moo_disk.specs.Disk.{DiskView, HasRisen, IsLeftBy}
+use Rattle.moo_checkpoint.specs.declared.open_fault.OpenFault.{OpenFault}
+use Rattle.moo_checkpoint.specs.declared.open_fault.OpenFault.TheVariants.{Device, Memory as no_memory}
+use Rattle.moo_dbtext_read.specs.Saved.{Saved}
+use Rattle.moo_server_core.specs.Sessions.{Layer}
+use Rattle.moo_server_core.specs.Crash.{IsOneOf, since_done}
+use Rattle.moo_server_core.specs.Seen.{Flush, seen}
+use Rattle.moo_server_core.specs.Meaning.{Entry}
+use Rattle.moo_server_core.specs.declared.event.Event as given
+use Rattle.moo_server_core.specs.declared.event.RunFault.{RunFault}
+use Rattle.moo_server_core.specs.declared.serving.Serving.{Serving}
+use Rattle.moo_server_core.specs.Server.{Follows, IsAlive, Runs, done_of, traces_under}
+use Rattle.moo_server_core.specs.Calls.{Opened}
+use Rattle.moo_server_core.specs.declared.life.Life.{Life}
+use Rattle.moo_server_core.specs.declared.life.LifeBegin.{LifeBegin}
+use Rattle.moo_server_core.specs.declared.life.LifeStop.{LifeStop}
+use Rattle.moo_server_core.specs.declared.life.LifeStop.TheVariants.{Crash, ServerOnly}
+use Rattle.moo_server_core.specs.declared.life.LivesCause.{LivesCause}
+use Rattle.moo_server_core.specs.declared.life.LivesCause.TheVariants.{NoSuchImage, Memory}
+use Rattle.moo_server_core.specs.declared.life.LivesCause.TheVariants.{Open as not_open}
+use Rattle.moo_server_core.specs.declared.life.LivesFault.{LivesFault}
+
+-- A life: main as it read at the start, the world that it began from, how it ended, and what the server and the disk were.
+pub record LifeRun (S D : Type 0) : Type 0 where
+  pub main : List ℕ
+  pub saved : Saved
+  pub moment : ℕ
+  pub events : List given.Event
+  pub stop : LifeStop
+  pub result : Result ℕ RunFault
+  pub entries : List (Entry Saved)
+  pub start : Serving S
+  pub end : Serving S
+  pub old : D
+  pub opened : D
+  pub new : D
+
+-- what may be under main after a life's end, of these texts
+abbrev pub IsLeft : LifeStop → List (List ℕ) → List (List ℕ) → Type 0
+IsLeft ServerOnly texts left = left ≡ texts
+IsLeft (Crash i) texts left = (c : List ℕ) × IsOneOf texts c × (left ≡ c ∷ [])
+
+-- what a crash left of an honest disk: the text of that number, alone
+pub record IsCrashed {D : Type 0} (view : D → DiskView) (honest : D → Type 0) (images : D → List (List ℕ)) (i : ℕ) (end new : D) : Type 0 where
+  pub left : IsLeftBy (view end) (view new)
+  pub image : slice_get (images end) i ≡ Some (view new).main_text
+  pub honest_still : honest new
+
+-- the disk behind a life's end
+abbrev pub IsStopped : {D : Type 0} → (D → DiskView) → (D → Type 0) → (D → List (List ℕ)) → LifeStop → D → D → Type 0
+IsStopped view honest images (Crash i) end new = honest end → IsCrashed view honest images i end new
+IsStopped view honest images ServerOnly end new = new ≡ end
+
+-- a crash leaves no text of the number that is asked for
+abbrev pub HasNoImage : {D : Type 0} → (D → List (List ℕ)) → LifeStop → D → Type 0
+HasNoImage images (Crash i) end = length (images end) ≤ i
+HasNoImage images ServerOnly end = ⊥
+
+-- the device, or want of memory
+abbrev pub IsSound : OpenFault → Type 0
+IsSound fault = (fault ≡ Device) ⊎ (fault ≡ no_memory)
+
+-- where nothing kept it from it, it ran all its events
+abbrev pub RanAll : {S : Type 0} → Result ℕ RunFault → List given.Event → Serving S → Type 0
+RanAll (Ok n) events end = (n ≡ length events) × IsAlive end
+RanAll (Err fault) events end = Unit {0}
+
+module _ {S Sessions : Type 0} (l : Layer S Sessions Saved) where
+  -- a server was opened, and this is the text of the world that it began from
+  pub record IsOpen {D : Type 0} (view : D → DiskView) (honest stands : D → Type 0) (old new : D) (moment : ℕ) (server : Serving S) (text : List ℕ) : Type 0 where
+    pub saved : Saved
+    pub opened : Opened l view honest server old new saved moment
+    pub text_is : text ≡ l.meaning.text_of saved
+    pub follows : Follows l view honest stands server new
+
+  -- what is answered of a life
+  pub record IsTold {D : Type 0} (life : Life) (run : LifeRun S D) (begin : LifeBegin) : Type 0 where
+    pub moment : run.moment ≡ life.moment
+    pub events : run.events ≡ life.events.items
+    pub stop : run.stop ≡ life.stop
+    pub text : begin.text.items ≡ l.meaning.text_of run.saved
+    pub done : begin.done ≡ done_of run.result
+
+  abbrev pub AreTold : {D : Type 0} → List Life → List (LifeRun S D) → List LifeBegin → Type 0
+  AreTold [] [] [] = Unit {0}
+  AreTold (life ∷ lives) (run ∷ runs) (begin ∷ begins) = IsTold life run begin × AreTold lives runs begins
+  AreTold lives runs begins = ⊥
+
+  module _ {D : Type 0} (view : D → DiskView) (honest : D → Type 0) (failures : D → ℕ) where
+    -- It began by an `open`, in which the device didn't fail, and what it did is a run's.
+    pub record IsLife (life : LifeRun S D) : Type 0 where
+      pub main : life.main ≡ (view life.old).main_text
+      pub opened : Opened l view honest life.start life.old life.opened life.saved life.moment
+      pub open_counts : failures life.opened ≡ failures life.old
+      pub runs : Runs l view honest failures life.start life.end life.opened life.new life.events life.result
+      pub entries : runs.ran.entries ≡ life.entries
+      pub all : RanAll life.result life.events life.end
+      -- without a `Flush` the disk is as the start left it
+      pub still : All (λ event. seen event ≢ Flush) life.events → life.new ≡ life.opened
+      pub honest_still : honest life.old → honest life.new
+
+    -- what a life was, and what is answered of it
+    pub record HasLived (life : Life) (old new : D) (begin : LifeBegin) : Type 0 where
+      pub run : LifeRun S D
+      pub old_is : run.old ≡ old
+      pub new_is : run.new ≡ new
+      pub is : IsLife run
+      pub told : IsTold life run begin
+
+    -- A life that didn't begin: where main spells a saved world within the limits, the device failed, or memory was wanting.
+    abbrev pub IsMet : D → D → LivesCause → Type 0
+    IsMet old new (not_open fault) =
+        honest old → (s : Saved) → l.meaning.Spells (view old).main_text s
+        → ((fault ≡ Device) × HasRisen (failures old) (failures new)) ⊎ (fault ≡ no_memory)
+    IsMet old new cause = ⊥
+
+    module _ (images : D → List (List ℕ)) where
+      -- a life that didn't begin, or whose crash leaves no such text
+      abbrev pub EndsBefore : Life → D → LivesCause → Type 0
+      EndsBefore life old (not_open fault) = (new : D) × IsMet old new (not_open fault)
+      EndsBefore life old NoSuchImage = (new : D) × (begin : LifeBegin) × HasLived life old new begin × HasNoImage images life.stop new
+      EndsBefore life old Memory = ⊥
+
+      -- Lives, the first of which begins over this disk, where one of these texts is under main; the texts and the disk that they leave.
+      -- From each life on count the texts of the mark of its last report done and of later ones, or, where none was done, also those
+      -- before. A crash leaves one of them, and that alone. Each life begins from the world that main spells within the limits.
+      abbrev pub Lives : D → List (List ℕ) → List (LifeRun S D) → List (List ℕ) → D → Type 0
+      Lives disk texts [] left last = (left ≡ texts) × (last ≡ disk)
+      Lives disk texts (life ∷ lives) left last =
+          (life.old ≡ disk) × IsOneOf texts life.main × l.meaning.Spells life.main life.saved × honest life.old × IsLife life
+          × (after : List (List ℕ)) × IsLeft life.stop (since_done texts (traces_under l.meaning life.entries)) after
+          × (next : D) × IsStopped view honest images life.stop life.new next × Lives next after lives left last
+
+      -- lives up to some place, and the disk behind them
+      pub record SoFar (lives : List Life) (begins : List LifeBegin) (first disk : D) : Type 0 where
+        pub runs : List (LifeRun S D)
+        pub left : List (List ℕ)
+        pub lived : Lives first ((view first).main_text ∷ []) runs left disk
+        pub told : AreTold lives runs begins
+        -- what a crash leaves of the disk is one of these texts, each of which spells a saved world
+        pub honest_still : honest disk
+        pub within : (c : List ℕ) → (view disk).may_leave c → IsOneOf left c
+        pub spelled : (c : List ℕ) → IsOneOf left c → (s : Saved) × l.meaning.Spells c s
+
+      abbrev pub LivesSoFar : List Life → List LifeBegin → D → Type 0
+      LivesSoFar lives begins first = (disk : D) × SoFar lives begins first disk
+
+      -- what the next life met, if it is there
+      abbrev pub NextMeets : List Life → ℕ → LivesCause → D → Type 0
+      NextMeets lives place Memory disk = Unit {0}
+      NextMeets lives place cause disk = (life : Life) × (slice_get lives place ≡ Some life) × EndsBefore life disk cause
+
+      -- the lives before that of the fault's place, and what that one met
+      pub record EndsAt (lives : List Life) (first : D) (fault : LivesFault) : Type 0 where
+        pub place : fault.life < length lives
+        pub begins : List LifeBegin
+        pub disk : D
+        pub so_far : SoFar (take fault.life lives) begins first disk
+        pub meets : NextMeets lives fault.life fault.cause disk

@@ -1,0 +1,38 @@
+-- From which worlds the lives of a server begin.
+use Rattle.std.specs.Prelude.{◌≡◌, ◌⊎◌, List, [], ◌∷◌}
+use Rattle.moo_dbtext_read.specs.Saved.{Saved}
+use Rattle.moo_server_core.specs.Sessions.{Layer}
+use Rattle.moo_server_core.specs.Crash.{NoneDone}
+use Rattle.moo_server_core.specs.Server.{state_of, traces_under}
+use Rattle.moo_server_core.specs.Calls.{IsPrefix, place_done}
+use Rattle.moo_server_core.specs.Lives.{LifeRun}
+use Rattle.moo_server_core.specs.declared.life.LifeStop.{LifeStop}
+use Rattle.moo_server_core.specs.declared.life.LifeStop.TheVariants.{Crash, ServerOnly}
+
+-- what was kept before a life, by the end of the one before it: behind a crash what the life began from, and else all that was kept
+abbrev pub KeptBehind : LifeStop → Type 0 → Type 0 → Type 0
+KeptBehind (Crash i) began kept = began
+KeptBehind ServerOnly began kept = kept
+
+module _ {S Sessions D : Type 0} (l : Layer S Sessions Saved) where
+  -- none of its checkpoints was reported done
+  abbrev pub ReportsNone : LifeRun S D → Type 0
+  ReportsNone life = NoneDone (traces_under l.meaning life.entries)
+
+  -- the world at a mark of a life: that of the last report done, or a later one
+  abbrev pub IsMarked : LifeRun S D → Saved → Type 0
+  IsMarked life saved = IsPrefix l (state_of l life.start) (place_done (traces_under l.meaning life.entries)) life.entries saved
+
+  -- A world that lives keep, the last of them first: one at such a mark of the last life, or, where none of its checkpoints was
+  -- reported done, one that was kept before it.
+  abbrev pub IsKeptIn : List (LifeRun S D) → Saved → Type 0
+  IsKeptIn [] saved = ⊥
+  IsKeptIn (life ∷ []) saved = IsMarked life saved ⊎ (ReportsNone life × (saved ≡ life.saved))
+  IsKeptIn (life ∷ before ∷ earlier) saved =
+      IsMarked life saved ⊎ (ReportsNone life × KeptBehind before.stop (saved ≡ life.saved) (IsKeptIn (before ∷ earlier) saved))
+
+  -- Each life but the first begins from a world that the lives before it keep, the last of these first.
+  abbrev pub BeginFromKept : List (LifeRun S D) → List (LifeRun S D) → Type 0
+  BeginFromKept earlier [] = Unit {0}
+  BeginFromKept [] (life ∷ lives) = BeginFromKept (life ∷ []) lives
+  BeginFromKept (last ∷ earlier) (life ∷ lives) = IsKeptIn (last ∷ earlier) life.saved × BeginFromKept (life ∷ last ∷ earlier) lives

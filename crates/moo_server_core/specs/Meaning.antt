@@ -1,0 +1,175 @@
+-- What a list of events does, over any layer of sessions. In which `Flush` a checkpoint's report stands, and whether it says
+-- done or failed, is free here.
+use Rattle.std.specs.Prelude.{◌≡◌, ℕ, ◌+◌, nat_lt, nat_le, List, [], ◌∷◌, ◌++◌, map, Option, Some, None, is_none, Bool, true, false, if◌then◌else◌, ◌&&◌, ◌||◌, not, MatchBool}
+use Rattle.std.specs.Option.{option_map}
+use Rattle.moo_server_core.specs.Traces.{Report, Done, Failed, Trace}
+use Rattle.moo_server_core.specs.Courses.{is_closing, is_closed}
+use Rattle.moo_server_core.specs.Seen.{Event, Open, Bytes, Hangup, Moment, Flush, is_flush}
+use Rattle.moo_server_core.specs.Sessions.{Happening, Opens, Receives, HangsUp, Starts, Finishes, Output, silence, then_out, Told, Meaning}
+use Rattle.moo_server_core.specs.declared.event.Course.{Course}
+use Rattle.moo_server_core.specs.declared.event.Course.TheVariants.{Running, Closing, Closed}
+use Rattle.moo_server_core.specs.declared.event.Cause.{Cause}
+use Rattle.moo_server_core.specs.declared.event.Cause.TheVariants.{NoSuchConnection, ConnectionInUse, ClockBack}
+use Rattle.moo_server_core.specs.declared.event.Cause.TheVariants.{Closed as closed_cause}
+
+pub record State (Sessions : Type 0) : Type 0 where
+  -- the world, with its connections
+  pub sessions : Sessions
+  pub moment : ℕ
+  -- a checkpoint is due at this moment
+  pub due : ℕ
+  -- one is asked for
+  pub asked : Bool
+  pub course : Course
+  -- where a checkpoint is open, whether it began at or after the first shutdown
+  pub writing : Option Bool
+
+-- an event, the report that stands in it, the saved world that it marks, and what goes out
+pub record Entry (Saved : Type 0) : Type 0 where
+  pub event : Event
+  pub report : Option Report
+  pub mark : Option Saved
+  pub out : Output
+
+abbrev pub is_done : Report → Bool
+is_done Done = true
+is_done Failed = false
+
+-- what the disk sees of an entry
+abbrev pub trace_of : {Saved : Type 0} → (Saved → List ℕ) → Entry Saved → Trace
+trace_of text_of entry = record { flush = is_flush entry.event; report = entry.report; mark = option_map text_of entry.mark }
+
+abbrev pub traces_of : {Saved : Type 0} → (Saved → List ℕ) → List (Entry Saved) → List Trace
+traces_of text_of entries = map (trace_of text_of) entries
+
+-- what goes out in all of them
+abbrev pub out_of : {Saved : Type 0} → List (Entry Saved) → Output
+out_of [] = silence
+out_of (entry ∷ entries) = then_out entry.out (out_of entries)
+
+-- what came of a happening to the sessions: a request stands, and a shutdown makes the server close
+abbrev pub heard : {Sessions : Type 0} → State Sessions → Told → Sessions → State Sessions
+heard old told sessions = record old {
+  sessions = sessions;
+  asked = told.asks || (told.shuts || old.asked);
+  course = if told.shuts then Closing else old.course;
+}
+
+-- the state behind the hooks of a start
+abbrev pub begun_at : {Sessions : Type 0} → ℕ → Bool → Course → ℕ → Sessions → State Sessions
+begun_at moment asked course interval sessions = record {
+  sessions = sessions;
+  moment = moment;
+  due = moment + interval;
+  asked = asked;
+  course = course;
+  writing = None;
+}
+
+module _ {Sessions Saved : Type 0} (m : Meaning Sessions Saved) where
+  -- what keeps an event from being taken
+  abbrev pub refusal_in : Course → ℕ → Sessions → Event → Option Cause
+  refusal_in Closed now sessions event = Some closed_cause
+  refusal_in Closing now sessions event = None
+  refusal_in Running now sessions (Open c) = if m.is_open sessions c then Some ConnectionInUse else None
+  refusal_in Running now sessions (Bytes c piece) = if m.is_open sessions c then None else Some NoSuchConnection
+  refusal_in Running now sessions (Hangup c) = if m.is_open sessions c then None else Some NoSuchConnection
+  refusal_in Running now sessions (Moment moment) = if nat_lt moment now then Some ClockBack else None
+  refusal_in Running now sessions Flush = None
+
+  abbrev pub refusal : State Sessions → Event → Option Cause
+  refusal state event = refusal_in state.course state.moment state.sessions event
+
+  -- a connection is opened under a number that none has
+  abbrev pub FindsFree : State Sessions → Event → Type 0
+  FindsFree state (Open c) = m.is_open state.sessions c ≡ false
+  FindsFree state event = Unit {0}
+
+  -- something happens to the sessions
+  abbrev pub Hears : Happening → State Sessions → Output → State Sessions → Type 0
+  Hears happening old out new =
+      (told : Told) × (sessions : Sessions) × m.happens happening old.moment old.sessions told sessions
+      × (out ≡ told.out) × (new ≡ heard old told sessions)
+
+  -- the event's own effect
+  abbrev pub Acts : Event → State Sessions → Output → State Sessions → Type 0
+  Acts (Open c) old out new = Hears (Opens c) old out new
+  Acts (Bytes c piece) old out new = Hears (Receives c piece) old out new
+  Acts (Hangup c) old out new = Hears (HangsUp c) old out new
+  Acts (Moment moment) old out new = (out ≡ silence) × (new ≡ record old { moment = moment })
+  Acts Flush old out new = (out ≡ silence) × (new ≡ old)
+
+  -- A report closes the open checkpoint and runs `checkpoint_finished`. Where the checkpoint began at or after the first shutdown,
+  -- the server is closed.
+  abbrev pub Reports : Event → Option Report → State Sessions → Output → State Sessions → Type 0
+  Reports event None old out new = (out ≡ silence) × (new ≡ old)
+  Reports event (Some report) old out new =
+      (event ≡ Flush) × (last : Bool) × (old.writing ≡ Some last)
+      × (mid : State Sessions) × Hears (Finishes (is_done report)) (record old { writing = None }) out mid
+      × (new ≡ record mid { course = if last then Closed else mid.course })
+
+  -- a checkpoint begins
+  abbrev pub is_due : State Sessions → Bool
+  is_due state = not (is_closed state.course) && is_none state.writing && (state.asked || nat_le state.due state.moment)
+
+  -- bytes for a connection that is leaving
+  abbrev pub is_for_leaving : State Sessions → Event → Bool
+  is_for_leaving state (Bytes c piece) = m.is_leaving state.sessions c
+  is_for_leaving state event = false
+
+  -- such bytes, while no checkpoint is due: nothing comes of them, and they take no memory
+  abbrev pub is_idle : State Sessions → Event → Bool
+  is_idle state event = is_for_leaving state event && not (is_due state)
+
+  -- `checkpoint_started` runs; then the request is cleared, the due moment is set, and the world is marked as it then is.
+  abbrev pub Marks : Option Saved → State Sessions → Output → State Sessions → Type 0
+  Marks None old out new = (is_due old ≡ false) × (out ≡ silence) × (new ≡ old)
+  Marks (Some saved) old out new =
+      (is_due old ≡ true) × (mid : State Sessions) × Hears Starts old out mid
+      × (new ≡ record mid { due = mid.moment + m.interval mid.sessions; asked = false; writing = Some (is_closing mid.course) })
+      × (saved ≡ m.saved_of new.sessions)
+
+  -- the event's own effect, perhaps a report, perhaps a mark
+  pub record Steps (old : State Sessions) (entry : Entry Saved) (new : State Sessions) : Type 0 where
+    pub acted : State Sessions
+    pub reported : State Sessions
+    pub own : Output
+    pub finished : Output
+    pub started : Output
+    pub acts : Acts entry.event old own acted
+    pub reports : Reports entry.event entry.report acted finished reported
+    pub marks : Marks entry.mark reported started new
+    pub out : entry.out ≡ then_out own (then_out finished started)
+
+  -- while the server closes, an event other than `Flush` changes nothing
+  abbrev pub is_passed_over : State Sessions → Event → Bool
+  is_passed_over state event = is_closing state.course && not (is_flush event)
+
+  -- nothing comes of an event
+  pub record Passes (old : State Sessions) (entry : Entry Saved) (new : State Sessions) : Type 0 where
+    pub same : new ≡ old
+    pub report : entry.report ≡ None
+    pub mark : entry.mark ≡ None
+    pub out : entry.out ≡ silence
+
+  -- an event that may want memory: it is neither refused nor passed over, and it isn't for a connection that is leaving
+  abbrev pub MayWant : State Sessions → Event → Type 0
+  MayWant state event = (refusal state event ≡ None) × (is_passed_over state event ≡ false) × (is_idle state event ≡ false)
+
+  -- what one event does, where it is taken
+  pub record Takes (old : State Sessions) (entry : Entry Saved) (new : State Sessions) : Type 0 where
+    pub accepted : refusal old entry.event ≡ None
+    pub takes : MatchBool (is_passed_over old entry.event) (Passes old entry new) (Steps old entry new)
+
+  -- what events do, one after another
+  abbrev pub Run : State Sessions → List (Entry Saved) → State Sessions → Type 0
+  Run old [] new = new ≡ old
+  Run old (entry ∷ entries) new = (mid : State Sessions) × Takes old entry mid × Run mid entries new
+
+  -- The start from a saved world at a moment: hooks run, and then the due moment is set.
+  pub record Begins (saved : Saved) (moment : ℕ) (out : Output) (state : State Sessions) : Type 0 where
+    pub told : Told
+    pub sessions : Sessions
+    pub starts : m.starts saved moment told sessions
+    pub out_is : out ≡ told.out
+    pub state_is : state ≡ begun_at moment (told.asks || told.shuts) (if told.shuts then Closing else Running) (m.interval sessions) sessions

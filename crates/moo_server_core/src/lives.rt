@@ -1,0 +1,99 @@
+//! Lives one after another.
+ghost use Rattle.std.specs.Prelude.{◌≡◌, ◌↔◌, IfOk, IfErr};
+ghost use Rattle.moo_disk.specs.Disk.{LeavesOnly};
+ghost use Rattle.moo_dbtext_read.specs.Saved.{Saved};
+ghost use Rattle.moo_server_core.specs.Lives.{EndsAt, EndsBefore, HasLived, HasNoImage, IsMet, IsStopped, LivesSoFar};
+
+use crate::begin::open;
+use crate::life::done_in;
+use crate::{Life, LifeBegin, LifeStop, LivesCause, LivesFault, Starts};
+use moo_disk::{CrashDisk, Disk};
+use std::alloc::Global;
+
+/// One life, up to its end.
+fn live<S: Starts, D: Disk>(
+    alloc: Global,
+    disk: &mut D,
+    life: &Life,
+) -> Result<LifeBegin, LivesCause>
+    ensures lived { IfOk result (λ begin. HasLived S.layer D.view D.honest D.failures life.now disk.old disk.new begin) }
+    ensures met { IfErr result (λ cause. IsMet S.layer D.view D.honest D.failures disk.old disk.new cause) }
+    ensures honest { D.honest disk.old ↔ D.honest disk.new }
+{
+    match open::<S, D>(alloc, disk, life.moment) {
+        Ok((mut server, text)) => {
+            let done = done_in(server.run(disk, &life.events));
+            Ok(LifeBegin { text, done })
+        }
+        Err(fault) => Err(LivesCause::Open(fault)),
+    }
+}
+
+/// One life with its end: the disk that is left, and what is told.
+fn live_and_stop<S: Starts, D: CrashDisk + Drop>(
+    alloc: Global,
+    disk: D,
+    life: &Life,
+) -> Result<(D, LifeBegin), LivesCause>
+    ensures lived { IfOk result (λ given. (end : D) × HasLived S.layer D.view D.honest D.failures life.now disk end given.1
+        × IsStopped D.view D.honest D.images life.now.stop end given.0) }
+    ensures met { IfErr result (λ cause. EndsBefore S.layer D.view D.honest D.failures D.images life.now disk cause) }
+{
+    let mut disk = disk;
+    match live::<S, D>(alloc, &mut disk, life) {
+        Ok(begin) => stop(disk, life.stop, begin),
+        Err(cause) => Err(cause),
+    }
+}
+
+fn stop<D: CrashDisk + Drop>(
+    disk: D,
+    stop: LifeStop,
+    begin: LifeBegin,
+) -> Result<(D, LifeBegin), LivesCause>
+    ensures stopped { IfOk result (λ given. (given.1 ≡ begin) × IsStopped D.view D.honest D.images stop disk given.0) }
+    ensures met { IfErr result (λ cause. (cause ≡ LivesCause.NoSuchImage) × HasNoImage D.images stop disk) }
+{
+    match stop {
+        LifeStop::ServerOnly => Ok((disk, begin)),
+        LifeStop::Crash(i) => match disk.crash(i) {
+            Ok(left) => Ok((left, begin)),
+            Err(_) => Err(LivesCause::NoSuchImage),
+        },
+    }
+}
+
+/// Lives one after another, each over what the last one left.
+///
+/// Where one can't begin or end, nothing is told of those before it.
+pub fn run_lives<S: Starts, D: CrashDisk + Drop>(
+    alloc: Global,
+    disk: D,
+    lives: &[Life],
+) -> Result<Vec<LifeBegin>, LivesFault>
+    // Where the disk is honest and a crash leaves its main text alone, which spells a saved world within the limits: the lives, and what
+    // is told of them.
+    ensures lives { D.honest disk → (s : Saved) → S.layer.meaning.Spells (D.view disk).main_text s → LeavesOnly (D.view disk).main_text (D.view disk)
+        → IfOk result (λ begins. LivesSoFar S.layer D.view D.honest D.failures D.images lives.now begins.items disk) }
+    // Else the lives before that of the told place, and what that one met: only want of memory ends lives without a reason of theirs.
+    ensures fault { D.honest disk → (s : Saved) → S.layer.meaning.Spells (D.view disk).main_text s → LeavesOnly (D.view disk).main_text (D.view disk)
+        → IfErr result (λ fault. EndsAt S.layer D.view D.honest D.failures D.images lives.now disk fault) }
+{
+    let mut disk = disk;
+    let mut begins = Vec::new(alloc);
+    for (place, life) in lives.iter().enumerate() {
+        match live_and_stop::<S, D>(alloc, disk, life) {
+            Ok((left, begin)) => {
+                disk = left;
+                if begins.push(begin).is_err() {
+                    return Err(LivesFault {
+                        life: place,
+                        cause: LivesCause::Memory,
+                    });
+                }
+            }
+            Err(cause) => return Err(LivesFault { life: place, cause }),
+        }
+    }
+    Ok(begins)
+}

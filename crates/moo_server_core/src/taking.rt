@@ -1,0 +1,263 @@
+//! What a server does in one event.
+ghost use Rattle.std.specs.Prelude.{ℕ, ◌≡◌, ◌≢◌, ◌↔◌, ◌≤◌, ◌||◌, None, false, true, OnOk, IfErr, Err, IsOk, Some, [], if◌then◌else◌};
+ghost use Rattle.moo_disk.specs.Disk.{Gains};
+ghost use Rattle.moo_dbtext_read.specs.Saved.{Saved};
+ghost use Rattle.moo_server_core.specs.Sessions.{Finishes, IsApt, Output, is_dropped, seen_happening, then_out};
+ghost use Rattle.moo_server_core.specs.Crash.{IsOneOf, Survives};
+ghost use Rattle.moo_server_core.specs.Seen.{Flush, seen};
+ghost use Rattle.moo_server_core.specs.Meaning.{State, Acts, Entry, FindsFree, Hears, Marks, is_due, MayWant, is_for_leaving, is_passed_over, refusal, refusal_in};
+
+use crate::event::Course;
+use crate::serving::Open;
+use crate::{Asked, Cause, Event, Happening, Serving, Sessions};
+use moo_checkpoint::{Checkpoint, Turn};
+use moo_disk::Disk;
+use std::alloc::AllocError;
+
+impl<S: Sessions> Serving<S> {
+    ghost use Rattle.moo_server_core.specs.Server.{IsAlive, Does, Follows, OpenFollows, Opens, MarkSpells, Turns, on_its_way, state_of, under_way_of, waiting_of};
+
+    // Something happens to the sessions.
+    fn happen(&mut self, happening: Happening) -> Result<(), AllocError>
+        requires { IsApt S.layer.meaning (S.layer.state self.old.sessions) (seen_happening happening) }
+        ensures hears { OnOk result ((out : Output)
+            × Hears S.layer.meaning (seen_happening happening.entry) (state_of S.layer self.old) out (state_of S.layer self.new)
+            × (under_way_of S.layer self.new ≡ then_out (under_way_of S.layer self.old) out)) }
+        ensures waiting { waiting_of S.layer self.new ≡ waiting_of S.layer self.old }
+        ensures writing { self.new.writing ≡ self.old.writing }
+        ensures halted { self.new.halted ≡ self.old.halted }
+        ensures dropped { is_dropped S.layer.meaning (S.layer.state self.old.sessions) (seen_happening happening.entry) ≡ true
+            → IsOk result × (is_due S.layer.meaning (state_of S.layer self.new) ≡ is_due S.layer.meaning (state_of S.layer self.old)) }
+    {
+        let asked = self.sessions.happen(self.moment, happening)?;
+        self.hear(asked);
+        Ok(())
+    }
+
+    // A request stands until a checkpoint begins, and a shutdown makes the server close.
+    fn hear(&mut self, asked: Asked)
+        ensures asked { self.new.asked ≡ (asked.checkpoint || (asked.shutdown || self.old.asked)) }
+        ensures course { self.new.course ≡ (if asked.shutdown then Course.Closing else self.old.course) }
+        ensures sessions { self.new.sessions ≡ self.old.sessions }
+        ensures moment { self.new.moment ≡ self.old.moment }
+        ensures due { self.new.due ≡ self.old.due }
+        ensures writing { self.new.writing ≡ self.old.writing }
+        ensures halted { self.new.halted ≡ self.old.halted }
+    {
+        if asked.shutdown {
+            self.course = Course::Closing;
+        }
+        if asked.checkpoint || asked.shutdown {
+            self.asked = true;
+        }
+    }
+
+    // The event's own effect.
+    fn act(&mut self, event: &Event) -> Result<(), AllocError>
+        requires { FindsFree S.layer.meaning (state_of S.layer self.old) (seen event.now) }
+        ensures acts { OnOk result ((out : Output)
+            × Acts S.layer.meaning (seen event.now) (state_of S.layer self.old) out (state_of S.layer self.new)
+            × (under_way_of S.layer self.new ≡ then_out (under_way_of S.layer self.old) out)) }
+        ensures waiting { waiting_of S.layer self.new ≡ waiting_of S.layer self.old }
+        ensures writing { self.new.writing ≡ self.old.writing }
+        ensures halted { self.new.halted ≡ self.old.halted }
+        ensures dropped { is_for_leaving S.layer.meaning (state_of S.layer self.old) (seen event.now) ≡ true
+            → IsOk result × (is_due S.layer.meaning (state_of S.layer self.new) ≡ is_due S.layer.meaning (state_of S.layer self.old)) }
+    {
+        match event {
+            Event::Open(c) => self.happen(Happening::Opens(*c)),
+            Event::Bytes(c, piece) => self.happen(Happening::Receives(*c, piece)),
+            Event::Hangup(c) => self.happen(Happening::HangsUp(*c)),
+            Event::Moment(moment) => {
+                self.moment = *moment;
+                Ok(())
+            }
+            Event::Flush => Ok(()),
+        }
+    }
+
+    fn is_due(&self) -> bool
+        ensures { result ≡ is_due S.layer.meaning (state_of S.layer self.now) }
+    {
+        if self.course.is_closed() || self.writing.is_some() {
+            return false;
+        }
+        self.asked || self.due <= u64::from(self.moment)
+    }
+
+    // Begins a checkpoint where one is due.
+    fn settle(&mut self) -> Result<(), AllocError>
+        ensures marks { OnOk result ((mark : _) × (out : Output)
+            × Marks S.layer.meaning mark (state_of S.layer self.old) out (state_of S.layer self.new)
+            × Opens S.layer.meaning mark self.old.writing self.new.writing × MarkSpells S.layer.meaning mark
+            × (under_way_of S.layer self.new ≡ then_out (under_way_of S.layer self.old) out)) }
+        ensures waiting { waiting_of S.layer self.new ≡ waiting_of S.layer self.old }
+        ensures halted { self.new.halted ≡ self.old.halted }
+        ensures due { IfErr result (λ _. is_due S.layer.meaning (state_of S.layer self.old) ≡ true) }
+    {
+        if !self.is_due() {
+            return Ok(());
+        }
+        self.happen(Happening::Starts)?;
+        self.asked = false;
+        self.due = u64::from(self.moment) + u64::from(self.sessions.interval());
+        let text = self.sessions.text()?;
+        self.writing = Some(Open {
+            checkpoint: Checkpoint::begin(text),
+            is_last: self.course.is_closing(),
+        });
+        Ok(())
+    }
+
+    // Reports that the open checkpoint has ended, which closes the server where it was the last.
+    fn report(&mut self, is_last: bool, done: bool) -> Result<(), AllocError>
+        ensures reports { OnOk result ((out : Output) × (mid : State S.State)
+            × Hears S.layer.meaning (Finishes done) (state_of S.layer self.old) out mid
+            × (state_of S.layer self.new ≡ record mid { course = if is_last then Course.Closed else mid.course })
+            × (under_way_of S.layer self.new ≡ then_out (under_way_of S.layer self.old) out)) }
+        ensures waiting { waiting_of S.layer self.new ≡ waiting_of S.layer self.old }
+        ensures writing { self.new.writing ≡ self.old.writing }
+        ensures halted { self.new.halted ≡ self.old.halted }
+    {
+        self.happen(Happening::Finishes(done))?;
+        if is_last {
+            self.course = Course::Closed;
+        }
+        Ok(())
+    }
+
+    // Gives the open checkpoint a turn.
+    fn flush<D: Disk>(&mut self, disk: &mut D) -> Result<(), AllocError>
+        requires { OpenFollows D.view D.honest D.stands self.old.writing disk.old }
+        ensures turns { OnOk result ((report : _) × (out : Output)
+            × Turns S.layer.meaning D.view D.honest D.failures (state_of S.layer self.old) (state_of S.layer self.new)
+            self.old.writing self.new.writing disk.old disk.new report out
+            × (under_way_of S.layer self.new ≡ then_out (under_way_of S.layer self.old) out)) }
+        ensures waiting { waiting_of S.layer self.new ≡ waiting_of S.layer self.old }
+        ensures halted { self.new.halted ≡ self.old.halted }
+        ensures follows { OnOk result (OpenFollows D.view D.honest D.stands self.new.writing disk.new) }
+        ensures gains { D.honest disk.old → Gains (IsOneOf (on_its_way self.old)) (D.view disk.old) (D.view disk.new) }
+        ensures no_fewer { D.failures disk.old ≤ D.failures disk.new }
+        ensures honest { D.honest disk.old ↔ D.honest disk.new }
+    {
+        let Some(mut open) = self.writing.take() else {
+            return Ok(());
+        };
+        match open.checkpoint.turn(disk) {
+            Turn::More => {
+                self.writing = Some(open);
+                Ok(())
+            }
+            Turn::Done => self.report(open.is_last, true),
+            Turn::Failed => self.report(open.is_last, false),
+        }
+    }
+
+    // What keeps an event from being taken.
+    fn refusal(&self, event: &Event) -> Option<Cause>
+        ensures { result ≡ refusal S.layer.meaning (state_of S.layer self.now) (seen event.now) }
+    {
+        match self.course {
+            Course::Closed => Some(Cause::Closed),
+            Course::Closing => None,
+            Course::Running => self.refusal_running(event),
+        }
+    }
+
+    fn refusal_running(&self, event: &Event) -> Option<Cause>
+        ensures { result ≡ refusal_in S.layer.meaning Course.Running self.now.moment (S.layer.state self.now.sessions) (seen event.now) }
+    {
+        match event {
+            Event::Open(c) => {
+                if self.sessions.is_open(*c) {
+                    return Some(Cause::ConnectionInUse);
+                }
+                None
+            }
+            Event::Bytes(c, _) => self.absence(*c),
+            Event::Hangup(c) => self.absence(*c),
+            Event::Moment(moment) => {
+                if *moment < self.moment {
+                    return Some(Cause::ClockBack);
+                }
+                None
+            }
+            Event::Flush => None,
+        }
+    }
+
+    fn absence(&self, c: u16) -> Option<Cause>
+        ensures { result ≡ (if S.layer.meaning.is_open (S.layer.state self.now.sessions) c then None else Some Cause.NoSuchConnection) }
+    {
+        if self.sessions.is_open(c) {
+            return None;
+        }
+        Some(Cause::NoSuchConnection)
+    }
+
+    // An event that isn't refused.
+    fn try_take<D: Disk>(&mut self, disk: &mut D, event: &Event) -> Result<(), AllocError>
+        requires follows { Follows S.layer D.view D.honest D.stands self.old disk.old }
+        requires accepted { refusal S.layer.meaning (state_of S.layer self.old) (seen event.now) ≡ None }
+        requires counts { is_passed_over S.layer.meaning (state_of S.layer self.old) (seen event.now) ≡ false }
+        ensures takes { OnOk result ((entry : Entry Saved) × (entry.event ≡ seen event.now)
+            × Does S.layer.meaning D.view D.honest D.failures (state_of S.layer self.old) (state_of S.layer self.new)
+            self.old.writing self.new.writing disk.old disk.new entry
+            × (under_way_of S.layer self.new ≡ entry.out)) }
+        ensures waiting { waiting_of S.layer self.new ≡ waiting_of S.layer self.old }
+        ensures halted { self.new.halted ≡ self.old.halted }
+        ensures follows { OnOk result (OpenFollows D.view D.honest D.stands self.new.writing disk.new) }
+        ensures gains { D.honest disk.old → Gains (IsOneOf (on_its_way self.old)) (D.view disk.old) (D.view disk.new) }
+        ensures no_fewer { D.failures disk.old ≤ D.failures disk.new }
+        ensures still { seen event.now ≢ Flush → disk.new ≡ disk.old }
+        ensures honest { D.honest disk.old ↔ D.honest disk.new }
+        ensures memory { IfErr result (λ _. MayWant S.layer.meaning (state_of S.layer self.old) (seen event.now)) }
+    {
+        if event.is_flush() {
+            self.flush(disk)?;
+            return self.settle();
+        }
+        self.act(event)?;
+        self.settle()
+    }
+
+    // One event. A want of memory halts the server; another refusal changes nothing.
+    pub(crate) fn take<D: Disk>(&mut self, disk: &mut D, event: &Event) -> Result<(), Cause>
+        requires follows { Follows S.layer D.view D.honest D.stands self.old disk.old }
+        requires alive { IsAlive self.old }
+        ensures takes { OnOk result ((entry : Entry Saved) × (entry.event ≡ seen event.now)
+            × Does S.layer.meaning D.view D.honest D.failures (state_of S.layer self.old) (state_of S.layer self.new)
+            self.old.writing self.new.writing disk.old disk.new entry
+            × (waiting_of S.layer self.new ≡ then_out (waiting_of S.layer self.old) entry.out)
+            × IsAlive self.new) }
+        ensures memory { result ≡ Err Cause.Memory → (self.new.halted ≡ true)
+            × (waiting_of S.layer self.new ≡ waiting_of S.layer self.old)
+            × (D.honest disk.old → Survives D.view disk.old disk.new (on_its_way self.old) (on_its_way self.new) []) }
+        ensures wanting { result ≡ Err Cause.Memory → MayWant S.layer.meaning (state_of S.layer self.old) (seen event.now) }
+        ensures refused { IfErr result (λ cause. cause ≢ Cause.Memory
+            → (refusal S.layer.meaning (state_of S.layer self.old) (seen event.now) ≡ Some cause) × (self.new ≡ self.old) × (disk.new ≡ disk.old)) }
+        ensures follows { Follows S.layer D.view D.honest D.stands self.new disk.new }
+        ensures no_fewer { D.failures disk.old ≤ D.failures disk.new }
+        ensures still { seen event.now ≢ Flush → disk.new ≡ disk.old }
+        ensures honest { D.honest disk.old ↔ D.honest disk.new }
+    {
+        if let Some(cause) = self.refusal(event) {
+            return Err(cause);
+        }
+        if self.course.is_closing() && !event.is_flush() {
+            return Ok(());
+        }
+        match self.try_take(disk, event) {
+            Ok(()) => {
+                self.sessions.keep();
+                Ok(())
+            }
+            Err(_) => {
+                self.sessions.forget();
+                self.halted = true;
+                self.writing = None;
+                Err(Cause::Memory)
+            }
+        }
+    }
+}

@@ -1,8 +1,0 @@
-use Rattle.moo_serving.specs.Calls.{lent_honest, lent_view}
-use Rattle.moo_serving.proofs.Calling.{chain_handed, chain_of}
-use Rattle.moo_serving.proofs.laws.all_output_is_handed_out.Goals as goal
-
-pub returns : goal.returns
-returns g c before after old new calls entries chain =
-    chain_handed g.S.Sessions.layer (lent_view g.D.Disk.view g.E.Disk.view) (lent_honest g.D.Disk.honest g.E.Disk.honest) calls before after old new entries
-    (chain_of g.S.Sessions.layer g.D.Disk.view g.D.Disk.honest g.E.Disk.view g.E.Disk.honest calls before after old new entries chain)

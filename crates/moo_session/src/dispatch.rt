@@ -1,0 +1,105 @@
+//! A player's command, with what goes before and after it.
+ghost use Rattle.std.specs.Prelude.{◌≡◌, OnOk, IfSome};
+ghost use Rattle.moo_builtin.specs.Telling.{Faults};
+ghost use Rattle.moo_command.specs.Seen.{command_of};
+ghost use Rattle.moo_session.specs.Dispatch.{Commanded, Follows, RunsVerb, is_true_answer, sent_unless_empty};
+ghost use Rattle.moo_session_connection.specs.Connections.{client_here};
+ghost use Rattle.moo_session_line.specs.Rest.{IsLine};
+ghost use Rattle.moo_session_task.specs.Seen.{seen_answer};
+ghost use Rattle.moo_session_task.specs.WordList.{FitsAList};
+
+use crate::verb_choice::{command_frame, verb_to_run};
+use moo_builtin_operator::is_true;
+use moo_command::laws::words_are_light;
+use moo_command::{Command, parse_command};
+use moo_session_task::{Live, Session, call_server_verb, run, word_list};
+use moo_value::{MooStr, Value};
+use std::alloc::{AllocError, Global};
+
+/// A player's command on the connection of this number, where it is open and not leaving: the line, and all its words. The
+/// error is want of memory.
+pub fn command(
+    alloc: Global,
+    live: &mut Live,
+    moment: u32,
+    number: u16,
+    player: i32,
+    words: Vec<MooStr>,
+    line: &MooStr,
+) -> Result<(), AllocError>
+    requires words { FitsAList words.items }
+    requires line { IsLine line.now }
+    ensures { OnOk result (IfSome (client_here number live.old.session.connections) (λ client. Commanded Faults moment number client player words.items line.now live.old live.new)) }
+{
+    let Some(client) = live.session.connections().client_here(number) else {
+        return Ok(());
+    };
+    let prefix = client.prefix.try_clone()?;
+    let suffix = client.suffix.try_clone()?;
+    send_unless_empty(&mut live.session, number, &prefix)?;
+    let args = word_list(alloc, words)?;
+    let argstr = line.try_clone()?;
+    let answer = call_server_verb(alloc, live, moment, b"do_command", player, args, argstr)?;
+    follow(alloc, live, moment, number, player, line, &answer)?;
+    send_unless_empty(&mut live.session, number, &suffix)
+}
+
+fn send_unless_empty(session: &mut Session, number: u16, line: &MooStr) -> Result<(), AllocError>
+    ensures { OnOk result (session.new ≡ sent_unless_empty number line.now session.old) }
+{
+    if line.as_bytes().is_empty() {
+        Ok(())
+    } else {
+        session.send(number, line.as_bytes())
+    }
+}
+
+// What comes after `do_command`, which gave this answer.
+fn follow(
+    alloc: Global,
+    live: &mut Live,
+    moment: u32,
+    number: u16,
+    player: i32,
+    line: &MooStr,
+    answer: &Option<Value>,
+) -> Result<(), AllocError>
+    requires { IsLine line.now }
+    ensures { OnOk result (Follows Faults moment number player line.now (seen_answer answer.now) live.old live.new) }
+{
+    if is_true_answer(answer) {
+        return Ok(());
+    }
+    let command = parse_command(alloc, &live.world, player, line)?;
+    words_are_light();
+    run_verb(alloc, live, moment, number, player, command)
+}
+
+fn is_true_answer(answer: &Option<Value>) -> bool
+    ensures { result ≡ is_true_answer (seen_answer answer.now) }
+{
+    match answer {
+        Some(value) => is_true(value),
+        None => false,
+    }
+}
+
+// The verb that a command means runs, or a line tells that there is none.
+fn run_verb(
+    alloc: Global,
+    live: &mut Live,
+    moment: u32,
+    number: u16,
+    player: i32,
+    command: Command,
+) -> Result<(), AllocError>
+    requires { FitsAList (command_of command).args }
+    ensures { OnOk result (RunsVerb Faults moment number player (command_of command) live.old live.new) }
+{
+    let Some((this, found)) = verb_to_run(&live.world, player, &command) else {
+        return live.session.send(number, b"I couldn't understand that.");
+    };
+    let frame = command_frame(alloc, found, this, player, command)?;
+    let _answer = run(alloc, live, moment, frame)?;
+    Ok(())
+}

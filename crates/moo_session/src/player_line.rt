@@ -1,0 +1,117 @@
+//! A player's line.
+ghost use Rattle.std.specs.Prelude.{◌≡◌, ◌∷◌, ◌++◌, [], OnOk, IfOk, IfSome};
+ghost use Rattle.moo_builtin.specs.Telling.{Faults};
+ghost use Rattle.moo_session_connection.specs.Connections.{client_here};
+ghost use Rattle.moo_session_line.specs.Rest.{IsLine};
+ghost use Rattle.moo_session.specs.Input.{PlayerTypes, kind_of, sets_prefix, sets_suffix};
+
+use crate::{begin_programming, command};
+use moo_command::laws::words_are_light;
+use moo_command::{Typed, read_typed};
+use moo_session_task::Live;
+use moo_value::MooStr;
+use std::alloc::{AllocError, Global};
+
+/// What a player's line is.
+#[derive(Clone, Copy)]
+pub(crate) enum LineKind {
+    /// It says what goes before the output of commands.
+    Prefix,
+    /// It says what goes after it.
+    Suffix,
+    /// It begins to program a verb.
+    Program,
+    Command,
+}
+
+/// A player's line that isn't gathered: nothing without words, what goes before or after the output of commands,
+/// `.program`, or a command. The error is want of memory.
+pub(crate) fn player_types(
+    alloc: Global,
+    live: &mut Live,
+    moment: u32,
+    number: u16,
+    player: i32,
+    line: &MooStr,
+) -> Result<(), AllocError>
+    requires { IsLine line.now }
+    ensures { OnOk result (IfSome (client_here number live.old.session.connections) (λ client. PlayerTypes Faults moment number client player line.now live.old live.new)) }
+{
+    let Some(typed) = read_typed(alloc, line)? else {
+        return Ok(());
+    };
+    match kind_of(typed.verb.as_bytes()) {
+        LineKind::Prefix => live.session.set_prefix(number, typed.rest),
+        LineKind::Suffix => live.session.set_suffix(number, typed.rest),
+        LineKind::Program => begin_programming(
+            alloc,
+            &live.world,
+            &mut live.session,
+            number,
+            player,
+            &typed.args,
+        )?,
+        LineKind::Command => run_command(alloc, live, moment, number, player, typed, line)?,
+    }
+    Ok(())
+}
+
+fn kind_of(word: &[u8]) -> LineKind
+    ensures { result ≡ kind_of word.now }
+{
+    if sets_prefix(word) {
+        LineKind::Prefix
+    } else if sets_suffix(word) {
+        LineKind::Suffix
+    } else if word == b".program".as_slice() {
+        LineKind::Program
+    } else {
+        LineKind::Command
+    }
+}
+
+fn sets_prefix(word: &[u8]) -> bool
+    ensures { result ≡ sets_prefix word.now }
+{
+    word == b"PREFIX".as_slice() || word == b"OUTPUTPREFIX".as_slice()
+}
+
+fn sets_suffix(word: &[u8]) -> bool
+    ensures { result ≡ sets_suffix word.now }
+{
+    word == b"SUFFIX".as_slice() || word == b"OUTPUTSUFFIX".as_slice()
+}
+
+ghost use Rattle.moo_command.specs.FirstWord.{IsTyped};
+ghost use Rattle.moo_session.specs.Dispatch.{Commanded};
+
+// The command of what is typed in a line.
+fn run_command(
+    alloc: Global,
+    live: &mut Live,
+    moment: u32,
+    number: u16,
+    player: i32,
+    typed: Typed,
+    line: &MooStr,
+) -> Result<(), AllocError>
+    requires typed { IsTyped line.now typed.verb typed.rest typed.args.items }
+    requires line { IsLine line.now }
+    ensures { OnOk result (IfSome (client_here number live.old.session.connections) (λ client. Commanded Faults moment number client player (typed.verb ∷ typed.args.items) line.now live.old live.new)) }
+{
+    words_are_light();
+    let words = all_words(alloc, typed)?;
+    command(alloc, live, moment, number, player, words, line)
+}
+
+// The first word and the others.
+fn all_words(alloc: Global, typed: Typed) -> Result<Vec<MooStr>, AllocError>
+    ensures { IfOk result (λ words. words.items ≡ typed.verb ∷ typed.args.items) }
+{
+    let mut words = Vec::new(alloc);
+    words.push(typed.verb)?;
+    for word in typed.args {
+        words.push(word)?;
+    }
+    Ok(words)
+}

@@ -1,0 +1,37 @@
+//! Lines that are gathered.
+ghost use Rattle.std.specs.Prelude.{◌≡◌, OnOk, IfSome};
+ghost use Rattle.moo_builtin.specs.Telling.{Faults};
+ghost use Rattle.moo_session.specs.DotProgram.{Gathers, gathering_of, is_dot};
+
+use crate::program_end::end_programming;
+use moo_session_task::Live;
+use moo_value::MooStr;
+use std::alloc::{AllocError, Global};
+
+/// A line of the connection of this number, where it gathers lines: it is kept, or it is the dot that ends them. The error
+/// is want of memory.
+pub fn gather(
+    alloc: Global,
+    live: &mut Live,
+    number: u16,
+    player: i32,
+    line: MooStr,
+) -> Result<(), AllocError>
+    ensures { OnOk result (IfSome (gathering_of number live.old.session) (λ g. Gathers Faults number player g line live.old live.new)) }
+{
+    let Some(mut gathering) = live.session.take_gathering(number) else {
+        return Ok(());
+    };
+    if is_dot(&line) {
+        return end_programming(alloc, live, number, player, &gathering);
+    }
+    gathering.push(line)?;
+    live.session.gather(number, Some(gathering));
+    Ok(())
+}
+
+fn is_dot(line: &MooStr) -> bool
+    ensures { result ≡ is_dot line.now }
+{
+    line.as_bytes() == b".".as_slice()
+}

@@ -1,0 +1,6 @@
+pub mod Places
+pub mod Known
+pub mod Players
+pub mod Rows
+pub mod Search
+pub mod OutboxRows

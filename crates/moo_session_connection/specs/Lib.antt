@@ -1,0 +1,9 @@
+pub mod Gathering
+pub mod Clients
+pub mod Searching
+pub mod Players
+pub mod Connections
+pub mod Changes
+pub mod Streams
+pub mod Outbox
+pub mod Rows

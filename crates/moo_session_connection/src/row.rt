@@ -1,0 +1,122 @@
+//! The bytes for one number.
+ghost use Rattle.std.specs.Prelude.{◌≡◌, ◌<◌, ◌++◌, ℕ, [], length, slice_index_or, OnOk};
+ghost use Rattle.moo_session_connection.specs.Streams.{ended};
+ghost use Rattle.moo_session_connection.specs.Outbox.{no_bytes};
+ghost use Rattle.moo_session_connection.specs.Rows.{kept, forgotten, changed_at, all_changed};
+
+use std::alloc::{AllocError, Global};
+use std::marker::Model;
+use std::mem;
+
+/// Holds the bytes for one number, those under way last.
+#[derive(Drop)]
+pub struct Row {
+    alloc: Global,
+    bytes: Vec<u8>,
+    // The number of bytes that wait.
+    settled: usize,
+}
+
+impl Model for Row {
+    ghost use Rattle.std.specs.Prelude.{◌≤◌, length, take, drop};
+    ghost use Rattle.moo_session_connection.specs.Outbox.{Bytes};
+
+    ghost Value = { Bytes };
+
+    ghost view = { λ r. record { waiting = take r.settled r.bytes.items; under_way = drop r.settled r.bytes.items } };
+
+    ghost invariant = { λ r. r.settled ≤ length r.bytes.items };
+}
+
+impl Row {
+    pub(crate) fn new(alloc: Global) -> Row
+        ensures { result ≡ no_bytes }
+    {
+        Row {
+            alloc,
+            bytes: Vec::new(alloc),
+            settled: 0,
+        }
+    }
+
+    // Appends a line and its end.
+    pub(crate) fn push(&mut self, line: &[u8]) -> Result<(), AllocError>
+        ensures ok { OnOk result (self.new.under_way ≡ self.old.under_way ++ ended line.now) }
+        ensures waiting { self.new.waiting ≡ self.old.waiting }
+    {
+        self.bytes.extend_from_slice(line)?;
+        self.bytes.extend_from_slice(b"\r\n")?;
+        Ok(())
+    }
+
+    // Makes the bytes that are under way wait.
+    pub(crate) fn keep(&mut self)
+        ensures { self.new ≡ kept self.old }
+    {
+        self.settled = self.bytes.len();
+    }
+
+    // Drops the bytes that are under way.
+    pub(crate) fn forget(&mut self)
+        ensures { self.new ≡ forgotten self.old }
+    {
+        self.bytes.truncate(self.settled);
+    }
+
+    // Takes the bytes that wait.
+    pub(crate) fn take(&mut self) -> Vec<u8>
+        ensures taken { result.items ≡ self.old.waiting }
+        ensures left { self.new ≡ no_bytes }
+    {
+        self.forget();
+        self.settled = 0;
+        mem::replace(&mut self.bytes, Vec::new(self.alloc))
+    }
+}
+
+// Adds rows up to that of a number.
+pub(crate) fn grow(alloc: Global, rows: &mut Vec<Row>, number: usize) -> Result<(), AllocError>
+    ensures there { OnOk result (number < length rows.new.items) }
+    ensures same { (c : ℕ) → slice_index_or rows.new.items c no_bytes ≡ slice_index_or rows.old.items c no_bytes }
+{
+    while rows.len() <= number {
+        rows.push(Row::new(alloc))?;
+    }
+    Ok(())
+}
+
+// Makes the bytes that are under way for these numbers wait.
+pub(crate) fn keep_all(rows: &mut Vec<Row>, numbers: &[u16])
+    ensures { rows.new.items ≡ all_changed kept numbers.now rows.old.items }
+{
+    for number in numbers {
+        keep_at(rows, *number);
+    }
+}
+
+fn keep_at(rows: &mut Vec<Row>, number: u16)
+    ensures { rows.new.items ≡ changed_at kept number rows.old.items }
+{
+    let place = usize::from(number);
+    if place < rows.len() {
+        rows[place].keep();
+    }
+}
+
+// Drops the bytes that are under way for these numbers.
+pub(crate) fn forget_all(rows: &mut Vec<Row>, numbers: &[u16])
+    ensures { rows.new.items ≡ all_changed forgotten numbers.now rows.old.items }
+{
+    for number in numbers {
+        forget_at(rows, *number);
+    }
+}
+
+fn forget_at(rows: &mut Vec<Row>, number: u16)
+    ensures { rows.new.items ≡ changed_at forgotten number rows.old.items }
+{
+    let place = usize::from(number);
+    if place < rows.len() {
+        rows[place].forget();
+    }
+}

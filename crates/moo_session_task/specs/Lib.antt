@@ -1,0 +1,11 @@
+pub mod Session
+pub mod State
+pub mod Sending
+pub mod Leaving
+pub mod Notices
+pub mod Frames
+pub mod Tasks
+pub mod Hooks
+pub mod Seen
+pub mod Laws
+pub mod WordList

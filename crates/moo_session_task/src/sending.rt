@@ -1,0 +1,55 @@
+//! Lines for connections.
+ghost use Rattle.std.specs.Prelude.{◌≡◌, ◌++◌, ◌∷◌, [], OnOk};
+ghost use Rattle.moo_eval_frame.specs.Traceback.{texts};
+ghost use Rattle.moo_session_task.specs.Sending.{sent, told, all_told};
+
+use crate::session::Session;
+use moo_session_connection::Sent;
+use std::alloc::AllocError;
+
+impl Session {
+    /// Sends a line, without its end, to the connection of this number, where it is open and not leaving. `Err` where
+    /// memory is wanting.
+    pub fn send(&mut self, number: u16, line: &[u8]) -> Result<(), AllocError>
+        ensures { OnOk result (self.new ≡ sent number line.now self.old) }
+    {
+        match self.connections.client_here(number) {
+            Some(client) => {
+                let to = client.connection.number;
+                self.push_sent(to, line)
+            }
+            None => Ok(()),
+        }
+    }
+
+    /// Sends a line to who goes by this number, if anybody does. `Err` where memory is wanting.
+    pub fn tell(&mut self, who: i32, line: &[u8]) -> Result<(), AllocError>
+        ensures { OnOk result (self.new ≡ told who line.now self.old) }
+    {
+        match self.connections.client_known_as(who) {
+            Some(client) => {
+                let to = client.connection.number;
+                self.push_sent(to, line)
+            }
+            None => Ok(()),
+        }
+    }
+
+    /// The same with several lines.
+    pub fn tell_all(&mut self, who: i32, lines: &[Vec<u8>]) -> Result<(), AllocError>
+        ensures { OnOk result (self.new ≡ all_told who (texts lines.now) self.old) }
+    {
+        for line in lines {
+            self.tell(who, line)?;
+        }
+        Ok(())
+    }
+
+    pub(crate) fn push_sent(&mut self, to: u16, line: &[u8]) -> Result<(), AllocError>
+        ensures { OnOk result (self.new ≡ record self.old { sent = self.old.sent ++ record { to = to; line = line.now } ∷ [] }) }
+    {
+        let line = Vec::from_slice(self.alloc, line)?;
+        self.sent.push(Sent::new(to, line))?;
+        Ok(())
+    }
+}

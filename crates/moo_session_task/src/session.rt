@@ -1,0 +1,127 @@
+//! The sessions of a server.
+ghost use Rattle.std.specs.Prelude.{◌≡◌, ◌∷◌, List, [], OnOk, IfSome, IfNone, true, false};
+ghost use Rattle.moo_session_task.specs.Session.{no_session, caused, with_hooks};
+ghost use Rattle.moo_session_task.specs.Notices.{asked_for, logged};
+ghost use Rattle.moo_session_task.specs.declared.hook.Hook.{Hook as hook};
+
+use crate::hook::Hook;
+use moo_session_connection::{Connections, Sent};
+use moo_value::MooStr;
+use std::alloc::{AllocError, Global};
+use std::collections::VecDeque;
+use std::marker::Model;
+use std::mem;
+
+/// The open connections, what waits to be done for them, and what an event has brought so far.
+#[derive(Drop)]
+pub struct Session {
+    pub(crate) alloc: Global,
+    pub(crate) connections: Connections,
+    // Those that are to run, the first first.
+    pub(crate) hooks: VecDeque<Hook>,
+    pub(crate) asked: bool,
+    pub(crate) closing: bool,
+    pub(crate) sent: Vec<Sent>,
+    pub(crate) log: Vec<MooStr>,
+}
+
+impl Model for Session {
+    ghost use Rattle.moo_session_task.specs.Session.{Session as Contents};
+
+    ghost Value = { Contents };
+
+    ghost view = { λ s. record {
+      connections = s.connections;
+      hooks = s.hooks.items;
+      asked = s.asked;
+      closing = s.closing;
+      sent = s.sent.items;
+      log = s.log.items;
+    } };
+}
+
+impl Session {
+    /// No connection is open, and nothing has happened.
+    pub fn new(alloc: Global) -> Session
+        ensures { result ≡ no_session }
+    {
+        Session {
+            alloc,
+            connections: Connections::new(alloc),
+            hooks: VecDeque::new(alloc),
+            asked: false,
+            closing: false,
+            sent: Vec::new(alloc),
+            log: Vec::new(alloc),
+        }
+    }
+
+    /// The open connections.
+    pub fn connections(&self) -> &Connections
+        ensures { result.now ≡ self.now.connections }
+    {
+        &self.connections
+    }
+
+    /// A hook is to run behind those that wait. `Err` where memory is wanting.
+    pub fn cause(&mut self, hook: Hook) -> Result<(), AllocError>
+        ensures { OnOk result (self.new ≡ caused hook self.old) }
+    {
+        self.hooks.push_back(hook)?;
+        Ok(())
+    }
+
+    /// Takes the hook that is to run next.
+    pub fn next_hook(&mut self) -> Option<Hook>
+        ensures some { IfSome result (λ h. (hs : List hook) × (self.old.hooks ≡ h ∷ hs) × (self.new ≡ with_hooks hs self.old)) }
+        ensures none { IfNone result ((self.old.hooks ≡ []) × (self.new ≡ self.old)) }
+    {
+        self.hooks.pop_front()
+    }
+
+    /// A checkpoint is asked for.
+    pub fn ask(&mut self)
+        ensures { self.new ≡ asked_for self.old }
+    {
+        self.asked = true;
+    }
+
+    /// Whether a checkpoint was asked for, which it then is no more.
+    pub fn take_asked(&mut self) -> bool
+        ensures asked { result ≡ self.old.asked }
+        ensures left { self.new ≡ record self.old { asked = false } }
+    {
+        mem::replace(&mut self.asked, false)
+    }
+
+    /// Whether the server is shutting down.
+    pub fn is_closing(&self) -> bool
+        ensures { result ≡ self.now.closing }
+    {
+        self.closing
+    }
+
+    /// Adds a line to the log. `Err` where memory is wanting.
+    pub fn log(&mut self, line: MooStr) -> Result<(), AllocError>
+        ensures { OnOk result (self.new ≡ logged line self.old) }
+    {
+        self.log.push(line)?;
+        Ok(())
+    }
+
+    /// Takes what was sent, in its order.
+    pub fn take_sent(&mut self) -> Vec<Sent>
+        ensures sent { result.items ≡ self.old.sent }
+        ensures left { self.new ≡ record self.old { sent = [] } }
+    {
+        mem::replace(&mut self.sent, Vec::new(self.alloc))
+    }
+
+    /// Takes the lines for the log, in their order.
+    pub fn take_log(&mut self) -> Vec<MooStr>
+        ensures log { result.items ≡ self.old.log }
+        ensures left { self.new ≡ record self.old { log = [] } }
+    {
+        mem::replace(&mut self.log, Vec::new(self.alloc))
+    }
+}

@@ -1,0 +1,82 @@
+//! Verbs of #0 that the server itself calls.
+ghost use Rattle.std.specs.Prelude.{◌≡◌, IfOk, []};
+ghost use Rattle.moo_value.specs.Size.{IsString};
+ghost use Rattle.moo_builtin.specs.Telling.{Faults};
+ghost use Rattle.moo_eval_access.specs.SeenCalled.{found_of};
+ghost use Rattle.moo_session_task.specs.Frames.{server_frame};
+ghost use Rattle.moo_session_task.specs.Tasks.{CallsServerVerb};
+ghost use Rattle.moo_session_task.specs.Seen.{seen_answer};
+
+use crate::Live;
+use crate::tasks::run;
+use moo_eval_access::{Call, Found, called_verb, verb_frame};
+use moo_eval_frame::Frame;
+use moo_value::{MooList, MooStr, Value, ValueFault};
+use std::alloc::{AllocError, Global};
+
+/// Calls a verb of #0 at this moment, in seconds, where there is one by this name that can be executed: with these
+/// arguments, this text behind the command and this player, who needs not be one. Answers the value of its task, if it has
+/// one. `Err` where memory is wanting.
+pub fn call_server_verb(
+    alloc: Global,
+    live: &mut Live,
+    moment: u32,
+    verb: &[u8],
+    player: i32,
+    args: MooList,
+    argstr: MooStr,
+) -> Result<Option<Value>, AllocError>
+    requires { IsString verb.now }
+    ensures { IfOk result (λ v. CallsServerVerb Faults moment verb.now player args argstr live.old (seen_answer v) live.new) }
+{
+    let Some(found) = called_verb(&live.world, 0, verb) else {
+        return Ok(None);
+    };
+    let frame = server_frame(alloc, found, name(alloc, verb)?, player, args, argstr)?;
+    run(alloc, live, moment, frame)
+}
+
+fn server_frame(
+    alloc: Global,
+    found: Found<'_>,
+    verb: MooStr,
+    player: i32,
+    args: MooList,
+    argstr: MooStr,
+) -> Result<Frame, AllocError>
+    ensures { IfOk result (λ frame. frame ≡ server_frame (found_of found.entry) verb player args argstr) }
+{
+    let call = Call {
+        this: 0,
+        caller: -1,
+        player,
+        dobj: -1,
+        iobj: -1,
+        verb,
+        argstr,
+        dobjstr: empty(alloc)?,
+        prepstr: empty(alloc)?,
+        iobjstr: empty(alloc)?,
+        args,
+    };
+    verb_frame(alloc, found, call)
+}
+
+/// The empty string.
+pub fn empty(alloc: Global) -> Result<MooStr, AllocError>
+    ensures { IfOk result (λ s. s ≡ []) }
+{
+    name(alloc, b"")
+}
+
+/// The string of these bytes. `Err` where memory is wanting.
+pub fn name(alloc: Global, bytes: &[u8]) -> Result<MooStr, AllocError>
+    requires { IsString bytes.now }
+    ensures { IfOk result (λ s. s ≡ bytes.now) }
+{
+    match MooStr::try_from_bytes(alloc, bytes) {
+        Ok(string) => Ok(string),
+        Err(ValueFault::Memory) => Err(AllocError),
+        Err(ValueFault::BadByte | ValueFault::TooHeavy) => unreachable!(),
+    }
+}

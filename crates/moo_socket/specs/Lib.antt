@@ -1,2 +1,0 @@
--- The bytes that wait for a socket.
-pub mod Waiting

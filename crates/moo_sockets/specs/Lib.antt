@@ -1,3 +1,0 @@
--- The input and the output of the sockets of connections.
-pub mod Coming
-pub mod Sending

@@ -1,4 +1,0 @@
-pub mod Noted
-pub mod Behind
-pub mod Ended
-pub mod Answered

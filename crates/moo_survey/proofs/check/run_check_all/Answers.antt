@@ -1,5 +1,0 @@
-use Rattle.moo_survey.proofs.Answered.{shows}
-use Rattle.moo_survey.proofs.check.run_check_all.Goals as goal
-
-pub returns : goal.returns
-returns g c = shows (g.I.Read.remaining c.args.input.now) (g.O.Write.contents c.args.output.now) (g.O.Write.contents c.check_all_watched.new.output) c.check_all_watched.new.watch c.check_all_watched.result c.check_all_watched.ensures

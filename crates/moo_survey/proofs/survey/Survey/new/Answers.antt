@@ -1,5 +1,0 @@
-use Rattle.moo_survey.proofs.Behind.{behind_nothing}
-use Rattle.moo_survey.proofs.survey.Survey.new.Goals as goal
-
-pub returns : goal.returns
-returns c = behind_nothing (record { records = c.new.result; faults = c.new-2.result }) c.new.ensures.going c.new.ensures.taken c.new-2.ensures.items

@@ -1,0 +1,111 @@
+//! The programs of texts.
+ghost use Rattle.std.specs.Prelude.{◌≡◌, position, IfOk};
+ghost use Rattle.std.specs.Str.{bytes_eq};
+ghost use Rattle.moo_value.specs.Compare.{folded};
+ghost use Rattle.moo_syntax_ast.specs.Tree.{no_statement};
+ghost use Rattle.moo_syntax_ast.specs.View.{block};
+ghost use Rattle.moo_syntax_ast.specs.Limits.{IsWithinLimits};
+ghost use Rattle.moo_syntax_ast.specs.Slots.{slots};
+ghost use Rattle.moo_syntax_grammar.specs.Texts.{HasText};
+
+use crate::order::{Slot, ordered_slots, slot_among};
+use moo_syntax_ast::{Name, Stmt, variable_names};
+use std::alloc::{AllocError, Global};
+use std::marker::Model;
+use std::rc::Rc;
+
+/// A program of some text, within the limits and immutable. A clone shares its parts.
+#[derive(Drop)]
+pub struct Program {
+    parts: Rc<Parts>,
+}
+
+/// The parts that the clones of a program share.
+#[derive(Drop)]
+struct Parts {
+    statements: Vec<Stmt>,
+    names: Vec<Name>,
+    /// The slots, sorted by name.
+    order: Vec<Slot>,
+}
+
+impl Model for Program {
+    ghost use Rattle.std.specs.Coded.{codes};
+    ghost use Rattle.moo_syntax_ast.specs.Tree.{Block};
+    ghost use Rattle.moo_syntax_ast.specs.Code.{block_code};
+    ghost use Rattle.moo_syntax_ast.specs.View.{block};
+    ghost use Rattle.std.specs.Prelude.{◌≡◌};
+    ghost use Rattle.moo_syntax_ast.specs.Limits.{IsWithinLimits};
+    ghost use Rattle.moo_syntax_ast.specs.Slots.{slots};
+    ghost use Rattle.moo_syntax_grammar.specs.Texts.{HasText};
+    ghost use Rattle.moo_syntax_grammar.specs.Order.{AreOrdered};
+
+    ghost Value = { Block };
+
+    ghost coded = { block_code (Prim.hlevel codes) };
+
+    ghost view = { λ p. block p.parts.value.statements.items };
+
+    ghost invariant = { λ p. IsWithinLimits (block p.parts.value.statements.items) × HasText (block p.parts.value.statements.items) × (p.parts.value.names.items ≡ slots (block p.parts.value.statements.items)) × AreOrdered p.parts.value.names.items p.parts.value.order.items };
+}
+
+impl Program {
+    /// Makes the program of these statements, which the caller has parsed from a text and found to be within the
+    /// limits.
+    pub fn try_new(alloc: Global, statements: Vec<Stmt>) -> Result<Program, AllocError>
+        requires limits { IsWithinLimits (block statements.items) }
+        requires text { HasText (block statements.items) }
+        ensures { IfOk result (λ p. p ≡ block statements.items) }
+    {
+        let names = variable_names(alloc, &statements)?;
+        let order = ordered_slots(alloc, &names)?;
+        let parts = Rc::new(
+            alloc,
+            Parts {
+                statements,
+                names,
+                order,
+            },
+        )?;
+        Ok(Program { parts })
+    }
+
+    /// Makes the program of no lines.
+    pub fn empty(alloc: Global) -> Result<Program, AllocError>
+        ensures { IfOk result (λ p. p ≡ no_statement) }
+    {
+        Program::try_new(alloc, Vec::new(alloc))
+    }
+
+    /// Returns a clone, which shares the program's parts.
+    #[inline(always)]
+    pub fn try_clone(&self) -> Result<Program, AllocError>
+        ensures { IfOk result (λ p. p ≡ self.now) }
+    {
+        let parts = self.parts.clone()?;
+        Ok(Program { parts })
+    }
+
+    /// Returns the statements, in order.
+    pub fn statements(&self) -> &[Stmt]
+        ensures statements { block result.now ≡ self.now }
+        ensures limits { IsWithinLimits self.now }
+        ensures text { HasText self.now }
+    {
+        self.parts.statements.as_slice()
+    }
+
+    /// Returns the names of the program's variables in lower case, each once, in the order of their first occurrences.
+    pub fn slots(&self) -> &[Name]
+        ensures { result.now ≡ slots self.now }
+    {
+        self.parts.names.as_slice()
+    }
+
+    /// Returns the slot of a name, in any case, or `None` if no variable of the program has it.
+    pub fn slot_of(&self, name: &[u8]) -> Option<usize>
+        ensures { result ≡ position (λ own. bytes_eq (folded own) (folded name.now)) (slots self.now) }
+    {
+        slot_among(self.parts.order.as_slice(), name)
+    }
+}

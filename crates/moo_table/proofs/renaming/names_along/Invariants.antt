@@ -1,6 +1,0 @@
-use Rattle.std.proofs.Common.{◌≡◌, take, map}
-use Rattle.moo_forest.specs.declared.walk.Step.{Step}
-use Rattle.moo_table.proofs.renaming.names_along.Given as goal
-
-abbrev pub invariant-loop-step : goal.invariant-loop-step
-invariant-loop-step l = l.names.items ≡ map (λ (s : Step). l.name) (take l._step-index l.walk)

@@ -1,4 +1,0 @@
-pub mod Names
-pub mod Ending
-pub mod Steps
-pub mod Unique

@@ -1,5 +1,0 @@
-pub mod Frames
-pub mod Tasks
-pub mod Hooks
-pub mod Seen
-pub mod Laws

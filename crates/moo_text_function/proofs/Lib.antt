@@ -1,7 +1,0 @@
-pub mod TextBytes
-pub mod Replacing
-pub mod Digits
-pub mod Spelled
-pub mod Making
-pub mod Searched
-pub mod Joined

@@ -1,7 +1,0 @@
-use Rattle.moo_text_function.proofs.TextBytes.{along, replaced_text}
-use Rattle.moo_text_function.proofs.substitution.substitution.Goals as goal
-
-pub string_answer-requires : goal.string_answer-requires
-string_answer-requires c =
-    let made = rw c.in-Ok-Some.field-0-is at c.in-Ok-Some.ensures in
-    along _ _ made (replaced_text _ _ _ _ _ (along _ _ c.as_bytes.ensures.value c.as_bytes.ensures.string.text) (along _ _ c.as_bytes-3.ensures.value c.as_bytes-3.ensures.string.text))

@@ -1,5 +1,0 @@
-use Rattle.moo_token.proofs.Readings.{names_are_names}
-use Rattle.moo_token.proofs.laws.names_are_names.Goals as goal
-
-pub returns : goal.returns
-returns c = names_are_names

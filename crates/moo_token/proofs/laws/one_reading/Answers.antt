@@ -1,5 +1,0 @@
-use Rattle.moo_token.proofs.Readings.{one_reading}
-use Rattle.moo_token.proofs.laws.one_reading.Goals as goal
-
-pub returns : goal.returns
-returns c = one_reading

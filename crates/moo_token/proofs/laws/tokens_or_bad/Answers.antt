@@ -1,5 +1,0 @@
-use Rattle.moo_token.proofs.Readings.{tokens_or_bad}
-use Rattle.moo_token.proofs.laws.tokens_or_bad.Goals as goal
-
-pub returns : goal.returns
-returns c = tokens_or_bad

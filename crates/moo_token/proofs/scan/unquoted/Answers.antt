@@ -1,5 +1,0 @@
-use Rattle.moo_token.proofs.Parts.{string_of_front}
-use Rattle.moo_token.proofs.scan.unquoted.Goals as goal
-
-pub copied-requires : goal.copied-requires
-copied-requires c = string_of_front _ _ c.requires

@@ -1,5 +1,0 @@
-use Rattle.moo_value.specs.TreeCode.{trees_of-elements_of}
-use Rattle.moo_value_function.proofs.lists.removed.Goals as goal
-
-pub returns-in-List : goal.returns-in-List
-returns-in-List c = rw (c.in-List.is, trees_of-elements_of) c.without_member.ensures

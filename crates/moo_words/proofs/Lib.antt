@@ -1,3 +1,0 @@
-pub mod Going
-pub mod OneReading
-pub mod Light

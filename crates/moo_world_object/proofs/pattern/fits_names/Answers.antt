@@ -1,0 +1,15 @@
+use borrow.Author.Tests.{tests}
+use Rattle.std.proofs.Common.{rules, ◌&&◌, ◌∙◌}
+use Rattle.std.specs.List.{slice_split}
+use Rattle.std.proofs.lemmas.Iterator.Search.{any_from_yields_List}
+use Rattle.std.proofs.lemmas.Iterator.Splits.{YieldsList-from_slice_split}
+use Rattle.moo_world_object.specs.Patterns.{is_blank, is_word, fits}
+use Rattle.moo_world_object.proofs.Patterns.{any_among}
+use Rattle.moo_world_object.proofs.pattern.fits_names.Goals as goal
+
+pub returns : goal.returns
+returns c =
+    any_from_yields_List (λ part. is_word part && fits part c.args.name.now) _ _ _ c.any.ensures.ran
+    (YieldsList-from_slice_split _ is_blank c.args.names.now c.split.ensures.rest c.split.ensures.done c.split.ensures.closure (λ x b q k. search (rules, tests)))
+    (λ x b q k. search (rules, tests))
+    ∙ any_among is_word (λ part. fits part c.args.name.now) (slice_split is_blank c.args.names.now)

@@ -1,0 +1,4 @@
+use Rattle.moo_world_object.proofs.verb_list.VerbList.new.Goals as goal
+
+pub invariant_of-result : goal.invariant_of-result
+invariant_of-result c = rw c.new-2.ensures.items tt

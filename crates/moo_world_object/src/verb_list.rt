@@ -1,0 +1,229 @@
+//! The verbs of an object, in order, with a filter by the first letter of names.
+ghost use Rattle.std.specs.Prelude.{◌≡◌, ◌<◌, OnOk, OnErr, IfOk, [], ◌⊎◌, ◌∷◌, ◌++◌, length, position, slice_index_or};
+ghost use Rattle.std.specs.List.{list_any, remove, slice_split};
+ghost use Rattle.moo_world_object.specs.Patterns.{is_blank};
+ghost use Rattle.moo_world_object.specs.Verbs.{fits_verb, changed_at, with_verb_info, with_args, with_program};
+ghost use Rattle.moo_world_object.specs.declared.verb.Verb.{Verb};
+ghost use Rattle.moo_world_object.specs.Letters.{first_letter, begins_otherwise, may_begin, IsLetter, AreLetters};
+
+use crate::pattern::{is_blank, is_star};
+use crate::verb::{Need, Verb, VerbPerms, change_args, change_info, change_program};
+use crate::verb_args::VerbArgs;
+use moo_syntax_grammar::Program;
+use moo_value::MooStr;
+use std::alloc::{AllocError, Global};
+use std::marker::Model;
+
+/// The verbs of an object, in order. For each of the first ones, `letters` holds the lower-case letter with which every
+/// name begins that matches it, or 0 if there is no such letter.
+#[derive(Drop)]
+pub struct VerbList {
+    verbs: Vec<Verb>,
+    letters: Vec<u8>,
+}
+
+impl Model for VerbList {
+    ghost use Rattle.std.specs.Prelude.{List};
+    ghost use Rattle.std.specs.Coded.{codes};
+    ghost use Rattle.moo_syntax_ast.specs.Code.{block_code};
+    ghost use Rattle.moo_world_object.specs.declared.verb.Verb.{Verb};
+    ghost use Rattle.moo_world_object.specs.Letters.{AreLetters};
+
+    ghost Value = { List Verb };
+
+    ghost coded = { Prim.hlevel (codes, block_code (Prim.hlevel codes)) };
+
+    ghost view = { λ l. l.verbs.items };
+
+    ghost invariant = { λ l. AreLetters l.letters.items l.verbs.items };
+}
+
+impl VerbList {
+    /// Makes a list without verbs.
+    pub fn new(alloc: Global) -> Self
+        ensures { result ≡ [] }
+    {
+        VerbList {
+            verbs: Vec::new(alloc),
+            letters: Vec::new(alloc),
+        }
+    }
+
+    /// Makes the list of these verbs.
+    pub fn from_verbs(verbs: Vec<Verb>) -> Self
+        ensures { result ≡ verbs.items }
+    {
+        let letters = letters_of(*verbs.allocator(), &verbs);
+        VerbList { verbs, letters }
+    }
+
+    /// Returns the verbs.
+    pub fn as_slice(&self) -> &[Verb]
+        ensures { result.now ≡ self.now }
+    {
+        &self.verbs
+    }
+
+    /// Returns the place of the first verb that a name matches. For a call only executable verbs count.
+    pub fn position(&self, need: Need, name: &[u8]) -> Option<usize>
+        ensures { result ≡ position (fits_verb need name.now) self.now }
+    {
+        let first = first_letter(name);
+        for i in 0..self.verbs.len() {
+            if may_begin(self.letter(i), first) && self.verbs[i].fits(need, name) {
+                return Some(i);
+            }
+        }
+        None
+    }
+
+    // Returns the filter letter of the verb at a place, or 0 if there is none.
+    #[inline]
+    fn letter(&self, index: usize) -> u8
+        ensures { (v : Verb) → v ≡ slice_index_or self.now index v → IsLetter result v.names }
+    {
+        match self.letters.get(index) {
+            Some(letter) => *letter,
+            None => 0,
+        }
+    }
+
+    /// Appends a verb. Out of memory nothing changes.
+    pub fn push(&mut self, verb: Verb) -> Result<(), AllocError>
+        ensures ok { OnOk result (self.new ≡ self.old ++ verb ∷ []) }
+        ensures err { OnErr result (self.new ≡ self.old) }
+    {
+        let letter = letter_of(verb.names.as_bytes());
+        let is_told = self.letters.len() == self.verbs.len();
+        self.verbs.push(verb)?;
+        if !is_told {
+            return Ok(());
+        }
+        push_letter(&mut self.letters, letter);
+        Ok(())
+    }
+
+    /// Removes the verb at a place.
+    pub fn remove(&mut self, index: usize)
+        requires { index < length self.old }
+        ensures { self.new ≡ remove self.old index }
+    {
+        remove_letter(&mut self.letters, index);
+        let _verb = self.verbs.remove(index);
+    }
+
+    /// Sets the names, the owner and the permissions of the verb at a place.
+    pub fn set_info(&mut self, index: usize, names: MooStr, owner: i32, perms: VerbPerms)
+        requires { index < length self.old }
+        ensures { self.new ≡ changed_at index (with_verb_info names owner perms) self.old }
+    {
+        let letter = letter_of(names.as_bytes());
+        set_letter(&mut self.letters, index, letter);
+        change_info(&mut self.verbs, index, names, owner, perms);
+    }
+
+    /// Sets the argument specifiers of the verb at a place.
+    pub fn set_args(&mut self, index: usize, args: VerbArgs)
+        requires { index < length self.old }
+        ensures { self.new ≡ changed_at index (with_args args) self.old }
+    {
+        change_args(&mut self.verbs, index, args);
+    }
+
+    /// Sets the program of the verb at a place, or removes it.
+    pub fn set_program(&mut self, index: usize, program: Option<Program>)
+        requires { index < length self.old }
+        ensures { self.new ≡ changed_at index (with_program program) self.old }
+    {
+        change_program(&mut self.verbs, index, program);
+    }
+}
+
+// Returns the filter letters of the verbs. Out of memory there are none.
+fn letters_of(alloc: Global, verbs: &[Verb]) -> Vec<u8>
+    ensures { AreLetters result.items verbs.now }
+{
+    match all_letters(alloc, verbs) {
+        Ok(letters) => letters,
+        Err(_) => Vec::new(alloc),
+    }
+}
+
+fn all_letters(alloc: Global, verbs: &[Verb]) -> Result<Vec<u8>, AllocError>
+    ensures { IfOk result (λ letters. AreLetters letters.items verbs.now) }
+{
+    let mut letters = Vec::with_capacity(alloc, verbs.len())?;
+    for i in 0..verbs.len() {
+        letters.push(letter_of(verbs[i].names.as_bytes()))?;
+    }
+    Ok(letters)
+}
+
+// Appends a letter if there is memory for it.
+fn push_letter(letters: &mut Vec<u8>, letter: u8)
+    ensures { (letters.new.items ≡ letters.old.items ++ letter ∷ []) ⊎ (letters.new.items ≡ letters.old.items) }
+{
+    let _pushed = letters.push(letter);
+}
+
+fn remove_letter(letters: &mut Vec<u8>, index: usize)
+    ensures { letters.new.items ≡ remove letters.old.items index }
+{
+    if index < letters.len() {
+        let _letter = letters.remove(index);
+    }
+}
+
+fn set_letter(letters: &mut Vec<u8>, index: usize, letter: u8)
+    ensures { letters.new.items ≡ changed_at index (λ _. letter) letters.old.items }
+{
+    if index < letters.len() {
+        letters[index] = letter;
+    }
+}
+
+// Returns the filter letter of a verb with these names.
+fn letter_of(names: &[u8]) -> u8
+    ensures { IsLetter result names.now }
+{
+    let letter = first_letter(names);
+    if some_begins_otherwise(names, letter) {
+        return 0;
+    }
+    letter
+}
+
+fn some_begins_otherwise(names: &[u8], letter: u8) -> bool
+    ensures { result ≡ list_any (begins_otherwise letter) (slice_split is_blank names.now) }
+{
+    names
+        .split(|byte| is_blank(*byte))
+        .any(|part| begins_otherwise(part, letter))
+}
+
+fn begins_otherwise(part: &[u8], letter: u8) -> bool
+    ensures { result ≡ begins_otherwise letter part.now }
+{
+    match part {
+        [first, ..] => is_star(*first) || first.to_ascii_lowercase() != letter,
+        [] => false,
+    }
+}
+
+// Returns the first letter of a name in lower case, or 0 if the name is empty.
+#[inline]
+fn first_letter(name: &[u8]) -> u8
+    ensures { result ≡ first_letter name.now }
+{
+    match name {
+        [first, ..] => first.to_ascii_lowercase(),
+        [] => 0,
+    }
+}
+
+#[inline]
+fn may_begin(letter: u8, first: u8) -> bool
+    ensures { result ≡ may_begin letter first }
+{
+    letter == 0 || letter == first
+}

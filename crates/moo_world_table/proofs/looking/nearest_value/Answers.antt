@@ -1,0 +1,11 @@
+use Rattle.std.proofs.Common.{◌∙◌, sym, arith, refl}
+use Rattle.moo_value.specs.Compare.{folded}
+use Rattle.moo_world_table.proofs.LookingUp.{no_value_here}
+use Rattle.moo_world_table.proofs.looking.nearest_value.Goals as goal
+
+pub loop-preserved : goal.loop-preserved
+loop-preserved c = record {
+  within = omega (arith, c.in-Some-above.ensures.within c.in-Some-above.up refl, c.requires.many);
+  rest = c.loop.invariant.rest ∙ no_value_here c.args.objects.now c.args.parents.now (c.args.definer, folded c.args.name.now) _ _ c.loop.at c.in-Some-above.up c.index-objects-at.result (omega arith)
+      (sym c.in-Some-above.ensures.value) (omega (arith, c.in-Some-above.ensures.within c.in-Some-above.up refl, c.requires.many)) c.index-objects-at.is c.in_default-value_in.ensures;
+}

@@ -10,7 +10,7 @@ ghost use Rattle.moo_builtin_operator.specs.Answer.{Gives, limited};
 ghost use Rattle.moo_builtin_operator.specs.Assignment.{before_place, ends, at_least_zero, with_index_of, with_range_of};
 
 use crate::fault::{OperationFault, QUOTA, RANGE, TYPE_MISMATCH};
-use moo_value::{ErrorCode, ListFault, MooList, MooStr, Value, ValueFault};
+use moo_value::{ErrorCode, ListLimit, MooList, MooStr, Value, ValueFault};
 use std::alloc::Global;
 
 /// Returns what `base` is after `base[index] = value`. An element of a list that nothing else shares is replaced in
@@ -167,8 +167,8 @@ fn replaced(
 {
     match list.replaced(alloc, before, value) {
         Ok(list) => Ok(Value::List(list)),
-        Err(ListFault::TooLarge) => Err(QUOTA),
-        Err(ListFault::Memory) => Err(OperationFault::Memory),
+        Err(ListLimit::TooLarge) => Err(QUOTA),
+        Err(ListLimit::Memory) => Err(OperationFault::Memory),
     }
 }
 
@@ -225,7 +225,7 @@ fn spliced_list(
 {
     match base.spliced(alloc, front, back, value) {
         Ok(list) => Ok(Value::List(list)),
-        Err(ListFault::TooLarge) => Err(QUOTA),
-        Err(ListFault::Memory) => Err(OperationFault::Memory),
+        Err(ListLimit::TooLarge) => Err(QUOTA),
+        Err(ListLimit::Memory) => Err(OperationFault::Memory),
     }
 }

@@ -7,7 +7,7 @@ ghost use Rattle.moo_builtin_operator.specs.Answer.{Gives};
 ghost use Rattle.moo_builtin_operator.specs.Places.{made_list};
 
 use crate::fault::{OperationFault, QUOTA};
-use moo_value::{ListFault, MooList, Value};
+use moo_value::{ListLimit, MooList, Value};
 use std::alloc::{AllocError, Global};
 
 /// Returns the list of these values; E_QUOTA past the limits.
@@ -16,8 +16,8 @@ pub fn list(alloc: Global, values: Vec<Value>) -> Result<Value, OperationFault>
 {
     match MooList::try_from_vec(alloc, values) {
         Ok(list) => Ok(Value::List(list)),
-        Err(ListFault::TooLarge) => Err(QUOTA),
-        Err(ListFault::Memory) => Err(OperationFault::Memory),
+        Err(ListLimit::TooLarge) => Err(QUOTA),
+        Err(ListLimit::Memory) => Err(OperationFault::Memory),
     }
 }
 

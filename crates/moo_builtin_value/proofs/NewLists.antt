@@ -3,8 +3,8 @@ use Rattle.std.proofs.Common.{◌≡◌, ℕ, suc, ◌<◌, List, ◌∷◌, ◌
 use Rattle.std.specs.Prelude.{Result, Ok, Err, IfOk, OnOk, IfErr, Bool, true, false, insert, remove, Option, None, Some, IfSome, position}
 use Rattle.std.proofs.lemmas.Bool.Decides.{nat_tests}
 use Rattle.std.proofs.lemmas.List.{map-append, take-map, drop-map}
-use Rattle.moo_value.specs.declared.list.ListFault.{ListFault}
-use Rattle.moo_value.specs.declared.list.ListFault.TheVariants.{TooLarge, Memory as ListMemory}
+use Rattle.moo_value.specs.declared.list.ListLimit.{ListLimit}
+use Rattle.moo_value.specs.declared.list.ListLimit.TheVariants.{TooLarge, Memory as ListMemory}
 use Rattle.moo_value.specs.declared.value.Value.{Value}
 use Rattle.moo_value.specs.Faults.{IsRefusedList}
 use Rattle.moo_value.specs.Size.{IsWithinLimits, weight, depth, weight_limit, depth_limit}
@@ -34,7 +34,7 @@ both t e = record { weight = grind (arith, nat_tests, e); depth = grind (arith, 
 beyond : (t : Tree) → (¬ IsWithinLimits t) → is_within t ≡ false
 beyond t past = not_true (is_within t) (λ e. past (both t e))
 
-pub made_gives : (made : Result (List Tree) ListFault) (a : Result Value OperationFault) (ts : List Tree) → IfOk made (λ us. us ≡ ts) → OnOk made (IsWithinLimits (list_of ts)) → IfErr made (λ fault. IsRefusedList fault ts)
+pub made_gives : (made : Result (List Tree) ListLimit) (a : Result Value OperationFault) (ts : List Tree) → IfOk made (λ us. us ≡ ts) → OnOk made (IsWithinLimits (list_of ts)) → IfErr made (λ fault. IsRefusedList fault ts)
     → Follows made a → Gives a (limited (list_of ts))
 made_gives (Ok us) a ts is limits err follows = rw (follows, is, within (list_of ts) limits) refl
 made_gives (Err TooLarge) a ts is limits err follows = rw (follows, beyond (list_of ts) err) refl

@@ -32,21 +32,21 @@ plainly e = record { code = e; message = error_message e; value = integer (pos 0
 -- the result of each function over values alone for arguments that fit its row, if an error has its default message;
 -- the other functions are not of this crate
 abbrev pub plain_answer : Function → ℕ → List Tree → Option (Result Tree ErrorCode)
-plain_answer function.TypeOf moment args = Some (type_of args)
+plain_answer function.Typeof moment args = Some (type_of args)
 plain_answer function.Length moment args = Some (length_of args)
-plain_answer function.ToText moment args = Some (to_text args)
-plain_answer function.ToLiteral moment args = Some (to_literal args)
-plain_answer function.ToInteger moment args = Some (to_integer args)
-plain_answer function.ToNumber moment args = Some (to_integer args)
-plain_answer function.ToObject moment args = Some (to_object args)
+plain_answer function.Tostr moment args = Some (to_text args)
+plain_answer function.Toliteral moment args = Some (to_literal args)
+plain_answer function.Toint moment args = Some (to_integer args)
+plain_answer function.Tonum moment args = Some (to_integer args)
+plain_answer function.Toobj moment args = Some (to_object args)
 plain_answer function.Equal moment args = Some (equal args)
-plain_answer function.Compare moment args = Some (compare args)
-plain_answer function.Minimum moment args = Some (least args)
-plain_answer function.Maximum moment args = Some (greatest args)
-plain_answer function.Absolute moment args = Some (absolute args)
+plain_answer function.Strcmp moment args = Some (compare args)
+plain_answer function.Min moment args = Some (least args)
+plain_answer function.Max moment args = Some (greatest args)
+plain_answer function.Abs moment args = Some (absolute args)
 plain_answer function.Index moment args = Some (index args)
-plain_answer function.LastIndex moment args = Some (last_index args)
-plain_answer function.Substitute moment args = Some (substitute args)
+plain_answer function.Rindex moment args = Some (last_index args)
+plain_answer function.Strsub moment args = Some (substitute args)
 plain_answer function.ListAppend moment args = Some (list_append args)
 plain_answer function.ListInsert moment args = Some (list_insert args)
 plain_answer function.ListSet moment args = Some (list_set args)
@@ -79,7 +79,7 @@ answer f moment args = simply (plain_answer f moment args)
 -- Memory may run out for a string or a list that is made, and if a search folds letters, which is done in copies.
 abbrev pub MayLack : Function → List Tree → Result Tree ErrorCode → Type 0
 MayLack function.Index args r = is_exact args ≡ false
-MayLack function.LastIndex args r = is_exact args ≡ false
+MayLack function.Rindex args r = is_exact args ≡ false
 MayLack f args r = IsMade r
 
 -- memory may run out for a result as it is returned, and for the message of an error that is raised

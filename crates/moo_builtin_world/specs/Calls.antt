@@ -16,7 +16,7 @@ abbrev pub is_of_world : Function → Bool
 is_of_world function.Valid = true
 is_of_world function.Parent = true
 is_of_world function.Children = true
-is_of_world function.MaximumObject = true
+is_of_world function.MaxObject = true
 is_of_world function.Players = true
 is_of_world function.IsPlayer = true
 is_of_world function.Properties = true
@@ -24,15 +24,15 @@ is_of_world function.PropertyInfo = true
 is_of_world function.IsClearProperty = true
 is_of_world function.Verbs = true
 is_of_world function.VerbInfo = true
-is_of_world function.VerbArguments = true
-is_of_world function.ChangeParent = true
+is_of_world function.VerbArgs = true
+is_of_world function.Chparent = true
 is_of_world function.AddProperty = true
 is_of_world function.SetPropertyInfo = true
 is_of_world function.ClearProperty = true
 is_of_world function.DeleteProperty = true
 is_of_world function.AddVerb = true
 is_of_world function.SetVerbInfo = true
-is_of_world function.SetVerbArguments = true
+is_of_world function.SetVerbArgs = true
 is_of_world function.DeleteVerb = true
 is_of_world _ = false
 
@@ -41,7 +41,7 @@ abbrev pub looking : Function → World → ℤ → List Tree → Option (Result
 looking function.Valid w p args = Some (valid w args)
 looking function.Parent w p args = Some (parent w args)
 looking function.Children w p args = Some (children w args)
-looking function.MaximumObject w p args = Some (max_object w args)
+looking function.MaxObject w p args = Some (max_object w args)
 looking function.Players w p args = Some (listed_players w args)
 looking function.IsPlayer w p args = Some (is_player w args)
 looking function.Properties w p args = Some (properties w p args)
@@ -49,26 +49,26 @@ looking function.PropertyInfo w p args = Some (property_info w p args)
 looking function.IsClearProperty w p args = Some (is_clear_property w p args)
 looking function.Verbs w p args = Some (listed_verbs w p args)
 looking function.VerbInfo w p args = Some (verb_info w p args)
-looking function.VerbArguments w p args = Some (verb_args w p args)
+looking function.VerbArgs w p args = Some (verb_args w p args)
 looking _ w p args = None
 
 -- what those that change the world give, with the world after them
 abbrev pub changing : Function → World → ℤ → List Tree → Result (Tree × World) ErrorCode
-changing function.ChangeParent w p args = change_parent w p args
+changing function.Chparent w p args = change_parent w p args
 changing function.AddProperty w p args = add_property w p args
 changing function.SetPropertyInfo w p args = set_property_info w p args
 changing function.ClearProperty w p args = clear_property w p args
 changing function.DeleteProperty w p args = delete_property w p args
 changing function.AddVerb w p args = add_verb w p args
 changing function.SetVerbInfo w p args = set_verb_info w p args
-changing function.SetVerbArguments w p args = set_verb_args w p args
+changing function.SetVerbArgs w p args = set_verb_args w p args
 changing function.DeleteVerb w p args = delete_verb w p args
 changing _ w p args = Err TypeMismatch
 
 -- Where memory may run out for a change: never for one that allocates nothing, and for a deletion only once it is due
 abbrev pub ChangeMayLack : Function → World → ℤ → List Tree → Type 0
 ChangeMayLack function.ClearProperty w p args = ⊥
-ChangeMayLack function.SetVerbArguments w p args = ⊥
+ChangeMayLack function.SetVerbArgs w p args = ⊥
 ChangeMayLack function.DeleteVerb w p args = ⊥
 ChangeMayLack function.DeleteProperty w p args = IsOk (delete_property w p args)
 ChangeMayLack f w p args = ⊤

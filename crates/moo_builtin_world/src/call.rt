@@ -44,7 +44,7 @@ fn is_of_world(function: Function) -> bool
         Function::Valid
         | Function::Parent
         | Function::Children
-        | Function::MaximumObject
+        | Function::MaxObject
         | Function::Players
         | Function::IsPlayer
         | Function::Properties
@@ -52,15 +52,15 @@ fn is_of_world(function: Function) -> bool
         | Function::IsClearProperty
         | Function::Verbs
         | Function::VerbInfo
-        | Function::VerbArguments
-        | Function::ChangeParent
+        | Function::VerbArgs
+        | Function::Chparent
         | Function::AddProperty
         | Function::SetPropertyInfo
         | Function::ClearProperty
         | Function::DeleteProperty
         | Function::AddVerb
         | Function::SetVerbInfo
-        | Function::SetVerbArguments
+        | Function::SetVerbArgs
         | Function::DeleteVerb => true,
         _ => false,
     }
@@ -95,7 +95,7 @@ fn look(
         Function::Valid => valid(args, world),
         Function::Parent => parent(args, world),
         Function::Children => children(alloc, args, world),
-        Function::MaximumObject => max_object(args, world),
+        Function::MaxObject => max_object(args, world),
         Function::Players => players(alloc, args, world),
         Function::IsPlayer => is_player(args, world),
         Function::Properties => properties(alloc, args, world, programmer),
@@ -103,7 +103,7 @@ fn look(
         Function::IsClearProperty => is_clear_property(args, world, programmer),
         Function::Verbs => verbs(alloc, args, world, programmer),
         Function::VerbInfo => verb_info(alloc, args, world, programmer),
-        Function::VerbArguments => verb_args(alloc, args, world, programmer),
+        Function::VerbArgs => verb_args(alloc, args, world, programmer),
         _ => return None,
     })
 }
@@ -119,14 +119,14 @@ fn change(
     ensures memory { LacksOnly result (ChangeMayLack function world.old programmer (trees args.now)) }
 {
     match function {
-        Function::ChangeParent => change_parent(alloc, args, world, programmer),
+        Function::Chparent => change_parent(alloc, args, world, programmer),
         Function::AddProperty => add_property(alloc, args, world, programmer),
         Function::SetPropertyInfo => set_property_info(alloc, args, world, programmer),
         Function::ClearProperty => clear_property(args, world, programmer),
         Function::DeleteProperty => delete_property(alloc, args, world, programmer),
         Function::AddVerb => add_verb(args, world, programmer),
         Function::SetVerbInfo => set_verb_info(args, world, programmer),
-        Function::SetVerbArguments => set_verb_args(args, world, programmer),
+        Function::SetVerbArgs => set_verb_args(args, world, programmer),
         Function::DeleteVerb => delete_verb(args, world, programmer),
         _ => Err(TYPE_MISMATCH),
     }

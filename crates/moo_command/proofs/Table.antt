@@ -9,7 +9,7 @@ use Rattle.std.proofs.lemmas.Slice.Eq.{bytes_eq-Decides}
 use Rattle.moo_value.specs.Compare.{folded}
 use Rattle.moo_world_object.specs.Names.{same_name}
 use Rattle.moo_world_object.specs.declared.verb_args.Preposition.{Preposition}
-use Rattle.moo_world_object.specs.declared.verb_args.Preposition.TheVariants.{With, At, InFrontOf, Inside, OnTopOf, OutOf, Over, Through, Under, Behind, Beside, About, Being, Like, Off}
+use Rattle.moo_world_object.specs.declared.verb_args.Preposition.TheVariants.{With, At, InFrontOf, Inside, OnTopOf, OutOf, Over, Through, Under, Behind, Beside, About, Is, As, Off}
 use Rattle.moo_command.specs.Prepositions.{forms, BeginsWith}
 use Rattle.moo_command.specs.Inner.{form_table, form_among, begins_with}
 
@@ -34,8 +34,8 @@ all_listed Under = (record { place = 18; there = refl; own = refl }, (record { p
 all_listed Behind = (record { place = 21; there = refl; own = refl }, (tt))
 all_listed Beside = (record { place = 22; there = refl; own = refl }, (tt))
 all_listed About = (record { place = 23; there = refl; own = refl }, (record { place = 24; there = refl; own = refl }, (tt)))
-all_listed Being = (record { place = 25; there = refl; own = refl }, (tt))
-all_listed Like = (record { place = 26; there = refl; own = refl }, (tt))
+all_listed Is = (record { place = 25; there = refl; own = refl }, (tt))
+all_listed As = (record { place = 26; there = refl; own = refl }, (tt))
 all_listed Off = (record { place = 27; there = refl; own = refl }, (record { place = 4; there = refl; own = refl }, (tt)))
 
 pub listed : (p : Preposition) (form : List (List ℕ)) → Contains (forms p) form → IsListed p form

@@ -6,7 +6,7 @@ use Rattle.moo_value.specs.Compare.{folded}
 use Rattle.moo_world_object.specs.Names.{same_name}
 use Rattle.moo_world_object.specs.Patterns.{begins}
 use Rattle.moo_world_object.specs.declared.verb_args.Preposition.{Preposition}
-use Rattle.moo_world_object.specs.declared.verb_args.Preposition.TheVariants.{With, At, InFrontOf, Inside, OnTopOf, OutOf, Over, Through, Under, Behind, Beside, About, Being, Like, Off}
+use Rattle.moo_world_object.specs.declared.verb_args.Preposition.TheVariants.{With, At, InFrontOf, Inside, OnTopOf, OutOf, Over, Through, Under, Behind, Beside, About, Is, As, Off}
 use Rattle.moo_command.specs.declared.prepositions.Form.{Form}
 use Rattle.moo_command.specs.declared.splitting.Division.{Division}
 use Rattle.moo_command.specs.declared.named.Extent.{Extent}
@@ -31,7 +31,7 @@ form_table =
     ∷ (OnTopOf, codes "on" ∷ []) ∷ (OnTopOf, codes "onto" ∷ []) ∷ (OnTopOf, codes "upon" ∷ []) ∷ (OutOf, codes "from" ∷ [])
     ∷ (Over, codes "over" ∷ []) ∷ (Through, codes "through" ∷ []) ∷ (Under, codes "under" ∷ []) ∷ (Under, codes "underneath" ∷ [])
     ∷ (Under, codes "beneath" ∷ []) ∷ (Behind, codes "behind" ∷ []) ∷ (Beside, codes "beside" ∷ []) ∷ (About, codes "for" ∷ [])
-    ∷ (About, codes "about" ∷ []) ∷ (Being, codes "is" ∷ []) ∷ (Like, codes "as" ∷ []) ∷ (Off, codes "off" ∷ []) ∷ []
+    ∷ (About, codes "about" ∷ []) ∷ (Is, codes "is" ∷ []) ∷ (As, codes "as" ∷ []) ∷ (Off, codes "off" ∷ []) ∷ []
 
 -- whether words begin with those of a form, with letters folded
 abbrev pub begins_with : List (List ℕ) → List (List ℕ) → Bool

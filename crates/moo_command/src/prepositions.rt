@@ -115,11 +115,11 @@ const FORMS: [Form; 28] = [
         words: &[b"about"],
     },
     Form {
-        preposition: Preposition::Being,
+        preposition: Preposition::Is,
         words: &[b"is"],
     },
     Form {
-        preposition: Preposition::Like,
+        preposition: Preposition::As,
         words: &[b"as"],
     },
     Form {

@@ -11,7 +11,7 @@ use Rattle.moo_world_object.specs.declared.verb_args.ObjectSpecifier.TheVariants
 use Rattle.moo_world_object.specs.declared.verb_args.PrepositionSpecifier.{PrepositionSpecifier}
 use Rattle.moo_world_object.specs.declared.verb_args.PrepositionSpecifier.TheVariants as preposition
 use Rattle.moo_world_object.specs.declared.verb_args.Preposition.{Preposition}
-use Rattle.moo_world_object.specs.declared.verb_args.Preposition.TheVariants.{With, At, InFrontOf, Inside, OnTopOf, OutOf, Over, Through, Under, Behind, Beside, About, Being, Like, Off}
+use Rattle.moo_world_object.specs.declared.verb_args.Preposition.TheVariants.{With, At, InFrontOf, Inside, OnTopOf, OutOf, Over, Through, Under, Behind, Beside, About, Is, As, Off}
 use Rattle.moo_world_table.specs.World.{most}
 use Rattle.moo_dbtext_object.specs.Objects.{verb_bits, IsVerbBits, IsPreposition}
 use Rattle.moo_dbtext_restore.specs.Links.{place_number}
@@ -78,8 +78,8 @@ preposition_low Under = omega arith
 preposition_low Behind = omega arith
 preposition_low Beside = omega arith
 preposition_low About = omega arith
-preposition_low Being = omega arith
-preposition_low Like = omega arith
+preposition_low Is = omega arith
+preposition_low As = omega arith
 preposition_low Off = omega arith
 
 pub preposition_fits : (p : PrepositionSpecifier) → IsPreposition (preposition_specifier_number p)

@@ -8,7 +8,7 @@ ghost use Rattle.moo_dbtext_object.specs.ObjectReading.{draft_of, body_of, part_
 
 use crate::field::{VerbBits, flags, note, preposition, property_perms, verb_bits};
 use crate::object_record::{ObjectRecord, PropertyRecord, VerbRecord};
-use crate::{MetStrings, Refusal, ValueReader, bounded_count, number, text};
+use crate::{Refusal, StringInterner, ValueReader, bounded_count, number, text};
 use moo_value::{MooStr, Value};
 use moo_world_object::{Flags, ObjectSpecifier, PrepositionSpecifier, VerbArgs, VerbPerms};
 use std::alloc::{AllocError, Global};
@@ -79,7 +79,7 @@ pub struct ObjectReader {
     cell: Option<Value>,
     cell_owner: i32,
     /// The names of the verbs of this object and of those before it.
-    met: MetStrings,
+    met: StringInterner,
 }
 
 fn empty(alloc: Global) -> BodyDraft
@@ -158,7 +158,7 @@ impl ObjectReader {
             value: ValueReader::new(alloc),
             cell: None,
             cell_owner: 0,
-            met: MetStrings::new(alloc),
+            met: StringInterner::new(alloc),
         }
     }
 

@@ -10,8 +10,8 @@ ghost use Rattle.moo_dbtext_object.specs.Reading.{type_of, error_of, take_room, 
 
 use crate::fault::{LineFault, Refusal};
 use crate::line::{count, number, small};
-use crate::met::MetStrings;
-use moo_value::{DEPTH_LIMIT, ErrorCode, ListFault, MooList, Value};
+use crate::string_interner::StringInterner;
+use moo_value::{DEPTH_LIMIT, ErrorCode, ListLimit, MooList, Value};
 use std::alloc::Global;
 
 /// The content of the next line.
@@ -42,7 +42,7 @@ pub struct ValueReader {
     /// The lists around the value that is being read, the innermost last.
     lists: Vec<OpenList>,
     /// The strings of this value and of those before it.
-    met: MetStrings,
+    met: StringInterner,
 }
 
 /// The greatest weight of a value, less 1.
@@ -96,8 +96,8 @@ fn list(alloc: Global, elements: Vec<Value>) -> Result<Value, Refusal>
 {
     match MooList::try_from_vec(alloc, elements) {
         Ok(list) => Ok(Value::List(list)),
-        Err(ListFault::TooLarge) => Err(Refusal::Fault(LineFault::TooLarge)),
-        Err(ListFault::Memory) => Err(Refusal::Memory),
+        Err(ListLimit::TooLarge) => Err(Refusal::Fault(LineFault::TooLarge)),
+        Err(ListLimit::Memory) => Err(Refusal::Memory),
     }
 }
 
@@ -110,7 +110,7 @@ impl ValueReader {
             expected: Expected::Type,
             room: FULL_ROOM,
             lists: Vec::new(alloc),
-            met: MetStrings::new(alloc),
+            met: StringInterner::new(alloc),
         }
     }
 

@@ -17,7 +17,7 @@ use crate::program_rows::put_program;
 use moo_dbtext_record::{DbFault, DbFaultKind, DbReader, Dump, RecordFault, first_line};
 use moo_syntax::{Names, parse_with};
 use moo_syntax_grammar::Program;
-use moo_syntax_token::Known;
+use moo_syntax_token::NameInterner;
 use std::alloc::Global;
 
 /// Takes a line with its end. Returns the object and verb whose program the line ends, if it ends one.
@@ -44,7 +44,7 @@ fn take_line(
 /// Parses the source of a verb. Returns `None` if it has none.
 fn program_of(
     alloc: Global,
-    known: &mut Known,
+    known: &mut NameInterner,
     records: &DbReader,
     object: u32,
     verb: u32,
@@ -86,7 +86,7 @@ pub struct ProgramReader {
     records: DbReader,
     programs: Vec<Vec<Option<Program>>>,
     /// The names that are used in the programs.
-    known: Known,
+    known: NameInterner,
     failed: Option<DbFault>,
 }
 
@@ -99,7 +99,7 @@ impl ProgramReader {
         ProgramReader {
             records: DbReader::new(alloc),
             programs: Vec::new(alloc),
-            known: Known::new(alloc),
+            known: NameInterner::new(alloc),
             failed: None,
         }
     }

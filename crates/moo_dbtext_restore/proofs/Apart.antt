@@ -10,14 +10,14 @@ use Rattle.moo_world_object.specs.declared.verb_args.ObjectSpecifier.TheVariants
 use Rattle.moo_world_object.specs.declared.verb_args.PrepositionSpecifier.{PrepositionSpecifier}
 use Rattle.moo_world_object.specs.declared.verb_args.PrepositionSpecifier.TheVariants as preposition
 use Rattle.moo_world_object.specs.declared.verb_args.Preposition.{Preposition}
-use Rattle.moo_world_object.specs.declared.verb_args.Preposition.TheVariants.{With, At, InFrontOf, Inside, OnTopOf, OutOf, Over, Through, Under, Behind, Beside, About, Being, Like, Off}
+use Rattle.moo_world_object.specs.declared.verb_args.Preposition.TheVariants.{With, At, InFrontOf, Inside, OnTopOf, OutOf, Over, Through, Under, Behind, Beside, About, Is, As, Off}
 use Rattle.moo_dbtext_restore.proofs.Bits.{prop_perms_number_apart, verb_perms_number_apart}
 use Rattle.moo_dbtext_object.specs.Objects as recorded
 use Rattle.moo_dbtext_restore.specs.Says.{recorded_verb, recorded_cell, program_of}
 
 -- the preposition of a number, and With past the last
 abbrev preposition_of : ℕ → Preposition
-preposition_of n = get_or (With ∷ At ∷ InFrontOf ∷ Inside ∷ OnTopOf ∷ OutOf ∷ Over ∷ Through ∷ Under ∷ Behind ∷ Beside ∷ About ∷ Being ∷ Like ∷ Off ∷ []) n With
+preposition_of n = get_or (With ∷ At ∷ InFrontOf ∷ Inside ∷ OnTopOf ∷ OutOf ∷ Over ∷ Through ∷ Under ∷ Behind ∷ Beside ∷ About ∷ Is ∷ As ∷ Off ∷ []) n With
 
 preposition_back : (p : Preposition) → preposition_of (preposition_number p) ≡ p
 preposition_back With = refl
@@ -32,8 +32,8 @@ preposition_back Under = refl
 preposition_back Behind = refl
 preposition_back Beside = refl
 preposition_back About = refl
-preposition_back Being = refl
-preposition_back Like = refl
+preposition_back Is = refl
+preposition_back As = refl
 preposition_back Off = refl
 
 abbrev size : ℤ → ℕ

@@ -27,35 +27,35 @@ unrefused valid r vs a b c =
     ap (λ n. refused_for n (all_fit r vs) (all_valid valid r vs)) a ∙ ap (λ k. refused_for true k (all_valid valid r vs)) b ∙ ap (refused_for true true) c
 
 -- each argument of `min` and of `max` has to be an integer
-least_kind : (place : ℕ) → kind_at (row function.Minimum) place ≡ Integer
+least_kind : (place : ℕ) → kind_at (row function.Min) place ≡ Integer
 least_kind zero = refl
 least_kind (suc k) = refl
 
-greatest_kind : (place : ℕ) → kind_at (row function.Maximum) place ≡ Integer
+greatest_kind : (place : ℕ) → kind_at (row function.Max) place ≡ Integer
 greatest_kind zero = refl
 greatest_kind (suc k) = refl
 
 some_is : {A : Type 0} {x y : A} → Some x ≡ Some y → x ≡ y
 some_is h = cc
 
-least_integers : (place : ℕ) (i : ℤ) (ts : List Tree) {v : Tree} → least_of i ts ≡ Ok v → holds_from (λ place t. fits (kind_at (row function.Minimum) place) t) place ts ≡ true
+least_integers : (place : ℕ) (i : ℤ) (ts : List Tree) {v : Tree} → least_of i ts ≡ Ok v → holds_from (λ place t. fits (kind_at (row function.Min) place) t) place ts ≡ true
 least_integers place i [] h = refl
-least_integers place i (integer j ∷ ts) h = ap (λ k. fits k (integer j) && holds_from (λ place t. fits (kind_at (row function.Minimum) place) t) (place + 1) ts) (least_kind place) ∙ least_integers (place + 1) _ ts h
+least_integers place i (integer j ∷ ts) h = ap (λ k. fits k (integer j) && holds_from (λ place t. fits (kind_at (row function.Min) place) t) (place + 1) ts) (least_kind place) ∙ least_integers (place + 1) _ ts h
 least_integers place i (object o ∷ ts) h = absurd cc
 least_integers place i (error e ∷ ts) h = absurd cc
 least_integers place i (string s ∷ ts) h = absurd cc
 least_integers place i (list es ∷ ts) h = absurd cc
 
-greatest_integers : (place : ℕ) (i : ℤ) (ts : List Tree) {v : Tree} → greatest_of i ts ≡ Ok v → holds_from (λ place t. fits (kind_at (row function.Maximum) place) t) place ts ≡ true
+greatest_integers : (place : ℕ) (i : ℤ) (ts : List Tree) {v : Tree} → greatest_of i ts ≡ Ok v → holds_from (λ place t. fits (kind_at (row function.Max) place) t) place ts ≡ true
 greatest_integers place i [] h = refl
-greatest_integers place i (integer j ∷ ts) h = ap (λ k. fits k (integer j) && holds_from (λ place t. fits (kind_at (row function.Maximum) place) t) (place + 1) ts) (greatest_kind place) ∙ greatest_integers (place + 1) _ ts h
+greatest_integers place i (integer j ∷ ts) h = ap (λ k. fits k (integer j) && holds_from (λ place t. fits (kind_at (row function.Max) place) t) (place + 1) ts) (greatest_kind place) ∙ greatest_integers (place + 1) _ ts h
 greatest_integers place i (object o ∷ ts) h = absurd cc
 greatest_integers place i (error e ∷ ts) h = absurd cc
 greatest_integers place i (string s ∷ ts) h = absurd cc
 greatest_integers place i (list es ∷ ts) h = absurd cc
 
 module _ (valid : ℤ → Bool) (m : ℕ) {v : Tree} where
-  pub type_fits : (vs : List Tree) → plain_answer function.TypeOf m vs ≡ Some (Ok v) → refusal valid (row function.TypeOf) vs ≡ None
+  pub type_fits : (vs : List Tree) → plain_answer function.Typeof m vs ≡ Some (Ok v) → refusal valid (row function.Typeof) vs ≡ None
   type_fits [] h = absurd cc
   type_fits (a ∷ []) h = refl
   type_fits (a ∷ t ∷ ts) h = absurd cc
@@ -73,12 +73,12 @@ module _ (valid : ℤ → Bool) (m : ℕ) {v : Tree} where
   length_fits (list es ∷ []) h = refl
   length_fits (list es ∷ t ∷ ts) h = absurd cc
 
-  pub literal_fits : (vs : List Tree) → plain_answer function.ToLiteral m vs ≡ Some (Ok v) → refusal valid (row function.ToLiteral) vs ≡ None
+  pub literal_fits : (vs : List Tree) → plain_answer function.Toliteral m vs ≡ Some (Ok v) → refusal valid (row function.Toliteral) vs ≡ None
   literal_fits [] h = absurd cc
   literal_fits (a ∷ []) h = refl
   literal_fits (a ∷ t ∷ ts) h = absurd cc
 
-  pub integer_fits : (vs : List Tree) → plain_answer function.ToInteger m vs ≡ Some (Ok v) → refusal valid (row function.ToInteger) vs ≡ None
+  pub integer_fits : (vs : List Tree) → plain_answer function.Toint m vs ≡ Some (Ok v) → refusal valid (row function.Toint) vs ≡ None
   integer_fits [] h = absurd cc
   integer_fits (integer i ∷ []) h = refl
   integer_fits (integer i ∷ t ∷ ts) h = absurd cc
@@ -90,7 +90,7 @@ module _ (valid : ℤ → Bool) (m : ℕ) {v : Tree} where
   integer_fits (string s ∷ t ∷ ts) h = absurd cc
   integer_fits (list es ∷ ts) h = absurd cc
 
-  pub number_fits : (vs : List Tree) → plain_answer function.ToNumber m vs ≡ Some (Ok v) → refusal valid (row function.ToNumber) vs ≡ None
+  pub number_fits : (vs : List Tree) → plain_answer function.Tonum m vs ≡ Some (Ok v) → refusal valid (row function.Tonum) vs ≡ None
   number_fits [] h = absurd cc
   number_fits (integer i ∷ []) h = refl
   number_fits (integer i ∷ t ∷ ts) h = absurd cc
@@ -102,7 +102,7 @@ module _ (valid : ℤ → Bool) (m : ℕ) {v : Tree} where
   number_fits (string s ∷ t ∷ ts) h = absurd cc
   number_fits (list es ∷ ts) h = absurd cc
 
-  pub object_fits : (vs : List Tree) → plain_answer function.ToObject m vs ≡ Some (Ok v) → refusal valid (row function.ToObject) vs ≡ None
+  pub object_fits : (vs : List Tree) → plain_answer function.Toobj m vs ≡ Some (Ok v) → refusal valid (row function.Toobj) vs ≡ None
   object_fits [] h = absurd cc
   object_fits (integer i ∷ []) h = refl
   object_fits (integer i ∷ t ∷ ts) h = absurd cc
@@ -120,7 +120,7 @@ module _ (valid : ℤ → Bool) (m : ℕ) {v : Tree} where
   equal_fits (a ∷ b ∷ []) h = refl
   equal_fits (a ∷ b ∷ t ∷ ts) h = absurd cc
 
-  pub compare_fits : (vs : List Tree) → plain_answer function.Compare m vs ≡ Some (Ok v) → refusal valid (row function.Compare) vs ≡ None
+  pub compare_fits : (vs : List Tree) → plain_answer function.Strcmp m vs ≡ Some (Ok v) → refusal valid (row function.Strcmp) vs ≡ None
   compare_fits [] h = absurd cc
   compare_fits (integer i ∷ ts) h = absurd cc
   compare_fits (object o ∷ ts) h = absurd cc
@@ -134,7 +134,7 @@ module _ (valid : ℤ → Bool) (m : ℕ) {v : Tree} where
   compare_fits (string s ∷ list es ∷ ts) h = absurd cc
   compare_fits (list es ∷ ts) h = absurd cc
 
-  pub absolute_fits : (vs : List Tree) → plain_answer function.Absolute m vs ≡ Some (Ok v) → refusal valid (row function.Absolute) vs ≡ None
+  pub absolute_fits : (vs : List Tree) → plain_answer function.Abs m vs ≡ Some (Ok v) → refusal valid (row function.Abs) vs ≡ None
   absolute_fits [] h = absurd cc
   absolute_fits (integer i ∷ []) h = refl
   absolute_fits (integer i ∷ t ∷ ts) h = absurd cc
@@ -158,7 +158,7 @@ module _ (valid : ℤ → Bool) (m : ℕ) {v : Tree} where
   index_fits (string s ∷ list es ∷ ts) h = absurd cc
   index_fits (list es ∷ ts) h = absurd cc
 
-  pub last_index_fits : (vs : List Tree) → plain_answer function.LastIndex m vs ≡ Some (Ok v) → refusal valid (row function.LastIndex) vs ≡ None
+  pub last_index_fits : (vs : List Tree) → plain_answer function.Rindex m vs ≡ Some (Ok v) → refusal valid (row function.Rindex) vs ≡ None
   last_index_fits [] h = absurd cc
   last_index_fits (integer i ∷ ts) h = absurd cc
   last_index_fits (object o ∷ ts) h = absurd cc
@@ -173,7 +173,7 @@ module _ (valid : ℤ → Bool) (m : ℕ) {v : Tree} where
   last_index_fits (string s ∷ list es ∷ ts) h = absurd cc
   last_index_fits (list es ∷ ts) h = absurd cc
 
-  pub substitute_fits : (vs : List Tree) → plain_answer function.Substitute m vs ≡ Some (Ok v) → refusal valid (row function.Substitute) vs ≡ None
+  pub substitute_fits : (vs : List Tree) → plain_answer function.Strsub m vs ≡ Some (Ok v) → refusal valid (row function.Strsub) vs ≡ None
   substitute_fits [] h = absurd cc
   substitute_fits (integer i ∷ ts) h = absurd cc
   substitute_fits (object o ∷ ts) h = absurd cc
@@ -290,20 +290,20 @@ module _ (valid : ℤ → Bool) (m : ℕ) {v : Tree} where
   version_fits [] h = refl
   version_fits (t ∷ ts) h = absurd cc
 
-  pub text_fits : (vs : List Tree) → plain_answer function.ToText m vs ≡ Some (Ok v) → refusal valid (row function.ToText) vs ≡ None
-  text_fits vs h = unrefused valid (row function.ToText) vs (grind (arith, nat_tests)) (holds_always (λ place t. fits (kind_at (row function.ToText) place) t) (λ place t. refl) 0 vs) (holds_always (λ place t. names_valid valid (kind_at (row function.ToText) place) t) (λ place t. refl) 0 vs)
+  pub text_fits : (vs : List Tree) → plain_answer function.Tostr m vs ≡ Some (Ok v) → refusal valid (row function.Tostr) vs ≡ None
+  text_fits vs h = unrefused valid (row function.Tostr) vs (grind (arith, nat_tests)) (holds_always (λ place t. fits (kind_at (row function.Tostr) place) t) (λ place t. refl) 0 vs) (holds_always (λ place t. names_valid valid (kind_at (row function.Tostr) place) t) (λ place t. refl) 0 vs)
 
-  pub least_fits : (vs : List Tree) → plain_answer function.Minimum m vs ≡ Some (Ok v) → refusal valid (row function.Minimum) vs ≡ None
+  pub least_fits : (vs : List Tree) → plain_answer function.Min m vs ≡ Some (Ok v) → refusal valid (row function.Min) vs ≡ None
   least_fits [] h = absurd cc
-  least_fits (integer i ∷ ts) h = unrefused valid (row function.Minimum) (integer i ∷ ts) (grind (arith, nat_tests)) (least_integers 1 i ts (some_is h)) (holds_always (λ place t. names_valid valid (kind_at (row function.Minimum) place) t) (λ place t. ap (λ k. names_valid valid k t) (least_kind place)) 0 (integer i ∷ ts))
+  least_fits (integer i ∷ ts) h = unrefused valid (row function.Min) (integer i ∷ ts) (grind (arith, nat_tests)) (least_integers 1 i ts (some_is h)) (holds_always (λ place t. names_valid valid (kind_at (row function.Min) place) t) (λ place t. ap (λ k. names_valid valid k t) (least_kind place)) 0 (integer i ∷ ts))
   least_fits (object o ∷ ts) h = absurd cc
   least_fits (error e ∷ ts) h = absurd cc
   least_fits (string s ∷ ts) h = absurd cc
   least_fits (list es ∷ ts) h = absurd cc
 
-  pub greatest_fits : (vs : List Tree) → plain_answer function.Maximum m vs ≡ Some (Ok v) → refusal valid (row function.Maximum) vs ≡ None
+  pub greatest_fits : (vs : List Tree) → plain_answer function.Max m vs ≡ Some (Ok v) → refusal valid (row function.Max) vs ≡ None
   greatest_fits [] h = absurd cc
-  greatest_fits (integer i ∷ ts) h = unrefused valid (row function.Maximum) (integer i ∷ ts) (grind (arith, nat_tests)) (greatest_integers 1 i ts (some_is h)) (holds_always (λ place t. names_valid valid (kind_at (row function.Maximum) place) t) (λ place t. ap (λ k. names_valid valid k t) (greatest_kind place)) 0 (integer i ∷ ts))
+  greatest_fits (integer i ∷ ts) h = unrefused valid (row function.Max) (integer i ∷ ts) (grind (arith, nat_tests)) (greatest_integers 1 i ts (some_is h)) (holds_always (λ place t. names_valid valid (kind_at (row function.Max) place) t) (λ place t. ap (λ k. names_valid valid k t) (greatest_kind place)) 0 (integer i ∷ ts))
   greatest_fits (object o ∷ ts) h = absurd cc
   greatest_fits (error e ∷ ts) h = absurd cc
   greatest_fits (string s ∷ ts) h = absurd cc

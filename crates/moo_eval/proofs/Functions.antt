@@ -28,21 +28,21 @@ record IsPlain (valid : ℤ → Bool) (g : Function) (m : ℕ) (vs : List Tree) 
   gives : given (answer g m vs) ≡ Ok v
 
 plain : (valid : ℤ → Bool) (g : Function) (m : ℕ) (vs : List Tree) {v : Tree} → plain_answer g m vs ≡ Some (Ok v) → IsPlain valid g m vs v
-plain valid function.TypeOf m vs h = record { calls_none = refl; of_no_task = refl; unrefused = type_fits valid m vs h; of_values = refl; gives = ap (λ r. given (simply r)) h }
+plain valid function.Typeof m vs h = record { calls_none = refl; of_no_task = refl; unrefused = type_fits valid m vs h; of_values = refl; gives = ap (λ r. given (simply r)) h }
 plain valid function.Length m vs h = record { calls_none = refl; of_no_task = refl; unrefused = length_fits valid m vs h; of_values = refl; gives = ap (λ r. given (simply r)) h }
-plain valid function.ToText m vs h = record { calls_none = refl; of_no_task = refl; unrefused = text_fits valid m vs h; of_values = refl; gives = ap (λ r. given (simply r)) h }
-plain valid function.ToLiteral m vs h = record { calls_none = refl; of_no_task = refl; unrefused = literal_fits valid m vs h; of_values = refl; gives = ap (λ r. given (simply r)) h }
-plain valid function.ToInteger m vs h = record { calls_none = refl; of_no_task = refl; unrefused = integer_fits valid m vs h; of_values = refl; gives = ap (λ r. given (simply r)) h }
-plain valid function.ToNumber m vs h = record { calls_none = refl; of_no_task = refl; unrefused = number_fits valid m vs h; of_values = refl; gives = ap (λ r. given (simply r)) h }
-plain valid function.ToObject m vs h = record { calls_none = refl; of_no_task = refl; unrefused = object_fits valid m vs h; of_values = refl; gives = ap (λ r. given (simply r)) h }
+plain valid function.Tostr m vs h = record { calls_none = refl; of_no_task = refl; unrefused = text_fits valid m vs h; of_values = refl; gives = ap (λ r. given (simply r)) h }
+plain valid function.Toliteral m vs h = record { calls_none = refl; of_no_task = refl; unrefused = literal_fits valid m vs h; of_values = refl; gives = ap (λ r. given (simply r)) h }
+plain valid function.Toint m vs h = record { calls_none = refl; of_no_task = refl; unrefused = integer_fits valid m vs h; of_values = refl; gives = ap (λ r. given (simply r)) h }
+plain valid function.Tonum m vs h = record { calls_none = refl; of_no_task = refl; unrefused = number_fits valid m vs h; of_values = refl; gives = ap (λ r. given (simply r)) h }
+plain valid function.Toobj m vs h = record { calls_none = refl; of_no_task = refl; unrefused = object_fits valid m vs h; of_values = refl; gives = ap (λ r. given (simply r)) h }
 plain valid function.Equal m vs h = record { calls_none = refl; of_no_task = refl; unrefused = equal_fits valid m vs h; of_values = refl; gives = ap (λ r. given (simply r)) h }
-plain valid function.Compare m vs h = record { calls_none = refl; of_no_task = refl; unrefused = compare_fits valid m vs h; of_values = refl; gives = ap (λ r. given (simply r)) h }
-plain valid function.Minimum m vs h = record { calls_none = refl; of_no_task = refl; unrefused = least_fits valid m vs h; of_values = refl; gives = ap (λ r. given (simply r)) h }
-plain valid function.Maximum m vs h = record { calls_none = refl; of_no_task = refl; unrefused = greatest_fits valid m vs h; of_values = refl; gives = ap (λ r. given (simply r)) h }
-plain valid function.Absolute m vs h = record { calls_none = refl; of_no_task = refl; unrefused = absolute_fits valid m vs h; of_values = refl; gives = ap (λ r. given (simply r)) h }
+plain valid function.Strcmp m vs h = record { calls_none = refl; of_no_task = refl; unrefused = compare_fits valid m vs h; of_values = refl; gives = ap (λ r. given (simply r)) h }
+plain valid function.Min m vs h = record { calls_none = refl; of_no_task = refl; unrefused = least_fits valid m vs h; of_values = refl; gives = ap (λ r. given (simply r)) h }
+plain valid function.Max m vs h = record { calls_none = refl; of_no_task = refl; unrefused = greatest_fits valid m vs h; of_values = refl; gives = ap (λ r. given (simply r)) h }
+plain valid function.Abs m vs h = record { calls_none = refl; of_no_task = refl; unrefused = absolute_fits valid m vs h; of_values = refl; gives = ap (λ r. given (simply r)) h }
 plain valid function.Index m vs h = record { calls_none = refl; of_no_task = refl; unrefused = index_fits valid m vs h; of_values = refl; gives = ap (λ r. given (simply r)) h }
-plain valid function.LastIndex m vs h = record { calls_none = refl; of_no_task = refl; unrefused = last_index_fits valid m vs h; of_values = refl; gives = ap (λ r. given (simply r)) h }
-plain valid function.Substitute m vs h = record { calls_none = refl; of_no_task = refl; unrefused = substitute_fits valid m vs h; of_values = refl; gives = ap (λ r. given (simply r)) h }
+plain valid function.Rindex m vs h = record { calls_none = refl; of_no_task = refl; unrefused = last_index_fits valid m vs h; of_values = refl; gives = ap (λ r. given (simply r)) h }
+plain valid function.Strsub m vs h = record { calls_none = refl; of_no_task = refl; unrefused = substitute_fits valid m vs h; of_values = refl; gives = ap (λ r. given (simply r)) h }
 plain valid function.ListAppend m vs h = record { calls_none = refl; of_no_task = refl; unrefused = append_fits valid m vs h; of_values = refl; gives = ap (λ r. given (simply r)) h }
 plain valid function.ListInsert m vs h = record { calls_none = refl; of_no_task = refl; unrefused = insert_fits valid m vs h; of_values = refl; gives = ap (λ r. given (simply r)) h }
 plain valid function.ListSet m vs h = record { calls_none = refl; of_no_task = refl; unrefused = set_fits valid m vs h; of_values = refl; gives = ap (λ r. given (simply r)) h }
@@ -53,7 +53,7 @@ plain valid function.IsMember m vs h = record { calls_none = refl; of_no_task = 
 plain valid function.Valid m vs h = absurd cc
 plain valid function.Parent m vs h = absurd cc
 plain valid function.Children m vs h = absurd cc
-plain valid function.MaximumObject m vs h = absurd cc
+plain valid function.MaxObject m vs h = absurd cc
 plain valid function.Players m vs h = absurd cc
 plain valid function.IsPlayer m vs h = absurd cc
 plain valid function.SetPlayerFlag m vs h = absurd cc
@@ -66,14 +66,14 @@ plain valid function.DeleteProperty m vs h = absurd cc
 plain valid function.IsClearProperty m vs h = absurd cc
 plain valid function.ClearProperty m vs h = absurd cc
 plain valid function.VerbInfo m vs h = absurd cc
-plain valid function.VerbArguments m vs h = absurd cc
+plain valid function.VerbArgs m vs h = absurd cc
 plain valid function.VerbCode m vs h = absurd cc
 plain valid function.SetVerbInfo m vs h = absurd cc
-plain valid function.SetVerbArguments m vs h = absurd cc
+plain valid function.SetVerbArgs m vs h = absurd cc
 plain valid function.SetVerbCode m vs h = absurd cc
 plain valid function.AddVerb m vs h = absurd cc
 plain valid function.DeleteVerb m vs h = absurd cc
-plain valid function.ChangeParent m vs h = absurd cc
+plain valid function.Chparent m vs h = absurd cc
 plain valid function.Time m vs h = record { calls_none = refl; of_no_task = refl; unrefused = time_fits valid m vs h; of_values = refl; gives = ap (λ r. given (simply r)) h }
 plain valid function.ServerVersion m vs h = record { calls_none = refl; of_no_task = refl; unrefused = version_fits valid m vs h; of_values = refl; gives = ap (λ r. given (simply r)) h }
 plain valid function.Create m vs h = absurd cc
@@ -83,8 +83,8 @@ plain valid function.Pass m vs h = absurd cc
 plain valid function.Eval m vs h = absurd cc
 plain valid function.Raise m vs h = absurd cc
 plain valid function.Callers m vs h = absurd cc
-plain valid function.CallerPermissions m vs h = absurd cc
-plain valid function.SetTaskPermissions m vs h = absurd cc
+plain valid function.CallerPerms m vs h = absurd cc
+plain valid function.SetTaskPerms m vs h = absurd cc
 plain valid function.TicksLeft m vs h = absurd cc
 plain valid function.Notify m vs h = absurd cc
 plain valid function.BootPlayer m vs h = absurd cc

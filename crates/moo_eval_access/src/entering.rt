@@ -17,7 +17,7 @@ ghost use Rattle.moo_eval_frame.specs.Seen.{context_of, variables_of, failure_of
 use moo_eval_frame::{Activation, CallStack, Failure, Frame, Stop, Variables};
 use moo_syntax_ast::Given;
 use moo_syntax_grammar::Program;
-use moo_value::{ErrorCode, ListFault, MooList, MooStr, Value};
+use moo_value::{ErrorCode, ListLimit, MooList, MooStr, Value};
 use moo_world::{Rights, VerbAt, World};
 use moo_world_object::{Need, Verb};
 use std::alloc::{AllocError, Global};
@@ -180,8 +180,8 @@ fn arguments(alloc: Global, args: Vec<Value>) -> Result<MooList, Failure>
 {
     match MooList::try_from_vec(alloc, args) {
         Ok(list) => Ok(list),
-        Err(ListFault::TooLarge) => Err(Failure::Fails(ErrorCode::Quota)),
-        Err(ListFault::Memory) => Err(Failure::Stops(Stop::Memory)),
+        Err(ListLimit::TooLarge) => Err(Failure::Fails(ErrorCode::Quota)),
+        Err(ListLimit::Memory) => Err(Failure::Stops(Stop::Memory)),
     }
 }
 

@@ -60,7 +60,7 @@ takes_any valid name ts =
     ∙ ap (λ b. judged true b (all_valid valid (takes_more name [] Any) ts)) (any_fits name 0 ts)
     ∙ ap (λ b. judged true true b) (any_valid valid name 0 ts)
 
-pub calls_text : (name : List ℕ) (args : List Tree) (w : World) (c : Caller) → function_of name ≡ Some function.ToText → CallsPlain Faults name args w c (raising (to_text args)) w
+pub calls_text : (name : List ℕ) (args : List Tree) (w : World) (c : Caller) → function_of name ≡ Some function.Tostr → CallsPlain Faults name args w c (raising (to_text args)) w
 calls_text name args w c named = follows named (takes_any (is_valid w) (codes "tostr") args) (answers_as (to_text args), refl)
 
 -- a row that takes integers, one at least
@@ -139,8 +139,8 @@ calls_extreme e f is name (error code ∷ ts) w c named = refused named (is_refu
 calls_extreme e f is name (string s ∷ ts) w c named = refused named (is_refused e f is (is_valid w) (string s ∷ ts) TypeMismatch (ap (λ b. judged b false true) (some (string s) ts)))
 calls_extreme e f is name (list es ∷ ts) w c named = refused named (is_refused e f is (is_valid w) (list es ∷ ts) TypeMismatch (ap (λ b. judged b false true) (some (list es) ts)))
 
-pub calls_least : (name : List ℕ) (args : List Tree) (w : World) (c : Caller) → function_of name ≡ Some function.Minimum → CallsPlain Faults name args w c (raising (extreme_from Least None args)) w
-calls_least = calls_extreme Least function.Minimum (record { letters = codes "min"; row_is = refl; plain = refl; gives = λ moment i ts. refl })
+pub calls_least : (name : List ℕ) (args : List Tree) (w : World) (c : Caller) → function_of name ≡ Some function.Min → CallsPlain Faults name args w c (raising (extreme_from Least None args)) w
+calls_least = calls_extreme Least function.Min (record { letters = codes "min"; row_is = refl; plain = refl; gives = λ moment i ts. refl })
 
-pub calls_greatest : (name : List ℕ) (args : List Tree) (w : World) (c : Caller) → function_of name ≡ Some function.Maximum → CallsPlain Faults name args w c (raising (extreme_from Greatest None args)) w
-calls_greatest = calls_extreme Greatest function.Maximum (record { letters = codes "max"; row_is = refl; plain = refl; gives = λ moment i ts. refl })
+pub calls_greatest : (name : List ℕ) (args : List Tree) (w : World) (c : Caller) → function_of name ≡ Some function.Max → CallsPlain Faults name args w c (raising (extreme_from Greatest None args)) w
+calls_greatest = calls_extreme Greatest function.Max (record { letters = codes "max"; row_is = refl; plain = refl; gives = λ moment i ts. refl })

@@ -88,7 +88,7 @@ later_perms (object o ∷ []) s = later_cond (controls s.world s.programmer o) _
 later_perms _ s = stays
 
 later_reply : (f : Function) (c : Context) (args : List Tree) (s : State) → Later s (task_reply f c args s).1
-later_reply function.SetTaskPermissions c args s = later_perms args s
+later_reply function.SetTaskPerms c args s = later_perms args s
 later_reply function.Notify c args s = later_notify args s
 later_reply function.BootPlayer c args s = later_boot args s
 later_reply function.SetPlayerFlag c args s = later_flag args s

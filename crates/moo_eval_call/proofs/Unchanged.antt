@@ -77,7 +77,7 @@ keeps_perms (object o ∷ []) s = keeps_if (controls s.world s.programmer o) (in
 keeps_perms _ s = stays
 
 keeps_reply : (f : Function) (c : Context) (args : List Tree) (s : State) → Keeps s (task_reply f c args s)
-keeps_reply function.SetTaskPermissions c args s = keeps_perms args s
+keeps_reply function.SetTaskPerms c args s = keeps_perms args s
 keeps_reply function.Notify c args s = keeps_notify args s
 keeps_reply function.BootPlayer c args s = keeps_boot args s
 keeps_reply function.SetPlayerFlag c args s = keeps_flag args s

@@ -27,8 +27,8 @@ use Rattle.moo_eval_call.specs.Asking.{notify, boot_player, set_player_flag, dum
 abbrev pub is_of_task : Function → Bool
 is_of_task function.TicksLeft = true
 is_of_task function.Callers = true
-is_of_task function.CallerPermissions = true
-is_of_task function.SetTaskPermissions = true
+is_of_task function.CallerPerms = true
+is_of_task function.SetTaskPerms = true
 is_of_task function.ConnectedPlayers = true
 is_of_task function.IdleSeconds = true
 is_of_task function.ConnectedSeconds = true
@@ -44,8 +44,8 @@ is_of_task _ = false
 abbrev pub task_reply : Function → Context → List Tree → State → Reply
 task_reply function.TicksLeft c args s = (Ok (integer (pos s.ticks)), s)
 task_reply function.Callers c args s = (answers (listed (frame_lists c.callers)), s)
-task_reply function.CallerPermissions c args s = (Ok (object (nearest_programmer c.callers)), s)
-task_reply function.SetTaskPermissions c args s = set_task_perms args s
+task_reply function.CallerPerms c args s = (Ok (object (nearest_programmer c.callers)), s)
+task_reply function.SetTaskPerms c args s = set_task_perms args s
 task_reply function.ConnectedPlayers c args s = (answers (connected_players c.surroundings args), s)
 task_reply function.IdleSeconds c args s = (answers (elapsed_since last_heard c.surroundings args), s)
 task_reply function.ConnectedSeconds c args s = (answers (elapsed_since last_login c.surroundings args), s)

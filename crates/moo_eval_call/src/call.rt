@@ -143,9 +143,9 @@ fn outcome(
         return raised(alloc, ErrorCode::Arguments);
     }
     match found {
-        Function::ToText => settled(alloc, joined_text(alloc, values)),
-        Function::Minimum => settled(alloc, extreme_number(Extreme::Least, values)),
-        Function::Maximum => settled(alloc, extreme_number(Extreme::Greatest, values)),
+        Function::Tostr => settled(alloc, joined_text(alloc, values)),
+        Function::Min => settled(alloc, extreme_number(Extreme::Least, values)),
+        Function::Max => settled(alloc, extreme_number(Extreme::Greatest, values)),
         _ => called(alloc, found, values, world, caller),
     }
 }

@@ -26,8 +26,8 @@ pub(crate) fn is_of_task(function: Function) -> bool
     match function {
         Function::TicksLeft
         | Function::Callers
-        | Function::CallerPermissions
-        | Function::SetTaskPermissions
+        | Function::CallerPerms
+        | Function::SetTaskPerms
         | Function::ConnectedPlayers
         | Function::IdleSeconds
         | Function::ConnectedSeconds
@@ -57,8 +57,8 @@ pub(crate) fn task_reply(
     match function {
         Function::TicksLeft => Ok(Value::Int(ticks.left())),
         Function::Callers => callers(alloc, stack),
-        Function::CallerPermissions => Ok(Value::Obj(nearest_programmer(&stack.callers))),
-        Function::SetTaskPermissions => set_task_perms(world, active, args),
+        Function::CallerPerms => Ok(Value::Obj(nearest_programmer(&stack.callers))),
+        Function::SetTaskPerms => set_task_perms(world, active, args),
         Function::ConnectedPlayers => connected_players(alloc, stack.surroundings, args),
         Function::IdleSeconds => idle_seconds(stack.surroundings, args),
         Function::ConnectedSeconds => connected_seconds(stack.surroundings, args),

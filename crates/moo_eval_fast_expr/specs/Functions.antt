@@ -5,21 +5,21 @@ use Rattle.moo_syntax_function.specs.declared.function.Function.TheVariants as f
 
 -- what it gives depends on its arguments alone
 abbrev pub is_timeless : Function → Bool
-is_timeless function.TypeOf = true
+is_timeless function.Typeof = true
 is_timeless function.Length = true
-is_timeless function.ToText = true
-is_timeless function.ToLiteral = true
-is_timeless function.ToInteger = true
-is_timeless function.ToNumber = true
-is_timeless function.ToObject = true
+is_timeless function.Tostr = true
+is_timeless function.Toliteral = true
+is_timeless function.Toint = true
+is_timeless function.Tonum = true
+is_timeless function.Toobj = true
 is_timeless function.Equal = true
-is_timeless function.Compare = true
-is_timeless function.Minimum = true
-is_timeless function.Maximum = true
-is_timeless function.Absolute = true
+is_timeless function.Strcmp = true
+is_timeless function.Min = true
+is_timeless function.Max = true
+is_timeless function.Abs = true
 is_timeless function.Index = true
-is_timeless function.LastIndex = true
-is_timeless function.Substitute = true
+is_timeless function.Rindex = true
+is_timeless function.Strsub = true
 is_timeless function.ListAppend = true
 is_timeless function.ListInsert = true
 is_timeless function.ListSet = true

@@ -98,11 +98,7 @@ fn two_elements(items: &[Item]) -> Option<(&Expr, &Expr)>
 fn is_quick(function: Function) -> bool {
     matches!(
         function,
-        Function::TypeOf
-            | Function::Length
-            | Function::Minimum
-            | Function::Maximum
-            | Function::Absolute
+        Function::Typeof | Function::Length | Function::Min | Function::Max | Function::Abs
     )
 }
 
@@ -125,21 +121,21 @@ fn is_timeless(function: Function) -> bool
     ensures { result ≡ is_timeless function }
 {
     match function {
-        Function::TypeOf
+        Function::Typeof
         | Function::Length
-        | Function::ToText
-        | Function::ToLiteral
-        | Function::ToInteger
-        | Function::ToNumber
-        | Function::ToObject
+        | Function::Tostr
+        | Function::Toliteral
+        | Function::Toint
+        | Function::Tonum
+        | Function::Toobj
         | Function::Equal
-        | Function::Compare
-        | Function::Minimum
-        | Function::Maximum
-        | Function::Absolute
+        | Function::Strcmp
+        | Function::Min
+        | Function::Max
+        | Function::Abs
         | Function::Index
-        | Function::LastIndex
-        | Function::Substitute
+        | Function::Rindex
+        | Function::Strsub
         | Function::ListAppend
         | Function::ListInsert
         | Function::ListSet

@@ -14,7 +14,7 @@ use crate::forms::as_variable;
 use moo_eval_fast_expr::as_element;
 use moo_eval_frame::{Failure, Variables};
 use moo_syntax_ast::{Expr, Item, Name};
-use moo_value::{DEPTH_LIMIT, ErrorCode, ListFault, MooList, Value, WEIGHT_LIMIT};
+use moo_value::{DEPTH_LIMIT, ErrorCode, ListLimit, MooList, Value, WEIGHT_LIMIT};
 use std::alloc::{AllocError, Global};
 
 /// Sets a variable to the list with the value behind it: E_QUOTA past the limits, and then the variable stays as it was.
@@ -58,8 +58,8 @@ pub(crate) fn pushed(alloc: Global, list: MooList, value: Value) -> Result<MooLi
 {
     match list.pushed(alloc, value) {
         Ok(longer) => Ok(longer),
-        Err(ListFault::Memory) => Err(AllocError),
-        Err(ListFault::TooLarge) => unreachable!(),
+        Err(ListLimit::Memory) => Err(AllocError),
+        Err(ListLimit::TooLarge) => unreachable!(),
     }
 }
 

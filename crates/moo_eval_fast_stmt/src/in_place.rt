@@ -15,7 +15,7 @@ use moo_builtin_operator::index_refusal;
 use moo_eval_fast_expr::places_before;
 use moo_eval_frame::Variables;
 use moo_syntax_ast::Name;
-use moo_value::{ListFault, MooList, Value};
+use moo_value::{ListLimit, MooList, Value};
 use std::alloc::{AllocError, Global};
 
 /// Puts a value at a place of the list or string in a variable, where that raises nothing and the variable has a slot, and tells whether
@@ -164,8 +164,8 @@ fn replaced(
 {
     match list.replaced(alloc, before, value) {
         Ok(all) => Ok(all),
-        Err(ListFault::Memory) => Err(AllocError),
-        Err(ListFault::TooLarge) => unreachable!(),
+        Err(ListLimit::Memory) => Err(AllocError),
+        Err(ListLimit::TooLarge) => unreachable!(),
     }
 }
 

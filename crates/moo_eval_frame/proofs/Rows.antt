@@ -2,8 +2,8 @@
 use Rattle.std.proofs.Common.{◌≡◌, ℕ, ◌+◌, ◌-◌, ◌≤◌, ◌<◌, List, [], ◌∷◌, ◌++◌, length, take, drop, get_or, sym, ap, ◌∙◌, arith, Err}
 use Rattle.std.proofs.lemmas.List.{take_more, take-append-drop, append-nil}
 use Rattle.std.proofs.lemmas.List.Concat.{flat_map-append}
-use Rattle.moo_value.specs.declared.list.ListFault.{ListFault}
-use Rattle.moo_value.specs.declared.list.ListFault.TheVariants as list
+use Rattle.moo_value.specs.declared.list.ListLimit.{ListLimit}
+use Rattle.moo_value.specs.declared.list.ListLimit.TheVariants as list
 use Rattle.moo_value.specs.Faults.{IsRefusedList}
 use Rattle.moo_value.specs.Tree.{Tree, list_of}
 use Rattle.moo_value.specs.Size.{list_weight, weight_limit}
@@ -49,6 +49,6 @@ pub no_list : (ts us : List Tree) → weight_limit < list_weight ts → answers 
 no_list ts us h = ap answers (limited_past (list_of (ts ++ us)) (λ limits. omega (arith, h, no_less ts us, limits.weight)))
 
 -- what is refused as a list fails
-pub is_refused : (f : ListFault) (ts : List Tree) → IsRefusedList f ts → HadMemoryIn (refused f) → answers (made_list ts) ≡ Err (failure_of (refused f))
+pub is_refused : (f : ListLimit) (ts : List Tree) → IsRefusedList f ts → HadMemoryIn (refused f) → answers (made_list ts) ≡ Err (failure_of (refused f))
 is_refused list.TooLarge ts h k = ap answers (limited_past (list_of ts) h)
 is_refused list.Memory ts h k = absurd k

@@ -6,7 +6,7 @@ ghost use Rattle.moo_eval_frame.specs.Seen.{raise_of, trace_of, stop_of, failure
 
 use crate::frame::{Activation, CallStack, TraceEntry};
 use moo_builtin_operator::OperationFault;
-use moo_value::{ErrorCode, ListFault, MooStr, Value};
+use moo_value::{ErrorCode, ListLimit, MooStr, Value};
 use std::alloc::{AllocError, Global};
 
 /// An error that was raised. Its details are on the heap, so that an outcome is small.
@@ -133,16 +133,16 @@ impl From<OperationFault> for Failure {
     }
 }
 
-impl From<ListFault> for Failure {
+impl From<ListLimit> for Failure {
     ghost use Rattle.moo_eval_frame.specs.declared.outcome.Failure.{Failure};
     ghost use Rattle.moo_eval_frame.specs.Fault.{refused};
 
     ghost from_gives = { λ fault failure. failure ≡ refused fault };
 
-    fn from(fault: ListFault) -> Failure {
+    fn from(fault: ListLimit) -> Failure {
         match fault {
-            ListFault::TooLarge => Failure::Fails(ErrorCode::Quota),
-            ListFault::Memory => Failure::Stops(Stop::Memory),
+            ListLimit::TooLarge => Failure::Fails(ErrorCode::Quota),
+            ListLimit::Memory => Failure::Stops(Stop::Memory),
         }
     }
 }

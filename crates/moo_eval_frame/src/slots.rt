@@ -60,7 +60,7 @@ impl Slots {
     pub(crate) fn unset(alloc: Global, program: Program) -> Result<Slots, AllocError>
         ensures { IfOk result (λ own. slot_value own.names own.values (value_of_name []) ≡ value_of_name []) }
     {
-        let slots = unset_slots(alloc, program.slots())?;
+        let slots = unset_slots(alloc, program.slot_names())?;
         Ok(Slots { program, slots })
     }
 
@@ -162,7 +162,7 @@ impl Slots {
         requires { slot < length self.old.values }
         ensures { self.new ≡ with_held self.old slot value }
     {
-        let (number, further) = held_numbers(&self.program.slots()[slot]);
+        let (number, further) = held_numbers(&self.program.slot_names()[slot]);
         self.slots[slot] = Slot {
             number,
             further,
@@ -321,7 +321,7 @@ fn searched_slot(program: &Program, name: &Name) -> Option<usize>
 fn is_spelled(program: &Program, slot: usize, name: &Name) -> bool
     ensures { IsTrue result → (slot < length (slots program.now)) × (get_or (slots program.now) slot [] ≡ name.now) }
 {
-    match program.slots().get(slot) {
+    match program.slot_names().get(slot) {
         Some(own) => own.is_spelled_as(name),
         None => false,
     }

@@ -6,7 +6,7 @@ ghost use Rattle.moo_builtin.specs.Telling.{Faults};
 ghost use Rattle.moo_session.specs.Events.{CallsOwnHook, CheckpointStarts, CheckpointEnds, Starts, all_parted};
 
 use moo_session_task::{Hook, Live, Session, call_server_verb, empty, run_hooks, word_list};
-use moo_value::{ListFault, MooList, Value};
+use moo_value::{ListLimit, MooList, Value};
 use moo_world::World;
 use std::alloc::{AllocError, Global};
 
@@ -92,7 +92,7 @@ fn one_number(alloc: Global, number: i32) -> Result<MooList, AllocError>
     values.push(Value::Int(number))?;
     match MooList::try_from_vec(alloc, values) {
         Ok(list) => Ok(list),
-        Err(ListFault::Memory) => Err(AllocError),
-        Err(ListFault::TooLarge) => unreachable!(),
+        Err(ListLimit::Memory) => Err(AllocError),
+        Err(ListLimit::TooLarge) => unreachable!(),
     }
 }

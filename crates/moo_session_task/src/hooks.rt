@@ -8,7 +8,7 @@ ghost use Rattle.moo_session_task.specs.Seen.{seen_answer};
 
 use crate::verbs::{call_server_verb, empty};
 use crate::{Hook, Live};
-use moo_value::{ListFault, MooList, Value};
+use moo_value::{ListLimit, MooList, Value};
 use std::alloc::{AllocError, Global};
 
 /// Runs the hooks that wait, from the first on, until none waits, at this moment, in seconds. `Err` where memory is
@@ -81,7 +81,7 @@ fn one_object(alloc: Global, o: i32) -> Result<MooList, AllocError>
     values.push(Value::Obj(o))?;
     match MooList::try_from_vec(alloc, values) {
         Ok(list) => Ok(list),
-        Err(ListFault::Memory) => Err(AllocError),
-        Err(ListFault::TooLarge) => unreachable!(),
+        Err(ListLimit::Memory) => Err(AllocError),
+        Err(ListLimit::TooLarge) => unreachable!(),
     }
 }

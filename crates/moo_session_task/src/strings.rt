@@ -4,7 +4,7 @@ ghost use Rattle.std.specs.Prelude.{◌≡◌, IfOk};
 ghost use Rattle.moo_value.specs.View.{trees};
 ghost use Rattle.moo_session_task.specs.WordList.{strings_of, FitsAList};
 
-use moo_value::{ListFault, MooList, MooStr, Value};
+use moo_value::{ListLimit, MooList, MooStr, Value};
 use std::alloc::{AllocError, Global};
 
 /// The list of these words, where it is within the limits.
@@ -15,8 +15,8 @@ pub fn word_list(alloc: Global, words: Vec<MooStr>) -> Result<MooList, AllocErro
     let strings = strings(alloc, words)?;
     match MooList::try_from_vec(alloc, strings) {
         Ok(list) => Ok(list),
-        Err(ListFault::Memory) => Err(AllocError),
-        Err(ListFault::TooLarge) => unreachable!(),
+        Err(ListLimit::Memory) => Err(AllocError),
+        Err(ListLimit::TooLarge) => unreachable!(),
     }
 }
 

@@ -14,7 +14,7 @@ use crate::syntax_fault::{SyntaxFault, SyntaxFaultKind};
 use crate::{Cursor, Fault};
 use moo_syntax_ast::{MOST_NODES, Stmt, fit_lines};
 use moo_syntax_grammar::{Names, Program};
-use moo_syntax_token::{Known, Sign, Spot, tokens_with};
+use moo_syntax_token::{NameInterner, Sign, Spot, tokens_with};
 use moo_value::MooStr;
 use std::alloc::Global;
 
@@ -23,13 +23,13 @@ pub fn parse(alloc: Global, lines: &[MooStr], names: Names) -> Result<Program, S
     ensures program { IfOk result (λ p. IsParsed names lines.now p) }
     ensures fault { IfErr result (λ f. Blames names lines.now f.line f.kind) }
 {
-    parse_with(alloc, &mut Known::new(alloc), lines, names)
+    parse_with(alloc, &mut NameInterner::new(alloc), lines, names)
 }
 
 /// Parses as `parse` does, with the strings of names from a cache.
 pub fn parse_with(
     alloc: Global,
-    known: &mut Known,
+    known: &mut NameInterner,
     lines: &[MooStr],
     names: Names,
 ) -> Result<Program, SyntaxFault>

@@ -25,21 +25,21 @@ abbrev pub takes_more : List ℕ → List Kind → Kind → Row
 takes_more name needed kind = record { name = name; needed = needed; optional = []; more = Some kind }
 
 abbrev pub row : Function → Row
-row function.TypeOf = takes (codes "typeof") (Any ∷ [])
+row function.Typeof = takes (codes "typeof") (Any ∷ [])
 row function.Length = takes (codes "length") (TextOrList ∷ [])
-row function.ToText = takes_more (codes "tostr") [] Any
-row function.ToLiteral = takes (codes "toliteral") (Any ∷ [])
-row function.ToInteger = takes (codes "toint") (Any ∷ [])
-row function.ToNumber = takes (codes "tonum") (Any ∷ [])
-row function.ToObject = takes (codes "toobj") (Any ∷ [])
+row function.Tostr = takes_more (codes "tostr") [] Any
+row function.Toliteral = takes (codes "toliteral") (Any ∷ [])
+row function.Toint = takes (codes "toint") (Any ∷ [])
+row function.Tonum = takes (codes "tonum") (Any ∷ [])
+row function.Toobj = takes (codes "toobj") (Any ∷ [])
 row function.Equal = takes (codes "equal") (Any ∷ Any ∷ [])
-row function.Compare = takes (codes "strcmp") (Text ∷ Text ∷ [])
-row function.Minimum = takes_more (codes "min") (Integer ∷ []) Integer
-row function.Maximum = takes_more (codes "max") (Integer ∷ []) Integer
-row function.Absolute = takes (codes "abs") (Integer ∷ [])
+row function.Strcmp = takes (codes "strcmp") (Text ∷ Text ∷ [])
+row function.Min = takes_more (codes "min") (Integer ∷ []) Integer
+row function.Max = takes_more (codes "max") (Integer ∷ []) Integer
+row function.Abs = takes (codes "abs") (Integer ∷ [])
 row function.Index = takes_perhaps (codes "index") (Text ∷ Text ∷ []) (Any ∷ [])
-row function.LastIndex = takes_perhaps (codes "rindex") (Text ∷ Text ∷ []) (Any ∷ [])
-row function.Substitute = takes_perhaps (codes "strsub") (Text ∷ Text ∷ Text ∷ []) (Any ∷ [])
+row function.Rindex = takes_perhaps (codes "rindex") (Text ∷ Text ∷ []) (Any ∷ [])
+row function.Strsub = takes_perhaps (codes "strsub") (Text ∷ Text ∷ Text ∷ []) (Any ∷ [])
 row function.ListAppend = takes_perhaps (codes "listappend") (ListOf ∷ Any ∷ []) (Integer ∷ [])
 row function.ListInsert = takes_perhaps (codes "listinsert") (ListOf ∷ Any ∷ []) (Integer ∷ [])
 row function.ListSet = takes (codes "listset") (ListOf ∷ Any ∷ Integer ∷ [])
@@ -50,7 +50,7 @@ row function.IsMember = takes (codes "is_member") (Any ∷ ListOf ∷ [])
 row function.Valid = takes (codes "valid") (AnyObject ∷ [])
 row function.Parent = takes (codes "parent") (ValidObject ∷ [])
 row function.Children = takes (codes "children") (ValidObject ∷ [])
-row function.MaximumObject = takes (codes "max_object") []
+row function.MaxObject = takes (codes "max_object") []
 row function.Players = takes (codes "players") []
 row function.IsPlayer = takes (codes "is_player") (ValidObject ∷ [])
 row function.SetPlayerFlag = takes (codes "set_player_flag") (ValidObject ∷ Any ∷ [])
@@ -63,14 +63,14 @@ row function.DeleteProperty = takes (codes "delete_property") (ValidObject ∷ T
 row function.IsClearProperty = takes (codes "is_clear_property") (ValidObject ∷ Text ∷ [])
 row function.ClearProperty = takes (codes "clear_property") (ValidObject ∷ Text ∷ [])
 row function.VerbInfo = takes (codes "verb_info") (ValidObject ∷ Verb ∷ [])
-row function.VerbArguments = takes (codes "verb_args") (ValidObject ∷ Verb ∷ [])
+row function.VerbArgs = takes (codes "verb_args") (ValidObject ∷ Verb ∷ [])
 row function.VerbCode = takes_perhaps (codes "verb_code") (ValidObject ∷ Verb ∷ []) (Any ∷ Any ∷ [])
 row function.SetVerbInfo = takes (codes "set_verb_info") (ValidObject ∷ Verb ∷ VerbInfo ∷ [])
-row function.SetVerbArguments = takes (codes "set_verb_args") (ValidObject ∷ Verb ∷ VerbArguments ∷ [])
+row function.SetVerbArgs = takes (codes "set_verb_args") (ValidObject ∷ Verb ∷ VerbArguments ∷ [])
 row function.SetVerbCode = takes (codes "set_verb_code") (ValidObject ∷ Verb ∷ Lines ∷ [])
 row function.AddVerb = takes (codes "add_verb") (ValidObject ∷ VerbInfo ∷ VerbArguments ∷ [])
 row function.DeleteVerb = takes (codes "delete_verb") (ValidObject ∷ Verb ∷ [])
-row function.ChangeParent = takes (codes "chparent") (ValidObject ∷ AnyObject ∷ [])
+row function.Chparent = takes (codes "chparent") (ValidObject ∷ AnyObject ∷ [])
 row function.Time = takes (codes "time") []
 row function.ServerVersion = takes (codes "server_version") []
 row function.Create = takes_perhaps (codes "create") (AnyObject ∷ []) (AnyObject ∷ [])
@@ -80,8 +80,8 @@ row function.Pass = takes_more (codes "pass") [] Any
 row function.Eval = takes (codes "eval") (Text ∷ [])
 row function.Raise = takes_perhaps (codes "raise") (Error ∷ []) (Text ∷ Any ∷ [])
 row function.Callers = takes (codes "callers") []
-row function.CallerPermissions = takes (codes "caller_perms") []
-row function.SetTaskPermissions = takes (codes "set_task_perms") (AnyObject ∷ [])
+row function.CallerPerms = takes (codes "caller_perms") []
+row function.SetTaskPerms = takes (codes "set_task_perms") (AnyObject ∷ [])
 row function.TicksLeft = takes (codes "ticks_left") []
 row function.Notify = takes (codes "notify") (AnyObject ∷ Text ∷ [])
 row function.BootPlayer = takes (codes "boot_player") (AnyObject ∷ [])
@@ -97,14 +97,14 @@ function_name f = (row f).name
 
 abbrev pub all_functions : List Function
 all_functions =
-    function.TypeOf ∷ function.Length ∷ function.ToText ∷ function.ToLiteral ∷ function.ToInteger ∷ function.ToNumber
-    ∷ function.ToObject ∷ function.Equal ∷ function.Compare ∷ function.Minimum ∷ function.Maximum ∷ function.Absolute
-    ∷ function.Index ∷ function.LastIndex ∷ function.Substitute ∷ function.ListAppend ∷ function.ListInsert ∷ function.ListSet
+    function.Typeof ∷ function.Length ∷ function.Tostr ∷ function.Toliteral ∷ function.Toint ∷ function.Tonum
+    ∷ function.Toobj ∷ function.Equal ∷ function.Strcmp ∷ function.Min ∷ function.Max ∷ function.Abs
+    ∷ function.Index ∷ function.Rindex ∷ function.Strsub ∷ function.ListAppend ∷ function.ListInsert ∷ function.ListSet
     ∷ function.ListDelete ∷ function.SetAdd ∷ function.SetRemove ∷ function.IsMember ∷ function.Valid ∷ function.Parent
-    ∷ function.Children ∷ function.MaximumObject ∷ function.Players ∷ function.IsPlayer ∷ function.SetPlayerFlag ∷ function.Properties
+    ∷ function.Children ∷ function.MaxObject ∷ function.Players ∷ function.IsPlayer ∷ function.SetPlayerFlag ∷ function.Properties
     ∷ function.Verbs ∷ function.PropertyInfo ∷ function.SetPropertyInfo ∷ function.AddProperty ∷ function.DeleteProperty ∷ function.IsClearProperty
-    ∷ function.ClearProperty ∷ function.VerbInfo ∷ function.VerbArguments ∷ function.VerbCode ∷ function.SetVerbInfo ∷ function.SetVerbArguments
-    ∷ function.SetVerbCode ∷ function.AddVerb ∷ function.DeleteVerb ∷ function.ChangeParent ∷ function.Time ∷ function.ServerVersion
+    ∷ function.ClearProperty ∷ function.VerbInfo ∷ function.VerbArgs ∷ function.VerbCode ∷ function.SetVerbInfo ∷ function.SetVerbArgs
+    ∷ function.SetVerbCode ∷ function.AddVerb ∷ function.DeleteVerb ∷ function.Chparent ∷ function.Time ∷ function.ServerVersion
     ∷ function.Create ∷ function.Recycle ∷ function.Move ∷ function.Pass ∷ function.Eval ∷ function.Raise
-    ∷ function.Callers ∷ function.CallerPermissions ∷ function.SetTaskPermissions ∷ function.TicksLeft ∷ function.Notify ∷ function.BootPlayer
+    ∷ function.Callers ∷ function.CallerPerms ∷ function.SetTaskPerms ∷ function.TicksLeft ∷ function.Notify ∷ function.BootPlayer
     ∷ function.ConnectedPlayers ∷ function.IdleSeconds ∷ function.ConnectedSeconds ∷ function.DumpDatabase ∷ function.Shutdown ∷ function.ServerLog ∷ []

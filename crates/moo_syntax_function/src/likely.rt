@@ -26,9 +26,9 @@ pub(crate) fn likely(name: &[u8]) -> Option<Function> {
 
 fn of_three(second: u8) -> Option<Function> {
     match second {
-        b'i' => Some(Function::Minimum),
-        b'a' => Some(Function::Maximum),
-        b'b' => Some(Function::Absolute),
+        b'i' => Some(Function::Min),
+        b'a' => Some(Function::Max),
+        b'b' => Some(Function::Abs),
         _ => None,
     }
 }
@@ -45,10 +45,10 @@ fn of_four(first: u8) -> Option<Function> {
 
 fn of_five(last: u8) -> Option<Function> {
     match last {
-        b'r' => Some(Function::ToText),
-        b't' => Some(Function::ToInteger),
-        b'm' => Some(Function::ToNumber),
-        b'j' => Some(Function::ToObject),
+        b'r' => Some(Function::Tostr),
+        b't' => Some(Function::Toint),
+        b'm' => Some(Function::Tonum),
+        b'j' => Some(Function::Toobj),
         b'l' => Some(Function::Equal),
         b'x' => Some(Function::Index),
         b'd' => Some(Function::Valid),
@@ -60,11 +60,11 @@ fn of_five(last: u8) -> Option<Function> {
 
 fn of_six(last: u8) -> Option<Function> {
     match last {
-        b'f' => Some(Function::TypeOf),
+        b'f' => Some(Function::Typeof),
         b'h' => Some(Function::Length),
-        b'p' => Some(Function::Compare),
-        b'x' => Some(Function::LastIndex),
-        b'b' => Some(Function::Substitute),
+        b'p' => Some(Function::Strcmp),
+        b'x' => Some(Function::Rindex),
+        b'b' => Some(Function::Strsub),
         b'd' => Some(Function::SetAdd),
         b't' => Some(Function::Parent),
         b'e' => Some(Function::Create),
@@ -87,7 +87,7 @@ fn of_eight(third: u8) -> Option<Function> {
     match third {
         b'i' => Some(Function::Children),
         b'd' => Some(Function::AddVerb),
-        b'p' => Some(Function::ChangeParent),
+        b'p' => Some(Function::Chparent),
         b'u' => Some(Function::Shutdown),
         _ => None,
     }
@@ -95,12 +95,12 @@ fn of_eight(third: u8) -> Option<Function> {
 
 fn of_nine(fourth: u8, sixth: u8) -> Option<Function> {
     match (fourth, sixth) {
-        (b'i', _) => Some(Function::ToLiteral),
+        (b'i', _) => Some(Function::Toliteral),
         (b'r', _) => Some(Function::SetRemove),
         (b'm', _) => Some(Function::IsMember),
         (b'p', _) => Some(Function::IsPlayer),
         (b'b', b'i') => Some(Function::VerbInfo),
-        (b'b', b'a') => Some(Function::VerbArguments),
+        (b'b', b'a') => Some(Function::VerbArgs),
         (b'b', b'c') => Some(Function::VerbCode),
         _ => None,
     }
@@ -111,7 +111,7 @@ fn of_ten(ninth: u8) -> Option<Function> {
         b'n' => Some(Function::ListAppend),
         b'r' => Some(Function::ListInsert),
         b't' => Some(Function::ListDelete),
-        b'c' => Some(Function::MaximumObject),
+        b'c' => Some(Function::MaxObject),
         b'e' => Some(Function::Properties),
         b'f' => Some(Function::TicksLeft),
         b'o' => Some(Function::ServerLog),
@@ -130,7 +130,7 @@ fn of_eleven(first: u8) -> Option<Function> {
 fn of_twelve(first: u8) -> Option<Function> {
     match first {
         b'a' => Some(Function::AddProperty),
-        b'c' => Some(Function::CallerPermissions),
+        b'c' => Some(Function::CallerPerms),
         b'i' => Some(Function::IdleSeconds),
         _ => None,
     }
@@ -140,7 +140,7 @@ fn of_thirteen(first: u8, tenth: u8) -> Option<Function> {
     match (first, tenth) {
         (b'p', _) => Some(Function::PropertyInfo),
         (b's', b'i') => Some(Function::SetVerbInfo),
-        (b's', b'a') => Some(Function::SetVerbArguments),
+        (b's', b'a') => Some(Function::SetVerbArgs),
         (b's', b'c') => Some(Function::SetVerbCode),
         (b'd', _) => Some(Function::DumpDatabase),
         _ => None,
@@ -151,7 +151,7 @@ fn of_fourteen(third: u8) -> Option<Function> {
     match third {
         b'e' => Some(Function::ClearProperty),
         b'r' => Some(Function::ServerVersion),
-        b't' => Some(Function::SetTaskPermissions),
+        b't' => Some(Function::SetTaskPerms),
         _ => None,
     }
 }

@@ -55,7 +55,7 @@ jump_lead g ls k f {Q = Q} m n o = peek_lead (allowed_lead (may_jump g ls None) 
 end_lead : {g : Rules} {s : Sort} (k : Keyword) {p : Reading s} {Q : Fact s} → Lead g s p (λ ts e r. Q (token.Keyword k ∷ ts) e r) → Lead g s (expect_keyword k p) Q
 end_lead k m = keyword_lead k m refuses_lead
 
-all_lead : (g : Rules) (k : Kind) → Lead g (sort k) (grammar g k) (Derives g k)
+pub all_lead : (g : Rules) (k : Kind) → Lead g (sort k) (grammar g k) (Derives g k)
 unfolding grammar
 all_lead g (Grammar.expression i) = phrase_lead (λ a. peek_lead (allowed_lead (may_assign g a) (λ is. taken_lead sign.Assign (phrase_lead (λ b. gives_lead (λ r m d ts c. Grammar.assigns is c d))))) (gives_lead (λ r ts d. Grammar.plain d)))
 all_lead g (Grammar.conditional i) = phrase_lead (λ a. sign_lead sign.Question (phrase_lead (λ b. expect_lead sign.Pipe (phrase_lead (λ c. gives_lead (λ r n z m y ts x. Grammar.chooses x y z))))) (gives_lead (λ r ts d. Grammar.unconditional d)))
@@ -133,7 +133,7 @@ all_lead g (Grammar.handlers ls) = end_lead keyword.Except (phrase_lead (λ l. e
 all_lead g Grammar.in_parens = expect_lead sign.LeftParen (phrase_lead (λ a. expect_lead sign.RightParen (gives_lead (λ r ts d. Grammar.parenthesized d))))
 all_lead g Grammar.label = name_lead (λ x. gives_lead (λ r. Grammar.labelled)) (gives_lead (λ r. Grammar.unlabelled))
 
-led : (g : Rules) (s : Sort) (Q : Fact s) {p : Reading s} {ts r : List Token} {e : Of s} → Reads (grammar g) s p ts e r → Leads g s p Q → Q ts e r
+pub led : (g : Rules) (s : Sort) (Q : Fact s) {p : Reading s} {ts r : List Token} {e : Of s} → Reads (grammar g) s p ts e r → Leads g s p Q → Q ts e r
 led g s Q {r = r} gives m = m r
 led g s Q (takes {x = x} d) m = led g s (λ ts e r. Q (x ∷ ts) e r) d (m x)
 led g s Q (sees {f = f} h d) m = led g s (λ ts e r. next_passes f ts ≡ true → Q ts e r) d m.0 h

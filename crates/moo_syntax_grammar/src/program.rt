@@ -10,6 +10,7 @@ ghost use Rattle.moo_syntax_grammar.specs.Texts.{HasText};
 
 use crate::order::{Slot, ordered_slots, slot_among};
 use moo_syntax_ast::{Name, Stmt, variable_names};
+use moo_value::MooStr;
 use std::alloc::{AllocError, Global};
 use std::marker::Model;
 use std::rc::Rc;
@@ -25,6 +26,8 @@ pub struct Program {
 struct Parts {
     statements: Vec<Stmt>,
     names: Vec<Name>,
+    /// The spellings of the names.
+    texts: Vec<MooStr>,
     /// The slots, sorted by name.
     order: Vec<Slot>,
 }
@@ -46,7 +49,7 @@ impl Model for Program {
 
     ghost view = { λ p. block p.parts.value.statements.items };
 
-    ghost invariant = { λ p. IsWithinLimits (block p.parts.value.statements.items) × HasText (block p.parts.value.statements.items) × (p.parts.value.names.items ≡ slots (block p.parts.value.statements.items)) × AreOrdered p.parts.value.names.items p.parts.value.order.items };
+    ghost invariant = { λ p. IsWithinLimits (block p.parts.value.statements.items) × HasText (block p.parts.value.statements.items) × (p.parts.value.names.items ≡ slots (block p.parts.value.statements.items)) × (p.parts.value.texts.items ≡ slots (block p.parts.value.statements.items)) × AreOrdered p.parts.value.names.items p.parts.value.order.items };
 }
 
 impl Program {
@@ -58,12 +61,14 @@ impl Program {
         ensures { IfOk result (λ p. p ≡ block statements.items) }
     {
         let names = variable_names(alloc, &statements)?;
+        let texts = texts_of(alloc, &names)?;
         let order = ordered_slots(alloc, &names)?;
         let parts = Rc::new(
             alloc,
             Parts {
                 statements,
                 names,
+                texts,
                 order,
             },
         )?;
@@ -96,7 +101,14 @@ impl Program {
     }
 
     /// Returns the names of the program's variables in lower case, each once, in the order of their first occurrences.
-    pub fn slots(&self) -> &[Name]
+    pub fn slots(&self) -> &[MooStr]
+        ensures { result.now ≡ slots self.now }
+    {
+        self.parts.texts.as_slice()
+    }
+
+    /// Returns the names of the slots, in the order of `slots`, with the numbers by which names are compared.
+    pub fn slot_names(&self) -> &[Name]
         ensures { result.now ≡ slots self.now }
     {
         self.parts.names.as_slice()
@@ -108,4 +120,15 @@ impl Program {
     {
         slot_among(self.parts.order.as_slice(), name)
     }
+}
+
+// Returns the spellings of names.
+fn texts_of(alloc: Global, names: &[Name]) -> Result<Vec<MooStr>, AllocError>
+    ensures { IfOk result (λ texts. texts.items ≡ names.now) }
+{
+    let mut texts = Vec::new(alloc);
+    for name in names {
+        texts.push(name.text().try_clone()?)?;
+    }
+    Ok(texts)
 }

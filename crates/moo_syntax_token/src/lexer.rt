@@ -4,7 +4,7 @@ ghost use Rattle.moo_value.specs.Size.{IsString};
 ghost use Rattle.moo_syntax_token.specs.Lexing.{begins_blank, begins_comment, ends_comment, IsReading};
 ghost use Rattle.moo_syntax_token.specs.Passing.{place, Passes, Stops};
 
-use crate::known::Known;
+use crate::name_interner::NameInterner;
 use crate::scan::token_at;
 use crate::token::{Spot, Token};
 use moo_value::MooStr;
@@ -51,7 +51,7 @@ fn first_room(lines: usize) -> usize {
 /// token begins there; the spots then end with `Bad`.
 fn pass(
     alloc: Global,
-    known: &mut Known,
+    known: &mut NameInterner,
     number: usize,
     rest: &[u8],
     opened: &mut Option<usize>,
@@ -97,7 +97,7 @@ fn keep(spots: &mut Vec<Spot>, token: Token, line: usize) -> Result<(), AllocErr
 /// Reads a line. Returns whether all of it could be read; if not, the spots end with `Bad`.
 fn pass_line(
     alloc: Global,
-    known: &mut Known,
+    known: &mut NameInterner,
     number: usize,
     line: &[u8],
     opened: &mut Option<usize>,
@@ -121,13 +121,13 @@ fn pass_line(
 pub fn tokens(alloc: Global, lines: &[MooStr]) -> Result<Vec<Spot>, AllocError>
     ensures { IfOk result (λ spots. IsReading lines.now spots.items) }
 {
-    tokens_with(alloc, &mut Known::new(alloc), lines)
+    tokens_with(alloc, &mut NameInterner::new(alloc), lines)
 }
 
 /// Returns the tokens as `tokens` does, with the strings of names from a cache.
 pub fn tokens_with(
     alloc: Global,
-    known: &mut Known,
+    known: &mut NameInterner,
     lines: &[MooStr],
 ) -> Result<Vec<Spot>, AllocError>
     ensures { IfOk result (λ spots. IsReading lines.now spots.items) }

@@ -6,7 +6,7 @@ ghost use Rattle.moo_syntax_token.specs.Spelling.{is_word, is_name};
 ghost use Rattle.moo_syntax_token.specs.Tokens.{begins_name, is_digit, continues_name, word, wrapped, begins_fraction, integer_at, number_at, object_at, unquoted, token_at};
 
 use crate::keyword::Keyword;
-use crate::known::Known;
+use crate::name_interner::NameInterner;
 use crate::sign::sign_at;
 use crate::token::Token;
 use moo_value::{ErrorCode, MooStr, ValueFault};
@@ -154,7 +154,7 @@ fn owned(alloc: Global, bytes: Vec<u8>) -> Result<MooStr, AllocError>
 }
 
 /// Returns the token of a word: a keyword, an error or a name.
-fn word(alloc: Global, known: &mut Known, bytes: &[u8]) -> Result<Token, AllocError>
+fn word(alloc: Global, known: &mut NameInterner, bytes: &[u8]) -> Result<Token, AllocError>
     requires { IsString bytes.now }
     ensures { IfOk result (λ t. t ≡ word bytes.now) }
 {
@@ -227,7 +227,7 @@ fn unescaped(alloc: Global, bytes: &[u8]) -> Result<Option<(MooStr, usize)>, All
 #[tactic(auto, unfolding(crate::specs::Tokens::token_at))]
 pub(crate) fn token_at(
     alloc: Global,
-    known: &mut Known,
+    known: &mut NameInterner,
     bytes: &[u8],
 ) -> Result<Option<(Token, usize)>, AllocError>
     requires { IsString bytes.now }

@@ -7,7 +7,7 @@ use Rattle.moo_world_object.specs.declared.verb_args.ObjectSpecifier.TheVariants
 use Rattle.moo_world_object.specs.declared.verb_args.PrepositionSpecifier.{PrepositionSpecifier}
 use Rattle.moo_world_object.specs.declared.verb_args.PrepositionSpecifier.TheVariants as preposition
 use Rattle.moo_world_object.specs.declared.verb_args.Preposition.{Preposition}
-use Rattle.moo_world_object.specs.declared.verb_args.Preposition.TheVariants.{With, At, InFrontOf, Inside, OnTopOf, OutOf, Over, Through, Under, Behind, Beside, About, Being, Like, Off}
+use Rattle.moo_world_object.specs.declared.verb_args.Preposition.TheVariants.{With, At, InFrontOf, Inside, OnTopOf, OutOf, Over, Through, Under, Behind, Beside, About, Is, As, Off}
 use Rattle.moo_world_object.specs.Flags.{bit}
 
 abbrev pub prop_perms_number : PropPerms → ℕ
@@ -34,8 +34,8 @@ preposition_number Under = 8
 preposition_number Behind = 9
 preposition_number Beside = 10
 preposition_number About = 11
-preposition_number Being = 12
-preposition_number Like = 13
+preposition_number Is = 12
+preposition_number As = 13
 preposition_number Off = 14
 
 -- -2 for any, -1 for none, else the preposition's number

@@ -45,9 +45,9 @@ pub enum Preposition {
     /// for, about
     About,
     /// is
-    Being,
+    Is,
     /// as
-    Like,
+    As,
     /// off, off of
     Off,
 }
@@ -75,8 +75,8 @@ const PREPOSITIONS: [Preposition; 15] = [
     Preposition::Behind,
     Preposition::Beside,
     Preposition::About,
-    Preposition::Being,
-    Preposition::Like,
+    Preposition::Is,
+    Preposition::As,
     Preposition::Off,
 ];
 

@@ -5,7 +5,7 @@ use Rattle.moo_world_object.specs.declared.cell.PropPerms.{PropPerms}
 use Rattle.moo_world_object.specs.declared.verb.VerbPerms.{VerbPerms}
 use Rattle.moo_world_object.specs.declared.verb_args.ObjectSpecifier.TheVariants as specifier
 use Rattle.moo_world_object.specs.declared.verb_args.PrepositionSpecifier.TheVariants as preposition
-use Rattle.moo_world_object.specs.declared.verb_args.Preposition.TheVariants.{With, At, InFrontOf, Inside, OnTopOf, OutOf, Over, Through, Under, Behind, Beside, About, Being, Like, Off}
+use Rattle.moo_world_object.specs.declared.verb_args.Preposition.TheVariants.{With, At, InFrontOf, Inside, OnTopOf, OutOf, Over, Through, Under, Behind, Beside, About, Is, As, Off}
 use Rattle.moo_world_text.specs.Permissions.{prop_perms_text, prop_perms_of, verb_perms_text, verb_perms_of}
 use Rattle.moo_world_text.specs.Laws.{PropPermsAreReadBack, VerbPermsAreReadBack, ObjectSpecifiersAreReadBack, PrepositionSpecifiersAreReadBack}
 
@@ -63,6 +63,6 @@ preposition_specifiers_are_read_back (preposition.One Under) = refl
 preposition_specifiers_are_read_back (preposition.One Behind) = refl
 preposition_specifiers_are_read_back (preposition.One Beside) = refl
 preposition_specifiers_are_read_back (preposition.One About) = refl
-preposition_specifiers_are_read_back (preposition.One Being) = refl
-preposition_specifiers_are_read_back (preposition.One Like) = refl
+preposition_specifiers_are_read_back (preposition.One Is) = refl
+preposition_specifiers_are_read_back (preposition.One As) = refl
 preposition_specifiers_are_read_back (preposition.One Off) = refl

@@ -9,7 +9,7 @@ use Rattle.moo_world_object.specs.declared.verb_args.ObjectSpecifier.TheVariants
 use Rattle.moo_world_object.specs.declared.verb_args.PrepositionSpecifier.{PrepositionSpecifier}
 use Rattle.moo_world_object.specs.declared.verb_args.PrepositionSpecifier.TheVariants as preposition
 use Rattle.moo_world_object.specs.declared.verb_args.Preposition.{Preposition}
-use Rattle.moo_world_object.specs.declared.verb_args.Preposition.TheVariants.{With, At, InFrontOf, Inside, OnTopOf, OutOf, Over, Through, Under, Behind, Beside, About, Being, Like, Off}
+use Rattle.moo_world_object.specs.declared.verb_args.Preposition.TheVariants.{With, At, InFrontOf, Inside, OnTopOf, OutOf, Over, Through, Under, Behind, Beside, About, Is, As, Off}
 
 -- the texts are the same, without regard to case
 abbrev pub same_text : List ℕ → List ℕ → Bool
@@ -40,13 +40,13 @@ preposition_text Under = codes "under/underneath/beneath"
 preposition_text Behind = codes "behind"
 preposition_text Beside = codes "beside"
 preposition_text About = codes "for/about"
-preposition_text Being = codes "is"
-preposition_text Like = codes "as"
+preposition_text Is = codes "is"
+preposition_text As = codes "as"
 preposition_text Off = codes "off/off of"
 
 abbrev pub all_prepositions : List Preposition
 all_prepositions =
-    With ∷ At ∷ InFrontOf ∷ Inside ∷ OnTopOf ∷ OutOf ∷ Over ∷ Through ∷ Under ∷ Behind ∷ Beside ∷ About ∷ Being ∷ Like ∷ Off ∷ []
+    With ∷ At ∷ InFrontOf ∷ Inside ∷ OnTopOf ∷ OutOf ∷ Over ∷ Through ∷ Under ∷ Behind ∷ Beside ∷ About ∷ Is ∷ As ∷ Off ∷ []
 
 abbrev pub is_slash : ℕ → Bool
 is_slash byte = byte == 47

@@ -24,8 +24,8 @@ const PREPOSITIONS: [Preposition; 15] = [
     Preposition::Behind,
     Preposition::Beside,
     Preposition::About,
-    Preposition::Being,
-    Preposition::Like,
+    Preposition::Is,
+    Preposition::As,
     Preposition::Off,
 ];
 
@@ -79,8 +79,8 @@ pub fn preposition_text(preposition: Preposition) -> &'static [u8]
         Preposition::Behind => b"behind",
         Preposition::Beside => b"beside",
         Preposition::About => b"for/about",
-        Preposition::Being => b"is",
-        Preposition::Like => b"as",
+        Preposition::Is => b"is",
+        Preposition::As => b"as",
         Preposition::Off => b"off/off of",
     }
 }

@@ -3,7 +3,7 @@ use Rattle.std.proofs.lemmas.Slice.Eq.{bytes_eq-Decides}
 use Rattle.moo_value.specs.Size.{IsString}
 use Rattle.moo_dbtext_object.specs.Lines.{limited}
 use Rattle.moo_dbtext_object.proofs.TextLaws.{text_again}
-use Rattle.moo_dbtext_object.proofs.met.MetStrings.text.Goals as goal
+use Rattle.moo_dbtext_object.proofs.string_interner.StringInterner.text.Goals as goal
 
 pub returns-then-eq : goal.returns-then-eq
 returns-then-eq c =

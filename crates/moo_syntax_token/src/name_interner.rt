@@ -13,16 +13,16 @@ const NONE: u16 = u16::MAX;
 
 /// A cache of names, one for each row. Texts that are read with the same cache share the strings of their names.
 #[derive(Drop)]
-pub struct Known {
+pub struct NameInterner {
     names: Vec<MooStr>,
     /// The index in `names` of the name in each row.
     rows: [u16; ROWS],
 }
 
-impl Known {
+impl NameInterner {
     /// Returns an empty cache.
-    pub fn new(alloc: Global) -> Known {
-        Known {
+    pub fn new(alloc: Global) -> NameInterner {
+        NameInterner {
             names: Vec::new(alloc),
             rows: [NONE; ROWS],
         }

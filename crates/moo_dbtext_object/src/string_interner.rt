@@ -13,16 +13,16 @@ const NONE: u16 = u16::MAX;
 
 /// Holds strings that were read before, the latest one of each row.
 #[derive(Drop)]
-pub struct MetStrings {
+pub struct StringInterner {
     strings: Vec<MooStr>,
     /// For each row the index of its string, or `NONE`. Empty until the first string comes.
     rows: Vec<u16>,
 }
 
-impl MetStrings {
+impl StringInterner {
     /// Returns an empty cache.
-    pub fn new(alloc: Global) -> MetStrings {
-        MetStrings {
+    pub fn new(alloc: Global) -> StringInterner {
+        StringInterner {
             strings: Vec::new(alloc),
             rows: Vec::new(alloc),
         }

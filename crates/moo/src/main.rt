@@ -5,10 +5,10 @@ use clap::error::ErrorKind;
 use moo_cli_args::{Service, Work, read_words};
 use moo_cli_check::{run_check, run_check_all, run_copy};
 use moo_cli_expr::run_expr;
-use moo_cli_io::{Device, Refusal, log_error, open};
+use moo_cli_io::{Device, ExitReason, log_error, open};
 use moo_cli_script::run_script;
 use moo_cli_serve::{Served, run_serve};
-use moo_server::LiveWorld;
+use moo_server::MooApplication;
 use std::io::BufReader;
 use std::process::ExitCode;
 use std::{env, io};
@@ -24,7 +24,7 @@ const OUTPUT: &str = "standard output";
 fn main(rt: HostRuntime) -> ExitCode {
     match run(&rt) {
         Ok(status) => ExitCode::from(status),
-        Err(error) => ExitCode::from(Refusal::from(error).told(&mut io::writer(&rt))),
+        Err(error) => ExitCode::from(ExitReason::from(error).told(&mut io::writer(&rt))),
     }
 }
 
@@ -61,7 +61,13 @@ fn run_work(rt: &HostRuntime, work: Work) -> io::Result<u8> {
         Work::Script(path) => {
             let mut file = open(rt, path)?;
             let mut input = BufReader::new(alloc, Device::new(rt, INPUT, rt.reader()))?;
-            Ok(run_script::<LiveWorld, _, _, _, _>(alloc, rt, &mut file, &mut input, &mut output))
+            Ok(run_script::<MooApplication, _, _, _, _>(
+                alloc,
+                rt,
+                &mut file,
+                &mut input,
+                &mut output,
+            ))
         }
         Work::Serve(service) => serve(rt, service),
     }
@@ -77,7 +83,7 @@ fn serve(rt: &HostRuntime, service: Service) -> io::Result<u8> {
     };
     let files = rt.clone()?;
     let mut output = io::writer(rt);
-    Ok(run_serve::<LiveWorld, HostRuntime, HostRuntime, _>(
+    Ok(run_serve::<MooApplication, HostRuntime, HostRuntime, _>(
         rt,
         files,
         rt.alloc(),

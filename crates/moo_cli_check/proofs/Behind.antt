@@ -10,7 +10,7 @@ use Rattle.moo_dbtext_record.specs.Programs.{entry_at}
 use Rattle.moo_dbtext_record.specs.declared.fault.DbFault.{DbFault}
 use Rattle.moo_dbtext_record.specs.DumpReading.{Progress, verb_read}
 use Rattle.moo_dbtext_record.specs.Answer.{IsWholeLine, Told, Taken, taken_of, taken_on, begin, HasTaken, IsGoing, HasNoEnd}
-use Rattle.moo_dbtext_record.specs.declared.db_reader.DbReader.{DbReader}
+use Rattle.moo_dbtext_record.specs.declared.record_reader.RecordReader.{RecordReader}
 use Rattle.moo_dbtext_record.proofs.Standing.{taken_ends}
 use Rattle.moo_dbtext_record.proofs.Sparing.{reads_alike, alike_self, alike_then, at_on}
 use Rattle.moo_dbtext_read.specs.Faults.{told_kind}
@@ -79,7 +79,7 @@ same_or_apart i o j v = decide (eqb i o) refl (eqb j v) refl
 
 -- ---- the dot that ends a program
 
-module _ (old new : Survey) (middle : DbReader) (bytes line : List ℕ) (o v : ℕ) (h : IsBehind old bytes) (d : IsAtDot old.records middle bytes line h.at o v) where
+module _ (old new : Survey) (middle : RecordReader) (bytes line : List ℕ) (o v : ℕ) (h : IsBehind old bytes) (d : IsAtDot old.records middle bytes line h.at o v) where
   abbrev pub source : List Line
   source = h.at.state.progress.source
 

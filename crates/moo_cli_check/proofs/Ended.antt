@@ -9,7 +9,7 @@ use Rattle.moo_dbtext_record.specs.Programs.{entry_at}
 use Rattle.moo_dbtext_record.specs.DumpReading.{Progress}
 use Rattle.moo_dbtext_record.specs.Answer.{IsWholeLine, Told, Taken, taken_on, begin, StopsAt, Stops, HasNoEnd, Stand, and_then, answer_to, finished}
 use Rattle.moo_dbtext_record.specs.Faults.{kind_of_refusal, fault_of}
-use Rattle.moo_dbtext_record.specs.declared.db_reader.RecordFault.{RecordFault}
+use Rattle.moo_dbtext_record.specs.declared.record_reader.RecordFault.{RecordFault}
 use Rattle.moo_dbtext_record.specs.declared.fault.DbFault.{DbFault}
 use Rattle.moo_dbtext_record.proofs.TakenLaws.{taken_on-append, rest_taken}
 use Rattle.moo_dbtext_record.proofs.Standing.{stands_on, stand_so, stand_ends, taken_ends, line_fault, told_behind, sources_stand}

@@ -8,7 +8,7 @@ ghost use Rattle.moo_cli_io.specs.Watching.{HasFailed};
 
 use crate::counts::counts_line;
 use crate::loading::load;
-use moo_cli_io::{Refusal, Watch, show, tell};
+use moo_cli_io::{ExitReason, Watch, show, tell};
 use std::alloc::Global;
 use std::io::{Read, Write};
 use std::mem::forget;
@@ -44,7 +44,7 @@ fn checked<I: Read, O: Write>(
     input: &mut I,
     output: &mut O,
     watch: &mut Watch,
-) -> Result<u8, Refusal>
+) -> Result<u8, ExitReason>
     ensures answered { IfOk result (λ status. IsAnswered counts_line (I.remaining input.old) (O.contents output.old) (O.contents output.new) status) }
     ensures earned { IfErr result (IsEarned watch.new) }
     ensures silent { IfErr result (λ r. HasFailed watch.new ⊎ Keeps (O.contents output.old) (O.contents output.new)) }

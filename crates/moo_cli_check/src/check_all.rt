@@ -10,7 +10,7 @@ ghost use Rattle.moo_cli_check.specs.Shown.{IsAnswered, ShowsAll, survey_text};
 use crate::counts_line;
 use crate::readers::{Answer, survey};
 use crate::told::survey_text;
-use moo_cli_io::{Refusal, Watch, show, tell};
+use moo_cli_io::{ExitReason, Watch, show, tell};
 use moo_dbtext_read::{DbFault, DbFaultKind};
 use std::alloc::Global;
 use std::io::{Read, Write};
@@ -51,7 +51,7 @@ fn checked<I: Read, O: Write>(
     input: &mut I,
     output: &mut O,
     watch: &mut Watch,
-) -> Result<u8, Refusal>
+) -> Result<u8, ExitReason>
     ensures answered { IfOk result (λ status. IsAnswered (I.remaining input.old) (O.contents output.old) (O.contents output.new) status) }
     ensures earned { IfErr result (IsEarned watch.new) }
     ensures silent { IfErr result (λ r. HasFailed watch.new ⊎ Keeps (O.contents output.old) (O.contents output.new)) }
@@ -76,7 +76,7 @@ fn tell_all<O: Write>(
     end: Option<DbFault>,
     output: &mut O,
     watch: &mut Watch,
-) -> Result<u8, Refusal>
+) -> Result<u8, ExitReason>
     ensures told { IfOk result (λ status. (status ≡ 1) × (LacksMemory end → ⊥) × Appends (O.contents output.old) (O.contents output.new) (survey_text faults.now end)) }
     ensures earned { IfErr result (IsEarned watch.new) }
     ensures silent { IfErr result (λ r. HasFailed watch.new ⊎ Keeps (O.contents output.old) (O.contents output.new)) }

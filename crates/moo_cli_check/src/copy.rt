@@ -9,7 +9,7 @@ ghost use Rattle.moo_cli_io.specs.Refused.{IsEarned};
 ghost use Rattle.moo_cli_io.specs.Watching.{HasFailed};
 
 use crate::loading::load;
-use moo_cli_io::{Refusal, Watch, show, tell};
+use moo_cli_io::{ExitReason, Watch, show, tell};
 use moo_dbtext::write_db;
 use moo_dbtext_read::Saved;
 use std::alloc::Global;
@@ -47,7 +47,7 @@ fn copied<I: Read, O: Write>(
     input: &mut I,
     output: &mut O,
     watch: &mut Watch,
-) -> Result<u8, Refusal>
+) -> Result<u8, ExitReason>
     ensures answered { IfOk result (λ status. IsAnswered canonical (I.remaining input.old) (O.contents output.old) (O.contents output.new) status) }
     ensures earned { IfErr result (IsEarned watch.new) }
     ensures silent { IfErr result (λ r. HasFailed watch.new ⊎ Keeps (O.contents output.old) (O.contents output.new)) }
@@ -63,7 +63,7 @@ fn copied<I: Read, O: Write>(
     }
 }
 
-fn canonical_text(alloc: Global, saved: &Saved, watch: &mut Watch) -> Result<Vec<u8>, Refusal>
+fn canonical_text(alloc: Global, saved: &Saved, watch: &mut Watch) -> Result<Vec<u8>, ExitReason>
     ensures text { IfOk result (λ text. text.items ≡ canonical (saved_of saved.now)) }
     ensures earned { IfErr result (IsEarned watch.new) }
 {

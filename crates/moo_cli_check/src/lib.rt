@@ -17,4 +17,4 @@ pub use check_all::{check_all_watched, run_check_all};
 pub use copy::{copy_watched, run_copy};
 pub use counts::counts_line;
 pub use loading::load;
-pub use moo_cli_io::{Refusal, Watch};
+pub use moo_cli_io::{ExitReason, Watch};

@@ -4,7 +4,7 @@ ghost use Rattle.moo_dbtext_read.specs.Feeding.{HasFed};
 ghost use Rattle.moo_dbtext_read.specs.Loading.{LoadAnswers};
 ghost use Rattle.moo_cli_io.specs.Refused.{IsEarned};
 
-use moo_cli_io::{Refusal, Watch};
+use moo_cli_io::{ExitReason, Watch};
 use moo_dbtext_read::{DbFault, DbReader, Saved};
 use std::alloc::Global;
 use std::io::Read;
@@ -18,7 +18,7 @@ pub fn load<I: Read>(
     alloc: Global,
     input: &mut I,
     watch: &mut Watch,
-) -> Result<Result<Saved, DbFault>, Refusal>
+) -> Result<Result<Saved, DbFault>, ExitReason>
     ensures answer { IfOk result (λ loaded. IfSome (I.remaining input.old) (LoadAnswers loaded)) }
     ensures earned { IfErr result (IsEarned watch.new) }
 {
@@ -39,7 +39,7 @@ fn feed_all<I: Read>(
     watch: &mut Watch,
     reader: &mut DbReader,
     buffer: &mut [u8],
-) -> Result<Result<(), DbFault>, Refusal>
+) -> Result<Result<(), DbFault>, ExitReason>
     requires room { 0 < length buffer.old }
     requires fresh { HasFed reader.old [] }
     ensures fed { IfOk result (λ fed. IfSome (I.remaining input.old) (λ bytes. MatchResult fed (λ _. HasFed reader.new bytes) (λ e. LoadAnswers (Err e) bytes))) }

@@ -7,7 +7,7 @@ ghost use Rattle.moo_cli_check.specs.Answers.{Answers, GoesOn, HaveFed, IsHalted
 ghost use Rattle.moo_cli_check.specs.Shown.{is_of_program};
 
 use crate::survey::Survey;
-use moo_cli_io::{Refusal, Watch};
+use moo_cli_io::{ExitReason, Watch};
 use moo_dbtext_read::{DbFault, DbFaultKind, DbReader, Saved};
 use std::alloc::Global;
 use std::io::Read;
@@ -123,7 +123,7 @@ pub(crate) fn survey<I: Read>(
     alloc: Global,
     input: &mut I,
     watch: &mut Watch,
-) -> Result<Answer, Refusal>
+) -> Result<Answer, ExitReason>
     ensures answer { IfOk result (λ answer. IfSome (I.remaining input.old) (Answers answer)) }
     ensures earned { IfErr result (IsEarned watch.new) }
 {
@@ -144,7 +144,7 @@ fn feed_all<I: Read>(
     watch: &mut Watch,
     readers: &mut Readers,
     buffer: &mut [u8],
-) -> Result<Option<Halt>, Refusal>
+) -> Result<Option<Halt>, ExitReason>
     requires room { 0 < length buffer.old }
     requires fresh { HaveFed readers.old [] }
     ensures fed { IfOk result (λ halt. IfSome (I.remaining input.old) (λ bytes. MatchOption halt (HaveFed readers.new bytes) (λ h. (front : List ℕ) × (more : List ℕ) × (bytes ≡ front ++ more) × IsHalted front readers.new.survey.faults.items h))) }

@@ -11,14 +11,14 @@ ghost use Rattle.moo_dbtext_read.specs.Reading.{IsSourceRefused, ended_between, 
 ghost use Rattle.moo_cli_check.specs.Reading.{IsBehind, IsNoted, IsEnded, IsWholly};
 
 use crate::fault::kind_of_source;
-use moo_dbtext_record::{DbFault, DbFaultKind, DbReader, RecordFault, first_line};
+use moo_dbtext_record::{DbFault, DbFaultKind, RecordFault, RecordReader, first_line};
 use moo_syntax::{Names, parse};
 use std::alloc::Global;
 
 /// Takes a line with its end. Returns the object and verb whose program the line ends, if it ends one.
 fn take_line(
     alloc: Global,
-    records: &mut DbReader,
+    records: &mut RecordReader,
     line: &[u8],
 ) -> Result<Option<(u32, u32)>, RecordFault>
     requires { IsWholeLine line.now }
@@ -36,7 +36,7 @@ fn take_line(
 }
 
 /// Returns the fault of the source of a verb whose dot has come, or `None` if the source is a program.
-fn source_fault(alloc: Global, records: &DbReader, object: u32, verb: u32) -> Option<DbFault>
+fn source_fault(alloc: Global, records: &RecordReader, object: u32, verb: u32) -> Option<DbFault>
     ensures none { IfNone result ((source : List Line) → entry_at (sources_at records.now) object verb ≡ Some source → (b : Block) × IsParsed Any source b) }
     ensures some { IfSome result (λ e. (source : List Line) → entry_at (sources_at records.now) object verb ≡ Some source → IsSourceRefused (taken_of records.now).lines object verb source e) }
 {
@@ -54,7 +54,7 @@ fn source_fault(alloc: Global, records: &DbReader, object: u32, verb: u32) -> Op
 /// Reads a text in pieces, parses each program at the dot that ends it, and collects those that are refused.
 #[derive(Drop)]
 pub(crate) struct Survey {
-    records: DbReader,
+    records: RecordReader,
     faults: Vec<DbFault>,
 }
 
@@ -64,7 +64,7 @@ impl Survey {
         ensures { IsBehind result [] }
     {
         Survey {
-            records: DbReader::new(alloc),
+            records: RecordReader::new(alloc),
             faults: Vec::new(alloc),
         }
     }

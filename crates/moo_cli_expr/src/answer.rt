@@ -8,7 +8,7 @@ ghost use Rattle.moo_cli_io.specs.Watching.{HasFailed};
 ghost use Rattle.moo_cli_expr.specs.Expr.{IsAnswered, ShowsAnswer, printed};
 
 use crate::first_line::read_first_line;
-use moo_cli_io::{Refusal, Watch};
+use moo_cli_io::{ExitReason, Watch};
 use moo_eval::eval_line;
 use std::alloc::Global;
 use std::io::{BufRead, Write};
@@ -42,7 +42,7 @@ fn evaluated<I: BufRead, O: Write>(
     input: &mut I,
     output: &mut O,
     watch: &mut Watch,
-) -> Result<u8, Refusal>
+) -> Result<u8, ExitReason>
     ensures answered { IfOk result (λ status. IsAnswered (I.remaining input.old) (O.contents output.old) (O.contents output.new) status) }
     ensures earned { IfErr result (IsEarned watch.new) }
     ensures silent { IfErr result (λ r. HasFailed watch.new ⊎ Keeps (O.contents output.old) (O.contents output.new)) }
@@ -55,7 +55,7 @@ fn evaluated<I: BufRead, O: Write>(
     Ok(answer.status)
 }
 
-fn print<O: Write>(lines: &[Vec<u8>], output: &mut O, watch: &mut Watch) -> Result<(), Refusal>
+fn print<O: Write>(lines: &[Vec<u8>], output: &mut O, watch: &mut Watch) -> Result<(), ExitReason>
     ensures text { OnOk result (Appends (O.contents output.old) (O.contents output.new) (printed (texts lines.now))) }
     ensures earned { IfErr result (IsEarned watch.new) }
     ensures failed { IfErr result (λ r. HasFailed watch.new) }
@@ -66,7 +66,7 @@ fn print<O: Write>(lines: &[Vec<u8>], output: &mut O, watch: &mut Watch) -> Resu
     Ok(())
 }
 
-fn print_line<O: Write>(line: &[u8], output: &mut O, watch: &mut Watch) -> Result<(), Refusal>
+fn print_line<O: Write>(line: &[u8], output: &mut O, watch: &mut Watch) -> Result<(), ExitReason>
     ensures text { OnOk result (Appends (O.contents output.old) (O.contents output.new) (line.now ++ codes "\n")) }
     ensures earned { IfErr result (IsEarned watch.new) }
     ensures failed { IfErr result (λ r. HasFailed watch.new) }

@@ -4,7 +4,7 @@ ghost use Rattle.moo_cli_io.specs.Refused.{IsEarned};
 ghost use Rattle.moo_cli_expr.specs.FirstLine.{first_line};
 ghost use Rattle.moo_cli_expr.specs.Held.{StandsFor, Holds};
 
-use moo_cli_io::{Refusal, Watch, next_part};
+use moo_cli_io::{ExitReason, Watch, next_part};
 use moo_value::is_text;
 use std::alloc::{AllocError, Global};
 use std::io::BufRead;
@@ -18,7 +18,7 @@ pub fn read_first_line<I: BufRead>(
     alloc: Global,
     input: &mut I,
     watch: &mut Watch,
-) -> Result<Vec<u8>, Refusal>
+) -> Result<Vec<u8>, ExitReason>
     ensures line { IfOk result (λ held. IfSome (I.remaining input.old) (λ bytes. StandsFor held.items (first_line bytes))) }
     ensures earned { IfErr result (IsEarned watch.new) }
 {

@@ -5,7 +5,7 @@ use Rattle.std.specs.Io.KnownBytes.{Appends, Keeps}
 use Rattle.moo_cli_io.specs.GivingUp.{HasGivenUp}
 use Rattle.moo_cli_io.specs.Refused.{refusal_status, refusal_line, IsEarned}
 use Rattle.moo_cli_io.specs.Watching.{HasFailed, Remembers}
-use Rattle.moo_cli_io.specs.declared.refusal.Refusal.{Refusal}
+use Rattle.moo_cli_io.specs.declared.exit_reason.ExitReason.{ExitReason}
 use Rattle.moo_cli_io.specs.declared.watch.Watch.{Watch}
 
 keeps_appends : (a b c : Option (List ℕ)) (bs : List ℕ) → Keeps a b → Appends b c bs → Appends a c bs
@@ -14,7 +14,7 @@ keeps_appends (Some x) None c bs k h = absurd k
 keeps_appends (Some x) (Some y) None bs k h = absurd h
 keeps_appends (Some x) (Some y) (Some z) bs k h = h ∙ ap (λ (l : List ℕ). l ++ bs) k
 
-pub given_up : (old mid new : Option (List ℕ)) (before after : Watch) (r : Refusal) (status : ℕ) → IsEarned before r → (HasFailed before ⊎ Keeps old mid) → status ≡ refusal_status r
+pub given_up : (old mid new : Option (List ℕ)) (before after : Watch) (r : ExitReason) (status : ℕ) → IsEarned before r → (HasFailed before ⊎ Keeps old mid) → status ≡ refusal_status r
     → (HasFailed after ⊎ Appends mid new (refusal_line r)) → Remembers before after → HasGivenUp old new after status
 given_up old mid new before after r status earned silent is told remembers = record {
   refusal = r;

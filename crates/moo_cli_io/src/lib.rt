@@ -4,15 +4,15 @@
 #![tactic(auto)]
 
 mod device;
+mod exit_reason;
 mod part;
-mod refusal;
 mod report;
 mod told;
 mod watch;
 
 pub use device::{Device, log_error, open};
+pub use exit_reason::ExitReason;
 pub use part::{LinePart, PartEnd, next_part};
-pub use refusal::Refusal;
 pub use report::{show, tell};
 pub use told::fault_line;
 pub use watch::Watch;

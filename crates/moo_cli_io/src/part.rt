@@ -4,7 +4,7 @@ ghost use Rattle.moo_cli_io.specs.Parts.{TakesPart, is_last};
 ghost use Rattle.moo_cli_io.specs.Refused.{IsEarned};
 ghost use Rattle.moo_cli_io.specs.Watching.{most_reads, Remembers};
 
-use crate::refusal::Refusal;
+use crate::exit_reason::ExitReason;
 use crate::watch::Watch;
 use std::alloc::Global;
 use std::io::{BufRead, ErrorKind};
@@ -47,7 +47,7 @@ pub fn next_part<I: BufRead>(
     alloc: Global,
     input: &mut I,
     watch: &mut Watch,
-) -> Result<LinePart, Refusal>
+) -> Result<LinePart, ExitReason>
     ensures part { IfOk result (λ part. TakesPart (I.remaining input.old) (I.remaining input.new) part.bytes.items part.end) }
     ensures no_end { IfOk result (λ part. All (λ b. b ≢ 10) part.bytes.items) }
     ensures count { OnOk result ((watch.old.reads < watch.new.reads) × (watch.new.reads ≤ most_reads)) }

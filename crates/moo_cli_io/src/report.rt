@@ -5,7 +5,7 @@ ghost use Rattle.moo_cli_io.specs.Refused.{IsEarned};
 ghost use Rattle.moo_cli_io.specs.Told.{fault_line};
 ghost use Rattle.moo_cli_io.specs.Watching.{HasFailed};
 
-use crate::refusal::Refusal;
+use crate::exit_reason::ExitReason;
 use crate::told::fault_line;
 use crate::watch::Watch;
 use moo_dbtext_record::{DbFault, DbFaultKind};
@@ -16,7 +16,7 @@ use std::io::Write;
 const REFUSED: u8 = 1;
 
 /// Writes a text, and returns the exit status 0. Returns the refusal if the output fails.
-pub fn show<O: Write>(text: &[u8], output: &mut O, watch: &mut Watch) -> Result<u8, Refusal>
+pub fn show<O: Write>(text: &[u8], output: &mut O, watch: &mut Watch) -> Result<u8, ExitReason>
     ensures shown { IfOk result (λ status. (status ≡ 0) × Appends (O.contents output.old) (O.contents output.new) text.now) }
     ensures earned { IfErr result (IsEarned watch.new) }
     ensures silent { IfErr result (λ r. HasFailed watch.new ⊎ Keeps (O.contents output.old) (O.contents output.new)) }
@@ -32,7 +32,7 @@ pub fn tell<O: Write>(
     fault: DbFault,
     output: &mut O,
     watch: &mut Watch,
-) -> Result<u8, Refusal>
+) -> Result<u8, ExitReason>
     ensures told { IfOk result (λ status. (status ≡ 1) × (fault.kind ≢ DbFaultKind.Memory) × Appends (O.contents output.old) (O.contents output.new) (fault_line fault)) }
     ensures earned { IfErr result (IsEarned watch.new) }
     ensures silent { IfErr result (λ r. HasFailed watch.new ⊎ Keeps (O.contents output.old) (O.contents output.new)) }

@@ -4,7 +4,7 @@ ghost use Rattle.std.specs.Io.KnownBytes.{Appends, Consumes, IsAtEnd};
 ghost use Rattle.moo_cli_io.specs.Refused.{without_memory, IsEarned};
 ghost use Rattle.moo_cli_io.specs.Watching.{most_reads, HasFailed, HasLacked, Remembers};
 
-use crate::refusal::Refusal;
+use crate::exit_reason::ExitReason;
 use std::io;
 use std::io::{ErrorKind, Read, Write};
 
@@ -34,32 +34,32 @@ impl Watch {
     }
 
     /// Records that memory ran out in a call, and returns that refusal.
-    pub fn lack(&mut self) -> Refusal
+    pub fn lack(&mut self) -> ExitReason
         ensures refusal { result ≡ without_memory }
         ensures earned { IsEarned self.new result }
         ensures remembers { Remembers self.old self.new }
         ensures counted { self.new.reads ≡ self.old.reads }
     {
         self.lacked = true;
-        Refusal::Memory
+        ExitReason::Memory
     }
 
     /// Records the error of a device, and returns the refusal for it.
-    pub(crate) fn fail(&mut self, error: io::Error) -> Refusal
+    pub(crate) fn fail(&mut self, error: io::Error) -> ExitReason
         ensures failed { HasFailed self.new }
         ensures earned { IsEarned self.new result }
         ensures remembers { Remembers self.old self.new }
         ensures counted { self.new.reads ≡ self.old.reads }
     {
         self.failed = true;
-        match Refusal::from(error) {
-            Refusal::Device => Refusal::Device,
-            Refusal::Memory => self.lack(),
+        match ExitReason::from(error) {
+            ExitReason::Device => ExitReason::Device,
+            ExitReason::Memory => self.lack(),
         }
     }
 
     /// Counts a read of the input. Returns `Device` once `MOST_READS` are counted.
-    pub(crate) fn count(&mut self) -> Result<(), Refusal>
+    pub(crate) fn count(&mut self) -> Result<(), ExitReason>
         ensures count { OnOk result ((self.old.reads < self.new.reads) × (self.new.reads ≤ most_reads)) }
         ensures counted { self.new.reads ≤ self.old.reads + 1 }
         ensures failed { OnErr result (HasFailed self.new) }
@@ -67,7 +67,7 @@ impl Watch {
         ensures remembers { Remembers self.old self.new }
     {
         if self.reads >= MOST_READS {
-            return Err(Refusal::Device);
+            return Err(ExitReason::Device);
         }
         self.reads += 1;
         Ok(())
@@ -79,7 +79,7 @@ impl Watch {
         &mut self,
         input: &mut I,
         buffer: &mut [u8],
-    ) -> Result<Option<usize>, Refusal>
+    ) -> Result<Option<usize>, ExitReason>
         requires { 0 < length buffer.old }
         ensures room { length buffer.new ≡ length buffer.old }
         ensures some { IfOk result (λ r. IfSome r (λ n. (n ≤ length buffer.new) × Consumes (I.remaining input.old) (I.remaining input.new) (take n buffer.new))) }
@@ -105,7 +105,7 @@ impl Watch {
     }
 
     /// Writes a text, which the output may buffer. Returns the refusal if the output fails.
-    pub fn put<O: Write>(&mut self, output: &mut O, text: &[u8]) -> Result<(), Refusal>
+    pub fn put<O: Write>(&mut self, output: &mut O, text: &[u8]) -> Result<(), ExitReason>
         ensures text { OnOk result (Appends (O.contents output.old) (O.contents output.new) text.now) }
         ensures failed { OnErr result (HasFailed self.new) }
         ensures earned { IfErr result (IsEarned self.new) }
@@ -119,7 +119,7 @@ impl Watch {
     }
 
     /// Writes a text, and flushes the output. Returns the refusal if the output fails.
-    pub fn write<O: Write>(&mut self, output: &mut O, text: &[u8]) -> Result<(), Refusal>
+    pub fn write<O: Write>(&mut self, output: &mut O, text: &[u8]) -> Result<(), ExitReason>
         ensures text { OnOk result (Appends (O.contents output.old) (O.contents output.new) text.now) }
         ensures failed { OnErr result (HasFailed self.new) }
         ensures earned { IfErr result (IsEarned self.new) }

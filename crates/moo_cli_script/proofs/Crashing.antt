@@ -6,13 +6,13 @@ use Rattle.moo_disk.specs.FailAt.{inner_of, left_of}
 use Rattle.moo_disk.specs.Memory.{images, view_of}
 use Rattle.moo_disk.specs.declared.memory.MemoryDisk.{MemoryDisk}
 use Rattle.moo_dbtext_read.specs.Saved.{Saved}
-use Rattle.moo_server_core.specs.Sessions.{Layer}
+use Rattle.moo_server_core.specs.Application.{Layer}
 use Rattle.moo_server_core.specs.Server.{Follows}
-use Rattle.moo_server_core.specs.declared.serving.Serving.{Serving}
+use Rattle.moo_server_core.specs.declared.server_core.ServerCore.{ServerCore}
 use Rattle.moo_cli_script.specs.Script.{IsCrashed, ScriptDisk}
 
 -- a server goes on with the same disk
-pub follows_same_disk : {S Sessions D : Type 0} (l : Layer S Sessions Saved) (view : D → DiskView) (honest stands : D → Type 0) (server : Serving S) (one other : D) → other ≡ one
+pub follows_same_disk : {S Application D : Type 0} (l : Layer S Application Saved) (view : D → DiskView) (honest stands : D → Type 0) (server : ServerCore S) (one other : D) → other ≡ one
     → Follows l view honest stands server one → Follows l view honest stands server other
 follows_same_disk l view honest stands server one other is follows = subst (λ d. Follows l view honest stands server d) (sym is) follows
 

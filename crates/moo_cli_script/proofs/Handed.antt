@@ -1,10 +1,10 @@
 -- Output that is handed out between two calls.
 use Rattle.std.proofs.Common.{◌≡◌, ◌≢◌, ℕ, suc, ◌+◌, ◌<◌, ◌≤◌, ⊎_elim, List, [], Option, refl, sym, ◌∙◌, ap, subst, arith}
 use Rattle.moo_dbtext_read.specs.Saved.{Saved}
-use Rattle.moo_server_core.specs.Sessions.{Layer}
+use Rattle.moo_server_core.specs.Application.{Layer}
 use Rattle.moo_disk.specs.Disk.{DiskView}
-use Rattle.moo_server_core.specs.declared.serving.Open.{Open}
-use Rattle.moo_server_core.specs.declared.serving.Serving.{Serving}
+use Rattle.moo_server_core.specs.declared.server_core.Open.{Open}
+use Rattle.moo_server_core.specs.declared.server_core.ServerCore.{ServerCore}
 use Rattle.moo_server_core.specs.Meaning.{State}
 use Rattle.moo_server_core.specs.Server.{Follows, OpenFollows, Same, waiting_of}
 use Rattle.std.proofs.lemmas.Bool.{cases_lt}
@@ -14,11 +14,11 @@ use Rattle.moo_cli_script.specs.Printed.{sent_lines}
 use Rattle.moo_cli_script.specs.declared.script.Script.{Script}
 use Rattle.moo_cli_script.specs.Script.{Fits, HandsOut, ScriptDisk, disk_honest, disk_stands, disk_view, printed_below}
 
-module _ {S Sessions : Type 0} (l : Layer S Sessions Saved) where
-  pub same_self : (server : Serving S) → Same l server server
+module _ {S Application : Type 0} (l : Layer S Application Saved) where
+  pub same_self : (server : ServerCore S) → Same l server server
   same_self server = record { state = refl; writing = refl; halted = refl; under_way = λ h. h }
 
-  pub same_join : (a b c : Serving S) → Same l a b → Same l b c → Same l a c
+  pub same_join : (a b c : ServerCore S) → Same l a b → Same l b c → Same l a c
   same_join a b c first second = record {
     state = second.state ∙ first.state;
     writing = second.writing ∙ first.writing;
@@ -26,7 +26,7 @@ module _ {S Sessions : Type 0} (l : Layer S Sessions Saved) where
     under_way = λ h. second.under_way (first.under_way h);
   }
 
-  pub follows_same : {D : Type 0} (view : D → DiskView) (honest stands : D → Type 0) (one other : Serving S) (disk : D) → Same l one other
+  pub follows_same : {D : Type 0} (view : D → DiskView) (honest stands : D → Type 0) (one other : ServerCore S) (disk : D) → Same l one other
       → Follows l view honest stands one disk → Follows l view honest stands other disk
   follows_same view honest stands one other disk same follows = record {
     still = same.under_way follows.still;
@@ -34,16 +34,16 @@ module _ {S Sessions : Type 0} (l : Layer S Sessions Saved) where
   }
 
   -- what was printed of a server so far: connections below a number
-  pub record IsPrintedTo (first now : Serving S) (top : ℕ) : Type 0 where
+  pub record IsPrintedTo (first now : ServerCore S) (top : ℕ) : Type 0 where
     pub same : Same l first now
     pub nothing : (c : ℕ) → c < top → (waiting_of l now).sent c ≡ []
     pub others : (c : ℕ) → top ≤ c → (waiting_of l now).sent c ≡ (waiting_of l first).sent c
     pub log : (waiting_of l now).logged ≡ (waiting_of l first).logged
 
-  pub none_printed : (first : Serving S) → IsPrintedTo first first 0
+  pub none_printed : (first : ServerCore S) → IsPrintedTo first first 0
   none_printed first = record { same = same_self first; nothing = λ c below. absurd (omega (arith, below)); others = λ c above. refl; log = refl }
 
-  pub one_printed : (first now next : Serving S) (c : ℕ) → IsPrintedTo first now c → Same l now next → (waiting_of l next).sent c ≡ []
+  pub one_printed : (first now next : ServerCore S) (c : ℕ) → IsPrintedTo first now c → Same l now next → (waiting_of l next).sent c ≡ []
       → ((k : ℕ) → k ≢ c → (waiting_of l next).sent k ≡ (waiting_of l now).sent k) → (waiting_of l next).logged ≡ (waiting_of l now).logged → IsPrintedTo first next (c + 1)
   one_printed first now next c printed same nothing others log = record {
     same = same_join first now next printed.same same;
@@ -53,7 +53,7 @@ module _ {S Sessions : Type 0} (l : Layer S Sessions Saved) where
     log = log ∙ printed.log;
   }
 
-  pub text_printed : (first now : Serving S) (c : ℕ) (old mid new : Option (List ℕ)) (bytes : List ℕ) → IsPrintedTo first now c → bytes ≡ (waiting_of l now).sent c
+  pub text_printed : (first now : ServerCore S) (c : ℕ) (old mid new : Option (List ℕ)) (bytes : List ℕ) → IsPrintedTo first now c → bytes ≡ (waiting_of l now).sent c
       → Appends old mid (printed_below c (waiting_of l first).sent) → Appends mid new (sent_lines c bytes) → Appends old new (printed_below (c + 1) (waiting_of l first).sent)
   text_printed first now c old mid new bytes printed is before behind =
       let next : suc c ≡ c + 1 = omega arith in
@@ -63,7 +63,7 @@ module _ {S Sessions : Type 0} (l : Layer S Sessions Saved) where
       (subst (λ (bs : List ℕ). Appends mid new (sent_lines c bs)) all behind))
 
   -- then the log is taken
-  pub hands_out : (old new : Script S) (mid : Serving S) → IsPrintedTo old.server mid old.top → Same l mid new.server → (waiting_of l new.server).sent ≡ (waiting_of l mid).sent
+  pub hands_out : (old new : Script S) (mid : ServerCore S) → IsPrintedTo old.server mid old.top → Same l mid new.server → (waiting_of l new.server).sent ≡ (waiting_of l mid).sent
       → (waiting_of l new.server).logged ≡ [] → new.disk ≡ old.disk → new.top ≡ old.top → HandsOut l old new
   hands_out old new mid printed same sent logged disk top = record {
     same = same_join old.server mid new.server printed.same same;
@@ -79,6 +79,6 @@ module _ {S Sessions : Type 0} (l : Layer S Sessions Saved) where
     follows = subst (λ (d : ScriptDisk). Follows l disk_view disk_honest disk_stands new.server d) (sym hands.disk)
         (follows_same disk_view disk_honest disk_stands old.server new.server old.disk hands.same fits.follows);
     alive = hands.same.halted ∙ fits.alive;
-    moment_is = moment ∙ fits.moment_is ∙ sym (ap (λ (s : State Sessions). s.moment) hands.same.state);
+    moment_is = moment ∙ fits.moment_is ∙ sym (ap (λ (s : State Application). s.moment) hands.same.state);
     top_fits = subst (λ (n : ℕ). n ≤ 65536) (sym hands.top) fits.top_fits;
   }

@@ -3,7 +3,7 @@ pub mod Growing
 pub mod Handed
 pub mod Moments
 pub mod Played
-pub mod Serving
+pub mod ServerCore
 pub mod Steps
 pub mod Taken
 pub mod Forms

@@ -3,7 +3,7 @@ use Rattle.std.proofs.Common.{◌≡◌, ℕ, List, [], ◌∷◌, map, Option, 
 use Rattle.std.specs.Prelude.{◌&&◌, not, MatchBool, Ok}
 use Rattle.moo_disk.specs.Disk.{DiskView}
 use Rattle.moo_dbtext_read.specs.Saved.{Saved}
-use Rattle.moo_server_core.specs.Sessions.{Finishes, Happening, HangsUp, Layer, Meaning, Opens, Output, Receives, Starts}
+use Rattle.moo_server_core.specs.Application.{Finishes, Input, HangsUp, Layer, Meaning, Opens, Output, Receives, Starts}
 use Rattle.moo_server_core.specs.Courses.{is_closing}
 use Rattle.moo_server_core.specs.Traces.{Report}
 use Rattle.moo_server_core.specs.Seen.{Event, Open, Bytes, Hangup, Moment, Flush, is_flush, seen}
@@ -12,40 +12,40 @@ use Rattle.moo_server_core.specs.Server.{IsAlive, Runs, state_of}
 use Rattle.moo_server_core.specs.declared.event.Course.{Course}
 use Rattle.moo_server_core.specs.declared.event.Course.TheVariants.{Running, Closing, Closed}
 use Rattle.moo_server_core.specs.declared.event.Event as given
-use Rattle.moo_server_core.specs.declared.serving.Serving.{Serving}
+use Rattle.moo_server_core.specs.declared.server_core.ServerCore.{ServerCore}
 use Rattle.moo_cli_script.specs.Works.{moment_at, told_at}
 
-module _ {Sessions Saved : Type 0} (m : Meaning Sessions Saved) where
-  heard_at : (h : Happening) (old new : State Sessions) (out : Output) → Hears m h old out new → new.moment ≡ old.moment
-  heard_at h old new out hears = ap (λ (s : State Sessions). s.moment) hears.4
+module _ {Application Saved : Type 0} (m : Meaning Application Saved) where
+  heard_at : (h : Input) (old new : State Application) (out : Output) → Hears m h old out new → new.moment ≡ old.moment
+  heard_at h old new out hears = ap (λ (s : State Application). s.moment) hears.4
 
-  acts_at : (e : Event) (old new : State Sessions) (out : Output) → Acts m e old out new → new.moment ≡ told_at e old.moment
+  acts_at : (e : Event) (old new : State Application) (out : Output) → Acts m e old out new → new.moment ≡ told_at e old.moment
   acts_at (Open c) old new out acts = heard_at (Opens c) old new out acts
   acts_at (Bytes c piece) old new out acts = heard_at (Receives c piece) old new out acts
   acts_at (Hangup c) old new out acts = heard_at (HangsUp c) old new out acts
-  acts_at (Moment t) old new out acts = ap (λ (s : State Sessions). s.moment) acts.1
-  acts_at Flush old new out acts = ap (λ (s : State Sessions). s.moment) acts.1
+  acts_at (Moment t) old new out acts = ap (λ (s : State Application). s.moment) acts.1
+  acts_at Flush old new out acts = ap (λ (s : State Application). s.moment) acts.1
 
-  reports_at : (e : Event) (r : Option Report) (old new : State Sessions) (out : Output) → Reports m e r old out new → new.moment ≡ old.moment
-  reports_at e None old new out reports = ap (λ (s : State Sessions). s.moment) reports.1
+  reports_at : (e : Event) (r : Option Report) (old new : State Application) (out : Output) → Reports m e r old out new → new.moment ≡ old.moment
+  reports_at e None old new out reports = ap (λ (s : State Application). s.moment) reports.1
   reports_at e (Some r) old new out reports =
-      ap (λ (s : State Sessions). s.moment) reports.5 ∙ heard_at (Finishes (is_done r)) (record old { writing = None }) reports.3 out reports.4
+      ap (λ (s : State Application). s.moment) reports.5 ∙ heard_at (Finishes (is_done r)) (record old { writing = None }) reports.3 out reports.4
 
-  marks_at : (mark : Option Saved) (old new : State Sessions) (out : Output) → Marks m mark old out new → new.moment ≡ old.moment
-  marks_at None old new out marks = ap (λ (s : State Sessions). s.moment) marks.2
-  marks_at (Some saved) old new out marks = ap (λ (s : State Sessions). s.moment) marks.3 ∙ heard_at Starts old marks.1 out marks.2
+  marks_at : (mark : Option Saved) (old new : State Application) (out : Output) → Marks m mark old out new → new.moment ≡ old.moment
+  marks_at None old new out marks = ap (λ (s : State Application). s.moment) marks.2
+  marks_at (Some saved) old new out marks = ap (λ (s : State Application). s.moment) marks.3 ∙ heard_at Starts old marks.1 out marks.2
 
-  steps_at : (old new : State Sessions) (entry : Entry Saved) → Steps m old entry new → new.moment ≡ told_at entry.event old.moment
+  steps_at : (old new : State Application) (entry : Entry Saved) → Steps m old entry new → new.moment ≡ told_at entry.event old.moment
   steps_at old new entry steps =
       marks_at entry.mark steps.reported new steps.started steps.marks
       ∙ reports_at entry.event entry.report steps.acted steps.reported steps.finished steps.reports
       ∙ acts_at entry.event old steps.acted steps.own steps.acts
 
-  takes_at : (old new : State Sessions) (entry : Entry Saved) → Takes m old entry new → new.moment ≡ moment_at old.course entry.event old.moment
+  takes_at : (old new : State Application) (entry : Entry Saved) → Takes m old entry new → new.moment ≡ moment_at old.course entry.event old.moment
   takes_at old new entry takes = by old.course entry.event refl refl
     where
       passed : MatchBool true (Passes m old entry new) (Steps m old entry new) → new.moment ≡ old.moment
-      passed passes = ap (λ (s : State Sessions). s.moment) passes.same
+      passed passes = ap (λ (s : State Application). s.moment) passes.same
 
       parts : (k : Course) (e : Event) → old.course ≡ k → entry.event ≡ e → MatchBool (is_closing k && not (is_flush e)) (Passes m old entry new) (Steps m old entry new)
       parts k e is same =
@@ -65,16 +65,16 @@ module _ {Sessions Saved : Type 0} (m : Meaning Sessions Saved) where
       by Closed e is same =
           let some : refusal_in m Closed old.moment old.sessions entry.event ≡ None = subst (λ (k : Course). refusal_in m k old.moment old.sessions entry.event ≡ None) is takes.accepted in absurd (cc some)
 
-  one_at : (entries : List (Entry Saved)) (e : Event) (old end : State Sessions) → map (λ (x : Entry Saved). x.event) entries ≡ e ∷ [] → Run m old entries end
+  one_at : (entries : List (Entry Saved)) (e : Event) (old end : State Application) → map (λ (x : Entry Saved). x.event) entries ≡ e ∷ [] → Run m old entries end
       → end.moment ≡ moment_at old.course e old.moment
   one_at [] e old end is run = absurd (cc is)
   one_at (x ∷ []) e old end is run =
       let same : x.event ≡ e = cc is in
-      ap (λ (s : State Sessions). s.moment) run.2 ∙ takes_at old run.0 x run.1 ∙ ap (λ (y : Event). moment_at old.course y old.moment) same
+      ap (λ (s : State Application). s.moment) run.2 ∙ takes_at old run.0 x run.1 ∙ ap (λ (y : Event). moment_at old.course y old.moment) same
   one_at (x ∷ y ∷ entries) e old end is run = absurd (cc is)
 
 -- a run of one event that was taken
-pub run_at : {S Sessions D : Type 0} (l : Layer S Sessions Saved) (view : D → DiskView) (honest : D → Type 0) (failures : D → ℕ) (before after : Serving S) (old new : D) (e : given.Event)
+pub run_at : {S Application D : Type 0} (l : Layer S Application Saved) (view : D → DiskView) (honest : D → Type 0) (failures : D → ℕ) (before after : ServerCore S) (old new : D) (e : given.Event)
     → Runs l view honest failures before after old new (e ∷ []) (Ok 1) → IsAlive after → after.moment ≡ moment_at before.course (seen e) before.moment
 run_at l view honest failures before after old new e runs alive =
     ap (λ s. s.moment) (runs.ran.lived.state alive)

@@ -4,7 +4,7 @@ use Rattle.std.specs.Prelude.{Option, MatchOption}
 use Rattle.std.specs.Io.KnownBytes.{Appends, IsAtEnd}
 use Rattle.std.proofs.KnownBytes.{Appends-trans}
 use Rattle.moo_dbtext_read.specs.Saved.{Saved}
-use Rattle.moo_server_core.specs.Sessions.{Layer}
+use Rattle.moo_server_core.specs.Application.{Layer}
 use Rattle.moo_server_core.specs.Server.{waiting_of}
 use Rattle.moo_cli_script.specs.ScriptLines.{Asks, Step}
 use Rattle.moo_cli_script.specs.Lines.{TakesLine, lines_of}
@@ -43,7 +43,7 @@ one_taken (Some bytes) (Some rest) None lines line taken takes = absurd takes
 one_taken (Some bytes) (Some rest) (Some left) lines line taken takes =
     taken ∙ ap (λ ls. lines ++ ls) takes ∙ sym (append_assoc lines (line ∷ []) (lines_of left))
 
-module _ {S Sessions : Type 0} (l : Layer S Sessions Saved) where
+module _ {S Application : Type 0} (l : Layer S Application Saved) where
   -- the line's work is done, or refused
   pub next_of : (script : Script S) (w : Work) (line : List ℕ) (s : Step) (old new : Option (List ℕ)) (next : Next S)
       → IsWork w s → Asks line s → IsDone l script w old new next → IsNext l script line old new next

@@ -7,12 +7,12 @@ use Rattle.moo_disk.specs.FailAt.{inner_of, left_of}
 use Rattle.moo_disk.specs.Memory.{images, view_of}
 use Rattle.moo_disk.specs.declared.memory.MemoryDisk.{MemoryDisk}
 use Rattle.moo_dbtext_read.specs.Saved.{Saved}
-use Rattle.moo_server_core.specs.Sessions.{Layer}
+use Rattle.moo_server_core.specs.Application.{Layer}
 use Rattle.moo_checkpoint.specs.declared.open_fault.OpenFault.{OpenFault}
 use Rattle.moo_server_core.specs.Server.{waiting_of}
 use Rattle.moo_cli_io.specs.Refused.{IsEarned, refusal_line, refusal_status}
 use Rattle.moo_cli_io.specs.Watching.{HasFailed, Remembers}
-use Rattle.moo_cli_io.specs.declared.refusal.Refusal.{Refusal}
+use Rattle.moo_cli_io.specs.declared.exit_reason.ExitReason.{ExitReason}
 use Rattle.moo_cli_io.specs.declared.watch.Watch.{Watch}
 use Rattle.moo_cli_script.specs.declared.script.Script.{Script}
 use Rattle.moo_cli_script.specs.Script.{HandsOut, NotOpened, Opens, ScriptDisk, printed_below}
@@ -21,7 +21,7 @@ use Rattle.moo_cli_script.specs.Playing.{GivesUp, Holds, IsAnswered, PlaysInput,
 use Rattle.moo_cli_script.specs.Works.{HasGrown, IsEarnedIn, printed_of}
 use Rattle.moo_cli_script.proofs.Growing.{grown_last}
 
-pub gives_up : (old mid new : Option (List ℕ)) (database before after : Watch) (refusal : Refusal) (status : ℕ) → IsEarnedIn database before refusal → HasGrown before old mid
+pub gives_up : (old mid new : Option (List ℕ)) (database before after : Watch) (refusal : ExitReason) (status : ℕ) → IsEarnedIn database before refusal → HasGrown before old mid
     → Remembers before after → status ≡ refusal_status refusal → HasFailed after ⊎ Appends mid new (refusal_line refusal) → GivesUp old new database after status
 gives_up old mid new database before after refusal status earned grown remembers is last = record {
   refusal = refusal;
@@ -39,7 +39,7 @@ held text disk within is alone main call = record {
   call = call;
 }
 
-module _ {S Sessions : Type 0} (l : Layer S Sessions Saved) where
+module _ {S Application : Type 0} (l : Layer S Application Saved) where
   -- before the first connection is opened, nothing is printed
   pub nothing_printed : (script : Script S) (old new : Option (List ℕ)) → script.top ≡ 0 → Appends old new (printed_of l false script) → Appends old new []
   nothing_printed script old new none grows =

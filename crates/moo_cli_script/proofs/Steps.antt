@@ -2,7 +2,7 @@
 use Rattle.std.proofs.Common.{◌≡◌, ℕ, [], Option, Some, Bool, refl, sym, ap, subst}
 use Rattle.std.specs.Prelude.{MatchOption, if◌then◌else◌}
 use Rattle.moo_dbtext_read.specs.Saved.{Saved}
-use Rattle.moo_server_core.specs.Sessions.{Layer}
+use Rattle.moo_server_core.specs.Application.{Layer}
 use Rattle.moo_server_core.specs.Seen.{Event, seen}
 use Rattle.moo_server_core.specs.declared.event.Event as given
 use Rattle.moo_cli_script.specs.ScriptLines.{Step, opening, typing, sending, hanging_up, moment, flushing, failing, reopening, crashing, showing}
@@ -14,7 +14,7 @@ use Rattle.moo_cli_script.specs.declared.work.Work.TheVariants as work
 use Rattle.moo_cli_script.specs.Script.{Crashes, Does, IsRefused, IsToFail, NotCrashed, NotOpened, NotTaken, Opens, Takes, disk_view, event_of, shown_of}
 use Rattle.moo_cli_script.specs.Works.{IsWork, is_show}
 
-module _ {S Sessions : Type 0} (l : Layer S Sessions Saved) where
+module _ {S Application : Type 0} (l : Layer S Application Saved) where
   -- ---- events
 
   does_event : (s : Step) (e : Event) (old new : Script S) → event_of s ≡ Some e → Takes l e old new → Does l s old new

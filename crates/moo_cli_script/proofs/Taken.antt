@@ -3,7 +3,7 @@ use Rattle.std.proofs.Common.{◌≡◌, ◌≢◌, ℕ, ◌≤◌, List, [], �
 use Rattle.std.specs.Prelude.{All}
 use Rattle.std.proofs.lemmas.List.Elements.{All-cons, All-nil}
 use Rattle.moo_dbtext_read.specs.Saved.{Saved}
-use Rattle.moo_server_core.specs.Sessions.{Layer}
+use Rattle.moo_server_core.specs.Application.{Layer}
 use Rattle.moo_server_core.specs.Seen.{Flush, seen}
 use Rattle.moo_server_core.specs.Server.{Follows, IsAlive, Runs}
 use Rattle.moo_server_core.specs.declared.event.Event as given
@@ -13,7 +13,7 @@ use Rattle.moo_cli_script.specs.Script.{Fits, Refuses, ScriptDisk, Takes, disk_f
 use Rattle.moo_cli_script.specs.Works.{moment_at}
 use Rattle.moo_cli_script.proofs.Moments.{run_at}
 
-module _ {S Sessions : Type 0} (l : Layer S Sessions Saved) where
+module _ {S Application : Type 0} (l : Layer S Application Saved) where
   still_one : (e : given.Event) (events : List given.Event) (old new : ScriptDisk) → events ≡ e ∷ [] → (All (λ event. seen event ≢ Flush) events → new ≡ old)
       → seen e ≢ Flush → new ≡ old
   still_one e events old new single still other =

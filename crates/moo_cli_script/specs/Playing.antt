@@ -5,12 +5,12 @@ use Rattle.moo_disk.specs.FailAt.{inner_of, left_of}
 use Rattle.moo_disk.specs.Memory.{images}
 use Rattle.moo_checkpoint.specs.declared.open_fault.OpenFault.{OpenFault}
 use Rattle.moo_dbtext_read.specs.Saved.{Saved}
-use Rattle.moo_server_core.specs.Sessions.{Layer}
+use Rattle.moo_server_core.specs.Application.{Layer}
 use Rattle.moo_cli_io.specs.Refused.{refusal_line, refusal_status}
 use Rattle.moo_cli_io.specs.Watching.{HasFailed, HasLacked}
 use Rattle.moo_cli_io.specs.GivingUp.{IsGivenUp}
-use Rattle.moo_cli_io.specs.declared.refusal.Refusal.{Refusal}
-use Rattle.moo_cli_io.specs.declared.refusal.Refusal.TheVariants as giving
+use Rattle.moo_cli_io.specs.declared.exit_reason.ExitReason.{ExitReason}
+use Rattle.moo_cli_io.specs.declared.exit_reason.ExitReason.TheVariants as giving
 use Rattle.moo_cli_io.specs.declared.watch.Watch.{Watch}
 use Rattle.moo_server_core.specs.Server.{waiting_of}
 use Rattle.moo_cli_script.specs.ScriptLines.{Asks, Step}
@@ -25,7 +25,7 @@ use Rattle.moo_cli_script.specs.Told.{opening_line, opening_status, stop_line, s
 -- made; where memory is told, a call has answered that it was wanting. The refusal's line is the last that was printed, unless the
 -- script's input or the output has failed.
 pub record GivesUp (old new : Option (List ℕ)) (database script : Watch) (status : ℕ) : Type 0 where
-  pub refusal : Refusal
+  pub refusal : ExitReason
   pub is : status ≡ refusal_status refusal
   pub device : refusal ≡ giving.Device → HasFailed database ⊎ HasFailed script
   pub memory : refusal ≡ giving.Memory → HasLacked database ⊎ HasLacked script
@@ -37,7 +37,7 @@ pub record Holds (text : List ℕ) (disk : ScriptDisk) : Type 0 where
   pub main : (disk_view disk).main_text ≡ text
   pub call : left_of disk ≡ 0
 
-module _ {S Sessions : Type 0} (l : Layer S Sessions Saved) where
+module _ {S Application : Type 0} (l : Layer S Application Saved) where
   -- A line was taken: what it asks for was done, and behind it this was printed.
   pub record IsTaken (line : List ℕ) (old new : Script S) (text : List ℕ) : Type 0 where
     pub step : Step

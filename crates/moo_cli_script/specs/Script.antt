@@ -11,7 +11,7 @@ use Rattle.moo_dbtext_read.specs.Saved.{Saved, SpellsSaved, SpellsSavedWithin}
 use Rattle.moo_dbtext_read.specs.Refusals.{Refuses as RefusesText}
 use Rattle.moo_checkpoint.specs.declared.open_fault.OpenFault.{OpenFault}
 use Rattle.moo_checkpoint.specs.declared.open_fault.OpenFault.TheVariants as opening_fault
-use Rattle.moo_server_core.specs.Sessions.{Layer}
+use Rattle.moo_server_core.specs.Application.{Layer}
 use Rattle.moo_server_core.specs.Seen.{Event, Open, Bytes, Hangup, Moment, Flush, seen}
 use Rattle.moo_server_core.specs.Server.{Follows, IsAlive, Runs, Same, waiting_of}
 use Rattle.moo_server_core.specs.Calls.{Opened}
@@ -80,7 +80,7 @@ abbrev pub top_behind : Event → ℕ → ℕ
 top_behind (Open c) top = max top (c + 1)
 top_behind event top = top
 
-module _ {S Sessions : Type 0} (l : Layer S Sessions Saved) where
+module _ {S Application : Type 0} (l : Layer S Application Saved) where
   -- the server isn't halted and goes on with its disk, and its moment is known
   pub record Fits (script : Script S) : Type 0 where
     pub follows : Follows l disk_view disk_honest disk_stands script.server script.disk

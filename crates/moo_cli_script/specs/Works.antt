@@ -2,14 +2,14 @@
 use Rattle.std.specs.Prelude.{◌≡◌, ◌⊎◌, ℕ, Bool, true, false, List, [], ◌++◌, Option, Some, if◌then◌else◌}
 use Rattle.std.specs.Io.KnownBytes.{Appends, Keeps}
 use Rattle.moo_dbtext_read.specs.Saved.{Saved}
-use Rattle.moo_server_core.specs.Sessions.{Layer}
+use Rattle.moo_server_core.specs.Application.{Layer}
 use Rattle.moo_server_core.specs.Seen.{Event, Moment, seen}
 use Rattle.moo_server_core.specs.Server.{waiting_of}
 use Rattle.moo_server_core.specs.declared.event.Course.{Course}
 use Rattle.moo_server_core.specs.declared.event.Course.TheVariants.{Running}
 use Rattle.moo_cli_io.specs.Refused.{IsEarned}
 use Rattle.moo_cli_io.specs.Watching.{HasFailed}
-use Rattle.moo_cli_io.specs.declared.refusal.Refusal.{Refusal}
+use Rattle.moo_cli_io.specs.declared.exit_reason.ExitReason.{ExitReason}
 use Rattle.moo_cli_io.specs.declared.watch.Watch.{Watch}
 use Rattle.moo_cli_script.specs.ScriptLines.{Step, failing, reopening, crashing, showing}
 use Rattle.moo_cli_script.specs.declared.playing.Next.{Next}
@@ -45,7 +45,7 @@ moment_at Running event now = told_at event now
 moment_at course event now = now
 
 -- one of the two has seen why the program gives up
-abbrev pub IsEarnedIn : Watch → Watch → Refusal → Type 0
+abbrev pub IsEarnedIn : Watch → Watch → ExitReason → Type 0
 IsEarnedIn database script refusal = IsEarned database refusal ⊎ IsEarned script refusal
 
 -- nothing was printed, or some text was, unless an input or output has failed
@@ -56,10 +56,10 @@ abbrev pub HasGrown : Watch → Option (List ℕ) → Option (List ℕ) → Type
 HasGrown watch old new = HasFailed watch ⊎ ((text : List ℕ) × Appends old new text)
 
 -- what is shown and what was sent
-abbrev pub printed_of : {S Sessions : Type 0} → Layer S Sessions Saved → Bool → Script S → List ℕ
+abbrev pub printed_of : {S Application : Type 0} → Layer S Application Saved → Bool → Script S → List ℕ
 printed_of l show script = (if show then (disk_view script.disk).main_text else []) ++ printed_below script.top (waiting_of l script.server).sent
 
-module _ {S Sessions : Type 0} (l : Layer S Sessions Saved) where
+module _ {S Application : Type 0} (l : Layer S Application Saved) where
   -- the work was done, or is refused
   abbrev pub IsDone : Script S → Work → Option (List ℕ) → Option (List ℕ) → Next S → Type 0
   IsDone script w old new (Goes next) =

@@ -9,10 +9,10 @@ use crate::script::{Refused, Script};
 use moo_checkpoint::OpenFault;
 use moo_disk::{FailAt, MemoryDisk};
 use moo_server_core::laws::a_failing_disk_goes_on;
-use moo_server_core::{Cause, Event, Phase, Serving, Starts};
+use moo_server_core::{Cause, Event, Phase, ServerCore, StartApplication};
 use std::alloc::Global;
 
-impl<S: Starts> Script<S> {
+impl<S: StartApplication> Script<S> {
     /// A server over a disk, at a moment.
     pub(crate) fn open(
         alloc: Global,
@@ -24,7 +24,7 @@ impl<S: Starts> Script<S> {
         ensures refused { IfErr result (NotOpened disk) }
     {
         let mut disk = disk;
-        match Serving::<S>::open(alloc, &mut disk, moment) {
+        match ServerCore::<S>::open(alloc, &mut disk, moment) {
             Ok(server) => Ok(Script {
                 server,
                 disk,

@@ -10,12 +10,12 @@ ghost use Rattle.moo_cli_script.specs.Works.{printed_of};
 use crate::print_sent;
 use crate::script::Script;
 use log::{Log, info};
-use moo_cli_io::{Refusal, Watch};
-use moo_server_core::{Serving, Starts};
+use moo_cli_io::{ExitReason, Watch};
+use moo_server_core::{ServerCore, StartApplication};
 use moo_value::MooStr;
 use std::io::Write;
 
-impl<S: Starts> Script<S> {
+impl<S: StartApplication> Script<S> {
     /// Prints the main text where it is to be shown, and then, connection by connection, what was sent. The lines of the server's
     /// log are logged.
     pub(crate) fn hand_out<R: Log, O: Write>(
@@ -24,7 +24,7 @@ impl<S: Starts> Script<S> {
         show: bool,
         output: &mut O,
         watch: &mut Watch,
-    ) -> Result<(), Refusal>
+    ) -> Result<(), ExitReason>
         requires { Fits S.layer self.old }
         ensures handed { OnOk result (HandsOut S.layer self.old self.new) }
         ensures text { OnOk result (Appends (O.contents output.old) (O.contents output.new) (printed_of S.layer show self.old)) }
@@ -43,12 +43,12 @@ impl<S: Starts> Script<S> {
 }
 
 // Prints what was sent on each connection below a number, in rising order.
-fn print_below<S: Starts, O: Write>(
-    server: &mut Serving<S>,
+fn print_below<S: StartApplication, O: Write>(
+    server: &mut ServerCore<S>,
     top: u32,
     output: &mut O,
     watch: &mut Watch,
-) -> Result<(), Refusal>
+) -> Result<(), ExitReason>
     requires { top ≤ 65536 }
     ensures same { Same S.layer server.old server.new }
     ensures text { OnOk result (Appends (O.contents output.old) (O.contents output.new) (printed_below top (waiting_of S.layer server.old).sent)) }

@@ -5,7 +5,7 @@ ghost use Rattle.moo_cli_io.specs.Refused.{IsEarned};
 ghost use Rattle.moo_cli_io.specs.Watching.{most_reads, Remembers};
 ghost use Rattle.moo_cli_script.specs.Lines.{TakesLine};
 
-use moo_cli_io::{PartEnd, Refusal, Watch, next_part};
+use moo_cli_io::{ExitReason, PartEnd, Watch, next_part};
 use std::alloc::Global;
 use std::io::{BufRead, Read};
 
@@ -18,7 +18,7 @@ pub fn next_line<I: BufRead>(
     alloc: Global,
     input: &mut I,
     watch: &mut Watch,
-) -> Result<Option<Vec<u8>>, Refusal>
+) -> Result<Option<Vec<u8>>, ExitReason>
     ensures line { IfOk result (λ read. MatchOption read (IsAtEnd (I.remaining input.old)) (λ line. TakesLine (I.remaining input.old) (I.remaining input.new) line.items)) }
     ensures count { OnOk result ((watch.old.reads < watch.new.reads) × (watch.new.reads ≤ most_reads)) }
     ensures earned { IfErr result (IsEarned watch.new) }
@@ -47,7 +47,7 @@ pub fn whole_text<F: Read>(
     alloc: Global,
     database: &mut F,
     watch: &mut Watch,
-) -> Result<Vec<u8>, Refusal>
+) -> Result<Vec<u8>, ExitReason>
     ensures text { IfOk result (λ text. IfSome (F.remaining database.old) (λ bytes. text.items ≡ bytes)) }
     ensures earned { IfErr result (IsEarned watch.new) }
 {
@@ -65,7 +65,7 @@ fn read_all<F: Read>(
     watch: &mut Watch,
     text: &mut Vec<u8>,
     buffer: &mut [u8],
-) -> Result<(), Refusal>
+) -> Result<(), ExitReason>
     requires { 0 < length buffer.old }
     ensures text { OnOk result (IfSome (F.remaining database.old) (λ bytes. text.new.items ≡ text.old.items ++ bytes)) }
     ensures earned { IfErr result (IsEarned watch.new) }

@@ -10,13 +10,13 @@ use crate::telling::{Stop, tell_stop};
 use crate::work::{Work, follow, work_of};
 use crate::{next_line, read_script_line};
 use log::Log;
-use moo_cli_io::{Refusal, Watch};
-use moo_server_core::Starts;
+use moo_cli_io::{ExitReason, Watch};
+use moo_server_core::StartApplication;
 use std::alloc::Global;
 use std::io::{BufRead, Write};
 
 /// What comes behind a line.
-pub(crate) enum Next<S: Starts> {
+pub(crate) enum Next<S: StartApplication> {
     /// The script goes on.
     Goes(Script<S>),
     /// It ends at this line.
@@ -24,14 +24,14 @@ pub(crate) enum Next<S: Starts> {
 }
 
 /// Does what the input's lines ask for, prints what comes of each, and answers the exit status.
-pub(crate) fn play<S: Starts, R: Log, I: BufRead, O: Write>(
+pub(crate) fn play<S: StartApplication, R: Log, I: BufRead, O: Write>(
     alloc: Global,
     rt: &R,
     script: Script<S>,
     input: &mut I,
     output: &mut O,
     watch: &mut Watch,
-) -> Result<u8, Refusal>
+) -> Result<u8, ExitReason>
     requires { Fits S.layer script }
     ensures plays { IfOk result (PlaysInput S.layer script (I.remaining input.old) (O.contents output.old) (O.contents output.new)) }
     ensures earned { IfErr result (IsEarned watch.new) }
@@ -51,14 +51,14 @@ pub(crate) fn play<S: Starts, R: Log, I: BufRead, O: Write>(
 
 // Does what a line asks for, and prints what comes of it. Nothing is printed where the script ends at it.
 #[tactic(auto, using(crate::proofs::Growing::still_silent))]
-fn play_line<S: Starts, R: Log, O: Write>(
+fn play_line<S: StartApplication, R: Log, O: Write>(
     alloc: Global,
     rt: &R,
     script: Script<S>,
     line: &[u8],
     output: &mut O,
     watch: &mut Watch,
-) -> Result<Next<S>, Refusal>
+) -> Result<Next<S>, ExitReason>
     requires { Fits S.layer script }
     ensures next { IfOk result (IsNext S.layer script line.now (O.contents output.old) (O.contents output.new)) }
     ensures earned { IfErr result (IsEarned watch.new) }
@@ -78,14 +78,14 @@ fn play_line<S: Starts, R: Log, O: Write>(
 }
 
 // Does a line's work, and prints what comes of it.
-fn play_work<S: Starts, R: Log, O: Write>(
+fn play_work<S: StartApplication, R: Log, O: Write>(
     alloc: Global,
     rt: &R,
     script: Script<S>,
     work: Work,
     output: &mut O,
     watch: &mut Watch,
-) -> Result<Next<S>, Refusal>
+) -> Result<Next<S>, ExitReason>
     requires { Fits S.layer script }
     ensures next { IfOk result (IsDone S.layer script work (O.contents output.old) (O.contents output.new)) }
     ensures earned { IfErr result (IsEarned watch.new) }

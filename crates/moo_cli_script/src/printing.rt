@@ -7,7 +7,7 @@ ghost use Rattle.moo_cli_script.specs.Printed.{bad_line, sent_line, sent_lines};
 
 use crate::line::{first_line, without_return};
 use itoa::Buffer;
-use moo_cli_io::{Refusal, Watch};
+use moo_cli_io::{ExitReason, Watch};
 use std::io::Write;
 
 /// Prints each line that was sent on a connection, after the connection's number. Returns the refusal if the output
@@ -17,7 +17,7 @@ pub fn print_sent<O: Write>(
     sent: &[u8],
     output: &mut O,
     watch: &mut Watch,
-) -> Result<(), Refusal>
+) -> Result<(), ExitReason>
     ensures text { OnOk result (Appends (O.contents output.old) (O.contents output.new) (sent_lines c sent.now)) }
     ensures earned { IfErr result (IsEarned watch.new) }
     ensures failed { OnErr result (HasFailed watch.new) }
@@ -36,7 +36,7 @@ fn print_line<O: Write>(
     line: &[u8],
     output: &mut O,
     watch: &mut Watch,
-) -> Result<(), Refusal>
+) -> Result<(), ExitReason>
     ensures text { OnOk result (Appends (O.contents output.old) (O.contents output.new) (sent_line c line.now)) }
     ensures earned { IfErr result (IsEarned watch.new) }
     ensures failed { OnErr result (HasFailed watch.new) }
@@ -54,7 +54,7 @@ pub fn print_bad_line<O: Write>(
     number: u64,
     output: &mut O,
     watch: &mut Watch,
-) -> Result<(), Refusal>
+) -> Result<(), ExitReason>
     ensures text { OnOk result (Appends (O.contents output.old) (O.contents output.new) (bad_line number)) }
     ensures earned { IfErr result (IsEarned watch.new) }
     ensures failed { OnErr result (HasFailed watch.new) }

@@ -9,16 +9,16 @@ use crate::script::Script;
 use crate::telling::tell_opening;
 use crate::whole_text;
 use log::Log;
-use moo_cli_io::{Refusal, Watch};
+use moo_cli_io::{ExitReason, Watch};
 use moo_disk::{FailAt, MemoryDisk};
-use moo_server_core::Starts;
+use moo_server_core::StartApplication;
 use std::alloc::Global;
 use std::io::{BufRead, Read, Write};
 
 /// Opens a server over the database in memory, at moment 0, takes the events of the script's lines, prints what is sent behind each,
 /// and answers the exit status (docs/SCRIPT.md). The lines of the server's log are logged, each as a record of level Info. The database
 /// is read alone.
-pub fn run_script<S: Starts, R: Log, F: Read, I: BufRead, O: Write>(
+pub fn run_script<S: StartApplication, R: Log, F: Read, I: BufRead, O: Write>(
     alloc: Global,
     rt: &R,
     database: &mut F,
@@ -39,7 +39,7 @@ pub fn run_script<S: Starts, R: Log, F: Read, I: BufRead, O: Write>(
 }
 
 /// The same, with what was seen of the database, and of the input, the output and the memory.
-pub fn script_watched<S: Starts, R: Log, F: Read, I: BufRead, O: Write>(
+pub fn script_watched<S: StartApplication, R: Log, F: Read, I: BufRead, O: Write>(
     alloc: Global,
     rt: &R,
     database: &mut F,
@@ -58,7 +58,7 @@ pub fn script_watched<S: Starts, R: Log, F: Read, I: BufRead, O: Write>(
 }
 
 // Opens a server over the database, and plays the script.
-fn serve<S: Starts, R: Log, F: Read, I: BufRead, O: Write>(
+fn serve<S: StartApplication, R: Log, F: Read, I: BufRead, O: Write>(
     alloc: Global,
     rt: &R,
     database: &mut F,
@@ -66,7 +66,7 @@ fn serve<S: Starts, R: Log, F: Read, I: BufRead, O: Write>(
     output: &mut O,
     loading: &mut Watch,
     watch: &mut Watch,
-) -> Result<u8, Refusal>
+) -> Result<u8, ExitReason>
     ensures answered { IfOk result (IsAnswered S.layer (F.remaining database.old) (I.remaining input.old) (O.contents output.old) (O.contents output.new)) }
     ensures earned { IfErr result (IsEarnedIn loading.new watch.new) }
     ensures grown { IfErr result (λ r. HasGrown watch.new (O.contents output.old) (O.contents output.new)) }

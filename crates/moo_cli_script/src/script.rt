@@ -2,12 +2,12 @@
 
 use moo_checkpoint::OpenFault;
 use moo_disk::{FailAt, MemoryDisk};
-use moo_server_core::{Cause, Serving, Starts};
+use moo_server_core::{Cause, ServerCore, StartApplication};
 
 /// A server, the disk that it is over, and the moment at which it stands.
 #[derive(Drop)]
-pub(crate) struct Script<S: Starts> {
-    pub(crate) server: Serving<S>,
+pub(crate) struct Script<S: StartApplication> {
+    pub(crate) server: ServerCore<S>,
     pub(crate) disk: FailAt<MemoryDisk>,
     pub(crate) moment: u32,
     /// Each connection that was opened has a smaller number. 65,536 at most.

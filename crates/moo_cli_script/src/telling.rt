@@ -8,7 +8,7 @@ ghost use Rattle.moo_cli_script.specs.Told.{cause_line, cause_status, opening_li
 use crate::print_bad_line;
 use crate::script::Refused;
 use moo_checkpoint::OpenFault;
-use moo_cli_io::{Refusal, Watch, tell};
+use moo_cli_io::{ExitReason, Watch, tell};
 use moo_server_core::Cause;
 use std::alloc::Global;
 use std::io::Write;
@@ -29,7 +29,7 @@ pub(crate) fn tell_stop<O: Write>(
     number: u64,
     output: &mut O,
     watch: &mut Watch,
-) -> Result<u8, Refusal>
+) -> Result<u8, ExitReason>
     ensures told { IfOk result (λ status. (status ≡ stop_status stop) × Appends (O.contents output.old) (O.contents output.new) (stop_line number stop)) }
     ensures earned { IfErr result (IsEarned watch.new) }
     ensures silent { IfErr result (λ r. IsSilent watch.new (O.contents output.old) (O.contents output.new)) }
@@ -49,7 +49,7 @@ fn tell_refused<O: Write>(
     refused: Refused,
     output: &mut O,
     watch: &mut Watch,
-) -> Result<u8, Refusal>
+) -> Result<u8, ExitReason>
     ensures told { IfOk result (λ status. (status ≡ refused_status refused) × Appends (O.contents output.old) (O.contents output.new) (refused_line refused)) }
     ensures earned { IfErr result (IsEarned watch.new) }
     ensures silent { IfErr result (λ r. IsSilent watch.new (O.contents output.old) (O.contents output.new)) }
@@ -73,7 +73,7 @@ pub(crate) fn tell_opening<O: Write>(
     fault: OpenFault,
     output: &mut O,
     watch: &mut Watch,
-) -> Result<u8, Refusal>
+) -> Result<u8, ExitReason>
     ensures told { IfOk result (λ status. (status ≡ opening_status fault) × Appends (O.contents output.old) (O.contents output.new) (opening_line fault)) }
     ensures earned { IfErr result (IsEarned watch.new) }
     ensures silent { IfErr result (λ r. IsSilent watch.new (O.contents output.old) (O.contents output.new)) }

@@ -6,7 +6,7 @@ ghost use Rattle.moo_cli_script.specs.Works.{IsWork, is_show};
 
 use crate::ScriptLine;
 use crate::script::{Refused, Script};
-use moo_server_core::{Event, Starts};
+use moo_server_core::{Event, StartApplication};
 use std::alloc::{AllocError, Global};
 
 /// What a line of a script asks for: an event of the server, or something of its disk.
@@ -61,7 +61,7 @@ fn typed(alloc: Global, text: &[u8]) -> Result<Vec<u8>, AllocError>
 }
 
 /// Does it, or tells why it can't be done.
-pub(crate) fn follow<S: Starts>(
+pub(crate) fn follow<S: StartApplication>(
     alloc: Global,
     script: Script<S>,
     work: Work,

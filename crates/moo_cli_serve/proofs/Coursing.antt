@@ -4,7 +4,7 @@ use Rattle.std.specs.Prelude.{if◌then◌else◌, slice_index_or}
 use Rattle.std.proofs.lemmas.List.{append-nil}
 use Rattle.moo_disk.specs.Disk.{DiskView, KeepsMain}
 use Rattle.moo_dbtext_read.specs.Saved.{Saved}
-use Rattle.moo_server_core.specs.Sessions.{Layer, Output, silence, then_out}
+use Rattle.moo_server_core.specs.Application.{Layer, Output, silence, then_out}
 use Rattle.moo_server_core.specs.Meaning.{Entry, out_of}
 use Rattle.moo_server_core.specs.Seen.{seen as seen_event}
 use Rattle.moo_server_core.specs.Seen as seen
@@ -14,7 +14,7 @@ use Rattle.moo_server_core.specs.declared.event.Event.{Event}
 use Rattle.moo_server_core.specs.declared.event.Event.TheVariants as the
 use Rattle.moo_server_core.specs.declared.event.RunFault.{RunFault}
 use Rattle.moo_server_core.specs.declared.serving.Open.{Open}
-use Rattle.moo_server_core.specs.declared.serving.Serving.{Serving}
+use Rattle.moo_server_core.specs.declared.server_core.ServerCore.{ServerCore}
 use Rattle.moo_server_core.proofs.Joining.{gains_none}
 use Rattle.moo_cli_serve.specs.Course.{AreSingle, Course, Given, hangs_up, sent_after, taken_in}
 
@@ -34,11 +34,11 @@ unheard (the.Hangup k) differs c = absurd (differs k refl)
 unheard (the.Moment moment) differs c = refl
 unheard the.Flush differs c = refl
 
-module _ {S Sessions : Type 0} (l : Layer S Sessions Saved) where
-  same_none : (server : Serving S) → Same l server server
+module _ {S Application : Type 0} (l : Layer S Application Saved) where
+  same_none : (server : ServerCore S) → Same l server server
   same_none server = record { state = refl; writing = refl; halted = refl; under_way = λ h. h }
 
-  same_join : (one mid other : Serving S) → Same l one mid → Same l mid other → Same l one other
+  same_join : (one mid other : ServerCore S) → Same l one mid → Same l mid other → Same l one other
   same_join one mid other a b = record {
     state = b.state ∙ a.state;
     writing = b.writing ∙ a.writing;
@@ -46,17 +46,17 @@ module _ {S Sessions : Type 0} (l : Layer S Sessions Saved) where
     under_way = λ h. b.under_way (a.under_way h);
   }
 
-  pub hands_none : (server : Serving S) → Hands l silence server server
+  pub hands_none : (server : ServerCore S) → Hands l silence server server
   hands_none server = record { same = same_none server; waiting = refl }
 
-  pub hands_join : (h h' : Output) (one mid other : Serving S) → Hands l h one mid → Hands l h' mid other → Hands l (then_out h h') one other
+  pub hands_join : (h h' : Output) (one mid other : ServerCore S) → Hands l h one mid → Hands l h' mid other → Hands l (then_out h h') one other
   hands_join h h' one mid other a b = record {
     same = same_join one mid other a.same b.same;
     waiting = a.waiting ∙ ap (λ (o : Output). then_out h o) b.waiting ∙ sym (out_assoc h h' (waiting_of l other));
   }
 
   -- a server goes on with its disk where some of what waits was handed out
-  pub follows_on : {D : Type 0} (view : D → DiskView) (honest stands : D → Type 0) (h : Output) (one other : Serving S) (disk : D)
+  pub follows_on : {D : Type 0} (view : D → DiskView) (honest stands : D → Type 0) (h : Output) (one other : ServerCore S) (disk : D)
       → Hands l h one other → Follows l view honest stands one disk → Follows l view honest stands other disk
   follows_on view honest stands h one other disk hands f = record {
     still = hands.same.under_way f.still;
@@ -67,10 +67,10 @@ module _ {S Sessions : Type 0} (l : Layer S Sessions Saved) where
     abbrev LentCall : Type 0
     LentCall = Call S (Lent D D)
 
-    abbrev Chain : Serving S → Lent D D → List LentCall → Serving S → Lent D D → List (Entry Saved) → Type 0
+    abbrev Chain : ServerCore S → Lent D D → List LentCall → ServerCore S → Lent D D → List (Entry Saved) → Type 0
     Chain before old calls after new entries = Calls l view honest view honest before old calls after new entries
 
-    pub course_none : (server : Serving S) (disk : D) → Course l view honest server disk [] server disk
+    pub course_none : (server : ServerCore S) (disk : D) → Course l view honest server disk [] server disk
     course_none server disk = record {
       calls = [];
       entries = [];
@@ -83,7 +83,7 @@ module _ {S Sessions : Type 0} (l : Layer S Sessions Saved) where
     }
 
     -- then some of what waits is handed out
-    pub course_hands : (before mid after : Serving S) (old new : D) (events : List Event) (h : Output)
+    pub course_hands : (before mid after : ServerCore S) (old new : D) (events : List Event) (h : Output)
         → Course l view honest before old events mid new → Hands l h mid after → Course l view honest before old events after new
     course_hands before mid after old new events h course hands = record {
       calls = course.calls;
@@ -100,7 +100,7 @@ module _ {S Sessions : Type 0} (l : Layer S Sessions Saved) where
     keeps_main disk = record { text = refl; crash = gains_none (view disk) }
 
     -- one call of one event
-    pub course_one : (before after : Serving S) (old new : D) (event : Event) (done : ℕ)
+    pub course_one : (before after : ServerCore S) (old new : D) (event : Event) (done : ℕ)
         → (ran : Ran l view honest before after old new (event ∷ []) done) → (honest old → honest new)
         → Course l view honest before old (take done (event ∷ [])) after new
     course_one before after old new event done ran still = record {
@@ -122,7 +122,7 @@ module _ {S Sessions : Type 0} (l : Layer S Sessions Saved) where
     }
 
     -- a run that refused it
-    pub course_refused : (failures : D → ℕ) (before after : Serving S) (old new : D) (event : Event) (events : List Event) (fault : RunFault)
+    pub course_refused : (failures : D → ℕ) (before after : ServerCore S) (old new : D) (event : Event) (events : List Event) (fault : RunFault)
         → events ≡ event ∷ [] → (honest old → honest new)
         → Runs l view honest failures before after old new events (Err fault) → Course l view honest before old (take fault.done (event ∷ [])) after new
     course_refused failures before after old new event events fault is still runs =
@@ -139,11 +139,11 @@ module _ {S Sessions : Type 0} (l : Layer S Sessions Saved) where
     taken_append (x ∷ xs) ys =
         ap (λ (es : List Event). take x.done x.events ++ es) (taken_append xs ys) ∙ sym (append_assoc (take x.done x.events) (taken_in xs) (taken_in ys))
 
-    chain_append : (xs ys : List LentCall) (s m e : Serving S) (ds dm de : Lent D D) (es es' : List (Entry Saved))
+    chain_append : (xs ys : List LentCall) (s m e : ServerCore S) (ds dm de : Lent D D) (es es' : List (Entry Saved))
         → Chain s ds xs m dm es → Chain m dm ys e de es' → Chain s ds (xs ++ ys) e de (es ++ es')
     chain_append [] ys s m e ds dm de es es' chain chain' =
         subst (λ (a : List (Entry Saved)). Chain s ds ys e de (a ++ es')) (sym chain.2)
-        (subst (λ (a : Serving S). Chain a ds ys e de es') chain.0
+        (subst (λ (a : ServerCore S). Chain a ds ys e de es') chain.0
         (subst (λ (d : Lent D D). Chain m d ys e de es') chain.1 chain'))
     chain_append (x ∷ xs) ys s m e ds dm de es es' chain chain' = (
       chain.0,
@@ -163,7 +163,7 @@ module _ {S Sessions : Type 0} (l : Layer S Sessions Saved) where
     of_call call h (Other old) (One new) run = absurd run
 
     -- the first call finds what was handed out before it
-    course_joined : (before mid after : Serving S) (old between new : D) (events events' : List Event)
+    course_joined : (before mid after : ServerCore S) (old between new : D) (events events' : List Event)
         → (first : Course l view honest before old events mid between) → (second : Course l view honest mid between events' after new)
         → (both : Course l view honest before old (events ++ events') after new) × (both.entries ≡ first.entries ++ second.entries)
     course_joined before mid after old between new events events' first second = by_calls second.calls second.chain second.single second.taken
@@ -180,7 +180,7 @@ module _ {S Sessions : Type 0} (l : Layer S Sessions Saved) where
             single = first.single;
             taken = ap (λ (es : List Event). events ++ es) taken ∙ append-nil events ∙ first.taken;
             hands = hands_join first.handed second.handed first.last mid after first.hands
-                (subst (λ (s : Serving S). Hands l second.handed s after) chain.0 second.hands);
+                (subst (λ (s : ServerCore S). Hands l second.handed s after) chain.0 second.hands);
           },
           sym (append-nil first.entries) ∙ ap (λ (es : List (Entry Saved)). first.entries ++ es) (sym chain.2),
         )
@@ -201,7 +201,7 @@ module _ {S Sessions : Type 0} (l : Layer S Sessions Saved) where
           refl,
         )
 
-    pub course_join : (before mid after : Serving S) (old between new : D) (events events' : List Event)
+    pub course_join : (before mid after : ServerCore S) (old between new : D) (events events' : List Event)
         → Course l view honest before old events mid between → Course l view honest mid between events' after new
         → Course l view honest before old (events ++ events') after new
     course_join before mid after old between new events events' first second = (course_joined before mid after old between new events events' first second).0
@@ -212,7 +212,7 @@ module _ {S Sessions : Type 0} (l : Layer S Sessions Saved) where
     sent_append c waits [] second = refl
     sent_append c waits (entry ∷ first) second = sent_append c (if hangs_up c entry.event then [] else waits ++ entry.out.sent c) first second
 
-    pub given_none : (server : Serving S) (disk : D) → Given l view honest server disk [] server disk
+    pub given_none : (server : ServerCore S) (disk : D) → Given l view honest server disk [] server disk
     unfolding course_none
     given_none server disk = record { course = course_none server disk; sent = λ c. refl; logged = sym (append-nil (waiting_of l server).logged) }
 
@@ -222,7 +222,7 @@ module _ {S Sessions : Type 0} (l : Layer S Sessions Saved) where
         ap (λ (lines : List (List ℕ)). entry.out.logged ++ lines) (logged_append entries others)
         ∙ sym (append_assoc entry.out.logged (out_of entries).logged (out_of others).logged)
 
-    pub given_join : (before mid after : Serving S) (old between new : D) (events events' : List Event)
+    pub given_join : (before mid after : ServerCore S) (old between new : D) (events events' : List Event)
         → Given l view honest before old events mid between → Given l view honest mid between events' after new
         → Given l view honest before old (events ++ events') after new
     given_join before mid after old between new events events' first second =
@@ -250,7 +250,7 @@ module _ {S Sessions : Type 0} (l : Layer S Sessions Saved) where
     sent_one c waits event (entry ∷ other ∷ entries) is = absurd (omega (arith, ap (λ (es : List seen.Event). length es) is))
 
     -- a run that took its only event; then what waited for one who hung up is dropped
-    given_ran : (before mid after : Serving S) (old new : D) (event : Event) (done : ℕ)
+    given_ran : (before mid after : ServerCore S) (old new : D) (event : Event) (done : ℕ)
         → (ran : Ran l view honest before mid old new (event ∷ []) done) → done ≡ 1 → (honest old → honest new) → ((h : Output) × Hands l h mid after)
         → ((c : ℕ) → (waiting_of l after).sent c ≡ (if hangs_up c (seen_event event) then [] else (waiting_of l mid).sent c))
         → (waiting_of l after).logged ≡ (waiting_of l mid).logged
@@ -264,7 +264,7 @@ module _ {S Sessions : Type 0} (l : Layer S Sessions Saved) where
       logged = log ∙ ap (λ (w : Output). w.logged) ran.waiting;
     }
 
-    pub given_one : (failures : D → ℕ) (before mid after : Serving S) (old new : D) (event : Event) (events : List Event) (done : ℕ)
+    pub given_one : (failures : D → ℕ) (before mid after : ServerCore S) (old new : D) (event : Event) (events : List Event) (done : ℕ)
         → events ≡ event ∷ [] → done ≡ length events → (honest old → honest new)
         → Runs l view honest failures before mid old new events (Ok done) → ((h : Output) × Hands l h mid after)
         → ((c : ℕ) → (waiting_of l after).sent c ≡ (if hangs_up c (seen_event event) then [] else (waiting_of l mid).sent c))

@@ -7,11 +7,11 @@ use Rattle.moo_cli_file_disk.specs.Files.{file_failures, file_honest, file_view}
 use Rattle.moo_cli_file_disk.specs.declared.file_disk.FileDisk.{FileDisk}
 use Rattle.moo_cli_sockets.specs.declared.socket.Socket.{Socket}
 use Rattle.moo_dbtext_read.specs.Saved.{Saved}
-use Rattle.moo_server_core.specs.Sessions.{Layer, Output, then_out}
+use Rattle.moo_server_core.specs.Application.{Layer, Output, then_out}
 use Rattle.moo_server_core.specs.Server.{Hands}
 use Rattle.moo_server_core.specs.declared.event.Cause.{Cause}
 use Rattle.moo_server_core.specs.declared.event.Event.{Event}
-use Rattle.moo_server_core.specs.declared.serving.Serving as inner
+use Rattle.moo_server_core.specs.declared.server_core.ServerCore as inner
 use Rattle.moo_cli_serve.specs.Course.{Course}
 use Rattle.moo_cli_serve.specs.Program.{FailsFile, ServesFile}
 use Rattle.moo_cli_serve.specs.Rounds.{IsClosed}
@@ -33,7 +33,7 @@ goes_on found is over = let no : false ≡ true = sym is ∙ ap is_over over in 
 pub waits_none : {S D : Type 0} (s : Serving S D) → Waits s s
 waits_none s = record { server_is = refl; disk_is = refl; moment_is = refl; most_is = refl; sockets = λ c. refl }
 
-module _ {S Sessions D : Type 0} (l : Layer S Sessions Saved) (view : D → DiskView) (honest : D → Type 0) (failures : D → ℕ) where
+module _ {S Application D : Type 0} (l : Layer S Application Saved) (view : D → DiskView) (honest : D → Type 0) (failures : D → ℕ) where
   pub not_started : (fault : ServeFault) (disk left : D) → LeavesUnbegun view honest failures disk left fault → NotStarted l view honest failures disk fault
   not_started (the.Open fault) disk left unbegun = (left, unbegun)
   not_started (the.Sockets fault) disk left unbegun = absurd unbegun
@@ -41,7 +41,7 @@ module _ {S Sessions D : Type 0} (l : Layer S Sessions Saved) (view : D → Disk
   not_started (the.Refused cause) disk left unbegun = absurd unbegun
   not_started the.Memory disk left unbegun = absurd unbegun
 
-module _ {S Sessions D : Type 0} (l : Layer S Sessions Saved) (view : D → DiskView) (honest : D → Type 0) where
+module _ {S Application D : Type 0} (l : Layer S Application Saved) (view : D → DiskView) (honest : D → Type 0) where
   -- a server that goes on behind a round wasn't closed before it
   pub turned : (found : Round) (old new : Serving S D) → (found ≡ round.Over → ⊥) → ((found ≡ round.Over) ↔ IsClosed new.server)
       → (IsClosed old.server × (new ≡ old)) ⊎ Turns l view honest old new → Turns l view honest old new
@@ -157,7 +157,7 @@ module _ {S Sessions D : Type 0} (l : Layer S Sessions Saved) (view : D → Disk
     stops_so most rounds disk start end (Err fault) begun breaks = inr (record { start = start; end = end; begun = begun; breaks = inr breaks })
 
 -- the same over a file
-module _ {S Sessions F File Dir : Type 0} (l : Layer S Sessions Saved) where
+module _ {S Application F File Dir : Type 0} (l : Layer S Application Saved) where
   pub serves_file : {T : Type 0} (most rounds : ℕ) (disk : FileDisk F File Dir) (r : Result T ServeFault) → OnOk r (Serves l file_view file_honest disk most rounds)
       → OnOk r (ServesFile l F File Dir most rounds)
   serves_file most rounds disk (Ok x) serves = (disk, serves)

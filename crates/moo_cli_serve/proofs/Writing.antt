@@ -9,11 +9,11 @@ use Rattle.moo_cli_sockets.specs.Coming.{Each, held, only}
 use Rattle.moo_cli_sockets.specs.Sending.{Sends}
 use Rattle.moo_cli_sockets.proofs.Counting.{each_map, each_more}
 use Rattle.moo_dbtext_read.specs.Saved.{Saved}
-use Rattle.moo_server_core.specs.Sessions.{Layer, Output}
+use Rattle.moo_server_core.specs.Application.{Layer, Output}
 use Rattle.moo_server_core.specs.Server.{Hands, state_of, waiting_of}
 use Rattle.moo_server_core.specs.declared.event.Event.{Event}
 use Rattle.moo_server_core.specs.declared.event.Event.TheVariants as the
-use Rattle.moo_server_core.specs.declared.serving.Serving.{Serving}
+use Rattle.moo_server_core.specs.declared.server_core.ServerCore.{ServerCore}
 use Rattle.moo_cli_serve.specs.Writing.{IsLeft, IsWritten, IsWrittenTo, Writes, is_parted, leaves}
 
 -- the same, said of values that are equal
@@ -45,21 +45,21 @@ stays most leaving leaving' output bytes left was is c (Some w) same all none go
     goes_on : is_parted most leaving (Some (length sent.rest)) ≡ false
     goes_on = ap (λ (n : ℕ). is_parted most leaving (Some n)) (sym sent.count) ∙ goes
 
-module _ {S Sessions : Type 0} (l : Layer S Sessions Saved) where
+module _ {S Application : Type 0} (l : Layer S Application Saved) where
   -- who leaves does so still where something was handed out
-  pub leaves_on : (handed : Output) (one other : Serving S) (c : ℕ) → Hands l handed one other → leaves l other c ≡ leaves l one c
+  pub leaves_on : (handed : Output) (one other : ServerCore S) (c : ℕ) → Hands l handed one other → leaves l other c ≡ leaves l one c
   leaves_on handed one other c hands =
       ap (λ (h : Bool). if h then false else l.meaning.is_leaving (state_of l other).sessions c) hands.same.halted
       ∙ ap (λ state. if one.halted then false else l.meaning.is_leaving state.sessions c) hands.same.state
 
   -- Numbers below n are written to, and the others left.
-  pub record AreWritten (most n : ℕ) (before after : Serving S) (old new : Slab Socket) (events : List Event) : Type 0 where
+  pub record AreWritten (most n : ℕ) (before after : ServerCore S) (old new : Slab Socket) (events : List Event) : Type 0 where
     pub handed : (handed : Output) × Hands l handed before after
     pub each : Each (λ c event. IsWrittenTo l most before after old new c event) n events
     pub left : (c : ℕ) → n ≤ c → IsLeft l c before after old new
     pub log : (waiting_of l after).logged ≡ (waiting_of l before).logged
 
-  pub written_more : (most n : ℕ) (before mid after : Serving S) (old between new : Slab Socket) (events all : List Event) (event : Option Event)
+  pub written_more : (most n : ℕ) (before mid after : ServerCore S) (old between new : Slab Socket) (events all : List Event) (event : Option Event)
       → AreWritten most n before mid old between events → ((h : Output) × Hands l h before after) → IsWrittenTo l most mid after between new n event
       → ((c : ℕ) → c ≢ n → IsLeft l c mid after between new) → (waiting_of l after).logged ≡ (waiting_of l mid).logged → all ≡ events ++ only event
       → AreWritten most (n + 1) before after old new all
@@ -88,7 +88,7 @@ module _ {S Sessions : Type 0} (l : Layer S Sessions Saved) where
           (held between n) (held old n) (held new n) (held new n) n event (sym (leaves_on so_far.handed.0 before mid n so_far.handed.1)) (sym left.waiting) refl (sym left.socket) refl now
 
   -- in the end all are, up to the last number, or where no socket has one from n on
-  pub written_all : (most n : ℕ) (before after : Serving S) (old new : Slab Socket) (events : List Event)
+  pub written_all : (most n : ℕ) (before after : ServerCore S) (old new : Slab Socket) (events : List Event)
       → (65536 ≤ n) ⊎ ((c : ℕ) → n ≤ c → held old c ≡ None) → AreWritten most n before after old new events → Writes l most before after old new events
   written_all most n before after old new events end are = record {
     below = n;

@@ -3,7 +3,7 @@ use Rattle.std.specs.Prelude.{◌≡◌, ◌⊎◌, ℕ}
 use Rattle.moo_cli_file_disk.specs.Files.{file_failures, file_honest, file_view}
 use Rattle.moo_cli_file_disk.specs.declared.file_disk.FileDisk.{FileDisk}
 use Rattle.moo_checkpoint.specs.declared.open_fault.OpenFault.TheVariants as opening
-use Rattle.moo_server_core.specs.Sessions.{Layer}
+use Rattle.moo_server_core.specs.Application.{Layer}
 use Rattle.moo_dbtext_read.specs.Saved.{Saved}
 use Rattle.moo_cli_serve.specs.Service.{Fails, Serves}
 use Rattle.moo_cli_serve.specs.Status.{fault_status}
@@ -14,7 +14,7 @@ use Rattle.moo_cli_serve.specs.declared.fault.ServeFault.TheVariants as the
 abbrev pub NoDisk : ServeFault → Type 0
 NoDisk fault = (fault ≡ the.Open opening.Device) ⊎ (fault ≡ the.Memory)
 
-module _ {S Sessions : Type 0} (l : Layer S Sessions Saved) (F File Dir : Type 0) (most : ℕ) where
+module _ {S Application : Type 0} (l : Layer S Application Saved) (F File Dir : Type 0) (most : ℕ) where
   -- the disk over a file was served
   abbrev pub ServesFile : ℕ → Type 0
   ServesFile rounds = (disk : FileDisk F File Dir) × Serves l file_view file_honest disk most rounds

@@ -3,7 +3,7 @@ use Rattle.std.specs.Prelude.{◌≡◌, ◌⊎◌, ℕ, ◌≤◌, ◌<◌, Lis
 use Rattle.slab.specs.Slab.{Slab}
 use Rattle.moo_disk.specs.Disk.{DiskView}
 use Rattle.moo_dbtext_read.specs.Saved.{Saved}
-use Rattle.moo_server_core.specs.Sessions.{Layer, Output}
+use Rattle.moo_server_core.specs.Application.{Layer, Output}
 use Rattle.moo_cli_sockets.specs.declared.socket.Socket.{Socket}
 use Rattle.moo_cli_sockets.specs.Coming.{Comes}
 use Rattle.moo_server_core.specs.Courses.{phase_of}
@@ -11,7 +11,7 @@ use Rattle.moo_server_core.specs.Server.{Hands, waiting_of}
 use Rattle.moo_server_core.specs.declared.event.Event.{Event}
 use Rattle.moo_server_core.specs.declared.event.Event.TheVariants as the
 use Rattle.moo_server_core.specs.declared.event.Phase.TheVariants as phase
-use Rattle.moo_server_core.specs.declared.serving.Serving.{Serving}
+use Rattle.moo_server_core.specs.declared.server_core.ServerCore.{ServerCore}
 use Rattle.moo_cli_serve.specs.Course.{Given}
 use Rattle.moo_cli_serve.specs.Writing.{Writes}
 
@@ -32,33 +32,33 @@ pub record Begins (old new : Slab Socket) (before now : ℕ) (events : List Even
   pub told : IsTold clock before now timed
 
 module _ {S : Type 0} where
-  abbrev pub IsClosed : Serving S → Type 0
+  abbrev pub IsClosed : ServerCore S → Type 0
   IsClosed server = phase_of server.halted server.course ≡ phase.Closed
 
-module _ {S Sessions : Type 0} (l : Layer S Sessions Saved) where
+module _ {S Application : Type 0} (l : Layer S Application Saved) where
   -- All lines that wait for the log are handed out, and no output.
-  pub record Logs (before after : Serving S) : Type 0 where
+  pub record Logs (before after : ServerCore S) : Type 0 where
     pub handed : (handed : Output) × Hands l handed before after
     pub none : (waiting_of l after).logged ≡ []
     pub unsent : (waiting_of l after).sent ≡ (waiting_of l before).sent
 
-module _ {S Sessions D : Type 0} (l : Layer S Sessions Saved) (view : D → DiskView) (honest : D → Type 0) where
+module _ {S Application D : Type 0} (l : Layer S Application Saved) (view : D → DiskView) (honest : D → Type 0) where
   -- A server that isn't closed is given these events.
-  abbrev pub GivenIfOpen : Serving S → D → List Event → Serving S → D → Type 0
+  abbrev pub GivenIfOpen : ServerCore S → D → List Event → ServerCore S → D → Type 0
   GivenIfOpen before old events after new =
       (IsClosed before × (after ≡ before) × (new ≡ old)) ⊎ ((IsClosed before → ⊥) × Given l view honest before old events after new)
 
   -- A round: what comes on the sockets, the moment and a flush are given to the server; one write goes to each socket; and the hang-ups
   -- that come of it are given to the server, unless it is closed.
-  pub record Rounds (most before now : ℕ) (server after : Serving S) (old new : D) (sockets left : Slab Socket) : Type 0 where
+  pub record Rounds (most before now : ℕ) (server after : ServerCore S) (old new : D) (sockets left : Slab Socket) : Type 0 where
     pub first : List Event
     pub read : Slab Socket
     pub begins : Begins sockets read before now first
-    pub given : Serving S
+    pub given : ServerCore S
     pub between : D
     pub gives : Given l view honest server old first given between
     pub parted : List Event
-    pub written : Serving S
+    pub written : ServerCore S
     pub writes : Writes l most given written read left parted
     pub handed : (handed : Output) × Hands l handed given written
     pub ends : GivenIfOpen written between parted after new

@@ -9,7 +9,7 @@ use Rattle.moo_dbtext_read.specs.Refusals.{Refuses as RefusesText}
 use Rattle.moo_checkpoint.specs.Recovering.{CountsFault}
 use Rattle.moo_checkpoint.specs.declared.open_fault.OpenFault.{OpenFault}
 use Rattle.moo_checkpoint.specs.declared.open_fault.OpenFault.TheVariants as opening
-use Rattle.moo_server_core.specs.Sessions.{Layer, Output}
+use Rattle.moo_server_core.specs.Application.{Layer, Output}
 use Rattle.moo_cli_sockets.specs.declared.socket.Socket.{Socket}
 use Rattle.moo_cli_sockets.specs.Coming.{held}
 use Rattle.moo_server_core.specs.Calls.{Opened}
@@ -17,7 +17,7 @@ use Rattle.moo_server_core.specs.Server.{Hands, Runs}
 use Rattle.moo_server_core.specs.declared.event.Cause.{Cause}
 use Rattle.moo_server_core.specs.declared.event.Event.{Event}
 use Rattle.moo_server_core.specs.declared.event.RunFault.{RunFault}
-use Rattle.moo_server_core.specs.declared.serving.Serving as inner
+use Rattle.moo_server_core.specs.declared.server_core.ServerCore as inner
 use Rattle.moo_cli_serve.specs.Course.{Course, Given}
 use Rattle.moo_cli_serve.specs.Rounds.{Begins, IsClosed, Logs, Rounds}
 use Rattle.moo_cli_serve.specs.Writing.{Writes}
@@ -39,7 +39,7 @@ pub record Waits {S D : Type 0} (old new : Serving S D) : Type 0 where
   pub most_is : new.most_waiting ≡ old.most_waiting
   pub sockets : (c : ℕ) → held new.sockets.sockets c ≡ held old.sockets.sockets c
 
-module _ {S Sessions D : Type 0} (l : Layer S Sessions Saved) (view : D → DiskView) (honest : D → Type 0) where
+module _ {S Application D : Type 0} (l : Layer S Application Saved) (view : D → DiskView) (honest : D → Type 0) where
   -- A server was begun from what a disk holds, at a moment: from a saved world that main spells. Nothing was written.
   pub record IsBegunFrom (disk : D) (moment : ℕ) (server : inner.Serving S) (left : D) : Type 0 where
     pub saved : Saved
@@ -98,7 +98,7 @@ module _ {D : Type 0} (view : D → DiskView) (honest : D → Type 0) (failures 
   LeavesUnbegun disk left (the.Open fault) = NotBegun disk left fault
   LeavesUnbegun disk left fault = ⊥
 
-module _ {S Sessions D : Type 0} (l : Layer S Sessions Saved) (view : D → DiskView) (honest : D → Type 0) (failures : D → ℕ) where
+module _ {S Application D : Type 0} (l : Layer S Application Saved) (view : D → DiskView) (honest : D → Type 0) (failures : D → ℕ) where
   -- There are no rounds: no server was begun, or there are no sockets for the one that was.
   abbrev pub NotStarted : D → ServeFault → Type 0
   NotStarted disk (the.Open fault) = (left : D) × NotBegun view honest failures disk left fault

@@ -5,11 +5,11 @@ use Rattle.slab.specs.Slab.{Slab}
 use Rattle.moo_cli_sockets.specs.declared.socket.Socket.{Socket}
 use Rattle.moo_cli_sockets.specs.Coming.{Each, held}
 use Rattle.moo_dbtext_read.specs.Saved.{Saved}
-use Rattle.moo_server_core.specs.Sessions.{Layer}
+use Rattle.moo_server_core.specs.Application.{Layer}
 use Rattle.moo_server_core.specs.Server.{state_of, waiting_of}
 use Rattle.moo_server_core.specs.declared.event.Event.{Event}
 use Rattle.moo_server_core.specs.declared.event.Event.TheVariants as the
-use Rattle.moo_server_core.specs.declared.serving.Serving.{Serving}
+use Rattle.moo_server_core.specs.declared.server_core.ServerCore.{ServerCore}
 
 -- Who was written to is hung up: where the socket failed, where the connection leaves and nothing waits for it any more, and where more
 -- waits than may. So many bytes still wait, or none is told where the socket failed.
@@ -31,21 +31,21 @@ abbrev pub IsWritten : ℕ → Bool → List ℕ → List ℕ → Option (List �
 IsWritten most leaving bytes left None is c event = (left ≡ bytes) × (is ≡ None) × (event ≡ None)
 IsWritten most leaving bytes left (Some before) is c event = (left ≡ []) × Wrote most leaving bytes before is c event
 
-module _ {S Sessions : Type 0} (l : Layer S Sessions Saved) where
-  abbrev pub leaves : Serving S → ℕ → Bool
+module _ {S Application : Type 0} (l : Layer S Application Saved) where
+  abbrev pub leaves : ServerCore S → ℕ → Bool
   leaves server c = if server.halted then false else l.meaning.is_leaving (state_of l server).sessions c
 
-  abbrev pub IsWrittenTo : ℕ → Serving S → Serving S → Slab Socket → Slab Socket → ℕ → Option Event → Type 0
+  abbrev pub IsWrittenTo : ℕ → ServerCore S → ServerCore S → Slab Socket → Slab Socket → ℕ → Option Event → Type 0
   IsWrittenTo most before after old new c event =
       IsWritten most (leaves before c) ((waiting_of l before).sent c) ((waiting_of l after).sent c) (held old c) (held new c) c event
 
   -- connection c's socket holds what it held, and the server what it held for c
-  pub record IsLeft (c : ℕ) (before after : Serving S) (old new : Slab Socket) : Type 0 where
+  pub record IsLeft (c : ℕ) (before after : ServerCore S) (old new : Slab Socket) : Type 0 where
     pub socket : held new c ≡ held old c
     pub waiting : (waiting_of l after).sent c ≡ (waiting_of l before).sent c
 
   -- One write to each socket, by rising number, with the hang-ups that come of it. No line for the log is handed out.
-  pub record Writes (most : ℕ) (before after : Serving S) (old new : Slab Socket) (events : List Event) : Type 0 where
+  pub record Writes (most : ℕ) (before after : ServerCore S) (old new : Slab Socket) (events : List Event) : Type 0 where
     pub below : ℕ
     pub each : Each (λ c event. IsWrittenTo most before after old new c event) below events
     -- there are no others, and what waits in the server for their numbers stays there

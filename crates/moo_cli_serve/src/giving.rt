@@ -1,6 +1,6 @@
 //! A server is given events, each in a run of its own.
 ghost use Rattle.std.specs.Prelude.{◌≡◌, ℕ, List, [], IfErr, OnOk, if◌then◌else◌};
-ghost use Rattle.moo_server_core.specs.Sessions.{Output};
+ghost use Rattle.moo_server_core.specs.Application.{Output};
 ghost use Rattle.moo_server_core.specs.Seen.{seen};
 ghost use Rattle.moo_server_core.specs.Server.{Follows, Hands, waiting_of};
 ghost use Rattle.moo_server_core.specs.declared.event.Event as given;
@@ -9,13 +9,13 @@ ghost use Rattle.moo_cli_serve.specs.Rounds.{GivenIfOpen};
 ghost use Rattle.moo_cli_serve.specs.Service.{IsRefused};
 
 use moo_disk::Disk;
-use moo_server_core::{Cause, Event, Phase, Serving, Starts};
+use moo_server_core::{Cause, Event, Phase, ServerCore, StartApplication};
 use std::slice;
 
 /// Gives events to a server, one after another, each in a run of its own. What waits for a connection that hung up goes nowhere, so that
 /// the next one under its number starts clean.
-pub fn give<S: Starts, D: Disk>(
-    server: &mut Serving<S>,
+pub fn give<S: StartApplication, D: Disk>(
+    server: &mut ServerCore<S>,
     disk: &mut D,
     events: &[Event],
 ) -> Result<(), Cause>
@@ -35,8 +35,8 @@ pub fn give<S: Starts, D: Disk>(
 }
 
 /// The same, but a server that is closed is given nothing.
-pub fn give_if_open<S: Starts, D: Disk>(
-    server: &mut Serving<S>,
+pub fn give_if_open<S: StartApplication, D: Disk>(
+    server: &mut ServerCore<S>,
     disk: &mut D,
     events: &[Event],
 ) -> Result<(), Cause>
@@ -53,7 +53,7 @@ pub fn give_if_open<S: Starts, D: Disk>(
 }
 
 // Where a connection hung up, what waits for it is taken and dropped.
-fn forget<S: Starts>(server: &mut Serving<S>, event: &Event)
+fn forget<S: StartApplication>(server: &mut ServerCore<S>, event: &Event)
     ensures handed { (handed : Output) × Hands S.layer handed server.old server.new }
     ensures waiting { (c : ℕ) → (waiting_of S.layer server.new).sent c ≡ (if hangs_up c (seen event.now) then [] else (waiting_of S.layer server.old).sent c) }
     ensures log { (waiting_of S.layer server.new).logged ≡ (waiting_of S.layer server.old).logged }

@@ -1,20 +1,20 @@
 //! What goes out in a round, and the connections that are closed then.
 ghost use Rattle.std.specs.Prelude.{◌≡◌, ◌≢◌, ℕ, List, IfOk, OnOk};
-ghost use Rattle.moo_server_core.specs.Sessions.{Output};
+ghost use Rattle.moo_server_core.specs.Application.{Output};
 ghost use Rattle.moo_server_core.specs.Server.{Hands, waiting_of};
 ghost use Rattle.moo_cli_serve.specs.Rounds.{Logs};
 ghost use Rattle.moo_cli_serve.specs.Writing.{IsLeft, IsWrittenTo, Writes, is_parted};
 
 use log::{Log, info, warn};
 use moo_cli_sockets::{Sockets, put};
-use moo_server_core::{Event, Serving, Starts};
+use moo_server_core::{Event, ServerCore, StartApplication};
 use std::alloc::{AllocError, Global};
 
 /// One write to each socket, of what waits for its connection: the hang-ups of those that are closed then.
-pub fn write_all<S: Starts, L: Log>(
+pub fn write_all<S: StartApplication, L: Log>(
     rt: &L,
     alloc: Global,
-    server: &mut Serving<S>,
+    server: &mut ServerCore<S>,
     sockets: &mut Sockets,
     most_waiting: usize,
 ) -> Result<Vec<Event>, AllocError>
@@ -31,9 +31,9 @@ pub fn write_all<S: Starts, L: Log>(
 }
 
 // One write to a connection's socket, if it has one, and its hang-up where it is closed then.
-fn write<S: Starts, L: Log>(
+fn write<S: StartApplication, L: Log>(
     rt: &L,
-    server: &mut Serving<S>,
+    server: &mut ServerCore<S>,
     sockets: &mut Sockets,
     c: u16,
     most_waiting: usize,
@@ -76,7 +76,7 @@ fn tell_waiting<L: Log>(rt: &L, c: u16, most: usize, waiting: Option<usize>) {
 }
 
 /// Writes the lines that wait for the log.
-pub fn log_lines<S: Starts, L: Log>(rt: &L, server: &mut Serving<S>)
+pub fn log_lines<S: StartApplication, L: Log>(rt: &L, server: &mut ServerCore<S>)
     ensures { Logs S.layer server.old server.new }
 {
     let lines = server.take_log();

@@ -10,7 +10,7 @@ use moo_checkpoint::OpenFault;
 use moo_cli_file_disk::{FileDisk, Watched};
 use moo_cli_sockets::SocketsFault;
 use moo_disk::Disk;
-use moo_server_core::Starts;
+use moo_server_core::StartApplication;
 use std::alloc::Global;
 use std::io;
 use std::io::{ErrorKind, Write};
@@ -34,7 +34,7 @@ pub struct Served<'a> {
 
 /// Serves a database until it is closed or the rounds are over, and answers the program's exit status. The output gets the line
 /// `listening on ADDRESS`, or one that tells why there is no server; the log tells the rest.
-pub fn run_serve<S: Starts, R: Net + Clock + Log, F: Files + Drop, O: Write>(
+pub fn run_serve<S: StartApplication, R: Net + Clock + Log, F: Files + Drop, O: Write>(
     rt: &R,
     files: F,
     alloc: Global,
@@ -54,7 +54,7 @@ pub fn run_serve<S: Starts, R: Net + Clock + Log, F: Files + Drop, O: Write>(
 }
 
 // Serves the database under a file's name.
-fn serve_file<S: Starts, R: Net + Clock + Log, F: Files + Drop, O: Write>(
+fn serve_file<S: StartApplication, R: Net + Clock + Log, F: Files + Drop, O: Write>(
     rt: &R,
     files: F,
     alloc: Global,
@@ -74,7 +74,7 @@ fn serve_file<S: Starts, R: Net + Clock + Log, F: Files + Drop, O: Write>(
 }
 
 /// Serves what a disk holds. The output gets the line that tells where it listens.
-pub fn serve_disk<S: Starts, D: Disk + Watched + Drop, R: Net + Clock + Log, O: Write>(
+pub fn serve_disk<S: StartApplication, D: Disk + Watched + Drop, R: Net + Clock + Log, O: Write>(
     rt: &R,
     alloc: Global,
     disk: D,

@@ -14,7 +14,7 @@ use log::{Log, info, warn};
 use moo_cli_file_disk::{News, Watched};
 use moo_cli_sockets::Sockets;
 use moo_disk::Disk;
-use moo_server_core::{Phase, Serving as Server, Starts};
+use moo_server_core::{Phase, ServerCore as Server, StartApplication};
 use std::alloc::Global;
 use std::net::{IpAddr, Net, SocketAddr};
 use std::rt::Clock;
@@ -35,7 +35,7 @@ pub enum Round {
 
 /// A server over a disk, and the sockets of its connections.
 #[derive(Drop)]
-pub struct Serving<S: Starts, D: Disk> {
+pub struct Serving<S: StartApplication, D: Disk> {
     alloc: Global,
     sockets: Sockets,
     server: Server<S>,
@@ -46,7 +46,7 @@ pub struct Serving<S: Starts, D: Disk> {
     most_waiting: usize,
 }
 
-impl<S: Starts, D: Disk + Watched> Serving<S, D> {
+impl<S: StartApplication, D: Disk + Watched> Serving<S, D> {
     /// Opens a server on a disk, and listens on a port of an address. Port 0 takes any free one. Where the disk can't be read, why is told
     /// in a line of the log.
     pub fn open<N: Net + Clock + Log>(
@@ -202,7 +202,7 @@ impl<S: Starts, D: Disk + Watched> Serving<S, D> {
 }
 
 // The server that begins from what a disk holds. Where it can't be read, why is told.
-fn begin<S: Starts, D: Disk + Watched, L: Log>(
+fn begin<S: StartApplication, D: Disk + Watched, L: Log>(
     rt: &L,
     alloc: Global,
     disk: &mut D,

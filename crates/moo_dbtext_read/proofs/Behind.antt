@@ -20,8 +20,8 @@ use Rattle.moo_dbtext_record.specs.declared.fault.DbFault.{DbFault}
 use Rattle.moo_dbtext_record.specs.declared.fault.ProgramFaultKind.{ProgramFaultKind}
 use Rattle.moo_dbtext_record.specs.DumpReading.{Progress, verb_read}
 use Rattle.moo_dbtext_record.specs.Answer.{IsWholeLine, Told, Taken, taken_of, taken_on, begin, and_then, HasTaken, IsGoing, HasFailed, HasNoEnd, Stops}
-use Rattle.moo_dbtext_record.specs.declared.db_reader.DbReader.{DbReader}
-use Rattle.moo_dbtext_record.specs.declared.db_reader.RecordFault.{RecordFault}
+use Rattle.moo_dbtext_record.specs.declared.record_reader.RecordReader.{RecordReader}
+use Rattle.moo_dbtext_record.specs.declared.record_reader.RecordFault.{RecordFault}
 use Rattle.moo_dbtext_record.specs.declared.dump_reader.Section.{Section}
 use Rattle.moo_dbtext_record.specs.declared.dump_reader.Section.TheVariants as section
 use Rattle.moo_dbtext_record.proofs.TakenLaws.{taken_on-append, rest_taken}
@@ -38,7 +38,7 @@ use Rattle.moo_dbtext_read.specs.Reading.{IsBehind, IsRefused, IsSourceRefused, 
 -- ---- the records
 
 -- a reader without a fault is in the state to which the bytes lead
-pub taken_going : (r : DbReader) (bytes : List ℕ) → IsGoing r → HasTaken r bytes → taken_on limited begin bytes ≡ Ok (taken_of r)
+pub taken_going : (r : RecordReader) (bytes : List ℕ) → IsGoing r → HasTaken r bytes → taken_on limited begin bytes ≡ Ok (taken_of r)
 taken_going r bytes going h = at r.failed going h
   where
     at : (f : Option RecordFault) → f ≡ None → MatchOption f (taken_on limited begin bytes ≡ Ok (taken_of r)) (λ e. Stops e (taken_on limited begin bytes)) → taken_on limited begin bytes ≡ Ok (taken_of r)
@@ -46,7 +46,7 @@ taken_going r bytes going h = at r.failed going h
     at (Some x) e h = absurd cc
 
 -- and one that has failed at their fault
-pub taken_failed : (r : DbReader) (e : RecordFault) (bytes : List ℕ) → HasFailed r e → HasTaken r bytes → Stops e (taken_on limited begin bytes)
+pub taken_failed : (r : RecordReader) (e : RecordFault) (bytes : List ℕ) → HasFailed r e → HasTaken r bytes → Stops e (taken_on limited begin bytes)
 taken_failed r e bytes failed h = at r.failed failed h
   where
     at : (f : Option RecordFault) → f ≡ Some e → MatchOption f (taken_on limited begin bytes ≡ Ok (taken_of r)) (λ d. Stops d (taken_on limited begin bytes)) → Stops e (taken_on limited begin bytes)
@@ -251,14 +251,14 @@ same_or_apart i o j v = decide (eqb i o) refl (eqb j v) refl
 -- ---- the dot that ends a program
 
 -- the states after the line before and after the dot, and the source between them, which the reader has
-pub record IsAtDot (old new : DbReader) (bytes line : List ℕ) (before : IsAt old bytes) (o v : ℕ) : Type 0 where
+pub record IsAtDot (old new : RecordReader) (bytes line : List ℕ) (before : IsAt old bytes) (o v : ℕ) : Type 0 where
   pub after : IsAt new (bytes ++ line)
   pub passes : Passes before.state bytes line after.state
   pub ends : Ends before.state bytes line after.state passes o v
   pub there : entry_at after.state.progress.text.programs o v ≡ Some before.state.progress.source
   pub had : entry_at (sources_at new) o v ≡ Some before.state.progress.source
 
-pub at_dot : (old new : DbReader) (bytes line : List ℕ) (o v : ℕ) → IsWholeLine line → (before : IsAt old bytes) → taken_on limited (taken_of old) line ≡ Ok (taken_of new) → ended_between (verb_at old) (verb_at new) ≡ Some (o, v) → IsAtDot old new bytes line before o v
+pub at_dot : (old new : RecordReader) (bytes line : List ℕ) (o v : ℕ) → IsWholeLine line → (before : IsAt old bytes) → taken_on limited (taken_of old) line ≡ Ok (taken_of new) → ended_between (verb_at old) (verb_at new) ≡ Some (o, v) → IsAtDot old new bytes line before o v
 at_dot old new bytes line o v whole before e some = record { after = after; passes = p; ends = d; there = there; had = had }
   where
     l : Taken
@@ -296,7 +296,7 @@ at_dot old new bytes line o v whole before e some = record { after = after; pass
         (ap (λ (r : Line). r ++ p.front) (sym before.alike.rest) ∙ d.dot) past.step
         ∙ ap (λ (r : Progress). Some r.source) (sym before.alike.progress.rest)
 
-pub behind_ended : (old new : ProgramReader) (bytes line : List ℕ) (o v : ℕ) (middle : DbReader) (h : IsBehind old bytes) (d : IsAtDot old.records middle bytes line h.at o v)
+pub behind_ended : (old new : ProgramReader) (bytes line : List ℕ) (o v : ℕ) (middle : RecordReader) (h : IsBehind old bytes) (d : IsAtDot old.records middle bytes line h.at o v)
     → IsGoing new.records → AreAlikeTaken (taken_of middle) (taken_of new.records) → IsParsedAs (Some h.at.state.progress.source) (entry_at (programs_of new.programs) o v)
     → ((i j : ℕ) → (i ≡ o → j ≡ v → ⊥) → entry_at (programs_of new.programs) i j ≡ entry_at (programs_of old.programs) i j) → IsBehind new (bytes ++ line)
 behind_ended old new bytes line o v middle h d on dropped there others = record {
@@ -335,7 +335,7 @@ told_source bytes o v source e at k (Some x) told is blames place parsed = inr (
   is = record { source = source; place = place; blamed = record { kind = k; told = told; blames = blames }; parsed = parsed };
 }))
 
-pub source_refused : (r : ProgramReader) (new : DbReader) (bytes line : List ℕ) (o v : ℕ) (e : DbFault) (h : IsBehind r bytes) → IsAtDot r.records new bytes line h.at o v
+pub source_refused : (r : ProgramReader) (new : RecordReader) (bytes line : List ℕ) (o v : ℕ) (e : DbFault) (h : IsBehind r bytes) → IsAtDot r.records new bytes line h.at o v
     → ((source : List Line) → entry_at (sources_at new) o v ≡ Some source → IsSourceRefused (taken_of new).lines o v source e) → IsRefused (bytes ++ line) (taken_on limited begin (bytes ++ line)) e
 source_refused r new bytes line o v e h d refused =
     let s = h.at.state in

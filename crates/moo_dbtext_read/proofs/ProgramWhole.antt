@@ -11,7 +11,7 @@ use Rattle.moo_dbtext_record.specs.Texts.{Text, Spells, SpellsWithin}
 use Rattle.moo_dbtext_record.specs.Answer.{StopsAt, answer_to, front_lines, Stand, StandWithoutLimits, IsMemoryOrSize}
 use Rattle.moo_dbtext_record.specs.Faults.{kind_of, kind_of_refusal}
 use Rattle.moo_dbtext_record.specs.declared.dump.Dump.{Dump}
-use Rattle.moo_dbtext_record.specs.declared.db_reader.RecordFault.{RecordFault}
+use Rattle.moo_dbtext_record.specs.declared.record_reader.RecordFault.{RecordFault}
 use Rattle.moo_dbtext_record.specs.declared.fault.DbFault.{DbFault}
 use Rattle.moo_dbtext_record.specs.declared.fault.DbFaultKind.{DbFaultKind}
 use Rattle.moo_dbtext_record.specs.declared.fault.DbFaultKind.TheVariants as kind

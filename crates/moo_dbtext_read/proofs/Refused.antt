@@ -10,7 +10,7 @@ use Rattle.moo_dbtext_record.specs.Sparing.{outline}
 use Rattle.moo_dbtext_record.specs.DumpReading.{Progress}
 use Rattle.moo_dbtext_record.specs.Answer.{IsWholeLine, Told, Taken, taken_on, begin, StopsAt, Stops, HasNoEnd, and_then, answer_to, finished}
 use Rattle.moo_dbtext_record.specs.Faults.{kind_of_refusal, fault_of}
-use Rattle.moo_dbtext_record.specs.declared.db_reader.RecordFault.{RecordFault}
+use Rattle.moo_dbtext_record.specs.declared.record_reader.RecordFault.{RecordFault}
 use Rattle.moo_dbtext_record.specs.declared.fault.DbFault.{DbFault}
 use Rattle.moo_dbtext_record.proofs.TakenLaws.{taken_on-append, rest_taken, stops_then}
 use Rattle.moo_dbtext_record.proofs.Standing.{stands_on, stand_at, stand_so, line_fault, finished_line}

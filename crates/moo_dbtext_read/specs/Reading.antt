@@ -10,8 +10,8 @@ use Rattle.moo_dbtext_record.specs.DumpReading.{Progress, verb_read}
 use Rattle.moo_dbtext_record.specs.Sparing.{IsAt}
 use Rattle.moo_dbtext_record.specs.Answer.{Told, Stops, IsGoing, taken_of, taken_on, begin, answer_to}
 use Rattle.moo_dbtext_record.specs.Faults.{fault_of}
-use Rattle.moo_dbtext_record.specs.declared.db_reader.RecordFault.{RecordFault}
-use Rattle.moo_dbtext_record.specs.declared.db_reader.DbReader.{DbReader}
+use Rattle.moo_dbtext_record.specs.declared.record_reader.RecordFault.{RecordFault}
+use Rattle.moo_dbtext_record.specs.declared.record_reader.RecordReader.{RecordReader}
 use Rattle.moo_dbtext_record.specs.declared.fault.DbFault.{DbFault}
 use Rattle.moo_dbtext_record.specs.declared.fault.DbFaultKind.TheVariants as kind
 use Rattle.moo_dbtext_record.specs.declared.fault.ProgramFault.{ProgramFault}
@@ -82,10 +82,10 @@ ended_between verb None = verb
 ended_between verb (Some other) = None
 
 -- the verb whose program is being read
-abbrev pub verb_at : DbReader → Option (ℕ × ℕ)
+abbrev pub verb_at : RecordReader → Option (ℕ × ℕ)
 verb_at r = verb_read (taken_of r).progress.section (taken_of r).progress
 
-abbrev pub sources_at : DbReader → Table
+abbrev pub sources_at : RecordReader → Table
 sources_at r = (taken_of r).progress.text.programs
 
 -- the fault of a source of a verb, after so many lines

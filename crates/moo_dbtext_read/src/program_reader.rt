@@ -14,7 +14,7 @@ ghost use Rattle.moo_dbtext_read.specs.Reading.{IsBehind, IsRefused, HasRead, Is
 use crate::database::Database;
 use crate::fault::kind_of_source;
 use crate::program_rows::put_program;
-use moo_dbtext_record::{DbFault, DbFaultKind, DbReader, Dump, RecordFault, first_line};
+use moo_dbtext_record::{DbFault, DbFaultKind, Dump, RecordFault, RecordReader, first_line};
 use moo_syntax::{Names, parse_with};
 use moo_syntax_grammar::Program;
 use moo_syntax_token::NameInterner;
@@ -24,7 +24,7 @@ use std::alloc::Global;
 #[inline(always)]
 fn take_line(
     alloc: Global,
-    records: &mut DbReader,
+    records: &mut RecordReader,
     line: &[u8],
 ) -> Result<Option<(u32, u32)>, RecordFault>
     requires { IsWholeLine line.now }
@@ -45,7 +45,7 @@ fn take_line(
 fn program_of(
     alloc: Global,
     known: &mut NameInterner,
-    records: &DbReader,
+    records: &RecordReader,
     object: u32,
     verb: u32,
 ) -> Result<Option<Program>, DbFault>
@@ -83,7 +83,7 @@ fn with_programs(dump: Dump, programs: Vec<Vec<Option<Program>>>) -> Database
 /// fault.
 #[derive(Drop)]
 pub struct ProgramReader {
-    records: DbReader,
+    records: RecordReader,
     programs: Vec<Vec<Option<Program>>>,
     /// The names that are used in the programs.
     known: NameInterner,
@@ -97,7 +97,7 @@ impl ProgramReader {
         ensures well { IsWell result }
     {
         ProgramReader {
-            records: DbReader::new(alloc),
+            records: RecordReader::new(alloc),
             programs: Vec::new(alloc),
             known: NameInterner::new(alloc),
             failed: None,

@@ -13,7 +13,7 @@ use Rattle.moo_dbtext_record.specs.Answer.{Told, Taken, told, and_then, line_end
 use Rattle.moo_dbtext_record.specs.declared.dump.Dump.{Dump}
 use Rattle.moo_dbtext_record.specs.declared.dump_reader.Section.{Section}
 use Rattle.moo_dbtext_record.specs.declared.dump_reader.Section.TheVariants as section
-use Rattle.moo_dbtext_record.specs.declared.db_reader.RecordFault.{RecordFault}
+use Rattle.moo_dbtext_record.specs.declared.record_reader.RecordFault.{RecordFault}
 use Rattle.moo_dbtext_record.proofs.AnswerAgain.{same_fault}
 use Rattle.moo_dbtext_record.proofs.DumpCut.{dump_cut}
 use Rattle.moo_dbtext_record.proofs.DumpStrict.{dump_strict}

@@ -9,7 +9,7 @@ use Rattle.moo_dbtext_object.specs.Lines.{unlimited, limited}
 use Rattle.moo_dbtext_record.specs.Texts.{Text, text_of, Spells, SpellsWithin}
 use Rattle.moo_dbtext_record.specs.Answer.{Told, StopsAt, Answers, answer_to, front_lines, IsOfLine, IsOfSize, IsMemoryOrSize, IsReadOrTooLarge}
 use Rattle.moo_dbtext_record.specs.declared.dump.Dump.{Dump}
-use Rattle.moo_dbtext_record.specs.declared.db_reader.RecordFault.{RecordFault}
+use Rattle.moo_dbtext_record.specs.declared.record_reader.RecordFault.{RecordFault}
 use Rattle.moo_dbtext_record.proofs.AnswerFound.{answer_found}
 use Rattle.moo_dbtext_record.proofs.AnswerAgain.{answer_again, no_spelling}
 use Rattle.moo_dbtext_record.proofs.AnswerCut.{answer_cut}

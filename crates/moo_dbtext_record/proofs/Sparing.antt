@@ -19,8 +19,8 @@ use Rattle.moo_dbtext_record.specs.Sparing.{row_marks, marks_of, outline, outlin
 use Rattle.moo_dbtext_record.specs.declared.dump.Dump.{Dump}
 use Rattle.moo_dbtext_record.specs.declared.dump_reader.Section.{Section}
 use Rattle.moo_dbtext_record.specs.declared.dump_reader.Section.TheVariants as section
-use Rattle.moo_dbtext_record.specs.declared.db_reader.DbReader.{DbReader}
-use Rattle.moo_dbtext_record.specs.declared.db_reader.RecordFault.{RecordFault}
+use Rattle.moo_dbtext_record.specs.declared.record_reader.RecordReader.{RecordReader}
+use Rattle.moo_dbtext_record.specs.declared.record_reader.RecordFault.{RecordFault}
 use Rattle.moo_dbtext_record.proofs.TakenLaws.{taken_on-append}
 
 -- ---- which verbs have sources
@@ -264,11 +264,11 @@ alike_then s t u h k = record {
   progress = record { rest = h.progress.rest ∙ k.progress.rest; same = h.progress.same ∙ k.progress.same };
 }
 
-leads_on : (r : DbReader) (bytes piece : List ℕ) (h : IsAt r bytes) → taken_on limited begin (bytes ++ piece) ≡ taken_on limited h.state piece
+leads_on : (r : RecordReader) (bytes piece : List ℕ) (h : IsAt r bytes) → taken_on limited begin (bytes ++ piece) ≡ taken_on limited h.state piece
 leads_on r bytes piece h = taken_on-append limited begin bytes piece ∙ ap (λ (x : Result Taken Told). and_then x (λ t. taken_on limited t piece)) h.leads
 
 -- a piece more
-pub at_on : (r u : DbReader) (bytes piece : List ℕ) → IsAt r bytes → taken_on limited (taken_of r) piece ≡ Ok (taken_of u) → IsAt u (bytes ++ piece)
+pub at_on : (r u : RecordReader) (bytes piece : List ℕ) → IsAt r bytes → taken_on limited (taken_of r) piece ≡ Ok (taken_of u) → IsAt u (bytes ++ piece)
 at_on r u bytes piece h e = on (taken_on limited h.state piece) refl (subst (AlikeAnswers (taken_on limited h.state piece)) e (bytes_alike limited piece h.state (taken_of r) h.alike))
   where
     on : (a : Result Taken Told) → taken_on limited h.state piece ≡ a → AlikeAnswers a (Ok (taken_of u)) → IsAt u (bytes ++ piece)
@@ -279,7 +279,7 @@ stopped : (at : Told) (a : Result Taken Told) → AlikeAnswers a (Err at) → a 
 stopped at (Ok s) k = absurd k
 stopped at (Err e) k = ap Err k
 
-pub at_stops : (r : DbReader) (bytes piece : List ℕ) (e : RecordFault) → IsAt r bytes → Stops e (taken_on limited (taken_of r) piece) → Stops e (taken_on limited begin (bytes ++ piece))
+pub at_stops : (r : RecordReader) (bytes piece : List ℕ) (e : RecordFault) → IsAt r bytes → Stops e (taken_on limited (taken_of r) piece) → Stops e (taken_on limited begin (bytes ++ piece))
 at_stops r bytes piece e h stops = at e.kind stops
   where
     at : (k : Refusal) → StopsAt k e.line (taken_on limited (taken_of r) piece) → StopsAt k e.line (taken_on limited begin (bytes ++ piece))
@@ -339,7 +339,7 @@ finished_alike s t h = subst (λ (r : Line). AlikeEnds (finished_with s s.rest) 
         (subst (λ (x : Section). AlikeEnds (end_of s.progress.section s.progress.text) (end_of x t.progress.text)) section_is (end_alike s.progress.section s.progress.text t.progress.text (ap (λ (p : Progress). p.text) h.progress.rest)))
     last (b ∷ bs) = same_told (s.lines + 1) (t.lines + 1) (unended s.progress.section) (unended t.progress.section) next (ap unended section_is)
 
-pub at_end : (r : DbReader) (bytes : List ℕ) (d : Result Dump RecordFault) → IsAt r bytes → Answers text_of_dump d (finished (taken_of r)) → AnswersBut d (answer_to limited bytes)
+pub at_end : (r : RecordReader) (bytes : List ℕ) (d : Result Dump RecordFault) → IsAt r bytes → Answers text_of_dump d (finished (taken_of r)) → AnswersBut d (answer_to limited bytes)
 unfolding answer_to
 at_end r bytes d h answers = subst (AnswersBut d) (sym (ap (λ (x : Result Taken Told). and_then x finished) h.leads)) (by d (finished h.state) (finished (taken_of r)) (finished_alike h.state (taken_of r) h.alike) answers)
   where

@@ -6,7 +6,7 @@ use Rattle.moo_dbtext_object.specs.Lines.{Line, Sizes}
 use Rattle.moo_dbtext_record.specs.Answer.{Told, Taken, and_then, line_ended, taken_on, finished, begin, answer_to, StopsAt, Stops, HasNoEnd, IsWholeLine}
 use Rattle.moo_dbtext_object.specs.declared.fault.Refusal.{Refusal}
 use Rattle.moo_dbtext_object.specs.declared.fault.Refusal.TheVariants as refusal
-use Rattle.moo_dbtext_record.specs.declared.db_reader.RecordFault.{RecordFault}
+use Rattle.moo_dbtext_record.specs.declared.record_reader.RecordFault.{RecordFault}
 
 pub taken_on-append : (z : Sizes) → (s : Taken) (a b : List ℕ) → taken_on z s (a ++ b) ≡ and_then (taken_on z s a) (λ t. taken_on z t b)
 unfolding taken_on

@@ -7,10 +7,10 @@ use Rattle.moo_dbtext_object.specs.declared.fault.LineFault.{LineFault}
 use Rattle.moo_dbtext_object.specs.declared.fault.LineFault.TheVariants.{TrailingBytes, Truncated, TooLarge}
 use Rattle.moo_dbtext_object.specs.declared.fault.Refusal.{Refusal}
 use Rattle.moo_dbtext_object.specs.declared.fault.Refusal.TheVariants as refusal
-use Rattle.moo_dbtext_record.specs.declared.db_reader.RecordFault.{RecordFault}
+use Rattle.moo_dbtext_record.specs.declared.record_reader.RecordFault.{RecordFault}
 use Rattle.moo_dbtext_record.specs.declared.dump_reader.Section.{Section}
 use Rattle.moo_dbtext_record.specs.declared.dump_reader.Section.TheVariants as section
-use Rattle.moo_dbtext_record.specs.declared.db_reader.DbReader.{DbReader}
+use Rattle.moo_dbtext_record.specs.declared.record_reader.RecordReader.{RecordReader}
 
 -- a fault, and the number of the line at fault
 pub record Told : Type 0 where
@@ -85,19 +85,19 @@ abbrev pub Answers : {X Y : Type 0} → (X → Y) → Result X RecordFault → R
 Answers view (Ok x) answer = answer ≡ Ok (view x)
 Answers view (Err e) answer = Stops e answer
 
-abbrev pub taken_of : DbReader → Taken
+abbrev pub taken_of : RecordReader → Taken
 taken_of r = record { lines = r.lines; progress = progress_of r.reader; rest = r.rest.items }
 
 -- The reader has taken these bytes, in whatever pieces, or has failed at their fault.
-abbrev pub HasTaken : DbReader → List ℕ → Type 0
+abbrev pub HasTaken : RecordReader → List ℕ → Type 0
 HasTaken r bytes = MatchOption r.failed (taken_on limited begin bytes ≡ Ok (taken_of r)) (λ e. Stops e (taken_on limited begin bytes))
 
 -- No fault has come yet.
-abbrev pub IsGoing : DbReader → Type 0
+abbrev pub IsGoing : RecordReader → Type 0
 IsGoing r = r.failed ≡ None
 
 -- This fault has come.
-abbrev pub HasFailed : DbReader → RecordFault → Type 0
+abbrev pub HasFailed : RecordReader → RecordFault → Type 0
 HasFailed r e = r.failed ≡ Some e
 
 -- the bytes of the first n lines

@@ -8,8 +8,8 @@ use Rattle.moo_dbtext_record.specs.Answer.{Told, Taken, Stops, taken_of, taken_o
 use Rattle.moo_dbtext_record.specs.declared.dump.Dump.{Dump}
 use Rattle.moo_dbtext_record.specs.declared.dump_reader.Section.{Section}
 use Rattle.moo_dbtext_record.specs.declared.dump_reader.Section.TheVariants as section
-use Rattle.moo_dbtext_record.specs.declared.db_reader.DbReader.{DbReader}
-use Rattle.moo_dbtext_record.specs.declared.db_reader.RecordFault.{RecordFault}
+use Rattle.moo_dbtext_record.specs.declared.record_reader.RecordReader.{RecordReader}
+use Rattle.moo_dbtext_record.specs.declared.record_reader.RecordFault.{RecordFault}
 
 abbrev pub row_marks : Row → List Bool
 row_marks row = map is_some row
@@ -36,7 +36,7 @@ pub record AreAlikeTaken (s t : Taken) : Type 0 where
   pub progress : AreAlike s.progress t.progress
 
 -- The reader is in the state to which the bytes lead, but for sources that were dropped.
-pub record IsAt (r : DbReader) (bytes : List ℕ) : Type 0 where
+pub record IsAt (r : RecordReader) (bytes : List ℕ) : Type 0 where
   pub state : Taken
   pub leads : taken_on limited begin bytes ≡ Ok state
   pub alike : AreAlikeTaken state (taken_of r)

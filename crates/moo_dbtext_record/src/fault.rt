@@ -2,7 +2,7 @@
 ghost use Rattle.std.specs.Prelude.{◌≡◌};
 ghost use Rattle.moo_dbtext_record.specs.Faults.{kind_of, fault_of};
 
-use crate::db_reader::RecordFault;
+use crate::record_reader::RecordFault;
 use moo_dbtext_object::{LineFault, Refusal};
 use thiserror::Error;
 

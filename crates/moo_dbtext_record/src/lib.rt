@@ -2,19 +2,19 @@
 //! An internal crate of `moo_dbtext`.
 #![tactic(auto)]
 
-mod db_reader;
 mod dump;
 mod dump_reader;
 mod fault;
 mod heading;
 pub mod laws;
 mod program_table;
+mod record_reader;
 mod writing;
 
-pub use db_reader::{DbReader, RecordFault, first_line, read_records};
 pub use dump::{Connection, Dump, Form};
 pub use fault::{DbFault, DbFaultKind, ProgramFault, ProgramFaultKind};
 pub use program_table::Source;
+pub use record_reader::{RecordFault, RecordReader, first_line, read_records};
 pub use writing::{
     put_connections, put_header, put_live, put_players, put_program, put_program_line,
     put_recycled, put_tasks,

@@ -5,17 +5,17 @@ use Rattle.std.proofs.lemmas.Bool.{eq-eqb, eqb-true}
 use Rattle.moo_builtin.specs.Telling.{Faults}
 use Rattle.moo_session_connection.specs.Connections.{client_here, is_open}
 use Rattle.moo_session_connection.specs.Streams.{stream}
-use Rattle.moo_session_task.specs.declared.live.Live.{Live}
-use Rattle.moo_server_core.specs.declared.sessions.Asked.{Asked}
-use Rattle.moo_server_core.specs.Sessions.{Happening, Opens, Receives, HangsUp, Starts, Finishes, HandsOut, HandsOutLog, Happens, Output, Started, is_dropped, silence}
+use Rattle.moo_session_task.specs.declared.world_state.WorldState.{WorldState}
+use Rattle.moo_server_core.specs.declared.application.Requests.{Requests}
+use Rattle.moo_server_core.specs.Application.{Input, Opens, Receives, HangsUp, Starts, Finishes, HandsOut, HandsOutLog, Happens, Output, Started, is_dropped, silence}
 use Rattle.moo_session_connection.specs.Outbox.{Bytes, Outbox, bytes_of, log_under_way, log_waiting, sent_under_way, sent_waiting}
 use Rattle.moo_dbtext_read.specs.Saved.{Saved}
 use Rattle.moo_session.specs.Events as event
 use Rattle.moo_server.specs.Live.{Becomes, live_layer, live_meaning, settled, told_of}
-use Rattle.moo_server.specs.declared.live_world.LiveWorld.{LiveWorld}
+use Rattle.moo_server.specs.declared.moo_application.MooApplication.{MooApplication}
 use Rattle.moo_server.proofs.Players.{none_there}
 
-pub happens_of : (happening : Happening) (moment : ℕ) (old new : LiveWorld) (end : Live) (asked : Asked)
+pub happens_of : (happening : Input) (moment : ℕ) (old new : MooApplication) (end : WorldState) (asked : Requests)
     → Becomes Faults happening moment (settled old.live) end → new.live ≡ settled end
     → asked.checkpoint ≡ end.session.asked → asked.shutdown ≡ (end.session.closing && not old.live.session.closing)
     → ((c : ℕ) → sent_under_way new.outbox c ≡ sent_under_way old.outbox c ++ stream c end.session.sent)
@@ -38,7 +38,7 @@ append_none [] = refl
 append_none (x ∷ xs) = ap (λ (l : List _). x ∷ l) (append_none xs)
 
 -- bytes that nobody is there to read
-pub dropped_of : (c : ℕ) (piece : List ℕ) (moment : ℕ) (old new : LiveWorld) → client_here c old.live.session.connections ≡ None
+pub dropped_of : (c : ℕ) (piece : List ℕ) (moment : ℕ) (old new : MooApplication) → client_here c old.live.session.connections ≡ None
     → new.live ≡ settled old.live → new.outbox ≡ old.outbox
     → Happens live_layer (Receives c piece) moment old new (record { checkpoint = false; shutdown = false })
 dropped_of c piece moment old new nobody live outbox = record {
@@ -55,7 +55,7 @@ dropped_of c piece moment old new nobody live outbox = record {
 unlike : (k c : ℕ) → eqb k c ≡ false → k ≢ c
 unlike k c isnt is = let yes = eq-eqb k c is in cc (yes, isnt)
 
-pub took : (c : ℕ) (bytes : List ℕ) (old new : LiveWorld) → new.live ≡ old.live → bytes ≡ sent_waiting old.outbox c → sent_waiting new.outbox c ≡ []
+pub took : (c : ℕ) (bytes : List ℕ) (old new : MooApplication) → new.live ≡ old.live → bytes ≡ sent_waiting old.outbox c → sent_waiting new.outbox c ≡ []
     → sent_under_way new.outbox c ≡ [] → ((k : ℕ) → k ≢ c → bytes_of new.outbox k ≡ bytes_of old.outbox k)
     → (new.outbox.log ≡ old.outbox.log) × (new.outbox.log_under_way ≡ old.outbox.log_under_way) → HandsOut live_layer c bytes old new
 took c bytes old new live taken none dropped others log = record {
@@ -71,7 +71,7 @@ took c bytes old new live taken none dropped others log = record {
     at k silent true is = subst (λ (n : ℕ). sent_under_way new.outbox n ≡ []) (sym (eqb-true k c is)) dropped
     at k silent false is = ap (λ (b : Bytes). b.under_way) (others k (unlike k c is)) ∙ ap (λ (o : Output). o.sent k) silent
 
-pub took_log : (lines : List (List ℕ)) (old new : LiveWorld) → new.live ≡ old.live → lines ≡ log_waiting old.outbox → log_waiting new.outbox ≡ []
+pub took_log : (lines : List (List ℕ)) (old new : MooApplication) → new.live ≡ old.live → lines ≡ log_waiting old.outbox → log_waiting new.outbox ≡ []
     → log_under_way new.outbox ≡ [] → new.outbox.bytes ≡ old.outbox.bytes → HandsOutLog live_layer lines old new
 took_log lines old new live taken none dropped bytes = record {
   all = taken;
@@ -84,7 +84,7 @@ took_log lines old new live taken none dropped bytes = record {
     slice_of : List Bytes → ℕ → Bytes
     slice_of bs k = bytes_of (record { bytes = bs; log = []; log_under_way = [] }) k
 
-pub started_of : (saved : Saved) (moment : ℕ) (new : LiveWorld) (end : Live) (asked : Asked) → event.Starts Faults moment saved.connected saved.world end
+pub started_of : (saved : Saved) (moment : ℕ) (new : MooApplication) (end : WorldState) (asked : Requests) → event.Starts Faults moment saved.connected saved.world end
     → new.live ≡ settled end → asked.checkpoint ≡ end.session.asked → asked.shutdown ≡ (end.session.closing && not false)
     → ((c : ℕ) → sent_waiting new.outbox c ≡ []) → log_waiting new.outbox ≡ []
     → ((c : ℕ) → sent_under_way new.outbox c ≡ stream c end.session.sent) → log_under_way new.outbox ≡ end.session.log
@@ -98,7 +98,7 @@ started_of saved moment new end asked starts live checkpoint shutdown none no_lo
 }
 
 -- what nobody is there to read, whatever happens
-pub dropped_any : (happening : Happening) (moment : ℕ) (old new : LiveWorld) → is_dropped (live_meaning Faults) old.live happening ≡ true
+pub dropped_any : (happening : Input) (moment : ℕ) (old new : MooApplication) → is_dropped (live_meaning Faults) old.live happening ≡ true
     → new.live ≡ settled old.live → new.outbox ≡ old.outbox
     → Happens live_layer happening moment old new (record { checkpoint = false; shutdown = false })
 dropped_any (Receives c piece) moment old new gone live outbox =
@@ -109,7 +109,7 @@ dropped_any Starts moment old new gone live outbox = absurd (cc gone)
 dropped_any (Finishes done) moment old new gone live outbox = absurd (cc gone)
 
 -- what was moved out
-pub moved : {E : Type 0} (r : Result Asked E) (happening : Happening) (moment : ℕ) (old new : LiveWorld) (end : Live)
+pub moved : {E : Type 0} (r : Result Requests E) (happening : Input) (moment : ℕ) (old new : MooApplication) (end : WorldState)
     → Becomes Faults happening moment (settled old.live) end → new.live ≡ settled end
     → IfOk r (λ asked. asked.checkpoint ≡ end.session.asked) → IfOk r (λ asked. asked.shutdown ≡ (end.session.closing && not old.live.session.closing))
     → OnOk r ((c : ℕ) → sent_under_way new.outbox c ≡ sent_under_way old.outbox c ++ stream c end.session.sent)

@@ -7,16 +7,16 @@ use Rattle.moo_builtin.specs.Telling.{Telling, Faults}
 use Rattle.moo_eval_frame.specs.declared.surroundings.Connection.{Connection}
 use Rattle.moo_session_connection.specs.Connections.{Connections, client_here, is_open, players_of}
 use Rattle.moo_session_connection.specs.Streams.{stream}
-use Rattle.moo_session_task.specs.declared.live.Live.{Live}
+use Rattle.moo_session_task.specs.declared.world_state.WorldState.{WorldState}
 use Rattle.moo_session_task.specs.Session.{Session}
 use Rattle.moo_session_task.specs.State.{in_session}
 use Rattle.moo_session_connection.specs.Outbox.{log_under_way, log_waiting, sent_under_way, sent_waiting}
 use Rattle.moo_session.specs.Events.{CheckpointEnds, CheckpointStarts, HangsUp, Hears}
 use Rattle.moo_session.specs.Events.{Opens as OpensFor, Starts as StartsFrom}
 use Rattle.moo_session.specs.Interval.{interval}
-use Rattle.moo_server_core.specs.Sessions.{Happening, Opens, Receives, Starts, Finishes, Layer, Meaning, Told}
-use Rattle.moo_server_core.specs.Sessions.{HangsUp as HangsUpOn}
-use Rattle.moo_server.specs.declared.live_world.LiveWorld.{LiveWorld}
+use Rattle.moo_server_core.specs.Application.{Input, Opens, Receives, Starts, Finishes, Layer, Meaning, Told}
+use Rattle.moo_server_core.specs.Application.{HangsUp as HangsUpOn}
+use Rattle.moo_server.specs.declared.moo_application.MooApplication.{MooApplication}
 
 -- a connection of this number is open that nobody is on any more: it is leaving
 abbrev pub is_gone : Connections → ℕ → Bool
@@ -39,7 +39,7 @@ players_in (c ∷ cs) = player_list (player_in c) ++ players_in cs
 abbrev pub settled_session : Session → Session
 settled_session s = record s { sent = []; log = []; asked = false }
 
-abbrev pub settled : Live → Live
+abbrev pub settled : WorldState → WorldState
 settled s = in_session settled_session s
 
 -- What a happening came to: what was sent and logged, whether a checkpoint was asked for, and whether the server began to shut down.
@@ -51,7 +51,7 @@ told_of was_closing s = record {
 }
 
 -- what each happening does, by what may be told of texts that are no programs
-abbrev pub Becomes : Telling → Happening → ℕ → Live → Live → Type 0
+abbrev pub Becomes : Telling → Input → ℕ → WorldState → WorldState → Type 0
 Becomes T (Opens c) moment old new = OpensFor T moment c old new
 Becomes T (Receives c piece) moment old new = Hears T moment c piece old new
 Becomes T (HangsUpOn c) moment old new = HangsUp T moment c old new
@@ -59,22 +59,22 @@ Becomes T Starts moment old new = CheckpointStarts T moment old new
 Becomes T (Finishes done) moment old new = CheckpointEnds T moment done old new
 
 -- A happening begins with nothing sent, logged or asked for, and what it came to is moved out.
-pub record LiveHappens (T : Telling) (happening : Happening) (moment : ℕ) (old : Live) (told : Told) (new : Live) : Type 0 where
-  pub end : Live
+pub record LiveHappens (T : Telling) (happening : Input) (moment : ℕ) (old : WorldState) (told : Told) (new : WorldState) : Type 0 where
+  pub end : WorldState
   pub becomes : Becomes T happening moment (settled old) end
   pub told_is : told ≡ told_of old.session.closing end.session
   pub new_is : new ≡ settled end
 
 -- a start from a saved world
-pub record LiveStarts (T : Telling) (saved : Saved) (moment : ℕ) (told : Told) (new : Live) : Type 0 where
-  pub end : Live
+pub record LiveStarts (T : Telling) (saved : Saved) (moment : ℕ) (told : Told) (new : WorldState) : Type 0 where
+  pub end : WorldState
   pub starts : StartsFrom T moment saved.connected saved.world end
   pub told_is : told ≡ told_of false end.session
   pub new_is : new ≡ settled end
 
 -- The meaning of the world with its connections. What is saved is the world with the connected players, in the order of their connections; its
 -- text is the canonical one.
-abbrev pub live_meaning : Telling → Meaning Live Saved
+abbrev pub live_meaning : Telling → Meaning WorldState Saved
 live_meaning T = record {
   happens = LiveHappens T;
   starts = LiveStarts T;
@@ -86,7 +86,7 @@ live_meaning T = record {
   Spells = SpellsSavedWithin;
 }
 
-abbrev pub live_layer : Layer LiveWorld Live Saved
+abbrev pub live_layer : Layer MooApplication WorldState Saved
 live_layer = record {
   meaning = live_meaning Faults;
   state = λ w. w.live;

@@ -2,18 +2,18 @@
 ghost use Rattle.std.specs.Prelude.{◌≡◌, ◌++◌, ◌&&◌, not, ℕ, IfOk, OnOk};
 ghost use Rattle.moo_builtin.specs.Telling.{Faults};
 ghost use Rattle.moo_session_connection.specs.Streams.{stream};
-ghost use Rattle.moo_server_core.specs.Sessions.{IsApt, is_dropped, seen_happening};
+ghost use Rattle.moo_server_core.specs.Application.{IsApt, is_dropped, seen_happening};
 ghost use Rattle.moo_session_connection.specs.Outbox.{log_under_way, log_waiting, sent_under_way, sent_waiting};
 ghost use Rattle.moo_server.specs.Live.{Becomes, live_meaning, settled};
 
 use crate::connected::is_gone;
-use moo_server_core::{Asked, Happening};
-use moo_session::{Live, checkpoint_ends, checkpoint_starts, hang_up, hear, open};
+use moo_server_core::{Input, Requests};
+use moo_session::{WorldState, checkpoint_ends, checkpoint_starts, hang_up, open, receive};
 use moo_session_connection::Outbox;
 use std::alloc::{AllocError, Global};
 
 /// Drops what is left of an earlier happening. It takes no memory.
-pub(crate) fn settle(live: &mut Live)
+pub(crate) fn discard_leftovers(live: &mut WorldState)
     ensures { live.new ≡ settled live.old }
 {
     let _sent = live.session.take_sent();
@@ -22,40 +22,40 @@ pub(crate) fn settle(live: &mut Live)
 }
 
 /// Whether it is bytes for a connection that is leaving.
-pub(crate) fn is_dropped(live: &Live, happening: Happening) -> bool
+pub(crate) fn is_dropped(live: &WorldState, happening: Input) -> bool
     ensures { result ≡ is_dropped (live_meaning Faults) live.now (seen_happening happening.entry) }
 {
     match happening {
-        Happening::Receives(c, _) => is_gone(live.session.connections(), c),
+        Input::Receives(c, _) => is_gone(live.session.connections(), c),
         _ => false,
     }
 }
 
 /// What happens to the world and its connections, with the hooks that it causes. The error is want of memory.
-pub(crate) fn happen(
+pub(crate) fn apply(
     alloc: Global,
-    live: &mut Live,
+    live: &mut WorldState,
     moment: u32,
-    happening: Happening,
+    happening: Input,
 ) -> Result<(), AllocError>
     requires { IsApt (live_meaning Faults) live.old (seen_happening happening) }
     ensures { OnOk result (Becomes Faults (seen_happening happening.entry) moment live.old live.new) }
 {
     match happening {
-        Happening::Opens(c) => open(alloc, live, moment, c),
-        Happening::Receives(c, piece) => hear(alloc, live, moment, c, piece),
-        Happening::HangsUp(c) => hang_up(alloc, live, moment, c),
-        Happening::Starts => checkpoint_starts(alloc, live, moment),
-        Happening::Finishes(done) => checkpoint_ends(alloc, live, moment, done),
+        Input::Opens(c) => open(alloc, live, moment, c),
+        Input::Receives(c, piece) => receive(alloc, live, moment, c, piece),
+        Input::HangsUp(c) => hang_up(alloc, live, moment, c),
+        Input::Starts => checkpoint_starts(alloc, live, moment),
+        Input::Finishes(done) => checkpoint_ends(alloc, live, moment, done),
     }
 }
 
 /// Moves what was sent and logged behind what is under way, and answers what was asked for. The error is want of memory.
 pub(crate) fn move_out(
-    live: &mut Live,
+    live: &mut WorldState,
     was_closing: bool,
     outbox: &mut Outbox,
-) -> Result<Asked, AllocError>
+) -> Result<Requests, AllocError>
     ensures live { live.new ≡ settled live.old }
     ensures checkpoint { IfOk result (λ asked. asked.checkpoint ≡ live.old.session.asked) }
     ensures shutdown { IfOk result (λ asked. asked.shutdown ≡ (live.old.session.closing && not was_closing)) }
@@ -69,7 +69,7 @@ pub(crate) fn move_out(
     let checkpoint = live.session.take_asked();
     let shutdown = live.session.is_closing() && !was_closing;
     outbox.add(&sent, &log)?;
-    Ok(Asked {
+    Ok(Requests {
         checkpoint,
         shutdown,
     })

@@ -4,11 +4,11 @@ ghost use Rattle.moo_dbtext_read.specs.Saved.{Saved, SpellsSavedWithin};
 ghost use Rattle.moo_server_core.specs.Meaning.{Entry};
 ghost use Rattle.moo_server_core.specs.Server.{state_of};
 ghost use Rattle.moo_server_core.specs.Calls.{Call, Calls, Lent, One, Opened, StartsAgain, lent_view};
-ghost use Rattle.moo_server_core.specs.declared.serving.Serving.{Serving};
+ghost use Rattle.moo_server_core.specs.declared.server_core.ServerCore.{ServerCore};
 ghost use Rattle.moo_server.specs.Live.{live_layer};
-ghost use Rattle.moo_server.specs.declared.live_world.LiveWorld.{LiveWorld};
+ghost use Rattle.moo_server.specs.declared.moo_application.MooApplication.{MooApplication};
 
-use crate::LiveWorld;
+use crate::MooApplication;
 use moo_disk::Disk;
 
 /// For every list of connections' bytes, hang-ups, moments and flush turns, in whatever calls they come, and a stop before or
@@ -19,8 +19,8 @@ use moo_disk::Disk;
 /// Main then spells that world as a database text within the limits, so that `recover` and `Server::open` answer it, or that
 /// the device failed, or that memory was wanting.
 pub fn starting_again_reads_a_prefix<D: Disk, E: Disk, F: Disk>()
-    ensures { (start server end : Serving LiveWorld) (first opened : D) (disk last : Lent D E)
-        (before after : List (Call LiveWorld (Lent D E))) (entries later : List (Entry Saved)) (saved : Saved) (moment : ℕ)
+    ensures { (start server end : ServerCore MooApplication) (first opened : D) (disk last : Lent D E)
+        (before after : List (Call MooApplication (Lent D E))) (entries later : List (Entry Saved)) (saved : Saved) (moment : ℕ)
         → D.honest first → Opened live_layer D.view D.honest start first opened saved moment
         → ((c : List ℕ) → (D.view first).may_leave c → SpellsSavedWithin c saved)
         → Calls live_layer D.view D.honest E.view E.honest start (One opened) before server disk entries
@@ -29,13 +29,13 @@ pub fn starting_again_reads_a_prefix<D: Disk, E: Disk, F: Disk>()
         → (lent_view D.view E.view last).left_since (lent_view D.view E.view disk).clock (F.view found).main_text
         → StartsAgain live_layer F.view F.honest (state_of live_layer start) saved entries later found }
 {
-    moo_server_core::laws::starting_again_reads_a_prefix::<LiveWorld, D, E, F>();
+    moo_server_core::laws::starting_again_reads_a_prefix::<MooApplication, D, E, F>();
 }
 
 /// The same of a stop at any moment since the start began, inside the start too: what was read at the start, or the world after a
 /// prefix of the events.
 pub fn starting_again_reads_a_prefix_since_the_start<D: Disk, E: Disk, F: Disk>()
-    ensures { (start end : Serving LiveWorld) (first opened : D) (last : Lent D E) (calls : List (Call LiveWorld (Lent D E)))
+    ensures { (start end : ServerCore MooApplication) (first opened : D) (last : Lent D E) (calls : List (Call MooApplication (Lent D E)))
         (entries : List (Entry Saved)) (saved : Saved) (moment : ℕ)
         → D.honest first → Opened live_layer D.view D.honest start first opened saved moment
         → ((c : List ℕ) → (D.view first).may_leave c → SpellsSavedWithin c saved)
@@ -44,5 +44,10 @@ pub fn starting_again_reads_a_prefix_since_the_start<D: Disk, E: Disk, F: Disk>(
         → (lent_view D.view E.view last).left_since (D.view first).clock (F.view found).main_text
         → StartsAgain live_layer F.view F.honest (state_of live_layer start) saved [] entries found }
 {
-    moo_server_core::laws::starting_again_reads_a_prefix_since_the_start::<LiveWorld, D, E, F>();
+    moo_server_core::laws::starting_again_reads_a_prefix_since_the_start::<
+        MooApplication,
+        D,
+        E,
+        F,
+    >();
 }

@@ -4,17 +4,17 @@
 mod connected;
 mod happening;
 pub mod laws;
-mod live_world;
 mod lives;
+mod moo_application;
 
-pub use live_world::LiveWorld;
 pub use lives::run_lives;
+pub use moo_application::MooApplication;
 pub use moo_checkpoint::OpenFault;
 pub use moo_disk::CrashDisk;
-use moo_server_core::Serving;
+use moo_server_core::ServerCore;
 pub use moo_server_core::{
     Cause, Event, Life, LifeBegin, LifeStop, LivesCause, LivesFault, Phase, RunFault,
 };
 
 /// A server over a world with its connections. The disk is lent to each run.
-pub type Server = Serving<LiveWorld>;
+pub type Server = ServerCore<MooApplication>;

@@ -5,7 +5,7 @@ ghost use Rattle.moo_dbtext_read.specs.Saved.{Saved, SpellsSavedWithin};
 ghost use Rattle.moo_server_core.specs.Lives.{EndsAt, LivesSoFar};
 ghost use Rattle.moo_server.specs.Live.{live_layer};
 
-use crate::LiveWorld;
+use crate::MooApplication;
 use moo_disk::CrashDisk;
 use moo_server_core::{Life, LifeBegin, LivesFault};
 use std::alloc::Global;
@@ -26,5 +26,5 @@ pub fn run_lives<D: CrashDisk + Drop>(
     ensures fault { D.honest disk → (s : Saved) → SpellsSavedWithin (D.view disk).main_text s → LeavesOnly (D.view disk).main_text (D.view disk)
         → IfErr result (λ fault. EndsAt live_layer D.view D.honest D.failures D.images lives.now disk fault) }
 {
-    moo_server_core::run_lives::<LiveWorld, D>(alloc, disk, lives)
+    moo_server_core::run_lives::<MooApplication, D>(alloc, disk, lives)
 }

@@ -3,12 +3,12 @@ use Rattle.std.proofs.Common.{◌≡◌, ◌⊎◌, inl, inr, ⊎_elim, ℕ, Lis
 use Rattle.moo_disk.specs.Disk.{DiskView, Gains, KeepsMain, NoText}
 use Rattle.moo_checkpoint.specs.Checkpoint.{text_of}
 use Rattle.moo_dbtext_read.specs.Saved.{Saved, SpellsSavedWithin}
-use Rattle.moo_server_core.specs.Sessions.{Layer, Output, silence, then_out}
+use Rattle.moo_server_core.specs.Application.{Layer, Output, silence, then_out}
 use Rattle.moo_server_core.specs.Traces.{Done, Trace}
 use Rattle.moo_server_core.specs.Crash.{IsOneOf, texts_of_marks, last_of, since_done, NoneDone, Survives}
 use Rattle.moo_server_core.specs.Meaning.{Entry, State, out_of}
-use Rattle.moo_server_core.specs.declared.serving.Open as declared
-use Rattle.moo_server_core.specs.declared.serving.Serving.{Serving}
+use Rattle.moo_server_core.specs.declared.server_core.Open as declared
+use Rattle.moo_server_core.specs.declared.server_core.ServerCore.{ServerCore}
 use Rattle.moo_server_core.specs.Server.{Hands, IsAlive, Lived, on_its_way, state_of, text_of_open, traces_under, waiting_of}
 use Rattle.moo_server_core.specs.Calls.{Call, Calls, HandsOn, IsCallOf, IsKept, IsRun, LeavesMarked, Lent, One, Other, StartsAgain, handed_in, lent_honest, lent_view, place_done}
 use Rattle.moo_server_core.proofs.Joining.{Texts, gains_join, gains_less, one_of_left, one_of_right, one_of_either, one_of_last}
@@ -38,9 +38,9 @@ outs-append : (es es' : List (Entry Saved)) → out_of (es ++ es') ≡ then_out 
 outs-append [] es' = refl
 outs-append (e ∷ es) es' = ap (λ (o : Output). then_out e.out o) (outs-append es es') ∙ sym (then_then e.out (out_of es) (out_of es'))
 
-module _ {S Sessions : Type 0} (l : Layer S Sessions Saved) where
+module _ {S Application : Type 0} (l : Layer S Application Saved) where
   -- what is kept is what a start finds
-  pub starts_again : {F : Type 0} (view : F → DiskView) (honest : F → Type 0) (start : State Sessions) (first : Saved) (es es' : List (Entry Saved)) (found : F) → honest found
+  pub starts_again : {F : Type 0} (view : F → DiskView) (honest : F → Type 0) (start : State Application) (first : Saved) (es es' : List (Entry Saved)) (found : F) → honest found
       → ((s : Saved) → l.meaning.Spells (view found).main_text s → SpellsSavedWithin (view found).main_text s)
       → IsKept l start first es es' (view found).main_text → StartsAgain l view honest start first es es' found
   starts_again view honest start first es es' found h within kept = record {
@@ -51,7 +51,7 @@ module _ {S Sessions : Type 0} (l : Layer S Sessions Saved) where
   }
 
   -- what a disk of another type shows is what it shows as one of this type
-  lived_under : {D X : Type 0} (view : X → DiskView) (honest : X → Type 0) (f : D → X) (before after : Serving S) (old new : D) (es : List (Entry Saved))
+  lived_under : {D X : Type 0} (view : X → DiskView) (honest : X → Type 0) (f : D → X) (before after : ServerCore S) (old new : D) (es : List (Entry Saved))
       → Lived l (λ d. view (f d)) (λ d. honest (f d)) before after old new es → Lived l view honest before after (f old) (f new) es
   lived_under view honest f before after old new es lived = record {
     end = lived.end;
@@ -73,13 +73,13 @@ module _ {S Sessions : Type 0} (l : Layer S Sessions Saved) where
           → (c : List ℕ) → (view call.disk).may_leave c → IsOneOf (on_its_way call.before) c
       pub honest_still : honest call.old → honest call.disk
 
-    abbrev pub Chain : Serving S → X → List (Call S X) → Serving S → X → List (Entry Saved) → Type 0
+    abbrev pub Chain : ServerCore S → X → List (Call S X) → ServerCore S → X → List (Entry Saved) → Type 0
     Chain before old [] after new entries = (after ≡ before) × (new ≡ old) × (entries ≡ [])
     Chain before old (call ∷ calls) after new entries =
         Hands l call.handed before call.before × HandsOn view honest old call.old × Went call
         × (rest : List (Entry Saved)) × Chain call.server call.disk calls after new rest × (entries ≡ call.entries ++ rest)
 
-    lived_step : (before after : Serving S) (old mid new : X) (es : List (Entry Saved)) → (honest old → honest mid) → HandsOn view honest mid new
+    lived_step : (before after : ServerCore S) (old mid new : X) (es : List (Entry Saved)) → (honest old → honest mid) → HandsOn view honest mid new
         → Lived l view honest before after old mid es → Lived l view honest before after old new es
     lived_step before after old mid new es keeps step lived = record {
       end = lived.end;
@@ -92,17 +92,17 @@ module _ {S Sessions : Type 0} (l : Layer S Sessions Saved) where
       rests = lived.rests;
     }
 
-    pub chain_honest : (calls : List (Call S X)) (before after : Serving S) (old new : X) (entries : List (Entry Saved)) → honest old
+    pub chain_honest : (calls : List (Call S X)) (before after : ServerCore S) (old new : X) (entries : List (Entry Saved)) → honest old
         → Chain before old calls after new entries → honest new
     chain_honest [] before after old new entries h chain = subst honest (sym chain.1) h
     chain_honest (call ∷ calls) before after old new entries h chain =
         chain_honest calls call.server after call.disk new chain.3 (chain.2.honest_still (chain.1.honest_still h)) chain.4
 
-    pub chain_lived : (calls : List (Call S X)) (before after : Serving S) (old new : X) (entries : List (Entry Saved))
+    pub chain_lived : (calls : List (Call S X)) (before after : ServerCore S) (old new : X) (entries : List (Entry Saved))
         → Chain before old calls after new entries → Lived l view honest before after old new entries
     chain_lived [] before after old new entries chain =
         subst (λ (es : List (Entry Saved)). Lived l view honest before after old new es) (sym chain.2)
-        (subst (λ (s : Serving S). Lived l view honest before s old new []) (sym chain.0)
+        (subst (λ (s : ServerCore S). Lived l view honest before s old new []) (sym chain.0)
         (subst (λ (d : X). Lived l view honest before before old d []) (sym chain.1) (lived_none l view honest before old)))
     chain_lived (call ∷ calls) before after old new entries chain =
         let handed = lived_step before call.before old old call.old [] (λ h. h) chain.1
@@ -112,17 +112,17 @@ module _ {S Sessions : Type 0} (l : Layer S Sessions Saved) where
         (lived_join l view honest call.before call.server after call.old call.disk new call.entries chain.3 chain.2.honest_still chain.2.lived
         (chain_lived calls call.server after call.disk new chain.3 chain.4)))
 
-    chain_join : (xs ys : List (Call S X)) (s m e : Serving S) (ds dm de : X) (es es' : List (Entry Saved))
+    chain_join : (xs ys : List (Call S X)) (s m e : ServerCore S) (ds dm de : X) (es es' : List (Entry Saved))
         → Chain s ds xs m dm es → Chain m dm ys e de es' → Lived l view honest s e ds de (es ++ es')
     chain_join xs ys s m e ds dm de es es' chain chain' =
         lived_join l view honest s m e ds dm de es es' (λ h. chain_honest xs s m ds dm es h chain) (chain_lived xs s m ds dm es chain) (chain_lived ys m e dm de es' chain')
 
-    pub chain_handed : (calls : List (Call S X)) (before after : Serving S) (old new : X) (entries : List (Entry Saved))
+    pub chain_handed : (calls : List (Call S X)) (before after : ServerCore S) (old new : X) (entries : List (Entry Saved))
         → Chain before old calls after new entries
         → then_out (waiting_of l before) (out_of entries) ≡ then_out (handed_in calls) (waiting_of l after)
     chain_handed [] before after old new entries chain =
         ap (λ (es : List (Entry Saved)). then_out (waiting_of l before) (out_of es)) chain.2 ∙ then_silence (waiting_of l before)
-        ∙ ap (λ (s : Serving S). waiting_of l s) (sym chain.0)
+        ∙ ap (λ (s : ServerCore S). waiting_of l s) (sym chain.0)
     chain_handed (call ∷ calls) before after old new entries chain =
         let found = waiting_of l call.before in
         let own = out_of call.entries in
@@ -141,13 +141,13 @@ module _ {S Sessions : Type 0} (l : Layer S Sessions Saved) where
     way (Some o) first disk ts survives c one =
         one_of_last (since_done [] ts) c (subst (λ (xs : Texts). IsOneOf xs c) (sym (survives.latest [] (text_of o.checkpoint) refl)) one)
 
-    from_none : (start end : Serving S) (opened disk : X) (es : List (Entry Saved)) → start.writing ≡ None → honest opened
+    from_none : (start end : ServerCore S) (opened disk : X) (es : List (Entry Saved)) → start.writing ≡ None → honest opened
         → Lived l view honest start end opened disk es → Survives view opened disk [] (on_its_way end) (traces_under l.meaning es)
     from_none start end opened disk es none h lived =
         subst (λ (xs : Texts). Survives view opened disk xs (on_its_way end) (traces_under l.meaning es)) (ap text_of_open none) (lived.survives h)
 
     -- a stop at any moment since some calls
-    pub any_moment : (start server end : Serving S) (first : DiskView) (opened disk last : X) (before after : List (Call S X)) (es es' : List (Entry Saved))
+    pub any_moment : (start server end : ServerCore S) (first : DiskView) (opened disk last : X) (before after : List (Call S X)) (es es' : List (Entry Saved))
         → start.writing ≡ None → KeepsMain first (view opened) → honest opened
         → (honest disk → (c : List ℕ) → (view disk).left_since (view disk).clock c → (view disk).may_leave c)
         → Chain start opened before server disk es → Chain server disk after end last es'
@@ -178,7 +178,7 @@ module _ {S Sessions : Type 0} (l : Layer S Sessions Saved) where
         from_there = (chain_lived after server end disk last es' chain').survives h'
 
     -- a stop at any moment since the start began
-    pub since_open : (start end : Serving S) (first : DiskView) (opened last : X) (calls : List (Call S X)) (es : List (Entry Saved))
+    pub since_open : (start end : ServerCore S) (first : DiskView) (opened last : X) (calls : List (Call S X)) (es : List (Entry Saved))
         → start.writing ≡ None → KeepsMain first (view opened) → honest opened
         → ((c : List ℕ) → first.left_since first.clock c → first.may_leave c)
         → Chain start opened calls end last es
@@ -191,7 +191,7 @@ module _ {S Sessions : Type 0} (l : Layer S Sessions Saved) where
         lived = from_none start end opened last es none h (chain_lived calls start end opened last es chain)
 
     -- the text spells the world of a prefix
-    pub kept : (start server end : Serving S) (first : DiskView) (opened disk last : X) (before after : List (Call S X)) (es es' : List (Entry Saved)) (saved : Saved)
+    pub kept : (start server end : ServerCore S) (first : DiskView) (opened disk last : X) (before after : List (Call S X)) (es es' : List (Entry Saved)) (saved : Saved)
         → start.writing ≡ None → KeepsMain first (view opened) → honest opened
         → ((c : List ℕ) → first.may_leave c → l.meaning.Spells c saved)
         → (honest disk → (c : List ℕ) → (view disk).left_since (view disk).clock c → (view disk).may_leave c)
@@ -207,7 +207,7 @@ module _ {S Sessions : Type 0} (l : Layer S Sessions Saved) where
         (any_moment start server end first opened disk last before after es es' none keeps h only_now chain chain' c left)
 
     -- the same since the start began
-    pub kept_since_open : (start end : Serving S) (first : DiskView) (opened last : X) (calls : List (Call S X)) (es : List (Entry Saved)) (saved : Saved)
+    pub kept_since_open : (start end : ServerCore S) (first : DiskView) (opened last : X) (calls : List (Call S X)) (es : List (Entry Saved)) (saved : Saved)
         → start.writing ≡ None → KeepsMain first (view opened) → honest opened
         → ((c : List ℕ) → first.may_leave c → l.meaning.Spells c saved)
         → ((c : List ℕ) → first.left_since first.clock c → first.may_leave c)
@@ -223,7 +223,7 @@ module _ {S Sessions : Type 0} (l : Layer S Sessions Saved) where
         (since_open start end first opened last calls es none keeps h only_now chain c left)
 
     -- after a report done in a call of one event, a crash leaves the last mark's text alone
-    pub done_alone : (start server end : Serving S) (first : DiskView) (opened disk last : X) (before : List (Call S X)) (call : Call S X) (es es' : List (Entry Saved))
+    pub done_alone : (start server end : ServerCore S) (first : DiskView) (opened disk last : X) (before : List (Call S X)) (call : Call S X) (es es' : List (Entry Saved))
         → start.writing ≡ None → KeepsMain first (view opened) → honest opened
         → Chain start opened before server disk es → Chain server disk (call ∷ []) end last es' → IsAlive end
         → (entry : Entry Saved) → call.entries ≡ entry ∷ [] → entry.report ≡ Some Done
@@ -231,7 +231,7 @@ module _ {S Sessions : Type 0} (l : Layer S Sessions Saved) where
     done_alone start server end first opened disk last before call es es' none keeps h chain chain' alive entry single is_done c left =
         let h' = chain_honest before start server opened disk es h chain in
         let ended = chain'.4 in
-        let one = chain'.2.durable (ap (λ (s : Serving S). s.halted) (sym ended.0) ∙ alive) (chain'.1.honest_still h') entry single is_done c
+        let one = chain'.2.durable (ap (λ (s : ServerCore S). s.halted) (sym ended.0) ∙ alive) (chain'.1.honest_still h') entry single is_done c
         (subst (λ (d : X). (view d).may_leave c) ended.1 left) in
         newest server.writing so_far (subst (λ (xs : Texts). IsOneOf xs c) (ap text_of_open chain'.0.same.writing) one)
       where
@@ -272,7 +272,7 @@ module _ {S Sessions : Type 0} (l : Layer S Sessions Saved) where
     went_of call (One old) (Other new) run = absurd run
     went_of call (Other old) (One new) run = absurd run
 
-    pub chain_of : (calls : List LentCall) (before after : Serving S) (old new : Lent D E) (entries : List (Entry Saved))
+    pub chain_of : (calls : List LentCall) (before after : ServerCore S) (old new : Lent D E) (entries : List (Entry Saved))
         → Calls l view honest view' honest' before old calls after new entries
         → Chain (lent_view view view') (lent_honest honest honest') before old calls after new entries
     chain_of [] before after old new entries chain = chain

@@ -7,10 +7,10 @@ use Rattle.moo_server_core.specs.Traces.{Report, Trace}
 use Rattle.moo_server_core.specs.Turns.{IsInTime, HasReport, flush_count, flush_takes, flushes, turns_after, turns_for, turns_left_after, turns_marked, turns_unmarked}
 use Rattle.moo_server_core.specs.Courses.{is_closing, is_closed}
 use Rattle.moo_server_core.specs.Seen.{Event, Open, Bytes, Hangup, Moment, Flush}
-use Rattle.moo_server_core.specs.Sessions.{Layer, Meaning, Output}
+use Rattle.moo_server_core.specs.Application.{Layer, Meaning, Output}
 use Rattle.moo_server_core.specs.Meaning.{State, Entry, Acts, Reports, Marks, Passes, Steps, Takes, Run, is_due, is_passed_over, trace_of, traces_of}
 use Rattle.moo_disk.specs.Disk.{DiskView}
-use Rattle.moo_server_core.specs.declared.serving.Serving.{Serving}
+use Rattle.moo_server_core.specs.declared.server_core.ServerCore.{ServerCore}
 use Rattle.moo_server_core.specs.Server.{Lived, state_of, traces_under, turns_of}
 use Rattle.moo_server_core.proofs.Marked.{last_taken, run_split}
 use Rattle.moo_dbtext_read.specs.Saved.{Saved}
@@ -39,20 +39,20 @@ turns_behind left (f ∷ es) e text is = turns_behind (turns_after left f) es e 
 pub turns_within : (text : List ℕ) → turns_for text ≤ length text / 65536 + 6
 turns_within text = omega arith
 
-module _ {Sessions Saved : Type 0} (m : Meaning Sessions Saved) where
-  acts_writing : (event : Event) (old : State Sessions) (out : Output) (new : State Sessions) → Acts m event old out new → new.writing ≡ old.writing
-  acts_writing (Open c) old out new acts = ap (λ (s : State Sessions). s.writing) acts.4
-  acts_writing (Bytes c piece) old out new acts = ap (λ (s : State Sessions). s.writing) acts.4
-  acts_writing (Hangup c) old out new acts = ap (λ (s : State Sessions). s.writing) acts.4
-  acts_writing (Moment moment) old out new acts = ap (λ (s : State Sessions). s.writing) acts.1
-  acts_writing Flush old out new acts = ap (λ (s : State Sessions). s.writing) acts.1
+module _ {Application Saved : Type 0} (m : Meaning Application Saved) where
+  acts_writing : (event : Event) (old : State Application) (out : Output) (new : State Application) → Acts m event old out new → new.writing ≡ old.writing
+  acts_writing (Open c) old out new acts = ap (λ (s : State Application). s.writing) acts.4
+  acts_writing (Bytes c piece) old out new acts = ap (λ (s : State Application). s.writing) acts.4
+  acts_writing (Hangup c) old out new acts = ap (λ (s : State Application). s.writing) acts.4
+  acts_writing (Moment moment) old out new acts = ap (λ (s : State Application). s.writing) acts.1
+  acts_writing Flush old out new acts = ap (λ (s : State Application). s.writing) acts.1
 
-  reports_none : (event : Event) (report : Option Report) (old : State Sessions) (out : Output) (new : State Sessions) → report ≡ None → Reports m event report old out new → new ≡ old
+  reports_none : (event : Event) (report : Option Report) (old : State Application) (out : Output) (new : State Application) → report ≡ None → Reports m event report old out new → new ≡ old
   reports_none event None old out new is reports = reports.1
   reports_none event (Some report) old out new is reports = absurd (cc)
 
   -- while a checkpoint is open no other begins
-  marks_open : (mark : Option Saved) (old : State Sessions) (out : Output) (new : State Sessions) (last : Bool) → old.writing ≡ Some last → Marks m mark old out new
+  marks_open : (mark : Option Saved) (old : State Application) (out : Output) (new : State Application) (last : Bool) → old.writing ≡ Some last → Marks m mark old out new
       → (mark ≡ None) × (new ≡ old)
   marks_open None old out new last is marks = (refl, marks.2)
   marks_open (Some saved) old out new last is marks =
@@ -60,18 +60,18 @@ module _ {Sessions Saved : Type 0} (m : Meaning Sessions Saved) where
       let some : is_none old.writing ≡ false = ap (λ (w : Option Bool). is_none w) is in
       absurd (cc (none, some))
 
-  takes_open' : (b : Bool) (old new : State Sessions) (e : Entry Saved) (last : Bool) → MatchBool b (Passes m old e new) (Steps m old e new) → old.writing ≡ Some last → e.report ≡ None
+  takes_open' : (b : Bool) (old new : State Application) (e : Entry Saved) (last : Bool) → MatchBool b (Passes m old e new) (Steps m old e new) → old.writing ≡ Some last → e.report ≡ None
       → (e.mark ≡ None) × (new.writing ≡ Some last)
-  takes_open' true old new e last takes is none = (takes.mark, ap (λ (s : State Sessions). s.writing) takes.same ∙ is)
+  takes_open' true old new e last takes is none = (takes.mark, ap (λ (s : State Application). s.writing) takes.same ∙ is)
   takes_open' false old new e last takes is none =
       let acted = acts_writing e.event old takes.own takes.acted takes.acts in
       let same = reports_none e.event e.report takes.acted takes.finished takes.reported none takes.reports in
-      let writing : takes.reported.writing ≡ Some last = ap (λ (s : State Sessions). s.writing) same ∙ acted ∙ is in
+      let writing : takes.reported.writing ≡ Some last = ap (λ (s : State Application). s.writing) same ∙ acted ∙ is in
       let marked = marks_open e.mark takes.reported takes.started new last writing takes.marks in
-      (marked.0, ap (λ (s : State Sessions). s.writing) marked.1 ∙ writing)
+      (marked.0, ap (λ (s : State Application). s.writing) marked.1 ∙ writing)
 
   -- an event without a report, while a checkpoint is open
-  by_report : (e : Entry Saved) (es : List (Entry Saved)) (state next : State Sessions) (left : ℕ) (last : Bool) (report : Option Report) → e.report ≡ report
+  by_report : (e : Entry Saved) (es : List (Entry Saved)) (state next : State Application) (left : ℕ) (last : Bool) (report : Option Report) → e.report ≡ report
       → Takes m state e next → state.writing ≡ Some last → IsInTime left (traces_of m.text_of (e ∷ es)) → 0 < left → left ≤ flushes (traces_of m.text_of (e ∷ es))
       → ((n : ℕ) → next.writing ≡ Some last → IsInTime n (traces_of m.text_of es) → 0 < n → n ≤ flushes (traces_of m.text_of es) → HasReport (traces_of m.text_of es))
       → HasReport (traces_of m.text_of (e ∷ es))
@@ -85,23 +85,23 @@ module _ {Sessions Saved : Type 0} (m : Meaning Sessions Saved) where
       ap (λ (t : Option (List ℕ)). turns_marked t (turns_unmarked left trace.flush e.report)) unmarked ∙ ap (λ (r : Option Report). turns_unmarked left trace.flush r) same in
       inr (again (flush_takes trace.flush left) still.1 (subst (λ (k : ℕ). IsInTime k (traces_of m.text_of es)) count in_time.1) turn.0 turn.1)
 
-  comes : (es : List (Entry Saved)) (state end : State Sessions) (left : ℕ) (last : Bool) → Run m state es end → state.writing ≡ Some last
+  comes : (es : List (Entry Saved)) (state end : State Application) (left : ℕ) (last : Bool) → Run m state es end → state.writing ≡ Some last
       → IsInTime left (traces_of m.text_of es) → 0 < left → left ≤ flushes (traces_of m.text_of es) → HasReport (traces_of m.text_of es)
   comes [] state end left last run is in_time some enough = absurd (omega (arith, some, enough))
   comes (e ∷ es) state end left last run is in_time some enough =
       by_report e es state run.0 left last e.report refl run.1 is in_time some enough
       (λ n writing in_time' some' enough'. comes es run.0 end n last run.2 writing in_time' some' enough')
 
-  marked_open' : (b : Bool) (old new : State Sessions) (e : Entry Saved) (saved : Saved) → MatchBool b (Passes m old e new) (Steps m old e new) → e.mark ≡ Some saved
+  marked_open' : (b : Bool) (old new : State Application) (e : Entry Saved) (saved : Saved) → MatchBool b (Passes m old e new) (Steps m old e new) → e.mark ≡ Some saved
       → (last : Bool) × (new.writing ≡ Some last)
   marked_open' true old new e saved takes is = let none = takes.mark in absurd (cc (none, is))
   marked_open' false old new e saved takes is =
       let marks = subst (λ (k : Option Saved). Marks m k takes.reported takes.started new) is takes.marks in
-      (is_closing marks.1.course, ap (λ (s : State Sessions). s.writing) marks.3)
+      (is_closing marks.1.course, ap (λ (s : State Application). s.writing) marks.3)
 
-module _ {S Sessions : Type 0} (l : Layer S Sessions Saved) {D : Type 0} (view : D → DiskView) (honest : D → Type 0) where
+module _ {S Application : Type 0} (l : Layer S Application Saved) {D : Type 0} (view : D → DiskView) (honest : D → Type 0) where
   -- behind a mark, so many events of `Flush` have its report
-  pub report_comes : (before after : Serving S) (old new : D) (entries front rest : List (Entry Saved)) (e : Entry Saved) (saved : Saved)
+  pub report_comes : (before after : ServerCore S) (old new : D) (entries front rest : List (Entry Saved)) (e : Entry Saved) (saved : Saved)
       → Lived l view honest before after old new entries → entries ≡ (front ++ e ∷ []) ++ rest → e.mark ≡ Some saved
       → length (l.meaning.text_of saved) / 65536 + 6 ≤ flushes (traces_under l.meaning rest) → HasReport (traces_under l.meaning rest)
   report_comes before after old new entries front rest e saved lived all is enough =

@@ -3,13 +3,13 @@ use Rattle.std.proofs.Common.{◌≡◌, ℕ, Option, Some, Result, Ok, Err, IfE
 use Rattle.std.specs.Prelude.{◌||◌, if◌then◌else◌}
 use Rattle.moo_server_core.specs.declared.event.Course.{Course}
 use Rattle.moo_server_core.specs.declared.event.Course.TheVariants.{Closing, Closed}
-use Rattle.moo_server_core.specs.declared.sessions.Asked.{Asked}
-use Rattle.moo_server_core.specs.declared.serving.Serving.{Serving}
-use Rattle.moo_server_core.specs.Sessions.{Happening, Happens, Layer, Output, then_out}
+use Rattle.moo_server_core.specs.declared.application.Requests.{Requests}
+use Rattle.moo_server_core.specs.declared.server_core.ServerCore.{ServerCore}
+use Rattle.moo_server_core.specs.Application.{Input, Happens, Layer, Output, then_out}
 use Rattle.moo_server_core.specs.Meaning.{Hears, State, is_due}
 use Rattle.moo_server_core.specs.Server.{is_last_of, state_of, under_way_of}
 
-pub hears_of : {S Sessions Saved : Type 0} (l : Layer S Sessions Saved) (happening : Happening) (before after : Serving S) (mid : S) (asked : Asked)
+pub hears_of : {S Application Saved : Type 0} (l : Layer S Application Saved) (happening : Input) (before after : ServerCore S) (mid : S) (asked : Requests)
     → Happens l happening before.moment before.sessions mid asked → after.sessions ≡ mid
     → after.asked ≡ (asked.checkpoint || (asked.shutdown || before.asked)) → after.course ≡ (if asked.shutdown then Closing else before.course)
     → after.moment ≡ before.moment → after.due ≡ before.due → after.writing ≡ before.writing
@@ -40,7 +40,7 @@ hears_of l happening before after mid asked h sessions asked_is course_is moment
     closing = course_is ∙ ap (λ (b : Bool). if b then Closing else before.course) h.shuts
 
 -- where nothing is asked for, what is due stays so
-pub same_due : {S Sessions Saved : Type 0} (l : Layer S Sessions Saved) (before after : Serving S) (asked : Asked) → asked ≡ record { checkpoint = false; shutdown = false }
+pub same_due : {S Application Saved : Type 0} (l : Layer S Application Saved) (before after : ServerCore S) (asked : Requests) → asked ≡ record { checkpoint = false; shutdown = false }
     → after.asked ≡ (asked.checkpoint || (asked.shutdown || before.asked)) → after.course ≡ (if asked.shutdown then Closing else before.course)
     → after.moment ≡ before.moment → after.due ≡ before.due → after.writing ≡ before.writing
     → is_due l.meaning (state_of l after) ≡ is_due l.meaning (state_of l before)
@@ -53,10 +53,10 @@ same_due l before after asked none asked_is course_is moment_is due_is writing_i
 })
   where
     same_asked : after.asked ≡ before.asked
-    same_asked = asked_is ∙ ap (λ (a : Asked). a.checkpoint || (a.shutdown || before.asked)) none
+    same_asked = asked_is ∙ ap (λ (a : Requests). a.checkpoint || (a.shutdown || before.asked)) none
 
     same_course : after.course ≡ before.course
-    same_course = course_is ∙ ap (λ (a : Asked). if a.shutdown then Closing else before.course) none
+    same_course = course_is ∙ ap (λ (a : Requests). if a.shutdown then Closing else before.course) none
 
 -- an answer that is known to be one
 pub not_err : {T E : Type 0} {t : T} {e : E} → ◌≡◌ {A = Result T E} (Err e) (Ok t) → ⊥
@@ -77,11 +77,11 @@ if_err_map (Ok t) f p = tt
 if_err_map (Err e) f p = f p
 
 -- the state behind a report
-abbrev pub ended : {Sessions : Type 0} → Bool → State Sessions → State Sessions
+abbrev pub ended : {Application : Type 0} → Bool → State Application → State Application
 ended last mid = record mid { course = if last then Closed else mid.course }
 
-pub closes : {Sessions : Type 0} (mid : State Sessions) (last : Bool) → last ≡ true → ended true mid ≡ ended last mid
+pub closes : {Application : Type 0} (mid : State Application) (last : Bool) → last ≡ true → ended true mid ≡ ended last mid
 closes mid last is = λ i. ended (sym is i) mid
 
-pub stays : {Sessions : Type 0} (mid : State Sessions) (last : Bool) → last ≡ false → mid ≡ ended last mid
+pub stays : {Application : Type 0} (mid : State Application) (last : Bool) → last ≡ false → mid ≡ ended last mid
 stays mid last is = λ i. ended (sym is i) mid

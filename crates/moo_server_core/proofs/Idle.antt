@@ -1,7 +1,7 @@
 -- Events that a running server takes: bytes for a connection that is leaving, and openings of a number that none has.
 use Rattle.std.proofs.Common.{◌≡◌, ℕ, Option, Some, None, Bool, true, false, refl, sym, ◌∙◌, ap, subst}
 use Rattle.std.specs.Prelude.{◌&&◌, not, if◌then◌else◌}
-use Rattle.moo_server_core.specs.Sessions.{Meaning}
+use Rattle.moo_server_core.specs.Application.{Meaning}
 use Rattle.moo_server_core.specs.Courses.{is_closing}
 use Rattle.moo_server_core.specs.Seen.{Event, Open, Bytes, Hangup, Moment, Flush, is_flush, seen}
 use Rattle.moo_server_core.specs.declared.event.Cause.{Cause}
@@ -12,7 +12,7 @@ use Rattle.moo_server_core.specs.Meaning.{State, FindsFree, is_due, is_for_leavi
 use Rattle.moo_server_core.specs.declared.event.Event as given
 
 -- another event is none such
-pub other : {Sessions Saved : Type 0} (m : Meaning Sessions Saved) (state : State Sessions) (event form : given.Event) → event ≡ form
+pub other : {Application Saved : Type 0} (m : Meaning Application Saved) (state : State Application) (event form : given.Event) → event ≡ form
     → is_for_leaving m state (seen form) ≡ false → is_for_leaving m state (seen event) ≡ true → ⊥
 other m state event form is isnt dropped = true_isnt_false (sym dropped ∙ ap (λ (e : given.Event). is_for_leaving m state (seen e)) is ∙ isnt)
   where
@@ -33,15 +33,15 @@ true_isnt : (b : Bool) → b ≡ true → b ≡ false → ⊥
 true_isnt b is isnt = cc
 
 -- what wanted memory isn't such an event while nothing is due
-pub idle_if : {Sessions Saved : Type 0} (m : Meaning Sessions Saved) (state : State Sessions) (event : Event)
+pub idle_if : {Application Saved : Type 0} (m : Meaning Application Saved) (state : State Application) (event : Event)
     → (is_for_leaving m state event ≡ true → is_due m state ≡ true) → is_idle m state event ≡ false
 idle_if m state event due = false_if (is_for_leaving m state event) (is_due m state) (λ leaving none. true_isnt (is_due m state) (due leaving) none)
 
-pub flush_leaves : {Sessions Saved : Type 0} (m : Meaning Sessions Saved) (state : State Sessions) (event : Event) → event ≡ Flush → is_idle m state event ≡ false
+pub flush_leaves : {Application Saved : Type 0} (m : Meaning Application Saved) (state : State Application) (event : Event) → event ≡ Flush → is_idle m state event ≡ false
 flush_leaves m state event is = ap (is_idle m state) is
 
 -- what isn't refused nor passed over finds its number free
-pub finds_free : {Sessions Saved : Type 0} (m : Meaning Sessions Saved) (state : State Sessions) (event : Event)
+pub finds_free : {Application Saved : Type 0} (m : Meaning Application Saved) (state : State Application) (event : Event)
     → refusal m state event ≡ None → is_passed_over m state event ≡ false → FindsFree m state event
 finds_free m state (Open c) accepted counts = by_course state.course refl
   where

@@ -3,7 +3,7 @@ use Rattle.std.proofs.Common.{◌≡◌, ◌⊎◌, inl, inr, ⊎_elim, ℕ, Lis
 use Rattle.std.proofs.lemmas.List.{append-nil}
 use Rattle.moo_disk.specs.Disk.{DiskView, LeavesOnly}
 use Rattle.moo_dbtext_read.specs.Saved.{Saved}
-use Rattle.moo_server_core.specs.Sessions.{Layer}
+use Rattle.moo_server_core.specs.Application.{Layer}
 use Rattle.moo_server_core.specs.Traces.{Trace}
 use Rattle.moo_server_core.specs.Crash.{Survives, since_done}
 use Rattle.moo_server_core.specs.Meaning.{Entry}
@@ -16,7 +16,7 @@ use Rattle.moo_server_core.specs.declared.life.LifeStop.TheVariants.{Crash, Serv
 use Rattle.moo_server_core.specs.Lives.{IsLife, IsStopped, LifeRun, Lives}
 use Rattle.moo_server_core.specs.Marks.{BeginFromKept, IsKeptIn, IsMarked, KeptBehind, ReportsNone}
 
-module _ {S Sessions D : Type 0} (l : Layer S Sessions Saved) (view : D → DiskView) (honest : D → Type 0) (failures : D → ℕ) (images : D → List (List ℕ)) where
+module _ {S Application D : Type 0} (l : Layer S Application Saved) (view : D → DiskView) (honest : D → Type 0) (failures : D → ℕ) (images : D → List (List ℕ)) where
   -- it spells a world that these lives keep, the last of them first
   abbrev SpellsKept : List (LifeRun S D) → List ℕ → Type 0
   SpellsKept lives c = (saved : Saved) × l.meaning.Spells c saved × IsKeptIn l lives saved

@@ -6,13 +6,13 @@ use Rattle.std.proofs.lemmas.List.{append-nil}
 use Rattle.std.specs.Option.{option_map}
 use Rattle.moo_disk.specs.Disk.{DiskView, LeavesOnly}
 use Rattle.moo_dbtext_read.specs.Saved.{Saved}
-use Rattle.moo_server_core.specs.Sessions.{Layer}
+use Rattle.moo_server_core.specs.Application.{Layer}
 use Rattle.moo_server_core.specs.Traces.{Trace}
 use Rattle.moo_server_core.specs.Crash.{IsOneOf, only_text, since_done, texts_of_marks, Survives}
 use Rattle.moo_server_core.specs.Meaning.{Entry, trace_of}
 use Rattle.moo_server_core.specs.declared.event.Event as given
 use Rattle.moo_server_core.specs.declared.event.RunFault.{RunFault}
-use Rattle.moo_server_core.specs.declared.serving.Serving.{Serving}
+use Rattle.moo_server_core.specs.declared.server_core.ServerCore.{ServerCore}
 use Rattle.moo_server_core.specs.Server.{IsAlive, Lived, MarkSpells, MarksSpell, on_its_way, text_of_open, traces_under}
 use Rattle.moo_server_core.proofs.Joining.{Texts, keeps_all, no_others, one_of_either}
 use Rattle.moo_server_core.specs.declared.life.Life.{Life}
@@ -24,7 +24,7 @@ use Rattle.moo_server_core.specs.declared.life.LivesCause.TheVariants.{NoSuchIma
 use Rattle.moo_server_core.specs.declared.life.LivesCause.TheVariants.{Open as not_open}
 use Rattle.moo_server_core.specs.Lives.{AreTold, EndsBefore, HasLived, HasNoImage, IsLeft, IsLife, IsMet, IsStopped, IsTold, LifeRun, Lives, NextMeets, RanAll, SoFar}
 
-pub ran_all : {S : Type 0} (result : Result ℕ RunFault) (events told : List given.Event) (end : Serving S) → events ≡ told
+pub ran_all : {S : Type 0} (result : Result ℕ RunFault) (events told : List given.Event) (end : ServerCore S) → events ≡ told
     → IfOk result (λ n. (n ≡ length events) × IsAlive end) → RanAll result told end
 ran_all (Ok n) events told end same all = (all.0 ∙ ap (λ (es : List given.Event). length es) same, all.1)
 ran_all (Err fault) events told end same all = tt
@@ -37,7 +37,7 @@ no_image r n i e is iff = ⊎_elim (λ lt. absurd (never r e is (iff.1 lt))) (λ
     never (Ok t) e is ok = absurd (cc)
     never (Err f) e is ok = absurd (cc)
 
-module _ {S Sessions : Type 0} (l : Layer S Sessions Saved) where
+module _ {S Application : Type 0} (l : Layer S Application Saved) where
   marks_spelled : (es : List (Entry Saved)) (c : List ℕ) → MarksSpell l.meaning es → IsOneOf (texts_of_marks (traces_under l.meaning es)) c → (s : Saved) × l.meaning.Spells c s
   marks_spelled [] c all one = absurd one
   marks_spelled (e ∷ es) c all one =

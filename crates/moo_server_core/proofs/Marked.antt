@@ -4,10 +4,10 @@ use Rattle.std.specs.Prelude.{MatchBool}
 use Rattle.std.specs.Option.{option_map}
 use Rattle.moo_server_core.specs.Traces.{Report, Done, Failed, Trace}
 use Rattle.moo_server_core.specs.Crash.{IsOneOf, only_text, texts_of_marks, last_of, after_report, since_done, NoneDone, Survives}
-use Rattle.moo_server_core.specs.Sessions.{Layer}
+use Rattle.moo_server_core.specs.Application.{Layer}
 use Rattle.moo_server_core.specs.Meaning.{State, Entry, Marks, Passes, Steps, Takes, Run, is_passed_over, trace_of}
 use Rattle.moo_dbtext_read.specs.Saved.{Saved}
-use Rattle.moo_server_core.specs.declared.serving.Serving.{Serving}
+use Rattle.moo_server_core.specs.declared.server_core.ServerCore.{ServerCore}
 use Rattle.moo_server_core.specs.Server.{MarkSpells, MarksSpell, traces_under}
 use Rattle.moo_server_core.specs.Calls.{IsPrefix, place_done, place_from, place_marked, place_reported}
 use Rattle.moo_server_core.proofs.Joining.{Texts, one_of_either, last_of-push}
@@ -30,7 +30,7 @@ length-push : {A : Type 0} (xs : List A) (x : A) → length (xs ++ x ∷ []) ≡
 length-push [] x = refl
 length-push (y ∷ xs) x = let rest = length-push xs x in omega (arith, rest)
 
-module _ {S Sessions : Type 0} (l : Layer S Sessions Saved) where
+module _ {S Application : Type 0} (l : Layer S Application Saved) where
   -- among all these events one carries the mark of this text, and it isn't before place n
   pub record IsMarkAt (all : List (Entry Saved)) (c : List ℕ) (n : ℕ) : Type 0 where
     pub prefix : List (Entry Saved)
@@ -162,19 +162,19 @@ module _ {S Sessions : Type 0} (l : Layer S Sessions Saved) where
 
   -- ---- the world of a mark
 
-  takes_mark' : (b : Bool) (old new : State Sessions) (entry : Entry Saved) (saved : Saved)
+  takes_mark' : (b : Bool) (old new : State Application) (entry : Entry Saved) (saved : Saved)
       → MatchBool b (Passes l.meaning old entry new) (Steps l.meaning old entry new) → entry.mark ≡ Some saved → saved ≡ l.meaning.saved_of new.sessions
   takes_mark' true old new entry saved takes is = let none = takes.mark in absurd (cc (none, is))
   takes_mark' false old new entry saved takes is =
       let marks = subst (λ (m : Option Saved). Marks l.meaning m takes.reported takes.started new) is takes.marks in marks.4
 
   -- a run's parts
-  pub run_split : (es es' : List (Entry Saved)) (old new : State Sessions) → Run l.meaning old (es ++ es') new → (mid : State Sessions) × Run l.meaning old es mid × Run l.meaning mid es' new
+  pub run_split : (es es' : List (Entry Saved)) (old new : State Application) → Run l.meaning old (es ++ es') new → (mid : State Application) × Run l.meaning old es mid × Run l.meaning mid es' new
   run_split [] es' old new run = (old, refl, run)
   run_split (e ∷ es) es' old new run = let rest = run_split es es' run.0 new run.2 in (rest.0, (run.0, run.1, rest.1), rest.2)
 
-  pub last_taken : (es : List (Entry Saved)) (e : Entry Saved) (old new : State Sessions) → Run l.meaning old (es ++ e ∷ []) new → (mid : State Sessions) × Takes l.meaning mid e new
-  last_taken [] e old new run = (old, subst (λ (s : State Sessions). Takes l.meaning old e s) (sym run.2) run.1)
+  pub last_taken : (es : List (Entry Saved)) (e : Entry Saved) (old new : State Application) → Run l.meaning old (es ++ e ∷ []) new → (mid : State Application) × Takes l.meaning mid e new
+  last_taken [] e old new run = (old, subst (λ (s : State Application). Takes l.meaning old e s) (sym run.2) run.1)
   last_taken (f ∷ es) e old new run = last_taken es e run.0 new run.2
 
   spelled_at : (es : List (Entry Saved)) (e : Entry Saved) (rest : List (Entry Saved)) (saved : Saved) → MarksSpell l.meaning ((es ++ e ∷ []) ++ rest) → e.mark ≡ Some saved
@@ -183,11 +183,11 @@ module _ {S Sessions : Type 0} (l : Layer S Sessions Saved) where
   spelled_at (f ∷ es) e rest saved all is = spelled_at es e rest saved all.1 is
 
   -- a mark is the world after a prefix
-  pub mark_is_prefix : (start end : State Sessions) (entries : List (Entry Saved)) (c : List ℕ) (n : ℕ) → Run l.meaning start entries end → MarksSpell l.meaning entries → IsMarkAt entries c n
+  pub mark_is_prefix : (start end : State Application) (entries : List (Entry Saved)) (c : List ℕ) (n : ℕ) → Run l.meaning start entries end → MarksSpell l.meaning entries → IsMarkAt entries c n
       → (saved : Saved) × l.meaning.Spells c saved × IsPrefix l start n entries saved
   mark_is_prefix start end entries c n run spelled at = of_mark at.last.mark refl
     where
-      parts : (mid : State Sessions) × Run l.meaning start (at.prefix ++ at.last ∷ []) mid × Run l.meaning mid at.rest end
+      parts : (mid : State Application) × Run l.meaning start (at.prefix ++ at.last ∷ []) mid × Run l.meaning mid at.rest end
       parts = run_split (at.prefix ++ at.last ∷ []) at.rest start end (subst (λ (es : List (Entry Saved)). Run l.meaning start es end) at.all_is run)
 
       of_mark : (mark : Option Saved) → at.last.mark ≡ mark → (saved : Saved) × l.meaning.Spells c saved × IsPrefix l start n entries saved

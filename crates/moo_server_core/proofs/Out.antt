@@ -3,7 +3,7 @@ use Rattle.std.proofs.Common.{◌≡◌, ◌≢◌, ℕ, List, [], ◌++◌, Boo
 use Rattle.std.specs.Prelude.{eqb, if◌then◌else◌}
 use Rattle.std.proofs.lemmas.Bool.{eq-eqb, eqb-true}
 use Rattle.std.proofs.lemmas.List.{append-nil}
-use Rattle.moo_server_core.specs.Sessions.{HandsOut, HandsOutLog, Layer, Output, silence, then_out}
+use Rattle.moo_server_core.specs.Application.{HandsOut, HandsOutLog, Layer, Output, silence, then_out}
 use Rattle.moo_server_core.specs.Server.{logged_alone, sent_alone}
 
 pub then_silence : (x : Output) → then_out x silence ≡ x
@@ -16,7 +16,7 @@ unlike : (k c : ℕ) → eqb k c ≡ false → k ≢ c
 unlike k c isnt is = let yes = eq-eqb k c is in absurd (cc (yes, isnt))
 
 -- what waited for a number, and then what waits
-pub sent_out : {S Sessions Saved : Type 0} (l : Layer S Sessions Saved) (c : ℕ) (bytes : List ℕ) (old new : S) → HandsOut l c bytes old new
+pub sent_out : {S Application Saved : Type 0} (l : Layer S Application Saved) (c : ℕ) (bytes : List ℕ) (old new : S) → HandsOut l c bytes old new
     → l.waiting old ≡ then_out (sent_alone c bytes) (l.waiting new)
 sent_out l c bytes old new out = λ i. record { sent = λ k. at k (eqb k c) refl i; logged = sym out.log i }
   where
@@ -28,7 +28,7 @@ sent_out l c bytes old new out = λ i. record { sent = λ k. at k (eqb k c) refl
     at k false is = sym (out.others k (unlike k c is)) ∙ (λ i. (if sym is i then bytes else []) ++ (l.waiting new).sent k)
 
 -- what waited for the log, and then what waits
-pub logged_out : {S Sessions Saved : Type 0} (l : Layer S Sessions Saved) (lines : List (List ℕ)) (old new : S) → HandsOutLog l lines old new
+pub logged_out : {S Application Saved : Type 0} (l : Layer S Application Saved) (lines : List (List ℕ)) (old new : S) → HandsOutLog l lines old new
     → l.waiting old ≡ then_out (logged_alone lines) (l.waiting new)
 logged_out l lines old new out = λ i. record {
   sent = sym out.others i;

@@ -5,12 +5,12 @@ use Rattle.moo_disk.specs.Disk.{DiskView, LeavesOnly}
 use Rattle.moo_checkpoint.specs.Checkpoint.{text_of}
 use Rattle.moo_checkpoint.proofs.TurnLemmas.{continues_within, fresh_continues}
 use Rattle.moo_server_core.specs.declared.event.Course.TheVariants.{Closed}
-use Rattle.moo_server_core.specs.declared.serving.Open.{Open}
-use Rattle.moo_server_core.specs.declared.serving.Serving.{Serving}
+use Rattle.moo_server_core.specs.declared.server_core.Open.{Open}
+use Rattle.moo_server_core.specs.declared.server_core.ServerCore.{ServerCore}
 use Rattle.moo_server_core.specs.Traces.{Report, Done, Failed}
 use Rattle.moo_server_core.specs.Crash.{IsOneOf}
 use Rattle.moo_server_core.specs.Turns.{CountsReport}
-use Rattle.moo_server_core.specs.Sessions.{Finishes, Layer, Meaning, Output, then_out}
+use Rattle.moo_server_core.specs.Application.{Finishes, Layer, Meaning, Output, then_out}
 use Rattle.moo_server_core.specs.Meaning.{Hears, State, is_done}
 use Rattle.moo_server_core.specs.Server.{OpenFollows, Opens, Turns, is_last_of, state_of, text_of_open, under_way_of}
 
@@ -29,18 +29,18 @@ some_is : {r s : Report} → Some r ≡ Some s → r ≡ s
 some_is is = cc
 
 -- a mark's checkpoint may be given any disk
-pub opens_follow : {Sessions Saved D : Type 0} (m : Meaning Sessions Saved) (view : D → DiskView) (honest stands : D → Type 0) (mark : Option Saved) (old new : Option Open) (disk : D)
+pub opens_follow : {Application Saved D : Type 0} (m : Meaning Application Saved) (view : D → DiskView) (honest stands : D → Type 0) (mark : Option Saved) (old new : Option Open) (disk : D)
     → Opens m mark old new → OpenFollows view honest stands old disk → OpenFollows view honest stands new disk
 opens_follow m view honest stands None old new disk opens follows = subst (λ (w : Option Open). OpenFollows view honest stands w disk) (sym opens) follows
 opens_follow m view honest stands (Some saved) old new disk opens follows =
     subst (λ (w : Option Open). OpenFollows view honest stands w disk) (sym opens.1) (fresh_continues view honest stands opens.0.checkpoint disk opens.2)
 
-module _ {S Sessions Saved : Type 0} (l : Layer S Sessions Saved) {D : Type 0} (view : D → DiskView) (honest : D → Type 0) (failures : D → ℕ) where
+module _ {S Application Saved : Type 0} (l : Layer S Application Saved) {D : Type 0} (view : D → DiskView) (honest : D → Type 0) (failures : D → ℕ) where
   -- a turn that ended the checkpoint, and what `checkpoint_finished` did
-  pub turns : (before after : Serving S) (taken : Option Open) (o : Open) (old new : D) (report : Report)
+  pub turns : (before after : ServerCore S) (taken : Option Open) (o : Open) (old new : D) (report : Report)
       → before.writing ≡ Some o → taken ≡ None → after.writing ≡ taken
       → (report ≡ Done → honest old → LeavesOnly (text_of o.checkpoint) (view new)) → CountsReport (Some report) (failures old) (failures new)
-      → ((out : Output) × (mid : State Sessions) × Hears l.meaning (Finishes (is_done report)) (state_of l (record before { writing = taken })) out mid
+      → ((out : Output) × (mid : State Application) × Hears l.meaning (Finishes (is_done report)) (state_of l (record before { writing = taken })) out mid
       × (state_of l after ≡ record mid { course = if o.is_last then Closed else mid.course }) × (under_way_of l after ≡ then_out (under_way_of l before) out))
       → (r : Option Report) × (out : Output) × Turns l.meaning view honest failures (state_of l before) (state_of l after) before.writing after.writing old new r out
       × (under_way_of l after ≡ then_out (under_way_of l before) out)

@@ -10,7 +10,7 @@ use Rattle.moo_server_core.specs.Crash.{IsOneOf, Survives}
 use Rattle.moo_server_core.specs.Turns.{CountsReport, Fails, IsInTime, turns_after, turns_left_after}
 use Rattle.moo_server_core.specs.Seen.{Event, seen}
 use Rattle.moo_server_core.specs.Seen as see
-use Rattle.moo_server_core.specs.Sessions.{Layer, Meaning, Output, silence, then_out}
+use Rattle.moo_server_core.specs.Application.{Layer, Meaning, Output, silence, then_out}
 use Rattle.moo_server_core.specs.Meaning.{State, Entry, Takes, Run, MayWant, out_of, refusal, refusal_in, trace_of, traces_of}
 use Rattle.moo_server_core.specs.declared.event.Event as given
 use Rattle.moo_server_core.specs.declared.event.Cause.{Cause}
@@ -18,8 +18,8 @@ use Rattle.moo_server_core.specs.declared.event.Cause.TheVariants.{NoSuchConnect
 use Rattle.moo_server_core.specs.declared.event.Cause.TheVariants.{Halted as halted_cause, Closed as closed_cause}
 use Rattle.moo_server_core.specs.declared.event.Course.{Course}
 use Rattle.moo_server_core.specs.declared.event.Course.TheVariants.{Running, Closing, Closed}
-use Rattle.moo_server_core.specs.declared.serving.Open as declared
-use Rattle.moo_server_core.specs.declared.serving.Serving.{Serving}
+use Rattle.moo_server_core.specs.declared.server_core.Open as declared
+use Rattle.moo_server_core.specs.declared.server_core.ServerCore.{ServerCore}
 use Rattle.moo_server_core.specs.declared.event.RunFault.{RunFault}
 use Rattle.moo_server_core.specs.Server.{Does, Failing, HasCause, IsAlive, Lived, MarksSpell, Ran, Refuses, Runs, Same, on_its_way, state_of, text_of_open, traces_under, turns_of, waiting_of}
 use Rattle.moo_server_core.proofs.Joining.{Texts, survives_none, survives_join, gains_none, gains_less, one_of_left, one_of_right, one_of_last}
@@ -70,20 +70,20 @@ same_way view first mid texts None survives c one = absurd one
 same_way view first mid texts (Some o) survives c one =
     one_of_last texts c (subst (λ (l : Texts). IsOneOf l c) (sym (survives.latest [] (text_of o.checkpoint) refl)) one)
 
-module _ {S Sessions Saved : Type 0} (l : Layer S Sessions Saved) where
+module _ {S Application Saved : Type 0} (l : Layer S Application Saved) where
   marks-append : (es es' : List (Entry Saved)) → MarksSpell l.meaning es → MarksSpell l.meaning es' → MarksSpell l.meaning (es ++ es')
   marks-append [] es' all all' = all'
   marks-append (f ∷ es) es' all all' = (all.0, marks-append es es' all.1 all')
 
-  pub run_join : (old mid new : State Sessions) (es es' : List (Entry Saved)) → Run l.meaning old es mid → Run l.meaning mid es' new → Run l.meaning old (es ++ es') new
-  run_join old mid new [] es' run run' = subst (λ (s : State Sessions). Run l.meaning s es' new) run run'
+  pub run_join : (old mid new : State Application) (es es' : List (Entry Saved)) → Run l.meaning old es mid → Run l.meaning mid es' new → Run l.meaning old (es ++ es') new
+  run_join old mid new [] es' run run' = subst (λ (s : State Application). Run l.meaning s es' new) run run'
   run_join old mid new (e ∷ es) es' run run' = (run.0, run.1, run_join run.0 mid new es es' run.2 run')
 
   pub traces-append : (es es' : List (Entry Saved)) → traces_under l.meaning (es ++ es') ≡ traces_under l.meaning es ++ traces_under l.meaning es'
   traces-append es es' = map-append (trace_of l.meaning.text_of) es es'
 
   module _ {D : Type 0} (view : D → DiskView) (honest : D → Type 0) where
-    pub lived_none : (server : Serving S) (disk : D) → Lived l view honest server server disk disk []
+    pub lived_none : (server : ServerCore S) (disk : D) → Lived l view honest server server disk disk []
     lived_none server disk = record {
       end = state_of l server;
       run = refl;
@@ -96,7 +96,7 @@ module _ {S Sessions Saved : Type 0} (l : Layer S Sessions Saved) where
     }
 
     -- events, and then events
-    pub lived_join : (before mid after : Serving S) (old between new : D) (es es' : List (Entry Saved)) → (honest old → honest between)
+    pub lived_join : (before mid after : ServerCore S) (old between new : D) (es es' : List (Entry Saved)) → (honest old → honest between)
         → Lived l view honest before mid old between es → Lived l view honest mid after between new es'
         → Lived l view honest before after old new (es ++ es')
     lived_join before mid after old between new es es' keeps first second = elim (true_or_false mid.halted) [
@@ -120,7 +120,7 @@ module _ {S Sessions Saved : Type 0} (l : Layer S Sessions Saved) where
           let all : traces_under l.meaning (es ++ es') ≡ traces_under l.meaning es ++ traces_under l.meaning es' = traces-append es es' in
           record {
             end = second.end;
-            run = run_join (state_of l before) first.end second.end es es' first.run (subst (λ (s : State Sessions). Run l.meaning s es' second.end) state_is second.run);
+            run = run_join (state_of l before) first.end second.end es es' first.run (subst (λ (s : State Application). Run l.meaning s es' second.end) state_is second.run);
             state = second.state;
             spelled = marks-append es es' first.spelled second.spelled;
             survives = both;
@@ -140,7 +140,7 @@ module _ {S Sessions Saved : Type 0} (l : Layer S Sessions Saved) where
             (first.survives h) (second.survives (keeps h)))
 
     -- then nothing but what waits is another
-    pub lived_same : (before mid after : Serving S) (old new : D) (es : List (Entry Saved)) → Same l mid after
+    pub lived_same : (before mid after : ServerCore S) (old new : D) (es : List (Entry Saved)) → Same l mid after
         → Lived l view honest before mid old new es → Lived l view honest before after old new es
     lived_same before mid after old new es same lived = record {
       end = lived.end;
@@ -154,12 +154,12 @@ module _ {S Sessions Saved : Type 0} (l : Layer S Sessions Saved) where
     }
 
     -- what is known of an event that was taken
-    abbrev pub Took : (D → ℕ) → Serving S → Serving S → D → D → Event → Type 0
+    abbrev pub Took : (D → ℕ) → ServerCore S → ServerCore S → D → D → Event → Type 0
     Took failures mid after between new event = (entry : Entry Saved) × (entry.event ≡ event)
         × Does l.meaning view honest failures (state_of l mid) (state_of l after) mid.writing after.writing between new entry
         × (waiting_of l after ≡ then_out (waiting_of l mid) entry.out) × IsAlive after
 
-    lived_one : (failures : D → ℕ) (mid after : Serving S) (between new : D) (entry : Entry Saved) → IsAlive mid
+    lived_one : (failures : D → ℕ) (mid after : ServerCore S) (between new : D) (entry : Entry Saved) → IsAlive mid
         → Does l.meaning view honest failures (state_of l mid) (state_of l after) mid.writing after.writing between new entry
         → Lived l view honest mid after between new (entry ∷ [])
     lived_one failures mid after between new entry alive does = record {
@@ -174,7 +174,7 @@ module _ {S Sessions Saved : Type 0} (l : Layer S Sessions Saved) where
     }
 
     -- an event that halts the server
-    lived_halt : (before mid after : Serving S) (old between new : D) (es : List (Entry Saved)) → IsAlive mid → after.halted ≡ true → (honest old → honest between)
+    lived_halt : (before mid after : ServerCore S) (old between new : D) (es : List (Entry Saved)) → IsAlive mid → after.halted ≡ true → (honest old → honest between)
         → (honest between → Survives view between new (on_its_way mid) (on_its_way after) [])
         → Lived l view honest before mid old between es → Lived l view honest before after old new es
     lived_halt before mid after old between new es alive halted keeps survives lived = record {
@@ -190,7 +190,7 @@ module _ {S Sessions Saved : Type 0} (l : Layer S Sessions Saved) where
       rests = λ was. absurd (not_both mid.halted ((lived.rests was).1) alive);
     }
 
-    pub ran_none : (server : Serving S) (disk : D) (events : List given.Event) → Ran l view honest server server disk disk events 0
+    pub ran_none : (server : ServerCore S) (disk : D) (events : List given.Event) → Ran l view honest server server disk disk events 0
     ran_none server disk events = record {
       entries = [];
       events_are = refl;
@@ -200,7 +200,7 @@ module _ {S Sessions Saved : Type 0} (l : Layer S Sessions Saved) where
     }
 
     -- one event more
-    pub ran_more : (failures : D → ℕ) (before mid after : Serving S) (old between new : D) (events : List given.Event) (done : ℕ) (d : given.Event) → done < length events → d ≡ get_or events done d
+    pub ran_more : (failures : D → ℕ) (before mid after : ServerCore S) (old between new : D) (events : List given.Event) (done : ℕ) (d : given.Event) → done < length events → d ≡ get_or events done d
         → (honest old → honest between) → IsAlive mid → Ran l view honest before mid old between events done
         → Took failures mid after between new (seen d) → Ran l view honest before after old new events (done + 1)
     ran_more failures before mid after old between new events done d lt event_is keeps alive ran took =
@@ -219,7 +219,7 @@ module _ {S Sessions Saved : Type 0} (l : Layer S Sessions Saved) where
         }
 
     -- all of them
-    pub ran_all : (before after : Serving S) (old new : D) (events : List given.Event) (done : ℕ) → length events ≤ done
+    pub ran_all : (before after : ServerCore S) (old new : D) (events : List given.Event) (done : ℕ) → length events ≤ done
         → Ran l view honest before after old new events done → Ran l view honest before after old new events (length events)
     ran_all before after old new events done le ran = record {
       entries = ran.entries;
@@ -229,7 +229,7 @@ module _ {S Sessions Saved : Type 0} (l : Layer S Sessions Saved) where
       durable = ran.durable;
     }
 
-    ran_halts : (before mid after : Serving S) (old between new : D) (events : List given.Event) (done : ℕ)
+    ran_halts : (before mid after : ServerCore S) (old between new : D) (events : List given.Event) (done : ℕ)
         → (honest old → honest between) → IsAlive mid → after.halted ≡ true → waiting_of l after ≡ waiting_of l mid
         → (honest between → Survives view between new (on_its_way mid) (on_its_way after) [])
         → Ran l view honest before mid old between events done → Ran l view honest before after old new events done
@@ -262,15 +262,15 @@ module _ {S Sessions Saved : Type 0} (l : Layer S Sessions Saved) where
         record { reported = failures between; fails = counted; all = λ alive. absurd (not_both halted is alive); no_fewer = no_fewer }
 
     -- a run so far, with its counts
-    abbrev pub RanSo : (D → ℕ) → Serving S → Serving S → D → D → List given.Event → ℕ → Type 0
+    abbrev pub RanSo : (D → ℕ) → ServerCore S → ServerCore S → D → D → List given.Event → ℕ → Type 0
     RanSo failures before after old new events done =
         (ran : Ran l view honest before after old new events done) × Counted failures old new ran.entries
 
-    pub so_none : (failures : D → ℕ) (server : Serving S) (disk : D) (events : List given.Event) → RanSo failures server server disk disk events 0
+    pub so_none : (failures : D → ℕ) (server : ServerCore S) (disk : D) (events : List given.Event) → RanSo failures server server disk disk events 0
     unfolding ran_none
     so_none failures server disk events = (ran_none server disk events, refl)
 
-    pub so_more : (failures : D → ℕ) (before mid after : Serving S) (old between new : D) (events : List given.Event) (done : ℕ) (d : given.Event) → done < length events → d ≡ get_or events done d
+    pub so_more : (failures : D → ℕ) (before mid after : ServerCore S) (old between new : D) (events : List given.Event) (done : ℕ) (d : given.Event) → done < length events → d ≡ get_or events done d
         → (honest old → honest between) → IsAlive mid → RanSo failures before mid old between events done
         → Took failures mid after between new (seen d) → RanSo failures before after old new events (done + 1)
     unfolding ran_more
@@ -280,7 +280,7 @@ module _ {S Sessions Saved : Type 0} (l : Layer S Sessions Saved) where
     )
 
     -- all events were taken
-    pub runs_all : (failures : D → ℕ) (before after : Serving S) (old new : D) (events : List given.Event) (done : ℕ) → length events ≤ done
+    pub runs_all : (failures : D → ℕ) (before after : ServerCore S) (old new : D) (events : List given.Event) (done : ℕ) → length events ≤ done
         → RanSo failures before after old new events done → Runs l view honest failures before after old new events (Ok (length events))
     unfolding ran_all
     runs_all failures before after old new events done le so = record {
@@ -290,7 +290,7 @@ module _ {S Sessions Saved : Type 0} (l : Layer S Sessions Saved) where
     }
 
     -- a halted server takes none
-    pub runs_halted : (failures : D → ℕ) (server : Serving S) (disk : D) (events : List given.Event) → server.halted ≡ true
+    pub runs_halted : (failures : D → ℕ) (server : ServerCore S) (disk : D) (events : List given.Event) → server.halted ≡ true
         → Runs l view honest failures server server disk disk events (Err (record { done = 0; cause = halted_cause }))
     unfolding ran_none
     runs_halted failures server disk events halted = record {
@@ -304,7 +304,7 @@ module _ {S Sessions Saved : Type 0} (l : Layer S Sessions Saved) where
   if_not false x y z one other is = other is
 
   -- no event is refused for being halted
-  pub refusal_not_halted : (course : Course) (now : ℕ) (sessions : Sessions) (event : Event) → refusal_in l.meaning course now sessions event ≢ Some halted_cause
+  pub refusal_not_halted : (course : Course) (now : ℕ) (sessions : Application) (event : Event) → refusal_in l.meaning course now sessions event ≢ Some halted_cause
   refusal_not_halted Closed now sessions event is = cc
   refusal_not_halted Closing now sessions event is = cc
   refusal_not_halted Running now sessions (see.Open c) is = if_not (l.meaning.is_open sessions c) (Some ConnectionInUse) None (Some halted_cause) (λ e. cc) (λ e. cc) is
@@ -314,7 +314,7 @@ module _ {S Sessions Saved : Type 0} (l : Layer S Sessions Saved) where
   refusal_not_halted Running now sessions see.Flush is = cc
 
   -- nor for want of memory
-  pub refusal_not_memory : (course : Course) (now : ℕ) (sessions : Sessions) (event : Event) → refusal_in l.meaning course now sessions event ≢ Some Memory
+  pub refusal_not_memory : (course : Course) (now : ℕ) (sessions : Application) (event : Event) → refusal_in l.meaning course now sessions event ≢ Some Memory
   refusal_not_memory Closed now sessions event is = cc
   refusal_not_memory Closing now sessions event is = cc
   refusal_not_memory Running now sessions (see.Open c) is = if_not (l.meaning.is_open sessions c) (Some ConnectionInUse) None (Some Memory) (λ e. cc) (λ e. cc) is
@@ -323,7 +323,7 @@ module _ {S Sessions Saved : Type 0} (l : Layer S Sessions Saved) where
   refusal_not_memory Running now sessions (see.Moment moment) is = if_not (nat_lt moment now) (Some ClockBack) None (Some Memory) (λ e. cc) (λ e. cc) is
   refusal_not_memory Running now sessions see.Flush is = cc
 
-  module _ {D : Type 0} (view : D → DiskView) (honest : D → Type 0) (failures : D → ℕ) (before mid after : Serving S) (old between new : D) (events : List given.Event) (done : ℕ) (d : given.Event) where
+  module _ {D : Type 0} (view : D → DiskView) (honest : D → Type 0) (failures : D → ℕ) (before mid after : ServerCore S) (old between new : D) (events : List given.Event) (done : ℕ) (d : given.Event) where
     -- a run that ends before its last event
     abbrev Ends : Cause → Type 0
     Ends cause = Runs l view honest failures before after old new events (Err (record { done = done; cause = cause }))
@@ -348,18 +348,18 @@ module _ {S Sessions Saved : Type 0} (l : Layer S Sessions Saved) where
         end_is : state_of l mid ≡ ran.lived.end
         end_is = ran.lived.state alive
 
-        at_next : (cause : Cause) (now : Serving S) → HasCause l cause ran.lived.end before now (Some d) → HasCause l cause ran.lived.end before now (slice_get events done)
+        at_next : (cause : Cause) (now : ServerCore S) → HasCause l cause ran.lived.end before now (Some d) → HasCause l cause ran.lived.end before now (slice_get events done)
         at_next cause now has = subst (HasCause l cause ran.lived.end before now) (sym next) has
 
         same : (cause : Cause) → HasCause l cause ran.lived.end before mid (Some d) → after ≡ mid → new ≡ between → Ends cause
         same cause has after_is new_is =
-            subst (λ (s : Serving S). Runs l view honest failures before s old new events (Err (record { done = done; cause = cause }))) (sym after_is)
+            subst (λ (s : ServerCore S). Runs l view honest failures before s old new events (Err (record { done = done; cause = cause }))) (sym after_is)
             (subst (λ (n : D). Runs l view honest failures before mid old n events (Err (record { done = done; cause = cause }))) (sym new_is)
             (record { ran = ran; fails = failing_all view honest failures old between so.0.entries (IsAlive mid) so.1; refused = at_next cause mid has }))
 
         refused : (cause : Cause) → refusal l.meaning (state_of l mid) (seen d) ≡ Some cause
             → IsAlive before × IsAlive mid × (refusal l.meaning ran.lived.end (seen d) ≡ Some cause)
-        refused cause is = (began, alive, subst (λ (s : State Sessions). refusal l.meaning s (seen d) ≡ Some cause) end_is is)
+        refused cause is = (began, alive, subst (λ (s : State Application). refusal l.meaning s (seen d) ≡ Some cause) end_is is)
 
         by_cause : (cause : Cause) → (cause ≡ Memory → (after.halted ≡ true) × (waiting_of l after ≡ waiting_of l mid)
             × (honest between → Survives view between new (on_its_way mid) (on_its_way after) []))
@@ -368,7 +368,7 @@ module _ {S Sessions Saved : Type 0} (l : Layer S Sessions Saved) where
             → Ends cause
         by_cause Memory memory wanting other =
             let facts = memory refl in
-            let wants = subst (λ (s : State Sessions). MayWant l.meaning s (seen d)) end_is (wanting refl) in
+            let wants = subst (λ (s : State Application). MayWant l.meaning s (seen d)) end_is (wanting refl) in
             record {
               ran = ran_halts view honest before mid after old between new events done keeps alive facts.0 facts.1 facts.2 ran;
               fails = failing_halts view honest failures old between new so.0.entries after.halted facts.0 no_fewer so.1;

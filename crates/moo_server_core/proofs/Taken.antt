@@ -9,9 +9,9 @@ use Rattle.moo_server_core.specs.Crash.{IsOneOf, Survives}
 use Rattle.moo_server_core.specs.Turns.{CountsReport, flush_takes, turns_unmarked, turns_marked}
 use Rattle.moo_server_core.specs.Courses.{is_closing}
 use Rattle.moo_server_core.specs.Seen.{Event, Open, Bytes, Hangup, Moment, Flush, is_flush}
-use Rattle.moo_server_core.specs.Sessions.{Meaning, Output, silence, then_out}
+use Rattle.moo_server_core.specs.Application.{Meaning, Output, silence, then_out}
 use Rattle.moo_server_core.specs.Meaning.{State, Entry, Acts, Reports, Marks, Steps, Passes, Takes, is_passed_over, refusal, trace_of}
-use Rattle.moo_server_core.specs.declared.serving.Open as declared
+use Rattle.moo_server_core.specs.declared.server_core.Open as declared
 use Rattle.moo_server_core.specs.Server.{Does, MarkSpells, Opens, Turns, text_of_open, turns_of}
 use Rattle.moo_server_core.proofs.Joining.{IsOneOrNone, survives_one, gains_none}
 
@@ -43,7 +43,7 @@ pub record Counted (was mid : Option declared.Open) (flush : Bool) (report : Opt
   pub not_last : report ≡ None → flush ≡ true → turns_of was ≢ 1
   pub closed : report ≢ None → turns_of mid ≡ 0
 
-module _ {Sessions Saved : Type 0} (m : Meaning Sessions Saved) where
+module _ {Application Saved : Type 0} (m : Meaning Application Saved) where
   opens_none : (mark : Option Saved) (old new : Option declared.Open) → Opens m mark old new → option_map m.text_of mark ≡ None → text_of_open new ≡ text_of_open old
   opens_none None old new opens is = ap text_of_open opens
   opens_none (Some saved) old new opens is = absurd (cc)
@@ -61,7 +61,7 @@ module _ {Sessions Saved : Type 0} (m : Meaning Sessions Saved) where
 
   module _ {D : Type 0} (view : D → DiskView) (honest : D → Type 0) (failures : D → ℕ) where
     -- an event from its parts
-    pub taken : (before reported after : State Sessions) (was mid is : Option declared.Open) (old new : D) (entry : Entry Saved)
+    pub taken : (before reported after : State Application) (was mid is : Option declared.Open) (old new : D) (entry : Entry Saved)
         → Takes m before entry after
         → Opens m entry.mark mid is → MarkSpells m entry.mark
         → (honest old → Gains (IsOneOf (text_of_open was)) (view old) (view new))
@@ -83,7 +83,7 @@ module _ {Sessions Saved : Type 0} (m : Meaning Sessions Saved) where
           (unmarked_turns entry.report (is_flush entry.event) (turns_of was) (turns_of mid) counted.one_less counted.closed);
     }
 
-    takes_steps : (before acted reported after : State Sessions) (entry : Entry Saved) (own finished started : Output)
+    takes_steps : (before acted reported after : State Application) (entry : Entry Saved) (own finished started : Output)
         → refusal m before entry.event ≡ None → is_passed_over m before entry.event ≡ false
         → Acts m entry.event before own acted → Reports m entry.event entry.report acted finished reported → Marks m entry.mark reported started after
         → entry.out ≡ then_out own (then_out finished started) → Takes m before entry after
@@ -94,7 +94,7 @@ module _ {Sessions Saved : Type 0} (m : Meaning Sessions Saved) where
     }
 
     -- a `Flush`
-    pub flushed : (before mid_state after : State Sessions) (was mid is : Option declared.Open) (old new : D) (report : Option Report) (mark : Option Saved) (finished started : Output)
+    pub flushed : (before mid_state after : State Application) (was mid is : Option declared.Open) (old new : D) (report : Option Report) (mark : Option Saved) (finished started : Output)
         → refusal m before Flush ≡ None → is_passed_over m before Flush ≡ false
         → Turns m view honest failures before mid_state was mid old new report finished
         → Marks m mark mid_state started after → Opens m mark mid is → MarkSpells m mark
@@ -108,7 +108,7 @@ module _ {Sessions Saved : Type 0} (m : Meaning Sessions Saved) where
         (record { one_less = λ none. (turns.one_less none).0; not_last = λ none flush. (turns.one_less none).1; closed = λ some. ap turns_of (turns.reported some) })
 
     -- another event
-    pub acted : (before mid_state after : State Sessions) (was mid is : Option declared.Open) (old : D) (event : Event) (mark : Option Saved) (own started : Output)
+    pub acted : (before mid_state after : State Application) (was mid is : Option declared.Open) (old : D) (event : Event) (mark : Option Saved) (own started : Output)
         → is_flush event ≡ false → refusal m before event ≡ None → is_passed_over m before event ≡ false
         → Acts m event before own mid_state → mid ≡ was
         → Marks m mark mid_state started after → Opens m mark mid is → MarkSpells m mark
@@ -125,7 +125,7 @@ module _ {Sessions Saved : Type 0} (m : Meaning Sessions Saved) where
         })
 
     -- an event that the closing server passes over
-    pub passed_over : (state : State Sessions) (was : Option declared.Open) (disk : D) (event : Event) → is_closing state.course ≡ true → is_flush event ≡ false
+    pub passed_over : (state : State Application) (was : Option declared.Open) (disk : D) (event : Event) → is_closing state.course ≡ true → is_flush event ≡ false
         → refusal m state event ≡ None
         → Does m view honest failures state state was was disk disk (record { event = event; report = None; mark = None; out = silence })
     passed_over state was disk event closing other accepted =
@@ -145,7 +145,7 @@ module _ {Sessions Saved : Type 0} (m : Meaning Sessions Saved) where
         })
 
     -- the same state, told otherwise
-    pub does_keep : (before mid after : State Sessions) (was is : Option declared.Open) (old new : D) (entry : Entry Saved) → after ≡ mid
+    pub does_keep : (before mid after : State Application) (was is : Option declared.Open) (old new : D) (entry : Entry Saved) → after ≡ mid
         → Does m view honest failures before mid was is old new entry → Does m view honest failures before after was is old new entry
     does_keep before mid after was is old new entry same does =
-        subst (λ (s : State Sessions). Does m view honest failures before s was is old new entry) (sym same) does
+        subst (λ (s : State Application). Does m view honest failures before s was is old new entry) (sym same) does

@@ -4,10 +4,10 @@ use Rattle.moo_disk.specs.Disk.{DiskView, KeepsMain}
 use Rattle.moo_dbtext_read.specs.Saved.{Saved, SpellsSavedWithin}
 use Rattle.moo_server_core.specs.Traces.{Report, Done, Trace}
 use Rattle.moo_server_core.specs.Crash.{IsOneOf, texts_of_marks, since_done, NoneDone}
-use Rattle.moo_server_core.specs.Sessions.{Layer, Output, silence, then_out}
+use Rattle.moo_server_core.specs.Application.{Layer, Output, silence, then_out}
 use Rattle.moo_server_core.specs.Meaning.{State, Entry, Begins, Run}
 use Rattle.moo_server_core.specs.declared.event.Event as given
-use Rattle.moo_server_core.specs.declared.serving.Serving.{Serving}
+use Rattle.moo_server_core.specs.declared.server_core.ServerCore.{ServerCore}
 use Rattle.moo_server_core.specs.Server.{Hands, IsAlive, Ran, state_of, traces_under, waiting_of}
 
 -- The disk of a call: one of the first type, or of another, as one that has it within and makes a call fail.
@@ -32,12 +32,12 @@ pub record HandsOn {D : Type 0} (view : D → DiskView) (honest : D → Type 0) 
 -- a call of `run`: what was handed out before it, how it found the server and the disk, and what it left
 pub record Call (S D : Type 0) : Type 0 where
   pub handed : Output
-  pub before : Serving S
+  pub before : ServerCore S
   pub old : D
   pub events : List given.Event
   pub done : ℕ
   pub entries : List (Entry Saved)
-  pub server : Serving S
+  pub server : ServerCore S
   pub disk : D
 
 -- ---- the event that a text's mark stands in, counted from 1, and 0 for the start
@@ -68,9 +68,9 @@ abbrev pub handed_in : {S D : Type 0} → List (Call S D) → Output
 handed_in [] = silence
 handed_in (call ∷ calls) = then_out call.handed (handed_in calls)
 
-module _ {S Sessions : Type 0} (l : Layer S Sessions Saved) where
+module _ {S Application : Type 0} (l : Layer S Application Saved) where
   -- A server was opened from a saved world at a moment. The disk was read, and nothing was written.
-  pub record Opened {D : Type 0} (view : D → DiskView) (honest : D → Type 0) (server : Serving S) (old new : D) (saved : Saved) (moment : ℕ) : Type 0 where
+  pub record Opened {D : Type 0} (view : D → DiskView) (honest : D → Type 0) (server : ServerCore S) (old new : D) (saved : Saved) (moment : ℕ) : Type 0 where
     pub alive : IsAlive server
     pub no_checkpoint : server.writing ≡ None
     pub begins : Begins l.meaning saved moment (waiting_of l server) (state_of l server)
@@ -93,7 +93,7 @@ module _ {S Sessions : Type 0} (l : Layer S Sessions Saved) where
 
     -- These calls lead from a server and its disk to another state of both. Between two calls output may be taken, and the disk
     -- be handed on. The entries are those of all their events.
-    abbrev pub Calls : Serving S → Lent D E → List (Call S (Lent D E)) → Serving S → Lent D E → List (Entry Saved) → Type 0
+    abbrev pub Calls : ServerCore S → Lent D E → List (Call S (Lent D E)) → ServerCore S → Lent D E → List (Entry Saved) → Type 0
     Calls before old [] after new entries = (after ≡ before) × (new ≡ old) × (entries ≡ [])
     Calls before old (call ∷ calls) after new entries =
         Hands l call.handed before call.before × HandsOn (lent_view view view') (lent_honest honest honest') old call.old
@@ -108,11 +108,11 @@ module _ {S Sessions : Type 0} (l : Layer S Sessions Saved) where
       ⊎ IsOneOf (since_done [] (traces_under l.meaning entries) ++ texts_of_marks (traces_under l.meaning later)) c
 
   -- This is the saved world after a prefix of the events that ends with a mark. It has n events at least.
-  pub record IsPrefix (start : State Sessions) (n : ℕ) (entries : List (Entry Saved)) (saved : Saved) : Type 0 where
+  pub record IsPrefix (start : State Application) (n : ℕ) (entries : List (Entry Saved)) (saved : Saved) : Type 0 where
     pub prefix : List (Entry Saved)
     pub last : Entry Saved
     pub rest : List (Entry Saved)
-    pub state : State Sessions
+    pub state : State Application
     pub all : entries ≡ (prefix ++ last ∷ []) ++ rest
     pub marked : last.mark ≡ Some saved
     pub run : Run l.meaning start (prefix ++ last ∷ []) state
@@ -121,7 +121,7 @@ module _ {S Sessions : Type 0} (l : Layer S Sessions Saved) where
 
   -- A text that spells, within the limits, the saved world after a prefix of the events that ends with a mark, and that holds every event
   -- before the last checkpoint reported done in `entries` began; or, where none was, the world read at the start.
-  pub record IsKept (start : State Sessions) (first : Saved) (entries later : List (Entry Saved)) (c : List ℕ) : Type 0 where
+  pub record IsKept (start : State Application) (first : Saved) (entries later : List (Entry Saved)) (c : List ℕ) : Type 0 where
     pub saved : Saved
     pub spelled : l.meaning.Spells c saved
     pub which : (NoneDone (traces_under l.meaning entries) × (saved ≡ first))
@@ -129,9 +129,9 @@ module _ {S Sessions : Type 0} (l : Layer S Sessions Saved) where
 
   -- Starting again over a disk: main spells, within the limits of database texts, the saved world after such a prefix, or that which was read
   -- at the start, and a server that is opened over it begins from this world.
-  pub record StartsAgain {D : Type 0} (view : D → DiskView) (honest : D → Type 0) (start : State Sessions) (first : Saved) (entries later : List (Entry Saved)) (found : D) : Type 0 where
+  pub record StartsAgain {D : Type 0} (view : D → DiskView) (honest : D → Type 0) (start : State Application) (first : Saved) (entries later : List (Entry Saved)) (found : D) : Type 0 where
     pub saved : Saved
     pub spelled : SpellsSavedWithin (view found).main_text saved
     pub which : (NoneDone (traces_under l.meaning entries) × (saved ≡ first))
         ⊎ IsPrefix start (place_done (traces_under l.meaning entries)) (entries ++ later) saved
-    pub begins : (server : Serving S) (new : D) (again : Saved) (moment : ℕ) → Opened view honest server found new again moment → again ≡ saved
+    pub begins : (server : ServerCore S) (new : D) (again : Saved) (moment : ℕ) → Opened view honest server found new again moment → again ≡ saved

@@ -1,4 +1,4 @@
-pub mod Sessions
+pub mod Application
 pub mod Lives
 pub mod Marks
 pub mod Runs

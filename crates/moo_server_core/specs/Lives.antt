@@ -4,13 +4,13 @@ use Rattle.moo_disk.specs.Disk.{DiskView, HasRisen, IsLeftBy}
 use Rattle.moo_checkpoint.specs.declared.open_fault.OpenFault.{OpenFault}
 use Rattle.moo_checkpoint.specs.declared.open_fault.OpenFault.TheVariants.{Device, Memory as no_memory}
 use Rattle.moo_dbtext_read.specs.Saved.{Saved}
-use Rattle.moo_server_core.specs.Sessions.{Layer}
+use Rattle.moo_server_core.specs.Application.{Layer}
 use Rattle.moo_server_core.specs.Crash.{IsOneOf, since_done}
 use Rattle.moo_server_core.specs.Seen.{Flush, seen}
 use Rattle.moo_server_core.specs.Meaning.{Entry}
 use Rattle.moo_server_core.specs.declared.event.Event as given
 use Rattle.moo_server_core.specs.declared.event.RunFault.{RunFault}
-use Rattle.moo_server_core.specs.declared.serving.Serving.{Serving}
+use Rattle.moo_server_core.specs.declared.server_core.ServerCore.{ServerCore}
 use Rattle.moo_server_core.specs.Server.{Follows, IsAlive, Runs, done_of, traces_under}
 use Rattle.moo_server_core.specs.Calls.{Opened}
 use Rattle.moo_server_core.specs.declared.life.Life.{Life}
@@ -31,8 +31,8 @@ pub record LifeRun (S D : Type 0) : Type 0 where
   pub stop : LifeStop
   pub result : Result ℕ RunFault
   pub entries : List (Entry Saved)
-  pub start : Serving S
-  pub end : Serving S
+  pub start : ServerCore S
+  pub end : ServerCore S
   pub old : D
   pub opened : D
   pub new : D
@@ -63,13 +63,13 @@ abbrev pub IsSound : OpenFault → Type 0
 IsSound fault = (fault ≡ Device) ⊎ (fault ≡ no_memory)
 
 -- where nothing kept it from it, it ran all its events
-abbrev pub RanAll : {S : Type 0} → Result ℕ RunFault → List given.Event → Serving S → Type 0
+abbrev pub RanAll : {S : Type 0} → Result ℕ RunFault → List given.Event → ServerCore S → Type 0
 RanAll (Ok n) events end = (n ≡ length events) × IsAlive end
 RanAll (Err fault) events end = Unit {0}
 
-module _ {S Sessions : Type 0} (l : Layer S Sessions Saved) where
+module _ {S Application : Type 0} (l : Layer S Application Saved) where
   -- a server was opened, and this is the text of the world that it began from
-  pub record IsOpen {D : Type 0} (view : D → DiskView) (honest stands : D → Type 0) (old new : D) (moment : ℕ) (server : Serving S) (text : List ℕ) : Type 0 where
+  pub record IsOpen {D : Type 0} (view : D → DiskView) (honest stands : D → Type 0) (old new : D) (moment : ℕ) (server : ServerCore S) (text : List ℕ) : Type 0 where
     pub saved : Saved
     pub opened : Opened l view honest server old new saved moment
     pub text_is : text ≡ l.meaning.text_of saved

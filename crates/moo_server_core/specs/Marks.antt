@@ -1,7 +1,7 @@
 -- From which worlds the lives of a server begin.
 use Rattle.std.specs.Prelude.{◌≡◌, ◌⊎◌, List, [], ◌∷◌}
 use Rattle.moo_dbtext_read.specs.Saved.{Saved}
-use Rattle.moo_server_core.specs.Sessions.{Layer}
+use Rattle.moo_server_core.specs.Application.{Layer}
 use Rattle.moo_server_core.specs.Crash.{NoneDone}
 use Rattle.moo_server_core.specs.Server.{state_of, traces_under}
 use Rattle.moo_server_core.specs.Calls.{IsPrefix, place_done}
@@ -14,7 +14,7 @@ abbrev pub KeptBehind : LifeStop → Type 0 → Type 0 → Type 0
 KeptBehind (Crash i) began kept = began
 KeptBehind ServerOnly began kept = kept
 
-module _ {S Sessions D : Type 0} (l : Layer S Sessions Saved) where
+module _ {S Application D : Type 0} (l : Layer S Application Saved) where
   -- none of its checkpoints was reported done
   abbrev pub ReportsNone : LifeRun S D → Type 0
   ReportsNone life = NoneDone (traces_under l.meaning life.entries)

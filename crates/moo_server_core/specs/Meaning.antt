@@ -5,16 +5,16 @@ use Rattle.std.specs.Option.{option_map}
 use Rattle.moo_server_core.specs.Traces.{Report, Done, Failed, Trace}
 use Rattle.moo_server_core.specs.Courses.{is_closing, is_closed}
 use Rattle.moo_server_core.specs.Seen.{Event, Open, Bytes, Hangup, Moment, Flush, is_flush}
-use Rattle.moo_server_core.specs.Sessions.{Happening, Opens, Receives, HangsUp, Starts, Finishes, Output, silence, then_out, Told, Meaning}
+use Rattle.moo_server_core.specs.Application.{Input, Opens, Receives, HangsUp, Starts, Finishes, Output, silence, then_out, Told, Meaning}
 use Rattle.moo_server_core.specs.declared.event.Course.{Course}
 use Rattle.moo_server_core.specs.declared.event.Course.TheVariants.{Running, Closing, Closed}
 use Rattle.moo_server_core.specs.declared.event.Cause.{Cause}
 use Rattle.moo_server_core.specs.declared.event.Cause.TheVariants.{NoSuchConnection, ConnectionInUse, ClockBack}
 use Rattle.moo_server_core.specs.declared.event.Cause.TheVariants.{Closed as closed_cause}
 
-pub record State (Sessions : Type 0) : Type 0 where
+pub record State (Application : Type 0) : Type 0 where
   -- the world, with its connections
-  pub sessions : Sessions
+  pub sessions : Application
   pub moment : ℕ
   -- a checkpoint is due at this moment
   pub due : ℕ
@@ -48,7 +48,7 @@ out_of [] = silence
 out_of (entry ∷ entries) = then_out entry.out (out_of entries)
 
 -- what came of a happening to the sessions: a request stands, and a shutdown makes the server close
-abbrev pub heard : {Sessions : Type 0} → State Sessions → Told → Sessions → State Sessions
+abbrev pub heard : {Application : Type 0} → State Application → Told → Application → State Application
 heard old told sessions = record old {
   sessions = sessions;
   asked = told.asks || (told.shuts || old.asked);
@@ -56,7 +56,7 @@ heard old told sessions = record old {
 }
 
 -- the state behind the hooks of a start
-abbrev pub begun_at : {Sessions : Type 0} → ℕ → Bool → Course → ℕ → Sessions → State Sessions
+abbrev pub begun_at : {Application : Type 0} → ℕ → Bool → Course → ℕ → Application → State Application
 begun_at moment asked course interval sessions = record {
   sessions = sessions;
   moment = moment;
@@ -66,9 +66,9 @@ begun_at moment asked course interval sessions = record {
   writing = None;
 }
 
-module _ {Sessions Saved : Type 0} (m : Meaning Sessions Saved) where
+module _ {Application Saved : Type 0} (m : Meaning Application Saved) where
   -- what keeps an event from being taken
-  abbrev pub refusal_in : Course → ℕ → Sessions → Event → Option Cause
+  abbrev pub refusal_in : Course → ℕ → Application → Event → Option Cause
   refusal_in Closed now sessions event = Some closed_cause
   refusal_in Closing now sessions event = None
   refusal_in Running now sessions (Open c) = if m.is_open sessions c then Some ConnectionInUse else None
@@ -77,22 +77,22 @@ module _ {Sessions Saved : Type 0} (m : Meaning Sessions Saved) where
   refusal_in Running now sessions (Moment moment) = if nat_lt moment now then Some ClockBack else None
   refusal_in Running now sessions Flush = None
 
-  abbrev pub refusal : State Sessions → Event → Option Cause
+  abbrev pub refusal : State Application → Event → Option Cause
   refusal state event = refusal_in state.course state.moment state.sessions event
 
   -- a connection is opened under a number that none has
-  abbrev pub FindsFree : State Sessions → Event → Type 0
+  abbrev pub FindsFree : State Application → Event → Type 0
   FindsFree state (Open c) = m.is_open state.sessions c ≡ false
   FindsFree state event = Unit {0}
 
   -- something happens to the sessions
-  abbrev pub Hears : Happening → State Sessions → Output → State Sessions → Type 0
+  abbrev pub Hears : Input → State Application → Output → State Application → Type 0
   Hears happening old out new =
-      (told : Told) × (sessions : Sessions) × m.happens happening old.moment old.sessions told sessions
+      (told : Told) × (sessions : Application) × m.happens happening old.moment old.sessions told sessions
       × (out ≡ told.out) × (new ≡ heard old told sessions)
 
   -- the event's own effect
-  abbrev pub Acts : Event → State Sessions → Output → State Sessions → Type 0
+  abbrev pub Acts : Event → State Application → Output → State Application → Type 0
   Acts (Open c) old out new = Hears (Opens c) old out new
   Acts (Bytes c piece) old out new = Hears (Receives c piece) old out new
   Acts (Hangup c) old out new = Hears (HangsUp c) old out new
@@ -101,38 +101,38 @@ module _ {Sessions Saved : Type 0} (m : Meaning Sessions Saved) where
 
   -- A report closes the open checkpoint and runs `checkpoint_finished`. Where the checkpoint began at or after the first shutdown,
   -- the server is closed.
-  abbrev pub Reports : Event → Option Report → State Sessions → Output → State Sessions → Type 0
+  abbrev pub Reports : Event → Option Report → State Application → Output → State Application → Type 0
   Reports event None old out new = (out ≡ silence) × (new ≡ old)
   Reports event (Some report) old out new =
       (event ≡ Flush) × (last : Bool) × (old.writing ≡ Some last)
-      × (mid : State Sessions) × Hears (Finishes (is_done report)) (record old { writing = None }) out mid
+      × (mid : State Application) × Hears (Finishes (is_done report)) (record old { writing = None }) out mid
       × (new ≡ record mid { course = if last then Closed else mid.course })
 
   -- a checkpoint begins
-  abbrev pub is_due : State Sessions → Bool
+  abbrev pub is_due : State Application → Bool
   is_due state = not (is_closed state.course) && is_none state.writing && (state.asked || nat_le state.due state.moment)
 
   -- bytes for a connection that is leaving
-  abbrev pub is_for_leaving : State Sessions → Event → Bool
+  abbrev pub is_for_leaving : State Application → Event → Bool
   is_for_leaving state (Bytes c piece) = m.is_leaving state.sessions c
   is_for_leaving state event = false
 
   -- such bytes, while no checkpoint is due: nothing comes of them, and they take no memory
-  abbrev pub is_idle : State Sessions → Event → Bool
+  abbrev pub is_idle : State Application → Event → Bool
   is_idle state event = is_for_leaving state event && not (is_due state)
 
   -- `checkpoint_started` runs; then the request is cleared, the due moment is set, and the world is marked as it then is.
-  abbrev pub Marks : Option Saved → State Sessions → Output → State Sessions → Type 0
+  abbrev pub Marks : Option Saved → State Application → Output → State Application → Type 0
   Marks None old out new = (is_due old ≡ false) × (out ≡ silence) × (new ≡ old)
   Marks (Some saved) old out new =
-      (is_due old ≡ true) × (mid : State Sessions) × Hears Starts old out mid
+      (is_due old ≡ true) × (mid : State Application) × Hears Starts old out mid
       × (new ≡ record mid { due = mid.moment + m.interval mid.sessions; asked = false; writing = Some (is_closing mid.course) })
       × (saved ≡ m.saved_of new.sessions)
 
   -- the event's own effect, perhaps a report, perhaps a mark
-  pub record Steps (old : State Sessions) (entry : Entry Saved) (new : State Sessions) : Type 0 where
-    pub acted : State Sessions
-    pub reported : State Sessions
+  pub record Steps (old : State Application) (entry : Entry Saved) (new : State Application) : Type 0 where
+    pub acted : State Application
+    pub reported : State Application
     pub own : Output
     pub finished : Output
     pub started : Output
@@ -142,34 +142,34 @@ module _ {Sessions Saved : Type 0} (m : Meaning Sessions Saved) where
     pub out : entry.out ≡ then_out own (then_out finished started)
 
   -- while the server closes, an event other than `Flush` changes nothing
-  abbrev pub is_passed_over : State Sessions → Event → Bool
+  abbrev pub is_passed_over : State Application → Event → Bool
   is_passed_over state event = is_closing state.course && not (is_flush event)
 
   -- nothing comes of an event
-  pub record Passes (old : State Sessions) (entry : Entry Saved) (new : State Sessions) : Type 0 where
+  pub record Passes (old : State Application) (entry : Entry Saved) (new : State Application) : Type 0 where
     pub same : new ≡ old
     pub report : entry.report ≡ None
     pub mark : entry.mark ≡ None
     pub out : entry.out ≡ silence
 
   -- an event that may want memory: it is neither refused nor passed over, and it isn't for a connection that is leaving
-  abbrev pub MayWant : State Sessions → Event → Type 0
+  abbrev pub MayWant : State Application → Event → Type 0
   MayWant state event = (refusal state event ≡ None) × (is_passed_over state event ≡ false) × (is_idle state event ≡ false)
 
   -- what one event does, where it is taken
-  pub record Takes (old : State Sessions) (entry : Entry Saved) (new : State Sessions) : Type 0 where
+  pub record Takes (old : State Application) (entry : Entry Saved) (new : State Application) : Type 0 where
     pub accepted : refusal old entry.event ≡ None
     pub takes : MatchBool (is_passed_over old entry.event) (Passes old entry new) (Steps old entry new)
 
   -- what events do, one after another
-  abbrev pub Run : State Sessions → List (Entry Saved) → State Sessions → Type 0
+  abbrev pub Run : State Application → List (Entry Saved) → State Application → Type 0
   Run old [] new = new ≡ old
-  Run old (entry ∷ entries) new = (mid : State Sessions) × Takes old entry mid × Run mid entries new
+  Run old (entry ∷ entries) new = (mid : State Application) × Takes old entry mid × Run mid entries new
 
   -- The start from a saved world at a moment: hooks run, and then the due moment is set.
-  pub record Begins (saved : Saved) (moment : ℕ) (out : Output) (state : State Sessions) : Type 0 where
+  pub record Begins (saved : Saved) (moment : ℕ) (out : Output) (state : State Application) : Type 0 where
     pub told : Told
-    pub sessions : Sessions
+    pub sessions : Application
     pub starts : m.starts saved moment told sessions
     pub out_is : out ≡ told.out
     pub state_is : state ≡ begun_at moment (told.asks || told.shuts) (if told.shuts then Closing else Running) (m.interval sessions) sessions

@@ -1,6 +1,6 @@
 -- What the start, the events and the reports make certain of a run.
 use Rattle.std.specs.Prelude.{◌≡◌, ℕ, List, map, Option}
-use Rattle.moo_server_core.specs.Sessions.{Happening, Meaning, Output, Told}
+use Rattle.moo_server_core.specs.Application.{Input, Meaning, Output, Told}
 use Rattle.moo_server_core.specs.Traces.{Report}
 use Rattle.moo_server_core.specs.Seen.{Event}
 use Rattle.moo_server_core.specs.Meaning.{Begins, Entry, Run, State}
@@ -15,19 +15,19 @@ given_of entry = record { event = entry.event; report = entry.report }
 
 -- Whatever a happening or a start comes to under the first meaning, it comes to nothing else under the second. Both have the same
 -- interval and the same saved world of a state.
-pub record HaveOneResult {Sessions Saved : Type 0} (m n : Meaning Sessions Saved) : Type 0 where
-  pub happenings : (happening : Happening) (moment : ℕ) (old : Sessions) (told told' : Told) (new new' : Sessions)
+pub record HaveOneResult {Application Saved : Type 0} (m n : Meaning Application Saved) : Type 0 where
+  pub happenings : (happening : Input) (moment : ℕ) (old : Application) (told told' : Told) (new new' : Application)
       → m.happens happening moment old told new → n.happens happening moment old told' new' → (told ≡ told') × (new ≡ new')
-  pub starts : (saved : Saved) (moment : ℕ) (told told' : Told) (new new' : Sessions)
+  pub starts : (saved : Saved) (moment : ℕ) (told told' : Told) (new new' : Application)
       → m.starts saved moment told new → n.starts saved moment told' new' → (told ≡ told') × (new ≡ new')
-  pub interval : (s : Sessions) → m.interval s ≡ n.interval s
-  pub saved : (s : Sessions) → m.saved_of s ≡ n.saved_of s
+  pub interval : (s : Application) → m.interval s ≡ n.interval s
+  pub saved : (s : Application) → m.saved_of s ≡ n.saved_of s
 
 -- Of a start from one saved world at one moment, and of the same events with the same reports behind it, one thing comes: the same
 -- goes out, the same worlds are marked, and the state is the same.
-abbrev pub OneRun : {Sessions Saved : Type 0} → Meaning Sessions Saved → Meaning Sessions Saved → Type 0
-OneRun {Sessions} {Saved} m n =
-    (saved : Saved) (moment : ℕ) (out out' : Output) (start start' end end' : State Sessions) (entries entries' : List (Entry Saved))
+abbrev pub OneRun : {Application Saved : Type 0} → Meaning Application Saved → Meaning Application Saved → Type 0
+OneRun {Application} {Saved} m n =
+    (saved : Saved) (moment : ℕ) (out out' : Output) (start start' end end' : State Application) (entries entries' : List (Entry Saved))
     → Begins m saved moment out start → Begins n saved moment out' start'
     → Run m start entries end → Run n start' entries' end' → map given_of entries ≡ map given_of entries'
     → (out ≡ out') × (start ≡ start') × (entries ≡ entries') × (end ≡ end')

@@ -7,17 +7,17 @@ use Rattle.moo_server_core.specs.Traces.{Report, Done, Failed, Trace}
 use Rattle.moo_server_core.specs.Crash.{IsOneOf, Survives}
 use Rattle.moo_server_core.specs.Turns.{CountsReport, Fails, IsInTime, turns_after, turns_left_after, turns_for}
 use Rattle.moo_server_core.specs.Seen.{Event, Flush, seen}
-use Rattle.moo_server_core.specs.Sessions.{Layer, Meaning, Output, silence, then_out}
+use Rattle.moo_server_core.specs.Application.{Layer, Meaning, Output, silence, then_out}
 use Rattle.moo_server_core.specs.Meaning.{State, Entry, Reports, Marks, Takes, Run, MayWant, refusal, out_of, trace_of, traces_of}
 use Rattle.moo_server_core.specs.declared.event.Event as given
 use Rattle.moo_server_core.specs.declared.event.Cause.{Cause}
 use Rattle.moo_server_core.specs.declared.event.Cause.TheVariants.{Memory, Halted as halted_cause}
 use Rattle.moo_server_core.specs.declared.event.RunFault.{RunFault}
-use Rattle.moo_server_core.specs.declared.serving.Open.{Open}
-use Rattle.moo_server_core.specs.declared.serving.Serving.{Serving}
+use Rattle.moo_server_core.specs.declared.server_core.Open.{Open}
+use Rattle.moo_server_core.specs.declared.server_core.ServerCore.{ServerCore}
 
 -- it isn't halted
-abbrev pub IsAlive : {S : Type 0} → Serving S → Type 0
+abbrev pub IsAlive : {S : Type 0} → ServerCore S → Type 0
 IsAlive server = server.halted ≡ false
 
 abbrev pub is_last_of : Option Open → Option Bool
@@ -34,7 +34,7 @@ turns_of None = 0
 turns_of (Some o) = turns_left o.checkpoint
 
 -- the text that is on its way to the disk, if there is one
-abbrev pub on_its_way : {S : Type 0} → Serving S → List (List ℕ)
+abbrev pub on_its_way : {S : Type 0} → ServerCore S → List (List ℕ)
 on_its_way server = text_of_open server.writing
 
 abbrev pub OpenFollows : {D : Type 0} → (D → DiskView) → (D → Type 0) → (D → Type 0) → Option Open → D → Type 0
@@ -60,7 +60,7 @@ sent_alone c bytes = record { sent = λ k. if eqb k c then bytes else []; logged
 abbrev pub logged_alone : List (List ℕ) → Output
 logged_alone lines = record { sent = λ k. []; logged = lines }
 
-module _ {Sessions Saved : Type 0} (m : Meaning Sessions Saved) where
+module _ {Application Saved : Type 0} (m : Meaning Application Saved) where
   -- what the disk sees of entries
   abbrev pub traces_under : List (Entry Saved) → List Trace
   traces_under entries = traces_of m.text_of entries
@@ -82,7 +82,7 @@ module _ {Sessions Saved : Type 0} (m : Meaning Sessions Saved) where
   MarksSpell (entry ∷ entries) = MarkSpells entry.mark × MarksSpell entries
 
   -- What a turn of the open checkpoint does, where its report is this.
-  pub record Turns {D : Type 0} (view : D → DiskView) (honest : D → Type 0) (failures : D → ℕ) (before after : State Sessions) (was is : Option Open) (old new : D) (report : Option Report) (out : Output) : Type 0 where
+  pub record Turns {D : Type 0} (view : D → DiskView) (honest : D → Type 0) (failures : D → ℕ) (before after : State Application) (was is : Option Open) (old new : D) (report : Option Report) (out : Output) : Type 0 where
     pub reports : Reports m Flush report before out after
     pub unreported : report ≡ None → text_of_open is ≡ text_of_open was
     pub one_less : report ≡ None → (turns_of is ≡ turns_of was - 1) × (turns_of was ≢ 1)
@@ -91,7 +91,7 @@ module _ {Sessions Saved : Type 0} (m : Meaning Sessions Saved) where
     pub counts : CountsReport report (failures old) (failures new)
 
   -- What one event does to the state, the open checkpoint and the disk. It is taken as this entry.
-  pub record Does {D : Type 0} (view : D → DiskView) (honest : D → Type 0) (failures : D → ℕ) (before after : State Sessions) (was is : Option Open) (old new : D) (entry : Entry Saved) : Type 0 where
+  pub record Does {D : Type 0} (view : D → DiskView) (honest : D → Type 0) (failures : D → ℕ) (before after : State Application) (was is : Option Open) (old new : D) (entry : Entry Saved) : Type 0 where
     pub takes : Takes m before entry after
     pub spelled : MarkSpells entry.mark
     pub survives : honest old → Survives view old new (text_of_open was) (text_of_open is) (trace_of m.text_of entry ∷ [])
@@ -101,8 +101,8 @@ module _ {Sessions Saved : Type 0} (m : Meaning Sessions Saved) where
     pub in_time : IsInTime (turns_of was) (trace_of m.text_of entry ∷ [])
     pub turns : turns_of is ≡ turns_after (turns_of was) (trace_of m.text_of entry)
 
-module _ {S Sessions Saved : Type 0} (l : Layer S Sessions Saved) where
-  abbrev pub state_of : Serving S → State Sessions
+module _ {S Application Saved : Type 0} (l : Layer S Application Saved) where
+  abbrev pub state_of : ServerCore S → State Application
   state_of server = record {
     sessions = l.state server.sessions;
     moment = server.moment;
@@ -113,21 +113,21 @@ module _ {S Sessions Saved : Type 0} (l : Layer S Sessions Saved) where
   }
 
   -- what was sent and wasn't taken yet
-  abbrev pub waiting_of : Serving S → Output
+  abbrev pub waiting_of : ServerCore S → Output
   waiting_of server = l.waiting server.sessions
 
   -- what goes out of the event that is being taken
-  abbrev pub under_way_of : Serving S → Output
+  abbrev pub under_way_of : ServerCore S → Output
   under_way_of server = l.under_way server.sessions
 
   -- No event is being taken, and the disk is as the last call left it, perhaps with a wrapper put round it since.
-  pub record Follows {D : Type 0} (view : D → DiskView) (honest : D → Type 0) (stands : D → Type 0) (server : Serving S) (disk : D) : Type 0 where
+  pub record Follows {D : Type 0} (view : D → DiskView) (honest : D → Type 0) (stands : D → Type 0) (server : ServerCore S) (disk : D) : Type 0 where
     pub still : under_way_of server ≡ silence
     pub continues : OpenFollows view honest stands server.writing disk
 
   -- Events were taken, one after another, however many calls they came in: what they did, and what a crash may leave.
-  pub record Lived {D : Type 0} (view : D → DiskView) (honest : D → Type 0) (before after : Serving S) (old new : D) (entries : List (Entry Saved)) : Type 0 where
-    pub end : State Sessions
+  pub record Lived {D : Type 0} (view : D → DiskView) (honest : D → Type 0) (before after : ServerCore S) (old new : D) (entries : List (Entry Saved)) : Type 0 where
+    pub end : State Application
     pub run : Run l.meaning (state_of before) entries end
     pub state : IsAlive after → state_of after ≡ end
     -- each mark's text spells the world that is marked
@@ -141,7 +141,7 @@ module _ {S Sessions Saved : Type 0} (l : Layer S Sessions Saved) where
     pub rests : before.halted ≡ true → (entries ≡ []) × (after.halted ≡ true)
 
   -- A run took the first `done` events.
-  pub record Ran {D : Type 0} (view : D → DiskView) (honest : D → Type 0) (before after : Serving S) (old new : D) (events : List given.Event) (done : ℕ) : Type 0 where
+  pub record Ran {D : Type 0} (view : D → DiskView) (honest : D → Type 0) (before after : ServerCore S) (old new : D) (events : List given.Event) (done : ℕ) : Type 0 where
     -- the events that were taken, their reports and marks, and what went out
     pub entries : List (Entry Saved)
     pub events_are : map (λ entry. entry.event) entries ≡ map seen (take done events)
@@ -153,30 +153,30 @@ module _ {S Sessions Saved : Type 0} (l : Layer S Sessions Saved) where
         → (c : List ℕ) → (view new).may_leave c → IsOneOf (on_its_way before) c
 
   -- nothing but what waits is another
-  pub record Same (one other : Serving S) : Type 0 where
+  pub record Same (one other : ServerCore S) : Type 0 where
     pub state : state_of other ≡ state_of one
     pub writing : other.writing ≡ one.writing
     pub halted : other.halted ≡ one.halted
     pub under_way : under_way_of one ≡ silence → under_way_of other ≡ silence
 
   -- So much of what waits was handed out, and nothing else happened.
-  pub record Hands (handed : Output) (one other : Serving S) : Type 0 where
+  pub record Hands (handed : Output) (one other : ServerCore S) : Type 0 where
     pub same : Same one other
     pub waiting : waiting_of one ≡ then_out handed (waiting_of other)
 
   -- The cause of a refusal, in the state behind the events that were taken, at the event that comes next.
-  abbrev pub HasCause : Cause → State Sessions → Serving S → Serving S → Option given.Event → Type 0
+  abbrev pub HasCause : Cause → State Application → ServerCore S → ServerCore S → Option given.Event → Type 0
   HasCause halted_cause end before after event = before.halted ≡ true
   HasCause cause end before after None = ⊥
   HasCause Memory end before after (Some event) =
       IsAlive before × (after.halted ≡ true) × MayWant l.meaning end (seen event)
   HasCause cause end before after (Some event) = IsAlive before × IsAlive after × (refusal l.meaning end (seen event) ≡ Some cause)
 
-  abbrev pub Refuses : State Sessions → Serving S → Serving S → List given.Event → RunFault → Type 0
+  abbrev pub Refuses : State Application → ServerCore S → ServerCore S → List given.Event → RunFault → Type 0
   Refuses end before after events fault = HasCause fault.cause end before after (slice_get events fault.done)
 
   -- A run answers this: it took so many events, the device failed in the turns whose reports are failed, and this is why it ended.
-  pub record Runs {D : Type 0} (view : D → DiskView) (honest : D → Type 0) (failures : D → ℕ) (before after : Serving S) (old new : D) (events : List given.Event) (result : Result ℕ RunFault) : Type 0 where
+  pub record Runs {D : Type 0} (view : D → DiskView) (honest : D → Type 0) (failures : D → ℕ) (before after : ServerCore S) (old new : D) (events : List given.Event) (result : Result ℕ RunFault) : Type 0 where
     pub ran : Ran view honest before after old new events (done_of result)
     pub fails : Failing (failures old) (traces_under l.meaning ran.entries) (failures new) (IsAlive after)
     pub refused : IfErr result (λ fault. Refuses ran.lived.end before after events fault)

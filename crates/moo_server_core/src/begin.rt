@@ -5,18 +5,18 @@ ghost use Rattle.moo_dbtext_read.specs.Saved.{Saved};
 ghost use Rattle.moo_checkpoint.specs.Recovering.{CountsDevice};
 ghost use Rattle.moo_server_core.specs.Lives.{IsOpen, IsSound};
 
-use crate::{Serving, Starts};
+use crate::{ServerCore, StartApplication};
 use moo_checkpoint::{OpenFault, recover};
 use moo_dbtext::write_db;
 use moo_disk::Disk;
 use std::alloc::Global;
 
 /// A server that starts from what a disk's main text spells, and the canonical text of that world. Nothing is written.
-pub(crate) fn open<S: Starts, D: Disk>(
+pub(crate) fn open<S: StartApplication, D: Disk>(
     alloc: Global,
     disk: &mut D,
     moment: u32,
-) -> Result<(Serving<S>, Vec<u8>), OpenFault>
+) -> Result<(ServerCore<S>, Vec<u8>), OpenFault>
     ensures opened { IfOk result (λ given. IsOpen S.layer D.view D.honest D.stands disk.old disk.new moment given.0 given.1.items) }
     ensures accepted { D.honest disk.old → (s : Saved) → S.layer.meaning.Spells (D.view disk.old).main_text s → IfErr result IsSound }
     ensures device { CountsDevice (D.honest disk.old) (D.failures disk.old) (D.failures disk.new) result }
@@ -25,6 +25,6 @@ pub(crate) fn open<S: Starts, D: Disk>(
 {
     let saved = recover(alloc, disk)?;
     let text = write_db(alloc, &saved)?;
-    let server = Serving::<S>::start(alloc, saved, moment)?;
+    let server = ServerCore::<S>::start(alloc, saved, moment)?;
     Ok((server, text))
 }

@@ -2,6 +2,7 @@
 //! A room behind `moo_server`.
 #![tactic(auto)]
 
+mod application;
 mod begin;
 mod event;
 pub mod laws;
@@ -9,14 +10,13 @@ mod life;
 mod life_laws;
 mod lives;
 mod opening;
-mod serving;
-mod sessions;
-mod starts;
+mod server_core;
+mod start_application;
 mod taking;
 
+pub use application::{Application, Input, Requests};
 pub use event::{Cause, Event, Phase, RunFault};
 pub use life::{Life, LifeBegin, LifeStop, LivesCause, LivesFault};
 pub use lives::run_lives;
-pub use serving::Serving;
-pub use sessions::{Asked, Happening, Sessions};
-pub use starts::Starts;
+pub use server_core::ServerCore;
+pub use start_application::StartApplication;

@@ -6,12 +6,12 @@ ghost use Rattle.moo_server_core.specs.Lives.{EndsAt, EndsBefore, HasLived, HasN
 
 use crate::begin::open;
 use crate::life::done_in;
-use crate::{Life, LifeBegin, LifeStop, LivesCause, LivesFault, Starts};
+use crate::{Life, LifeBegin, LifeStop, LivesCause, LivesFault, StartApplication};
 use moo_disk::{CrashDisk, Disk};
 use std::alloc::Global;
 
 /// One life, up to its end.
-fn live<S: Starts, D: Disk>(
+fn live<S: StartApplication, D: Disk>(
     alloc: Global,
     disk: &mut D,
     life: &Life,
@@ -30,7 +30,7 @@ fn live<S: Starts, D: Disk>(
 }
 
 /// One life with its end: the disk that is left, and what is told.
-fn live_and_stop<S: Starts, D: CrashDisk + Drop>(
+fn live_and_stop<S: StartApplication, D: CrashDisk + Drop>(
     alloc: Global,
     disk: D,
     life: &Life,
@@ -66,7 +66,7 @@ fn stop<D: CrashDisk + Drop>(
 /// Lives one after another, each over what the last one left.
 ///
 /// Where one can't begin or end, nothing is told of those before it.
-pub fn run_lives<S: Starts, D: CrashDisk + Drop>(
+pub fn run_lives<S: StartApplication, D: CrashDisk + Drop>(
     alloc: Global,
     disk: D,
     lives: &[Life],

@@ -5,23 +5,27 @@ ghost use Rattle.moo_dbtext_record.specs.declared.fault.DbFaultKind.TheVariants 
 ghost use Rattle.moo_disk.specs.Disk.{KeepsMain, KeepsSpare};
 ghost use Rattle.moo_dbtext_read.specs.Saved as saving;
 ghost use Rattle.moo_dbtext_read.specs.Saved.{saved_of, SpellsSaved, SpellsSavedWithin};
-ghost use Rattle.moo_server_core.specs.Sessions.{silence};
+ghost use Rattle.moo_server_core.specs.Application.{silence};
 ghost use Rattle.moo_server_core.specs.Meaning.{Begins};
 ghost use Rattle.moo_dbtext_read.specs.Refusals.{Refuses as RefusesText};
 ghost use Rattle.moo_checkpoint.specs.Recovering.{CountsDevice};
 ghost use Rattle.moo_server_core.specs.Calls.{Opened};
 
-use crate::{Serving, Starts};
+use crate::{ServerCore, StartApplication};
 use moo_checkpoint::{OpenFault, recover};
 use moo_dbtext_read::Saved;
 use moo_disk::Disk;
 use std::alloc::{AllocError, Global};
 
-impl<S: Starts> Serving<S> {
+impl<S: StartApplication> ServerCore<S> {
     ghost use Rattle.moo_server_core.specs.Server.{Follows, IsAlive, state_of, under_way_of, waiting_of};
 
     /// A server that starts from what a disk's main text spells. Nothing is written.
-    pub fn open<D: Disk>(alloc: Global, disk: &mut D, moment: u32) -> Result<Serving<S>, OpenFault>
+    pub fn open<D: Disk>(
+        alloc: Global,
+        disk: &mut D,
+        moment: u32,
+    ) -> Result<ServerCore<S>, OpenFault>
         // It begins from a saved world that main spells: from the one that it spells within the limits, where it does.
         ensures opened { IfOk result (λ server. (s : saving.Saved) × (D.honest disk.old → SpellsSaved (D.view disk.old).main_text s)
             × Opened S.layer D.view D.honest server disk.old disk.new s moment) }
@@ -41,18 +45,18 @@ impl<S: Starts> Serving<S> {
         ensures honest { D.honest disk.old ↔ D.honest disk.new }
     {
         let saved = recover(alloc, disk)?;
-        let server = Serving::<S>::start(alloc, saved, moment)?;
+        let server = ServerCore::<S>::start(alloc, saved, moment)?;
         Ok(server)
     }
 
     /// A server that starts from a saved world, with the hooks of the start.
-    pub fn start(alloc: Global, saved: Saved, moment: u32) -> Result<Serving<S>, AllocError>
+    pub fn start(alloc: Global, saved: Saved, moment: u32) -> Result<ServerCore<S>, AllocError>
         ensures begins { IfOk result (λ server. Begins S.layer.meaning (saved_of saved) moment (waiting_of S.layer server) (state_of S.layer server)) }
         ensures alive { IfOk result (λ server. IsAlive server) }
         ensures no_checkpoint { IfOk result (λ server. server.writing ≡ None) }
         ensures still { IfOk result (λ server. under_way_of S.layer server ≡ silence) }
     {
         let (sessions, asked) = S::start(alloc, saved, moment)?;
-        Ok(Serving::over(sessions, asked, moment))
+        Ok(ServerCore::over(sessions, asked, moment))
     }
 }

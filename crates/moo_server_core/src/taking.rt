@@ -2,23 +2,23 @@
 ghost use Rattle.std.specs.Prelude.{ℕ, ◌≡◌, ◌≢◌, ◌↔◌, ◌≤◌, ◌||◌, None, false, true, OnOk, IfErr, Err, IsOk, Some, [], if◌then◌else◌};
 ghost use Rattle.moo_disk.specs.Disk.{Gains};
 ghost use Rattle.moo_dbtext_read.specs.Saved.{Saved};
-ghost use Rattle.moo_server_core.specs.Sessions.{Finishes, IsApt, Output, is_dropped, seen_happening, then_out};
+ghost use Rattle.moo_server_core.specs.Application.{Finishes, IsApt, Output, is_dropped, seen_happening, then_out};
 ghost use Rattle.moo_server_core.specs.Crash.{IsOneOf, Survives};
 ghost use Rattle.moo_server_core.specs.Seen.{Flush, seen};
 ghost use Rattle.moo_server_core.specs.Meaning.{State, Acts, Entry, FindsFree, Hears, Marks, is_due, MayWant, is_for_leaving, is_passed_over, refusal, refusal_in};
 
 use crate::event::Course;
-use crate::serving::Open;
-use crate::{Asked, Cause, Event, Happening, Serving, Sessions};
+use crate::server_core::Open;
+use crate::{Application, Cause, Event, Input, Requests, ServerCore};
 use moo_checkpoint::{Checkpoint, Turn};
 use moo_disk::Disk;
 use std::alloc::AllocError;
 
-impl<S: Sessions> Serving<S> {
+impl<S: Application> ServerCore<S> {
     ghost use Rattle.moo_server_core.specs.Server.{IsAlive, Does, Follows, OpenFollows, Opens, MarkSpells, Turns, on_its_way, state_of, under_way_of, waiting_of};
 
     // Something happens to the sessions.
-    fn happen(&mut self, happening: Happening) -> Result<(), AllocError>
+    fn apply(&mut self, happening: Input) -> Result<(), AllocError>
         requires { IsApt S.layer.meaning (S.layer.state self.old.sessions) (seen_happening happening) }
         ensures hears { OnOk result ((out : Output)
             × Hears S.layer.meaning (seen_happening happening.entry) (state_of S.layer self.old) out (state_of S.layer self.new)
@@ -29,13 +29,13 @@ impl<S: Sessions> Serving<S> {
         ensures dropped { is_dropped S.layer.meaning (S.layer.state self.old.sessions) (seen_happening happening.entry) ≡ true
             → IsOk result × (is_due S.layer.meaning (state_of S.layer self.new) ≡ is_due S.layer.meaning (state_of S.layer self.old)) }
     {
-        let asked = self.sessions.happen(self.moment, happening)?;
-        self.hear(asked);
+        let asked = self.sessions.apply(self.moment, happening)?;
+        self.note_requests(asked);
         Ok(())
     }
 
     // A request stands until a checkpoint begins, and a shutdown makes the server close.
-    fn hear(&mut self, asked: Asked)
+    fn note_requests(&mut self, asked: Requests)
         ensures asked { self.new.asked ≡ (asked.checkpoint || (asked.shutdown || self.old.asked)) }
         ensures course { self.new.course ≡ (if asked.shutdown then Course.Closing else self.old.course) }
         ensures sessions { self.new.sessions ≡ self.old.sessions }
@@ -65,9 +65,9 @@ impl<S: Sessions> Serving<S> {
             → IsOk result × (is_due S.layer.meaning (state_of S.layer self.new) ≡ is_due S.layer.meaning (state_of S.layer self.old)) }
     {
         match event {
-            Event::Open(c) => self.happen(Happening::Opens(*c)),
-            Event::Bytes(c, piece) => self.happen(Happening::Receives(*c, piece)),
-            Event::Hangup(c) => self.happen(Happening::HangsUp(*c)),
+            Event::Open(c) => self.apply(Input::Opens(*c)),
+            Event::Bytes(c, piece) => self.apply(Input::Receives(*c, piece)),
+            Event::Hangup(c) => self.apply(Input::HangsUp(*c)),
             Event::Moment(moment) => {
                 self.moment = *moment;
                 Ok(())
@@ -86,7 +86,7 @@ impl<S: Sessions> Serving<S> {
     }
 
     // Begins a checkpoint where one is due.
-    fn settle(&mut self) -> Result<(), AllocError>
+    fn begin_due_checkpoint(&mut self) -> Result<(), AllocError>
         ensures marks { OnOk result ((mark : _) × (out : Output)
             × Marks S.layer.meaning mark (state_of S.layer self.old) out (state_of S.layer self.new)
             × Opens S.layer.meaning mark self.old.writing self.new.writing × MarkSpells S.layer.meaning mark
@@ -98,7 +98,7 @@ impl<S: Sessions> Serving<S> {
         if !self.is_due() {
             return Ok(());
         }
-        self.happen(Happening::Starts)?;
+        self.apply(Input::Starts)?;
         self.asked = false;
         self.due = u64::from(self.moment) + u64::from(self.sessions.interval());
         let text = self.sessions.text()?;
@@ -119,7 +119,7 @@ impl<S: Sessions> Serving<S> {
         ensures writing { self.new.writing ≡ self.old.writing }
         ensures halted { self.new.halted ≡ self.old.halted }
     {
-        self.happen(Happening::Finishes(done))?;
+        self.apply(Input::Finishes(done))?;
         if is_last {
             self.course = Course::Closed;
         }
@@ -215,10 +215,10 @@ impl<S: Sessions> Serving<S> {
     {
         if event.is_flush() {
             self.flush(disk)?;
-            return self.settle();
+            return self.begin_due_checkpoint();
         }
         self.act(event)?;
-        self.settle()
+        self.begin_due_checkpoint()
     }
 
     // One event. A want of memory halts the server; another refusal changes nothing.

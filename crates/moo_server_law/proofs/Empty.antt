@@ -9,7 +9,7 @@ use Rattle.moo_eval_frame.specs.declared.notice.Notice.TheVariants as notice
 use Rattle.moo_session_connection.specs.declared.client.Client.{Client}
 use Rattle.moo_session_connection.specs.Changes.{all_left}
 use Rattle.moo_session_connection.specs.Connections.{client_known_as, no_connections}
-use Rattle.moo_session_task.specs.declared.live.Live.{Live}
+use Rattle.moo_session_task.specs.declared.world_state.WorldState.{WorldState}
 use Rattle.moo_session_task.specs.Leaving.{disconnected, disconnected_from}
 use Rattle.moo_session_task.specs.Notices.{all_met, met}
 use Rattle.moo_session_task.specs.Sending.{all_told, sent_to, told}
@@ -49,14 +49,14 @@ all_told_empty : (who : ℤ) (lines : List (List ℕ)) (s : Session) → IsEmpty
 all_told_empty who [] s e = e
 all_told_empty who (line ∷ lines) s e = all_told_empty who lines (told who line s) (sent_empty (client_known_as who s.connections) line s e)
 
-call_empty : (T : Telling) (moment : ℕ) (name : List ℕ) (player : ℤ) (args : List Tree) (argstr : List ℕ) {s s' : Live} {v : Option Tree}
+call_empty : (T : Telling) (moment : ℕ) (name : List ℕ) (player : ℤ) (args : List Tree) (argstr : List ℕ) {s s' : WorldState} {v : Option Tree}
     → CallsServerVerb T moment name player args argstr s v s' → IsEmpty s.session → IsEmpty s'.session
 call_empty T moment name player args argstr (is_missing missing) e = e
 call_empty T moment name player args argstr {s = s} (runs found task) e =
-    subst (λ (l : Live). IsEmpty l.session) task.leaves
+    subst (λ (l : WorldState). IsEmpty l.session) task.leaves
     (all_told_empty _ (account_of task.end) (all_met task.notices s.session) (all_met_empty task.notices s.session e))
 
-hooks_empty : (T : Telling) (moment : ℕ) {s s' : Live} → HooksRun T moment s s' → IsEmpty s.session → IsEmpty s'.session
+hooks_empty : (T : Telling) (moment : ℕ) {s s' : WorldState} → HooksRun T moment s s' → IsEmpty s.session → IsEmpty s'.session
 hooks_empty T moment (none_waits none) e = e
 hooks_empty T moment (first_runs first call rest) e = hooks_empty T moment rest (call_empty T moment _ _ _ _ call e)
 
@@ -65,7 +65,7 @@ parted_empty [] s e = e
 parted_empty (player ∷ players) s e = parted_empty players _ e
 
 -- a start opens no connection
-pub started_empty : (T : Telling) (moment : ℕ) (players : List ℤ) (w : World) (end : Live) → Starts T moment players w end → IsEmpty end.session
+pub started_empty : (T : Telling) (moment : ℕ) (players : List ℤ) (w : World) (end : WorldState) → Starts T moment players w end → IsEmpty end.session
 started_empty T moment players w end starts =
     let own = starts.starts in
     let parted = hooks_empty T moment starts.hooks (parted_empty players no_session refl) in

@@ -10,7 +10,7 @@ use Rattle.moo_session_line.proofs.Cutting.{one_reading}
 use Rattle.moo_session_connection.specs.declared.client.Client.{Client}
 use Rattle.moo_session_connection.specs.Connections.{Connections}
 use Rattle.moo_session_connection.specs.Changes.{joined, with_changed, with_heard, HasHeard}
-use Rattle.moo_session_task.specs.declared.live.Live.{Live}
+use Rattle.moo_session_task.specs.declared.world_state.WorldState.{WorldState}
 use Rattle.moo_session_task.specs.Session.{in_connections}
 use Rattle.moo_session_task.specs.State.{in_session}
 use Rattle.moo_session_task.specs.Frames.{nobody}
@@ -36,12 +36,12 @@ one_hearing_of n moment piece s after instead lines others h k =
       leaves = sym h.leaves ∙ ap (λ (r : Rest). with_changed n (with_heard moment r) s) reads.1 ∙ k.leaves;
     }
 
-one_opening : (T U : Telling) → Agree T U → (moment n : ℕ) (s s' t : Live) → Opens T moment n s s' → Opens U moment n s t → s' ≡ t
+one_opening : (T U : Telling) → Agree T U → (moment n : ℕ) (s s' t : WorldState) → Opens T moment n s s' → Opens U moment n s t → s' ≡ t
 one_opening T U agree moment n s s' t r q =
     let same : q.greeted ≡ r.greeted = sym (one_login T U agree.tasks moment n [] [] (in_session (in_connections (joined n moment)) s) r.greeted q.greeted r.logs_in q.logs_in) in
-    one_run_of_hooks T U agree.tasks moment r.hooks (subst (λ (x : Live). HooksRun U moment x t) same q.hooks)
+    one_run_of_hooks T U agree.tasks moment r.hooks (subst (λ (x : WorldState). HooksRun U moment x t) same q.hooks)
 
-one_hearing : (T U : Telling) → Agree T U → (moment n : ℕ) (piece : List ℕ) (s s' t : Live) → Hears T moment n piece s s' → Hears U moment n piece s t → s' ≡ t
+one_hearing : (T U : Telling) → Agree T U → (moment n : ℕ) (piece : List ℕ) (s s' t : WorldState) → Hears T moment n piece s s' → Hears U moment n piece s t → s' ≡ t
 one_hearing T U agree moment n piece s s' t (dropped e) (dropped f) = refl
 one_hearing T U agree moment n piece s s' t (dropped e) (heard h d) = let f = h.is_here in cc
 one_hearing T U agree moment n piece s s' t (heard h d) (dropped f) = let e = h.is_here in cc
@@ -51,15 +51,15 @@ one_hearing T U agree moment n piece s s' t (heard {lines = lines} {after = afte
     let moved : MeetsLines U moment n lines (with_connections after s) t = subst (λ (c : Connections). MeetsLines U moment n lines (with_connections c s) t) (sym same.leaves) first in
     one_result_of_lines T U agree moment n d moved
 
-one_own_hook : (T U : Telling) → Agree T U → (moment : ℕ) (name : List ℕ) (args : List Tree) (s s' t : Live) → CallsOwnHook T moment name args s s' → CallsOwnHook U moment name args s t → s' ≡ t
+one_own_hook : (T U : Telling) → Agree T U → (moment : ℕ) (name : List ℕ) (args : List Tree) (s s' t : WorldState) → CallsOwnHook T moment name args s s' → CallsOwnHook U moment name args s t → s' ≡ t
 one_own_hook T U agree moment name args s s' t r q =
     let same = one_call T U agree.tasks moment name nobody args [] s r.called q.called r.answer q.answer r.calls q.calls in
-    one_run_of_hooks T U agree.tasks moment r.hooks (subst (λ (x : Live). HooksRun U moment x t) (sym same.live) q.hooks)
+    one_run_of_hooks T U agree.tasks moment r.hooks (subst (λ (x : WorldState). HooksRun U moment x t) (sym same.live) q.hooks)
 
-one_start : (T U : Telling) → Agree T U → (moment : ℕ) (players : List ℤ) (w : World) (s' t : Live) → Starts T moment players w s' → Starts U moment players w t → s' ≡ t
+one_start : (T U : Telling) → Agree T U → (moment : ℕ) (players : List ℤ) (w : World) (s' t : WorldState) → Starts T moment players w s' → Starts U moment players w t → s' ≡ t
 one_start T U agree moment players w s' t r q =
     let same : q.parted ≡ r.parted = sym (one_run_of_hooks T U agree.tasks moment r.hooks q.hooks) in
-    one_own_hook T U agree moment (codes "server_started") [] r.parted s' t r.starts (subst (λ (x : Live). CallsOwnHook U moment (codes "server_started") [] x t) same q.starts)
+    one_own_hook T U agree moment (codes "server_started") [] r.parted s' t r.starts (subst (λ (x : WorldState). CallsOwnHook U moment (codes "server_started") [] x t) same q.starts)
 
 pub one_result : (T U : Telling) → Agree T U → HaveOneResult T U
 one_result T U agree = record {
@@ -71,7 +71,7 @@ one_result T U agree = record {
   starts = one_start T U agree;
 }
 
-own_hook_within : (T U : Telling) → Within T U → (moment : ℕ) (name : List ℕ) (args : List Tree) (s s' : Live) → CallsOwnHook T moment name args s s' → CallsOwnHook U moment name args s s'
+own_hook_within : (T U : Telling) → Within T U → (moment : ℕ) (name : List ℕ) (args : List Tree) (s s' : WorldState) → CallsOwnHook T moment name args s s' → CallsOwnHook U moment name args s s'
 own_hook_within T U within moment name args s s' r = record {
   answer = r.answer;
   called = r.called;
@@ -79,7 +79,7 @@ own_hook_within T U within moment name args s s' r = record {
   hooks = hooks_within T U within.tasks moment r.hooks;
 }
 
-hearing_within : (T U : Telling) → Within T U → (moment n : ℕ) (piece : List ℕ) (s s' : Live) → Hears T moment n piece s s' → Hears U moment n piece s s'
+hearing_within : (T U : Telling) → Within T U → (moment n : ℕ) (piece : List ℕ) (s s' : WorldState) → Hears T moment n piece s s' → Hears U moment n piece s s'
 hearing_within T U within moment n piece s s' (dropped e) = dropped e
 hearing_within T U within moment n piece s s' (heard h d) = heard h (lines_within T U within moment n d)
 

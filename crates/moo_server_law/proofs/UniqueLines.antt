@@ -6,7 +6,7 @@ use Rattle.moo_eval_frame.specs.declared.surroundings.Login.{Login}
 use Rattle.moo_session_connection.specs.declared.client.Client.{Client}
 use Rattle.moo_session_connection.specs.Gathering.{Gathering}
 use Rattle.moo_session_connection.specs.Changes.{with_changed, with_prefix, with_suffix}
-use Rattle.moo_session_task.specs.declared.live.Live.{Live}
+use Rattle.moo_session_task.specs.declared.world_state.WorldState.{WorldState}
 use Rattle.moo_session_task.specs.Session.{in_connections}
 use Rattle.moo_session_task.specs.State.{in_session}
 use Rattle.moo_command.specs.Words.{Words}
@@ -40,7 +40,7 @@ not_empty {line = line} {word = word} {rest = rest} {args = args} none t =
 same_first : {line word rest other more : List ℕ} {args words : List (List ℕ)} → IsTyped line word rest args → IsTyped line other more words → word ≡ other
 same_first {line = line} {word = word} {rest = rest} {other = other} {more = more} {args = args} {words = words} t u = (one_typed line word other rest more args words t u).0
 
-one_player_line : (T U : Telling) → Agree T U → (moment n : ℕ) (client : Client) (player : ℤ) (line : List ℕ) (s s' t : Live) →
+one_player_line : (T U : Telling) → Agree T U → (moment n : ℕ) (client : Client) (player : ℤ) (line : List ℕ) (s s' t : WorldState) →
     PlayerTypes T moment n client player line s s' → PlayerTypes U moment n client player line s t → s' ≡ t
 one_player_line T U agree moment n client player line s s' t (no_word e) (no_word f) = refl
 one_player_line T U agree moment n client player line s s' t (no_word e) (prefix y f) = absurd (not_empty e y)
@@ -75,7 +75,7 @@ one_player_line T U agree moment n client player line s s' t (command {word = wo
     let all : Commanded U moment n client player (word ∷ args) line s t = subst (λ (z : List (List ℕ)). Commanded U moment n client player (word ∷ z) line s t) (sym same.2) first in
     one_command_done T U agree.tasks agree.commands moment n client player (word ∷ args) line s s' t d all
 
-one_typing : (T U : Telling) → Agree T U → (moment n : ℕ) (client : Client) (line : List ℕ) (s s' t : Live) → Types T moment n client line s s' → Types U moment n client line s t → s' ≡ t
+one_typing : (T U : Telling) → Agree T U → (moment n : ℕ) (client : Client) (line : List ℕ) (s s' t : WorldState) → Types T moment n client line s s' → Types U moment n client line s t → s' ≡ t
 one_typing T U agree moment n client line s s' t (logs_in {words = words} e w d) (logs_in {words = others} f v d') =
     let same : others ≡ words = one_reading v w in
     one_login T U agree.tasks moment n words line s s' t d (subst (λ (z : List (List ℕ)). LogsIn U moment n z line s t) same d')
@@ -95,12 +95,12 @@ one_typing T U agree moment n client line s s' t (plays {login = login} e h d) (
     let same_login : other ≡ login = cc in
     one_player_line T U agree moment n client login.player line s s' t d (subst (λ (x : Login). PlayerTypes U moment n client x.player line s t) same_login d')
 
-one_line : (T U : Telling) → Agree T U → (moment n : ℕ) (client : Client) (line : List ℕ) (s s' t : Live) → MeetsLine T moment n client line s s' → MeetsLine U moment n client line s t → s' ≡ t
+one_line : (T U : Telling) → Agree T U → (moment n : ℕ) (client : Client) (line : List ℕ) (s s' t : WorldState) → MeetsLine T moment n client line s s' → MeetsLine U moment n client line s t → s' ≡ t
 one_line T U agree moment n client line s s' t r q =
     let same : q.typed ≡ r.typed = sym (one_typing T U agree moment n client line s r.typed q.typed r.types q.types) in
-    one_run_of_hooks T U agree.tasks moment r.hooks (subst (λ (x : Live). HooksRun U moment x t) same q.hooks)
+    one_run_of_hooks T U agree.tasks moment r.hooks (subst (λ (x : WorldState). HooksRun U moment x t) same q.hooks)
 
-pub one_result_of_lines : (T U : Telling) → Agree T U → (moment n : ℕ) {lines : List (List ℕ)} {s s' t : Live} → MeetsLines T moment n lines s s' → MeetsLines U moment n lines s t → s' ≡ t
+pub one_result_of_lines : (T U : Telling) → Agree T U → (moment n : ℕ) {lines : List (List ℕ)} {s s' t : WorldState} → MeetsLines T moment n lines s s' → MeetsLines U moment n lines s t → s' ≡ t
 one_result_of_lines T U agree moment n no_line_more no_line_more = refl
 one_result_of_lines T U agree moment n no_line_more (dropped f) = refl
 one_result_of_lines T U agree moment n (dropped e) no_line_more = refl
@@ -110,26 +110,26 @@ one_result_of_lines T U agree moment n (one_line_more e m d) (dropped f) = cc
 one_result_of_lines T U agree moment n (one_line_more {client = client} {line = line} {lines = lines} {s = s} {s' = mid} {s'' = end} e m d) (one_line_more {client = other} {s' = instead} {s'' = last} f m' d') =
     let same : other ≡ client = cc in
     let at : mid ≡ instead = one_line T U agree moment n client line s mid instead m (subst (λ (x : Client). MeetsLine U moment n x line s instead) same m') in
-    one_result_of_lines T U agree moment n d (subst (λ (x : Live). MeetsLines U moment n lines x last) (sym at) d')
+    one_result_of_lines T U agree moment n d (subst (λ (x : WorldState). MeetsLines U moment n lines x last) (sym at) d')
 
 -- where more may be told
 pub record Within (T U : Telling) : Type 0 where
   pub tasks : IsWithin T U
   pub texts : Wider T U
 
-player_within : (T U : Telling) → Within T U → (moment n : ℕ) (client : Client) (player : ℤ) (line : List ℕ) (s s' : Live) → PlayerTypes T moment n client player line s s' → PlayerTypes U moment n client player line s s'
+player_within : (T U : Telling) → Within T U → (moment n : ℕ) (client : Client) (player : ℤ) (line : List ℕ) (s s' : WorldState) → PlayerTypes T moment n client player line s s' → PlayerTypes U moment n client player line s s'
 player_within T U within moment n client player line s s' (no_word e) = no_word e
 player_within T U within moment n client player line s s' (prefix x e) = prefix x e
 player_within T U within moment n client player line s s' (suffix x e) = suffix x e
 player_within T U within moment n client player line s s' (program x e) = program x e
 player_within T U within moment n client player line s s' (command {word = word} {args = args} x e d) = command x e (command_within T U within.tasks moment n client player (word ∷ args) line s s' d)
 
-typing_within : (T U : Telling) → Within T U → (moment n : ℕ) (client : Client) (line : List ℕ) (s s' : Live) → Types T moment n client line s s' → Types U moment n client line s s'
+typing_within : (T U : Telling) → Within T U → (moment n : ℕ) (client : Client) (line : List ℕ) (s s' : WorldState) → Types T moment n client line s s' → Types U moment n client line s s'
 typing_within T U within moment n client line s s' (logs_in {words = words} e w d) = logs_in e w (login_within T U within.tasks moment n words line s s' d)
 typing_within T U within moment n client line s s' (gathers {login = login} {g = g} e h d) = gathers e h (gathering_within T U within.texts n login.player g line d)
 typing_within T U within moment n client line s s' (plays {login = login} e h d) = plays e h (player_within T U within moment n client login.player line s s' d)
 
-pub lines_within : (T U : Telling) → Within T U → (moment n : ℕ) {lines : List (List ℕ)} {s s' : Live} → MeetsLines T moment n lines s s' → MeetsLines U moment n lines s s'
+pub lines_within : (T U : Telling) → Within T U → (moment n : ℕ) {lines : List (List ℕ)} {s s' : WorldState} → MeetsLines T moment n lines s s' → MeetsLines U moment n lines s s'
 lines_within T U within moment n no_line_more = no_line_more
 lines_within T U within moment n (dropped e) = dropped e
 lines_within T U within moment n (one_line_more {client = client} {line = line} {s = s} {s' = mid} e m d) =

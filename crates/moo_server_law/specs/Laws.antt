@@ -3,13 +3,13 @@ use Rattle.std.specs.Prelude.{◌≡◌, ℕ, List, true, false}
 use Rattle.moo_dbtext_read.specs.Saved.{Saved}
 use Rattle.moo_builtin.specs.Telling.{Faults}
 use Rattle.moo_session_connection.specs.Connections.{is_open}
-use Rattle.moo_session_task.specs.declared.live.Live.{Live}
-use Rattle.moo_server_core.specs.Sessions.{Output}
+use Rattle.moo_session_task.specs.declared.world_state.WorldState.{WorldState}
+use Rattle.moo_server_core.specs.Application.{Output}
 use Rattle.moo_server_core.specs.Meaning.{Begins, Entry, Run, State, is_due}
 use Rattle.moo_server.specs.Live.{live_meaning}
 
 -- While a connection is open, no checkpoint is due between two events: each ends with the beginning of what is due.
 abbrev pub NothingIsDue : Type 0
-NothingIsDue = (saved : Saved) (moment : ℕ) (out : Output) (start end : State Live) (entries : List (Entry Saved)) (c : ℕ)
+NothingIsDue = (saved : Saved) (moment : ℕ) (out : Output) (start end : State WorldState) (entries : List (Entry Saved)) (c : ℕ)
     → Begins (live_meaning Faults) saved moment out start → Run (live_meaning Faults) start entries end
     → is_open c end.sessions.session.connections ≡ true → is_due (live_meaning Faults) end ≡ false

@@ -3,11 +3,11 @@ use Rattle.std.specs.Prelude.{◌≡◌, ℕ, ℤ, Bool, List, []}
 use Rattle.moo_world_table.specs.World.{World}
 use Rattle.moo_builtin.specs.Telling.{Telling, Faults, Choice, PassesPrograms, chosen_by}
 use Rattle.moo_eval_semantics.specs.Laws.{ChoosesFaults, Texts, HaveOneFault, faults_of}
-use Rattle.moo_session_task.specs.declared.live.Live.{Live}
+use Rattle.moo_session_task.specs.declared.world_state.WorldState.{WorldState}
 use Rattle.moo_session.specs.Events.{Opens, Hears, HangsUp, CheckpointStarts, CheckpointEnds, Starts}
 
 -- What happens to a world and its sessions at a moment: an event, or a call that the server itself makes.
-pub data Happens (T : Telling) (moment : ℕ) (s s' : Live) : Type 0 where
+pub data Happens (T : Telling) (moment : ℕ) (s s' : WorldState) : Type 0 where
   opens : (n : ℕ) → Opens T moment n s s' → Happens T moment s s'
   hears : (n : ℕ) (piece : List ℕ) → Hears T moment n piece s s' → Happens T moment s s'
   hangs_up : (n : ℕ) → HangsUp T moment n s s' → Happens T moment s s'
@@ -16,21 +16,21 @@ pub data Happens (T : Telling) (moment : ℕ) (s s' : Live) : Type 0 where
 
 -- Whatever comes of an event under the first telling, nothing else comes of it under the second.
 pub record HaveOneResult (T U : Telling) : Type 0 where
-  pub openings : (moment n : ℕ) (s s' t : Live) → Opens T moment n s s' → Opens U moment n s t → s' ≡ t
-  pub bytes : (moment n : ℕ) (piece : List ℕ) (s s' t : Live) → Hears T moment n piece s s' → Hears U moment n piece s t → s' ≡ t
-  pub hangups : (moment n : ℕ) (s s' t : Live) → HangsUp T moment n s s' → HangsUp U moment n s t → s' ≡ t
-  pub checkpoints : (moment : ℕ) (s s' t : Live) → CheckpointStarts T moment s s' → CheckpointStarts U moment s t → s' ≡ t
-  pub reports : (moment : ℕ) (done : Bool) (s s' t : Live) → CheckpointEnds T moment done s s' → CheckpointEnds U moment done s t → s' ≡ t
-  pub starts : (moment : ℕ) (players : List ℤ) (w : World) (s' t : Live) → Starts T moment players w s' → Starts U moment players w t → s' ≡ t
+  pub openings : (moment n : ℕ) (s s' t : WorldState) → Opens T moment n s s' → Opens U moment n s t → s' ≡ t
+  pub bytes : (moment n : ℕ) (piece : List ℕ) (s s' t : WorldState) → Hears T moment n piece s s' → Hears U moment n piece s t → s' ≡ t
+  pub hangups : (moment n : ℕ) (s s' t : WorldState) → HangsUp T moment n s s' → HangsUp U moment n s t → s' ≡ t
+  pub checkpoints : (moment : ℕ) (s s' t : WorldState) → CheckpointStarts T moment s s' → CheckpointStarts U moment s t → s' ≡ t
+  pub reports : (moment : ℕ) (done : Bool) (s s' t : WorldState) → CheckpointEnds T moment done s s' → CheckpointEnds U moment done s t → s' ≡ t
+  pub starts : (moment : ℕ) (players : List ℤ) (w : World) (s' t : WorldState) → Starts T moment players w s' → Starts U moment players w t → s' ≡ t
 
 -- what comes of an event under the first telling may come of it under the second
 pub record AreWithin (T U : Telling) : Type 0 where
-  pub openings : (moment n : ℕ) (s s' : Live) → Opens T moment n s s' → Opens U moment n s s'
-  pub bytes : (moment n : ℕ) (piece : List ℕ) (s s' : Live) → Hears T moment n piece s s' → Hears U moment n piece s s'
-  pub hangups : (moment n : ℕ) (s s' : Live) → HangsUp T moment n s s' → HangsUp U moment n s s'
-  pub checkpoints : (moment : ℕ) (s s' : Live) → CheckpointStarts T moment s s' → CheckpointStarts U moment s s'
-  pub reports : (moment : ℕ) (done : Bool) (s s' : Live) → CheckpointEnds T moment done s s' → CheckpointEnds U moment done s s'
-  pub starts : (moment : ℕ) (players : List ℤ) (w : World) (s' : Live) → Starts T moment players w s' → Starts U moment players w s'
+  pub openings : (moment n : ℕ) (s s' : WorldState) → Opens T moment n s s' → Opens U moment n s s'
+  pub bytes : (moment n : ℕ) (piece : List ℕ) (s s' : WorldState) → Hears T moment n piece s s' → Hears U moment n piece s s'
+  pub hangups : (moment n : ℕ) (s s' : WorldState) → HangsUp T moment n s s' → HangsUp U moment n s s'
+  pub checkpoints : (moment : ℕ) (s s' : WorldState) → CheckpointStarts T moment s s' → CheckpointStarts U moment s s'
+  pub reports : (moment : ℕ) (done : Bool) (s s' : WorldState) → CheckpointEnds T moment done s s' → CheckpointEnds U moment done s s'
+  pub starts : (moment : ℕ) (players : List ℤ) (w : World) (s' : WorldState) → Starts T moment players w s' → Starts U moment players w s'
 
 -- For one input an event has at most one result, whatever is chosen to be told of texts that are no programs.
 abbrev pub OneResultByChoice : Type 0
@@ -46,8 +46,8 @@ ChosenMayBeTold = (choice : Choice) → ChoosesFaults choice → AreWithin (chos
 
 -- No hook waits after an event before which none waited, nor after a start.
 pub record LeaveNoHook (T : Telling) : Type 0 where
-  pub happenings : (moment : ℕ) (s s' : Live) → Happens T moment s s' → s.session.hooks ≡ [] → s'.session.hooks ≡ []
-  pub starts : (moment : ℕ) (players : List ℤ) (w : World) (s' : Live) → Starts T moment players w s' → s'.session.hooks ≡ []
+  pub happenings : (moment : ℕ) (s s' : WorldState) → Happens T moment s s' → s.session.hooks ≡ [] → s'.session.hooks ≡ []
+  pub starts : (moment : ℕ) (players : List ℤ) (w : World) (s' : WorldState) → Starts T moment players w s' → s'.session.hooks ≡ []
 
 abbrev pub NoHookIsLeft : Type 0
 NoHookIsLeft = LeaveNoHook Faults

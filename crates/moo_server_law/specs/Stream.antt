@@ -4,12 +4,12 @@ use Rattle.moo_builtin.specs.Telling.{Telling, Faults}
 use Rattle.moo_session_line.specs.Lines.{lines}
 use Rattle.moo_session_connection.specs.Connections.{Connections, client_here}
 use Rattle.moo_session_connection.specs.Changes.{HasHeard}
-use Rattle.moo_session_task.specs.declared.live.Live.{Live}
+use Rattle.moo_session_task.specs.declared.world_state.WorldState.{WorldState}
 use Rattle.moo_session.specs.Input.{MeetsLines}
 use Rattle.moo_session.specs.Events.{Opens, Hears, HangsUp, CheckpointStarts, CheckpointEnds, with_connections}
 
 -- Something happens that is no opening, bytes or hang-up of connection n.
-pub data HappensBeside (T : Telling) (n : ℕ) (s s' : Live) : Type 0 where
+pub data HappensBeside (T : Telling) (n : ℕ) (s s' : WorldState) : Type 0 where
   opens : {moment m : ℕ} → m ≢ n → Opens T moment m s s' → HappensBeside T n s s'
   hears : {moment m : ℕ} {piece : List ℕ} → m ≢ n → Hears T moment m piece s s' → HappensBeside T n s s'
   hangs_up : {moment m : ℕ} → m ≢ n → HangsUp T moment m s s' → HappensBeside T n s s'
@@ -17,14 +17,14 @@ pub data HappensBeside (T : Telling) (n : ℕ) (s s' : Live) : Type 0 where
   checkpoint_ends : {moment : ℕ} (done : Bool) → CheckpointEnds T moment done s s' → HappensBeside T n s s'
 
 -- Since its opening, connection n has sent these bytes, in pieces, which ended these lines, whatever happened in between.
-pub data HasTyped (T : Telling) (n : ℕ) : (stream : List ℕ) → (typed : List (List ℕ)) → Live → Type 0 where
-  opened : {moment : ℕ} {s s' : Live} → client_here n s.session.connections ≡ None → Opens T moment n s s' → HasTyped T n [] [] s'
-  passed : {stream : List ℕ} {typed : List (List ℕ)} {s s' : Live} → HasTyped T n stream typed s → HappensBeside T n s s' → HasTyped T n stream typed s'
+pub data HasTyped (T : Telling) (n : ℕ) : (stream : List ℕ) → (typed : List (List ℕ)) → WorldState → Type 0 where
+  opened : {moment : ℕ} {s s' : WorldState} → client_here n s.session.connections ≡ None → Opens T moment n s s' → HasTyped T n [] [] s'
+  passed : {stream : List ℕ} {typed : List (List ℕ)} {s s' : WorldState} → HasTyped T n stream typed s → HappensBeside T n s s' → HasTyped T n stream typed s'
   -- what was sent is moved out, or something else leaves the connections as they are
-  moved_out : {stream : List ℕ} {typed : List (List ℕ)} {s s' : Live} → HasTyped T n stream typed s → s'.session.connections ≡ s.session.connections → HasTyped T n stream typed s'
-  heard : {moment : ℕ} {stream piece : List ℕ} {typed more : List (List ℕ)} {after : Connections} {s s' : Live} → HasTyped T n stream typed s →
+  moved_out : {stream : List ℕ} {typed : List (List ℕ)} {s s' : WorldState} → HasTyped T n stream typed s → s'.session.connections ≡ s.session.connections → HasTyped T n stream typed s'
+  heard : {moment : ℕ} {stream piece : List ℕ} {typed more : List (List ℕ)} {after : Connections} {s s' : WorldState} → HasTyped T n stream typed s →
       HasHeard n moment piece s.session.connections more after → MeetsLines T moment n more (with_connections after s) s' → HasTyped T n (stream ++ piece) (typed ++ more) s'
 
 -- However its bytes were cut, the lines of a connection are those of all its bytes.
 abbrev pub LinesOfTheWholeStream : Type 0
-LinesOfTheWholeStream = (n : ℕ) (stream : List ℕ) (typed : List (List ℕ)) (s : Live) → HasTyped Faults n stream typed s → typed ≡ lines stream
+LinesOfTheWholeStream = (n : ℕ) (stream : List ℕ) (typed : List (List ℕ)) (s : WorldState) → HasTyped Faults n stream typed s → typed ≡ lines stream

@@ -4,14 +4,14 @@ ghost use Rattle.moo_disk.specs.Disk.{LeavesOnly};
 ghost use Rattle.moo_server_core.specs.Lives.{LifeRun, Lives};
 ghost use Rattle.moo_server_core.specs.Marks.{BeginFromKept};
 ghost use Rattle.moo_server.specs.Live.{live_layer};
-ghost use Rattle.moo_server.specs.declared.live_world.LiveWorld.{LiveWorld};
+ghost use Rattle.moo_server.specs.declared.moo_application.MooApplication.{MooApplication};
 ghost use Rattle.moo_server_law.specs.Laws.{NothingIsDue};
 
 pub mod runs;
 pub mod sessions;
 
 use moo_disk::CrashDisk;
-use moo_server::LiveWorld;
+use moo_server::MooApplication;
 
 /// While a connection is open, no checkpoint is due between two events. So bytes for a connection that is leaving take no memory.
 #[tactic(none)]
@@ -25,10 +25,10 @@ pub fn nothing_is_due_while_a_connection_is_open()
 /// life, or, where none of its checkpoints was reported done, from the world that it began from.
 #[tactic(none)]
 pub fn lives_begin_from_marks<D: CrashDisk>()
-    ensures { (first last : D) (runs : List (LifeRun LiveWorld D)) (texts left : List (List ℕ))
+    ensures { (first last : D) (runs : List (LifeRun MooApplication D)) (texts left : List (List ℕ))
         → LeavesOnly (D.view first).main_text (D.view first)
         → Lives live_layer D.view D.honest D.failures D.images first texts runs left last
         → BeginFromKept live_layer [] runs }
 {
-    moo_server_core::laws::lives_begin_from_marks::<LiveWorld, D>();
+    moo_server_core::laws::lives_begin_from_marks::<MooApplication, D>();
 }

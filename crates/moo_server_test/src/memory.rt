@@ -2,8 +2,8 @@
 
 use crate::playing::WORLD;
 use moo_disk::{Disk, FailAt, MemoryDisk, Place, StopAt};
-use moo_server::{Cause, Event, LiveWorld, Phase, RunFault};
-use moo_server_core::{Serving, Starts};
+use moo_server::{Cause, Event, MooApplication, Phase, RunFault};
+use moo_server_core::{ServerCore, StartApplication};
 use std::alloc::{AllocError, Global};
 
 /// An opening, a turn, or what is typed on connection 1; and what is sent there for it.
@@ -90,13 +90,13 @@ fn bytes_of(alloc: Global, rows: &[Row], done: usize) -> Result<Vec<u8>, AllocEr
 
 // How many events a life takes, if it comes to what it may: all are taken, or memory is wanting, and the server is halted behind the
 // first of them; what these sent waits. A start may be refused.
-fn taken<S: Starts, D: Disk>(
+fn taken<S: StartApplication, D: Disk>(
     alloc: Global,
     disk: &mut D,
     rows: &[Row],
 ) -> Result<Option<usize>, AllocError> {
     let events = events_of(alloc, rows)?;
-    let Ok(mut server) = Serving::<S>::open(alloc, disk, 0) else {
+    let Ok(mut server) = ServerCore::<S>::open(alloc, disk, 0) else {
         return Ok(Some(0));
     };
     let (done, is_told) = match server.run(disk, &events) {
@@ -130,14 +130,14 @@ fn has_halted(cause: Cause, phase: Phase, again: Result<usize, RunFault>) -> boo
 fn are_right(alloc: Global) -> Result<bool, AllocError> {
     let disk = MemoryDisk::new(alloc, Vec::from_slice(alloc, WORLD)?);
     let mut disk = FailAt::new(StopAt::new(disk, u64::MAX, Place::Before), 0, false);
-    let Some(done) = taken::<LiveWorld, _>(alloc, &mut disk, &SAVED)? else {
+    let Some(done) = taken::<MooApplication, _>(alloc, &mut disk, &SAVED)? else {
         return Ok(false);
     };
     let asked = [
         ("open", "*** Connected ***\r\n"),
         (asked_behind(done), "{1, 1}\r\n"),
     ];
-    Ok(taken::<LiveWorld, _>(alloc, &mut disk, &asked)?.is_some())
+    Ok(taken::<MooApplication, _>(alloc, &mut disk, &asked)?.is_some())
 }
 
 #[test]

@@ -1,8 +1,8 @@
 //! What the tests share: lives of a server, one after another over one disk.
 
 use moo_disk::{Disk, FailAt, MemoryDisk, Place, StopAt};
-use moo_server::{Event, LiveWorld, OpenFault};
-use moo_server_core::{Serving, Starts};
+use moo_server::{Event, MooApplication, OpenFault};
+use moo_server_core::{ServerCore, StartApplication};
 use std::alloc::Global;
 use std::test::Fail;
 
@@ -134,7 +134,7 @@ fn play(
 ) -> Result<MemoryDisk, Fail> {
     let stops = StopAt::new(disk, stopping, place);
     let mut disk = FailAt::new(stops, failing, effect);
-    live::<LiveWorld, _>(alloc, &mut disk, events, told)?;
+    live::<MooApplication, _>(alloc, &mut disk, events, told)?;
     Ok(disk.into_inner().into_inner())
 }
 
@@ -159,13 +159,13 @@ fn add_connected(disk: MemoryDisk, told: &mut Vec<u8>) -> Result<MemoryDisk, Fai
 }
 
 // One life, from moment 0 on.
-fn live<S: Starts, D: Disk>(
+fn live<S: StartApplication, D: Disk>(
     alloc: Global,
     disk: &mut D,
     events: &[Event],
     told: &mut Vec<u8>,
 ) -> Result<(), Fail> {
-    let mut server = match Serving::<S>::open(alloc, disk, 0) {
+    let mut server = match ServerCore::<S>::open(alloc, disk, 0) {
         Ok(server) => server,
         Err(fault) => return add_line(told, refusal(alloc, fault)?.as_bytes()),
     };

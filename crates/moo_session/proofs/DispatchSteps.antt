@@ -11,7 +11,7 @@ use Rattle.moo_eval_frame.specs.declared.frame.Frame.{Frame}
 use Rattle.moo_builtin.specs.Telling.{Faults}
 use Rattle.moo_session_line.specs.Rest.{IsLine, line_limit}
 use Rattle.moo_session_connection.specs.declared.client.Client.{Client}
-use Rattle.moo_session_task.specs.declared.live.Live.{Live}
+use Rattle.moo_session_task.specs.declared.world_state.WorldState.{WorldState}
 use Rattle.moo_session_task.specs.Session.{Session}
 use Rattle.moo_session_task.specs.Sending.{sent}
 use Rattle.moo_session_task.specs.State.{state}
@@ -68,7 +68,7 @@ command_fits law w player line c is (says_nothing none made) =
     subst (λ (ws : List (List ℕ)). FitsAList ws) (sym (ap (λ (x : Command). x.args) made.is)) no_words_fit
 
 -- the verb that is meant has run
-pub verb_ran : (moment n : ℕ) (player : ℤ) (c : Command) (s u : Live) (this : ℤ) (found : ℤ × Verb) (start : Frame) (v : Option Tree) →
+pub verb_ran : (moment n : ℕ) (player : ℤ) (c : Command) (s u : WorldState) (this : ℤ) (found : ℤ × Verb) (start : Frame) (v : Option Tree) →
     verb_to_run s.world player c ≡ Some (this, found) → start ≡ command_frame found this player c → RunsTask Faults moment start s v u → RunsVerb Faults moment n player c s u
 verb_ran moment n player c s u this found start v e f h =
     runs e (subst (λ (x : Frame). RunsTask Faults moment x s v u) f h)
@@ -78,19 +78,19 @@ pub framed : (found : ℤ × Verb) (c : Command) (this that player who : ℤ) (s
 framed found c this that player who start e f g = e ∙ ap (λ (x : ℤ). command_frame found x who c) f ∙ ap (λ (x : ℤ). command_frame found this x c) g
 
 -- no verb is meant
-pub none_ran : (r : Result (Unit {0}) AllocError) (moment n : ℕ) (player : ℤ) (c : Command) (s : Live) (t : Session) →
+pub none_ran : (r : Result (Unit {0}) AllocError) (moment n : ℕ) (player : ℤ) (c : Command) (s : WorldState) (t : Session) →
     verb_to_run s.world player c ≡ None → OnOk r (t ≡ sent n (codes "I couldn't understand that.") s.session) → OnOk r (RunsVerb Faults moment n player c s (state s.world t))
 none_ran (Ok v) moment n player c s t e f = subst (λ (x : Session). RunsVerb Faults moment n player c s (state s.world x)) (sym f) (nothing_runs e)
 none_ran (Err short) moment n player c s t e f = tt
 
 -- the command was read, and its verb has run
-pub followed : (r : Result (Unit {0}) AllocError) (moment n : ℕ) (player : ℤ) (line : List ℕ) (answer : Option Tree) (c : Command) (s u : Live) →
+pub followed : (r : Result (Unit {0}) AllocError) (moment n : ℕ) (player : ℤ) (line : List ℕ) (answer : Option Tree) (c : Command) (s u : WorldState) →
     is_true_answer answer ≡ false → Commands s.world player line c → OnOk r (RunsVerb Faults moment n player c s u) → OnOk r (Follows Faults moment n player line answer s u)
 followed (Ok v) moment n player line answer c s u e d h = goes_on e d h
 followed (Err short) moment n player line answer c s u e d h = tt
 
 -- all parts of a command are done
-pub commanded : (r : Result (Unit {0}) AllocError) (moment n : ℕ) (client : Client) (player : ℤ) (words : List (List ℕ)) (line : List ℕ) (s : Live) (p : Session) (asked done : Live) (q : Session) (answer : Option Tree) →
+pub commanded : (r : Result (Unit {0}) AllocError) (moment n : ℕ) (client : Client) (player : ℤ) (words : List (List ℕ)) (line : List ℕ) (s : WorldState) (p : Session) (asked done : WorldState) (q : Session) (answer : Option Tree) →
     p ≡ sent_unless_empty n client.prefix s.session → CallsServerVerb Faults moment (codes "do_command") player (strings_of words) line (state s.world p) answer asked →
     Follows Faults moment n player line answer asked done → OnOk r (q ≡ sent_unless_empty n client.suffix done.session) → OnOk r (Commanded Faults moment n client player words line s (state done.world q))
 commanded (Ok v) moment n client player words line s p asked done q answer e call follows f = record {

@@ -13,7 +13,7 @@ use Rattle.moo_session_task.proofs.Depths.{light_words_fit}
 use Rattle.moo_session_connection.specs.declared.client.Client.{Client}
 use Rattle.moo_session_connection.specs.Gathering.{Gathering}
 use Rattle.moo_session_connection.specs.Connections.{client_here}
-use Rattle.moo_session_task.specs.declared.live.Live.{Live}
+use Rattle.moo_session_task.specs.declared.world_state.WorldState.{WorldState}
 use Rattle.moo_command.specs.Words.{blank, Words, after_blank, one_more}
 use Rattle.moo_command.specs.FirstWord.{IsTyped, unindented}
 use Rattle.moo_session_task.specs.Hooks.{HooksRun}
@@ -49,22 +49,22 @@ pub words_fit : (line : List ℕ) (words : List (List ℕ)) → IsLine line → 
 words_fit line words is light = let most = few line is in light_words_fit words (omega arith)
 
 -- the line's words were those of the login
-pub logged_by : (r : Result (Unit {0}) AllocError) (moment n : ℕ) (line copy : List ℕ) (words : List (List ℕ)) (s u : Live) → Words line words → copy ≡ line →
+pub logged_by : (r : Result (Unit {0}) AllocError) (moment n : ℕ) (line copy : List ℕ) (words : List (List ℕ)) (s u : WorldState) → Words line words → copy ≡ line →
     OnOk r (LogsIn Faults moment n words copy s u) → OnOk r (LogsInBy moment n line s u)
 logged_by (Ok v) moment n line copy words s u w e h = record { words = words; are_its_words = w; logs_in = subst (λ (x : List ℕ). LogsIn Faults moment n words x s u) e h }
 logged_by (Err short) moment n line copy words s u w e h = tt
 
-pub typed_login : (r : Result (Unit {0}) AllocError) (moment n : ℕ) (client : Client) (line : List ℕ) (s u : Live) → client.connection.login ≡ None →
+pub typed_login : (r : Result (Unit {0}) AllocError) (moment n : ℕ) (client : Client) (line : List ℕ) (s u : WorldState) → client.connection.login ≡ None →
     OnOk r (LogsInBy moment n line s u) → OnOk r (Types Faults moment n client line s u)
 typed_login (Ok v) moment n client line s u e h = logs_in e h.are_its_words h.logs_in
 typed_login (Err short) moment n client line s u e h = tt
 
-types_as : (moment n : ℕ) (client : Client) (login : Login) (line : List ℕ) (s u : Live) → client.connection.login ≡ Some login → TypesAs moment n client login.player line s u → Types Faults moment n client line s u
+types_as : (moment n : ℕ) (client : Client) (login : Login) (line : List ℕ) (s u : WorldState) → client.connection.login ≡ Some login → TypesAs moment n client login.player line s u → Types Faults moment n client line s u
 types_as moment n client login line s u e (as_gathered f d) = gathers e f d
 types_as moment n client login line s u e (as_played f d) = plays e f d
 
 -- a player's line
-pub typed_as : (r : Result (Unit {0}) AllocError) (o : Option Client) (moment n : ℕ) (client : Client) (login : Login) (who : ℤ) (line : List ℕ) (s u : Live) → o ≡ Some client →
+pub typed_as : (r : Result (Unit {0}) AllocError) (o : Option Client) (moment n : ℕ) (client : Client) (login : Login) (who : ℤ) (line : List ℕ) (s u : WorldState) → o ≡ Some client →
     client.connection.login ≡ Some login → who ≡ login.player → OnOk r (IfSome o (λ c. TypesAs moment n c who line s u)) → OnOk r (IfSome o (λ c. Types Faults moment n c line s u))
 typed_as (Ok v) o moment n client login who line s u here e p h =
     let own : TypesAs moment n client who line s u = subst (λ (x : Option Client). IfSome x (λ c. TypesAs moment n c who line s u)) here h in
@@ -72,13 +72,13 @@ typed_as (Ok v) o moment n client login who line s u here e p h =
     (types_as moment n client login line s u e (subst (λ (x : ℤ). TypesAs moment n client x line s u) p own))
 typed_as (Err short) o moment n client login who line s u here e p h = tt
 
-gathered_by : (o : Option Gathering) (moment n : ℕ) (client : Client) (player : ℤ) (line : List ℕ) (s u : Live) → client.gathering ≡ o → is_some o ≡ true →
+gathered_by : (o : Option Gathering) (moment n : ℕ) (client : Client) (player : ℤ) (line : List ℕ) (s u : WorldState) → client.gathering ≡ o → is_some o ≡ true →
     IfSome o (λ g. Gathers Faults n player g line s u) → TypesAs moment n client player line s u
 gathered_by (Some g) moment n client player line s u e is h = as_gathered e h
 gathered_by None moment n client player line s u e is h = absurd cc
 
 -- a line that is gathered
-pub line_gathered : (r : Result (Unit {0}) AllocError) (o : Option Client) (moment n : ℕ) (player who : ℤ) (line copy : List ℕ) (s u : Live) → is_some (option_and_then (λ (c : Client). c.gathering) o) ≡ true →
+pub line_gathered : (r : Result (Unit {0}) AllocError) (o : Option Client) (moment n : ℕ) (player who : ℤ) (line copy : List ℕ) (s u : WorldState) → is_some (option_and_then (λ (c : Client). c.gathering) o) ≡ true →
     who ≡ player → copy ≡ line → OnOk r (IfSome (option_and_then (λ (c : Client). c.gathering) o) (λ g. Gathers Faults n who g copy s u)) → OnOk r (IfSome o (λ c. TypesAs moment n c player line s u))
 line_gathered (Ok v) (Some client) moment n player who line copy s u is p e h =
     let P : ℤ → List ℕ → Type 0 = λ x l. IfSome client.gathering (λ g. Gathers Faults n x g l s u) in
@@ -91,7 +91,7 @@ not_gathering None e = refl
 not_gathering (Some g) e = absurd cc
 
 -- a player's line that isn't
-pub line_played : (r : Result (Unit {0}) AllocError) (o : Option Client) (moment n : ℕ) (player who : ℤ) (line : List ℕ) (s u : Live) → is_some (option_and_then (λ (c : Client). c.gathering) o) ≡ false →
+pub line_played : (r : Result (Unit {0}) AllocError) (o : Option Client) (moment n : ℕ) (player who : ℤ) (line : List ℕ) (s u : WorldState) → is_some (option_and_then (λ (c : Client). c.gathering) o) ≡ false →
     who ≡ player → OnOk r (IfSome o (λ c. PlayerTypes Faults moment n c who line s u)) → OnOk r (IfSome o (λ c. TypesAs moment n c player line s u))
 line_played (Ok v) (Some client) moment n player who line s u is p h =
     as_played (not_gathering client.gathering is) (subst (λ (x : ℤ). PlayerTypes Faults moment n client x line s u) p h)
@@ -99,35 +99,35 @@ line_played (Ok v) None moment n player who line s u is p h = tt
 line_played (Err short) o moment n player who line s u is p h = tt
 
 -- the kinds of a player's line
-pub nothing_typed : (o : Option Client) (moment n : ℕ) (player : ℤ) (line : List ℕ) (s : Live) → Words line [] → IfSome o (λ c. PlayerTypes Faults moment n c player line s s)
+pub nothing_typed : (o : Option Client) (moment n : ℕ) (player : ℤ) (line : List ℕ) (s : WorldState) → Words line [] → IfSome o (λ c. PlayerTypes Faults moment n c player line s s)
 nothing_typed (Some client) moment n player line s w = no_word w
 nothing_typed None moment n player line s w = tt
 
-pub prefix_typed : (o : Option Client) (moment n : ℕ) (player : ℤ) (line word text : List ℕ) (args : List (List ℕ)) (s : Live) (t : Session) → IsTyped line word text args → kind_of word ≡ kind.Prefix →
+pub prefix_typed : (o : Option Client) (moment n : ℕ) (player : ℤ) (line word text : List ℕ) (args : List (List ℕ)) (s : WorldState) (t : Session) → IsTyped line word text args → kind_of word ≡ kind.Prefix →
     t ≡ in_connections (with_changed n (with_prefix text)) s.session → IfSome o (λ c. PlayerTypes Faults moment n c player line s (state s.world t))
 prefix_typed (Some client) moment n player line word text args s t x k e =
     subst (λ (y : Session). PlayerTypes Faults moment n client player line s (state s.world y)) (sym e) (prefix x k)
 prefix_typed None moment n player line word text args s t x k e = tt
 
-pub suffix_typed : (o : Option Client) (moment n : ℕ) (player : ℤ) (line word text : List ℕ) (args : List (List ℕ)) (s : Live) (t : Session) → IsTyped line word text args → kind_of word ≡ kind.Suffix →
+pub suffix_typed : (o : Option Client) (moment n : ℕ) (player : ℤ) (line word text : List ℕ) (args : List (List ℕ)) (s : WorldState) (t : Session) → IsTyped line word text args → kind_of word ≡ kind.Suffix →
     t ≡ in_connections (with_changed n (with_suffix text)) s.session → IfSome o (λ c. PlayerTypes Faults moment n c player line s (state s.world t))
 suffix_typed (Some client) moment n player line word text args s t x k e =
     subst (λ (y : Session). PlayerTypes Faults moment n client player line s (state s.world y)) (sym e) (suffix x k)
 suffix_typed None moment n player line word text args s t x k e = tt
 
-pub program_typed : (o : Option Client) (moment n : ℕ) (player who : ℤ) (line word text : List ℕ) (args : List (List ℕ)) (s : Live) (t : Session) → IsTyped line word text args → kind_of word ≡ kind.Program →
+pub program_typed : (o : Option Client) (moment n : ℕ) (player who : ℤ) (line word text : List ℕ) (args : List (List ℕ)) (s : WorldState) (t : Session) → IsTyped line word text args → kind_of word ≡ kind.Program →
     who ≡ player → t ≡ programming_begun s.world n who args s.session → IfSome o (λ c. PlayerTypes Faults moment n c player line s (state s.world t))
 program_typed (Some client) moment n player who line word text args s t x k p e =
     subst (λ (y : Session). PlayerTypes Faults moment n client player line s (state s.world y)) (sym (e ∙ ap (λ (z : ℤ). programming_begun s.world n z args s.session) p)) (program x k)
 program_typed None moment n player who line word text args s t x k p e = tt
 
-pub command_typed : (o : Option Client) (moment n : ℕ) (player who : ℤ) (line word text : List ℕ) (args : List (List ℕ)) (s u : Live) → IsTyped line word text args → kind_of word ≡ kind.Command →
+pub command_typed : (o : Option Client) (moment n : ℕ) (player who : ℤ) (line word text : List ℕ) (args : List (List ℕ)) (s u : WorldState) → IsTyped line word text args → kind_of word ≡ kind.Command →
     who ≡ player → IfSome o (λ c. Commanded Faults moment n c who (word ∷ args) line s u) → IfSome o (λ c. PlayerTypes Faults moment n c player line s u)
 command_typed (Some client) moment n player who line word text args s u x k p h = command x k (subst (λ (z : ℤ). Commanded Faults moment n client z (word ∷ args) line s u) p h)
 command_typed None moment n player who line word text args s u x k p h = tt
 
 -- the command of all words
-pub command_run : (r : Result (Unit {0}) AllocError) (o : Option Client) (moment n : ℕ) (player who : ℤ) (words all : List (List ℕ)) (line : List ℕ) (s u : Live) → who ≡ player → words ≡ all →
+pub command_run : (r : Result (Unit {0}) AllocError) (o : Option Client) (moment n : ℕ) (player who : ℤ) (words all : List (List ℕ)) (line : List ℕ) (s u : WorldState) → who ≡ player → words ≡ all →
     OnOk r (IfSome o (λ c. Commanded Faults moment n c who words line s u)) → OnOk r (IfSome o (λ c. Commanded Faults moment n c player all line s u))
 command_run r o moment n player who words all line s u p e h =
     let P : ℤ → List (List ℕ) → Type 0 = λ x ws. OnOk r (IfSome o (λ c. Commanded Faults moment n c x ws line s u)) in
@@ -137,27 +137,27 @@ none_here : (o : Option Client) → is_none o ≡ true → o ≡ None
 none_here None e = refl
 none_here (Some c) e = absurd cc
 
-met_at : (o : Option Client) (moment n : ℕ) (line : List ℕ) (s t u : Live) → client_here n s.session.connections ≡ o → is_none o ≡ false →
+met_at : (o : Option Client) (moment n : ℕ) (line : List ℕ) (s t u : WorldState) → client_here n s.session.connections ≡ o → is_none o ≡ false →
     IfSome o (λ client. Types Faults moment n client line s t) → HooksRun Faults moment t u → MeetsNext moment n line s u
 met_at (Some client) moment n line s t u e is typed hooks = meets e (record { typed = t; types = typed; hooks = hooks })
 met_at None moment n line s t u e is typed hooks = absurd cc
 
 -- a line was typed, and its hooks have run
-pub met : (r : Result (Unit {0}) AllocError) (moment n : ℕ) (line : List ℕ) (s t u : Live) → is_none (client_here n s.session.connections) ≡ false →
+pub met : (r : Result (Unit {0}) AllocError) (moment n : ℕ) (line : List ℕ) (s t u : WorldState) → is_none (client_here n s.session.connections) ≡ false →
     IfSome (client_here n s.session.connections) (λ client. Types Faults moment n client line s t) → OnOk r (HooksRun Faults moment t u) → OnOk r (MeetsNext moment n line s u)
 met (Ok v) moment n line s t u is typed hooks = met_at (client_here n s.session.connections) moment n line s t u refl is typed hooks
 met (Err short) moment n line s t u is typed hooks = tt
 
-pub gone : (moment n : ℕ) (line : List ℕ) (s : Live) → is_none (client_here n s.session.connections) ≡ true → MeetsNext moment n line s s
+pub gone : (moment n : ℕ) (line : List ℕ) (s : WorldState) → is_none (client_here n s.session.connections) ≡ true → MeetsNext moment n line s s
 gone moment n line s is = drops (none_here (client_here n s.session.connections) is)
 
 -- of a connection that isn't there a line more is dropped
-dropped_too : (moment n : ℕ) (line : List ℕ) {lines : List (List ℕ)} {s end : Live} → client_here n s.session.connections ≡ None → MeetsLines Faults moment n lines s end → MeetsLines Faults moment n (line ∷ lines) s end
+dropped_too : (moment n : ℕ) (line : List ℕ) {lines : List (List ℕ)} {s end : WorldState} → client_here n s.session.connections ≡ None → MeetsLines Faults moment n lines s end → MeetsLines Faults moment n (line ∷ lines) s end
 dropped_too moment n line e no_line_more = dropped e
 dropped_too moment n line e (dropped f) = dropped e
 dropped_too moment n line e (one_line_more f m d) = cc
 
 -- one line more
-pub more : (moment n : ℕ) (line : List ℕ) (lines : List (List ℕ)) (s t : Live) → MeetsNext moment n line s t → (end : Live) → MeetsLines Faults moment n lines t end → MeetsLines Faults moment n (line ∷ lines) s end
+pub more : (moment n : ℕ) (line : List ℕ) (lines : List (List ℕ)) (s t : WorldState) → MeetsNext moment n line s t → (end : WorldState) → MeetsLines Faults moment n lines t end → MeetsLines Faults moment n (line ∷ lines) s end
 more moment n line lines s t (meets e m) end d = one_line_more e m d
 more moment n line lines s t (drops e) end d = dropped_too moment n line e d

@@ -8,7 +8,7 @@ use Rattle.moo_builtin.specs.Telling.{Telling}
 use Rattle.moo_builtin.proofs.CodeOnce.{same_program}
 use Rattle.moo_builtin.proofs.CodeWider.{Wider}
 use Rattle.moo_session_connection.specs.Gathering.{Gathering}
-use Rattle.moo_session_task.specs.declared.live.Live.{Live}
+use Rattle.moo_session_task.specs.declared.world_state.WorldState.{WorldState}
 use Rattle.moo_session_task.specs.State.{in_session}
 use Rattle.moo_session.specs.DotProgram.{EndsProgramming, no_verb, denied, faulty, parsed, Gathers, keeps, ends, programmed, told_fault}
 
@@ -21,7 +21,7 @@ pub record TellAlike (T U : Telling) : Type 0 where
 same_place : {o : Option ℕ} {i j : ℕ} → o ≡ Some i → o ≡ Some j → i ≡ j
 same_place e f = cc
 
-one_ending : (T U : Telling) → TellAlike T U → (n : ℕ) (player : ℤ) (g : Gathering) {s s' t : Live} → EndsProgramming T n player g s s' → EndsProgramming U n player g s t → s' ≡ t
+one_ending : (T U : Telling) → TellAlike T U → (n : ℕ) (player : ℤ) (g : Gathering) {s s' t : WorldState} → EndsProgramming T n player g s s' → EndsProgramming U n player g s t → s' ≡ t
 one_ending T U alike n player g (no_verb e) (no_verb f) = refl
 one_ending T U alike n player g (no_verb e) (denied f a) = cc
 one_ending T U alike n player g (no_verb e) (faulty f a fault x) = cc
@@ -42,18 +42,18 @@ one_ending T U alike n player g {s = s} (parsed {i = i} {b = b} e a p) (parsed {
     let place : i ≡ j = same_place e f in
     ap (λ (k : ℕ). programmed n g.object k b s) place ∙ ap (λ (x : Block). programmed n g.object j x s) (same_program g.lines b c p q)
 
-pub one_gathering : (T U : Telling) → TellAlike T U → (n : ℕ) (player : ℤ) (g : Gathering) (line : List ℕ) {s s' t : Live} → Gathers T n player g line s s' → Gathers U n player g line s t → s' ≡ t
+pub one_gathering : (T U : Telling) → TellAlike T U → (n : ℕ) (player : ℤ) (g : Gathering) (line : List ℕ) {s s' t : WorldState} → Gathers T n player g line s s' → Gathers U n player g line s t → s' ≡ t
 one_gathering T U alike n player g line (keeps e) (keeps f) = refl
 one_gathering T U alike n player g line (keeps e) (ends f d) = cc
 one_gathering T U alike n player g line (ends e d) (keeps f) = cc
 one_gathering T U alike n player g line (ends e d) (ends f d') = one_ending T U alike n player g d d'
 
-ending_within : (T U : Telling) → Wider T U → (n : ℕ) (player : ℤ) (g : Gathering) {s s' : Live} → EndsProgramming T n player g s s' → EndsProgramming U n player g s s'
+ending_within : (T U : Telling) → Wider T U → (n : ℕ) (player : ℤ) (g : Gathering) {s s' : WorldState} → EndsProgramming T n player g s s' → EndsProgramming U n player g s s'
 ending_within T U wider n player g (no_verb e) = no_verb e
 ending_within T U wider n player g (denied e a) = denied e a
 ending_within T U wider n player g (faulty e a fault x) = faulty e a fault (wider g.lines fault x)
 ending_within T U wider n player g (parsed e a p) = parsed e a p
 
-pub gathering_within : (T U : Telling) → Wider T U → (n : ℕ) (player : ℤ) (g : Gathering) (line : List ℕ) {s s' : Live} → Gathers T n player g line s s' → Gathers U n player g line s s'
+pub gathering_within : (T U : Telling) → Wider T U → (n : ℕ) (player : ℤ) (g : Gathering) (line : List ℕ) {s s' : WorldState} → Gathers T n player g line s s' → Gathers U n player g line s s'
 gathering_within T U wider n player g line (keeps e) = keeps e
 gathering_within T U wider n player g line (ends e d) = ends e (ending_within T U wider n player g d)

@@ -10,7 +10,7 @@ use Rattle.moo_session_task.proofs.Depths.{light_words_fit}
 use Rattle.moo_session_connection.specs.declared.client.Client.{Client}
 use Rattle.moo_session_connection.specs.Connections.{Connections, client_here, is_open, is_leaving}
 use Rattle.moo_session_connection.specs.Changes.{joined, HasHeard}
-use Rattle.moo_session_task.specs.declared.live.Live.{Live}
+use Rattle.moo_session_task.specs.declared.world_state.WorldState.{WorldState}
 use Rattle.moo_session_task.specs.Session.{Session, no_session, in_connections}
 use Rattle.moo_session_task.specs.State.{state}
 use Rattle.moo_session_task.specs.Frames.{nobody}
@@ -32,7 +32,7 @@ pub no_words_fit : (words : List (List ℕ)) → words ≡ [] → FitsAList word
 no_words_fit words e = subst (λ (ws : List (List ℕ)). FitsAList ws) (sym e) (light_words_fit [] (omega arith))
 
 -- a connection has joined, who it may be was asked, and the hooks have run
-pub opened : (r : Result (Unit {0}) AllocError) (moment n : ℕ) (s : Live) (p : Session) (words : List (List ℕ)) (line : List ℕ) (greeted u : Live) → p ≡ in_connections (joined n moment) s.session →
+pub opened : (r : Result (Unit {0}) AllocError) (moment n : ℕ) (s : WorldState) (p : Session) (words : List (List ℕ)) (line : List ℕ) (greeted u : WorldState) → p ≡ in_connections (joined n moment) s.session →
     words ≡ [] → line ≡ [] → LogsIn Faults moment n words line (state s.world p) greeted → OnOk r (HooksRun Faults moment greeted u) → OnOk r (Opens Faults moment n s u)
 opened (Ok v) moment n s p words line greeted u e f g d h =
     let silent : LogsIn Faults moment n [] line (state s.world p) greeted = subst (λ (x : List (List ℕ)). LogsIn Faults moment n x line (state s.world p) greeted) f d in
@@ -41,14 +41,14 @@ opened (Ok v) moment n s p words line greeted u e f g d h =
 opened (Err short) moment n s p words line greeted u e f g d h = tt
 
 -- a piece was heard, and its lines were met
-pub lines_met : (r : Result (Unit {0}) AllocError) (moment n : ℕ) (piece : List ℕ) (s : Live) (p : Session) (lines : List (List ℕ)) (u : Live) →
+pub lines_met : (r : Result (Unit {0}) AllocError) (moment n : ℕ) (piece : List ℕ) (s : WorldState) (p : Session) (lines : List (List ℕ)) (u : WorldState) →
     HasHeard n moment piece s.session.connections lines p.connections → p ≡ record s.session { connections = p.connections } →
     OnOk r (MeetsLines Faults moment n lines (state s.world p) u) → OnOk r (Hears Faults moment n piece s u)
 lines_met (Ok v) moment n piece s p lines u h e d = heard h (subst (λ (x : Session). MeetsLines Faults moment n lines (state s.world x) u) e d)
 lines_met (Err short) moment n piece s p lines u h e d = tt
 
 -- nobody was there to hear
-pub nobody_heard : (moment n : ℕ) (piece : List ℕ) (s : Live) (p : Session) → client_here n s.session.connections ≡ None → p ≡ s.session → Hears Faults moment n piece s (state s.world p)
+pub nobody_heard : (moment n : ℕ) (piece : List ℕ) (s : WorldState) (p : Session) → client_here n s.session.connections ≡ None → p ≡ s.session → Hears Faults moment n piece s (state s.world p)
 nobody_heard moment n piece s p e f = subst (λ (x : Session). Hears Faults moment n piece s (state s.world x)) (sym f) (dropped e)
 
 -- who was heard is here
@@ -60,12 +60,12 @@ pub not_refused : {A : Type 0} (r : Result (Option A) AllocError) (short : Alloc
 not_refused r short e f = cc
 
 -- a connection has gone, and the hooks have run
-pub parted : (r : Result (Unit {0}) AllocError) (moment n : ℕ) (s : Live) (p : Session) (u : Live) → p ≡ hung_up n s.session → OnOk r (HooksRun Faults moment (state s.world p) u) → OnOk r (HangsUp Faults moment n s u)
+pub parted : (r : Result (Unit {0}) AllocError) (moment n : ℕ) (s : WorldState) (p : Session) (u : WorldState) → p ≡ hung_up n s.session → OnOk r (HooksRun Faults moment (state s.world p) u) → OnOk r (HangsUp Faults moment n s u)
 parted (Ok v) moment n s p u e h = subst (λ (x : Session). HooksRun Faults moment (state s.world x) u) e h
 parted (Err short) moment n s p u e h = tt
 
 -- a hook of the server's own was called, and the hooks have run
-pub own_called : (r : Result (Unit {0}) AllocError) (moment : ℕ) (name : List ℕ) (player : ℤ) (args : List Tree) (argstr : List ℕ) (s t u : Live) (answer : Option Tree) → player ≡ nobody → argstr ≡ [] →
+pub own_called : (r : Result (Unit {0}) AllocError) (moment : ℕ) (name : List ℕ) (player : ℤ) (args : List Tree) (argstr : List ℕ) (s t u : WorldState) (answer : Option Tree) → player ≡ nobody → argstr ≡ [] →
     CallsServerVerb Faults moment name player args argstr s answer t → OnOk r (HooksRun Faults moment t u) → OnOk r (CallsOwnHook Faults moment name args s u)
 own_called (Ok v) moment name player args argstr s t u answer e f call h =
     let alone : CallsServerVerb Faults moment name nobody args argstr s answer t = subst (λ (x : ℤ). CallsServerVerb Faults moment name x args argstr s answer t) e call in
@@ -73,11 +73,11 @@ own_called (Ok v) moment name player args argstr s t u answer e f call h =
 own_called (Err short) moment name player args argstr s t u answer e f call h = tt
 
 -- with these arguments
-pub called_with : (r : Result (Unit {0}) AllocError) (moment : ℕ) (name : List ℕ) (args others : List Tree) (s u : Live) → args ≡ others → OnOk r (CallsOwnHook Faults moment name args s u) → OnOk r (CallsOwnHook Faults moment name others s u)
+pub called_with : (r : Result (Unit {0}) AllocError) (moment : ℕ) (name : List ℕ) (args others : List Tree) (s u : WorldState) → args ≡ others → OnOk r (CallsOwnHook Faults moment name args s u) → OnOk r (CallsOwnHook Faults moment name others s u)
 called_with r moment name args others s u e h = subst (λ (x : List Tree). OnOk r (CallsOwnHook Faults moment name x s u)) e h
 
 -- those who were connected have parted, and the start was told
-pub started : (moment : ℕ) (players : List ℤ) (w : World) (p : Session) (t u : Live) (args : List Tree) → p ≡ all_parted players no_session → HooksRun Faults moment (state w p) t →
+pub started : (moment : ℕ) (players : List ℤ) (w : World) (p : Session) (t u : WorldState) (args : List Tree) → p ≡ all_parted players no_session → HooksRun Faults moment (state w p) t →
     args ≡ [] → CallsOwnHook Faults moment (codes "server_started") args t u → Starts Faults moment players w u
 started moment players w p t u args e h f d = record {
   parted = t;

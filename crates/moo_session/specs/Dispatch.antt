@@ -8,7 +8,7 @@ use Rattle.moo_world_table.specs.World.{World}
 use Rattle.moo_eval_access.specs.Entering.{called_verb, verb_there}
 use Rattle.moo_builtin.specs.Telling.{Telling}
 use Rattle.moo_session_connection.specs.declared.client.Client.{Client}
-use Rattle.moo_session_task.specs.declared.live.Live.{Live}
+use Rattle.moo_session_task.specs.declared.world_state.WorldState.{WorldState}
 use Rattle.moo_session_task.specs.Session.{Session}
 use Rattle.moo_session_task.specs.Sending.{sent}
 use Rattle.moo_session_task.specs.State.{in_session}
@@ -48,21 +48,21 @@ abbrev pub verb_to_run : World → ℤ → Command → Option (ℤ × (ℤ × Ve
 verb_to_run w player c = or_else (chosen_verb w player c) (huh_verb w player)
 
 -- That verb runs with the command, or a line tells that there is none.
-pub data RunsVerb (T : Telling) (moment : ℕ) (n : ℕ) (player : ℤ) (c : Command) (s : Live) : Live → Type 0 where
-  runs : {this : ℤ} {found : ℤ × Verb} {v : Option Tree} {s' : Live} → verb_to_run s.world player c ≡ Some (this, found) →
+pub data RunsVerb (T : Telling) (moment : ℕ) (n : ℕ) (player : ℤ) (c : Command) (s : WorldState) : WorldState → Type 0 where
+  runs : {this : ℤ} {found : ℤ × Verb} {v : Option Tree} {s' : WorldState} → verb_to_run s.world player c ≡ Some (this, found) →
       RunsTask T moment (command_frame found this player c) s v s' → RunsVerb T moment n player c s s'
   nothing_runs : verb_to_run s.world player c ≡ None → RunsVerb T moment n player c s (in_session (sent n (codes "I couldn't understand that.")) s)
 
 -- What comes after `do_command`: nothing where it gave a true value, else the command is read in the world that it left.
-pub data Follows (T : Telling) (moment : ℕ) (n : ℕ) (player : ℤ) (line : List ℕ) (answer : Option Tree) (s : Live) : Live → Type 0 where
+pub data Follows (T : Telling) (moment : ℕ) (n : ℕ) (player : ℤ) (line : List ℕ) (answer : Option Tree) (s : WorldState) : WorldState → Type 0 where
   is_done : is_true_answer answer ≡ true → Follows T moment n player line answer s s
-  goes_on : {c : Command} {s' : Live} → is_true_answer answer ≡ false → Commands s.world player line c → RunsVerb T moment n player c s s' → Follows T moment n player line answer s s'
+  goes_on : {c : Command} {s' : WorldState} → is_true_answer answer ≡ false → Commands s.world player line c → RunsVerb T moment n player c s s' → Follows T moment n player line answer s s'
 
 -- A player's command on connection n: the prefix, `do_command` with all its words, what follows it, and the suffix.
-pub record Commanded (T : Telling) (moment : ℕ) (n : ℕ) (client : Client) (player : ℤ) (words : List (List ℕ)) (line : List ℕ) (s s' : Live) : Type 0 where
+pub record Commanded (T : Telling) (moment : ℕ) (n : ℕ) (client : Client) (player : ℤ) (words : List (List ℕ)) (line : List ℕ) (s s' : WorldState) : Type 0 where
   pub answer : Option Tree
-  pub asked : Live
-  pub done : Live
+  pub asked : WorldState
+  pub done : WorldState
   pub asks : CallsServerVerb T moment (codes "do_command") player (strings_of words) line (in_session (sent_unless_empty n client.prefix) s) answer asked
   pub follows : Follows T moment n player line answer asked done
   pub leaves : in_session (sent_unless_empty n client.suffix) done ≡ s'

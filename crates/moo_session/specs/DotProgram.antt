@@ -22,7 +22,7 @@ use Rattle.moo_builtin.specs.Telling.{Telling}
 use Rattle.moo_session_connection.specs.Gathering.{Gathering}
 use Rattle.moo_session_connection.specs.Connections.{client_here}
 use Rattle.moo_session_connection.specs.Changes.{with_changed, with_gathering}
-use Rattle.moo_session_task.specs.declared.live.Live.{Live}
+use Rattle.moo_session_task.specs.declared.world_state.WorldState.{WorldState}
 use Rattle.moo_session_task.specs.Session.{Session, in_connections}
 use Rattle.moo_session_task.specs.Sending.{sent}
 use Rattle.moo_session_task.specs.State.{state, in_session}
@@ -82,11 +82,11 @@ abbrev pub is_dot : List ℕ → Bool
 is_dot line = bytes_eq line (codes ".")
 
 -- the verb has this program now, unless the world refuses it since there are too many
-abbrev pub programmed_unless : Option ErrorCode → ℕ → ℤ → ℕ → Block → Live → Live
+abbrev pub programmed_unless : Option ErrorCode → ℕ → ℤ → ℕ → Block → WorldState → WorldState
 programmed_unless None n o i b s = state (with_code s.world o i b) (sent n (codes "Verb programmed.") s.session)
 programmed_unless (Some e) n o i b s = in_session (sent n (codes "Verb not programmed.")) s
 
-abbrev pub programmed : ℕ → ℤ → ℕ → Block → Live → Live
+abbrev pub programmed : ℕ → ℤ → ℕ → Block → WorldState → WorldState
 programmed n o i b s = programmed_unless (program_raises s.world (number_of s.world.objects o) i true) n o i b s
 
 -- the lines are told a fault
@@ -95,7 +95,7 @@ told_fault n fault s = sent n (codes "Verb not programmed.") (sent n (fault_text
 
 -- The lines that were gathered become the verb's program, or a line tells why not. The verb is looked for again by its name, and the
 -- right to write it is asked again.
-pub data EndsProgramming (T : Telling) (n : ℕ) (player : ℤ) (g : Gathering) (s : Live) : Live → Type 0 where
+pub data EndsProgramming (T : Telling) (n : ℕ) (player : ℤ) (g : Gathering) (s : WorldState) : WorldState → Type 0 where
   no_verb : own_verb s.world g.object g.verb ≡ None → EndsProgramming T n player g s (in_session (sent n (codes "No such verb.")) s)
   denied : {i : ℕ} → own_verb s.world g.object g.verb ≡ Some i → may_write s.world player g.object i ≡ false →
       EndsProgramming T n player g s (in_session (sent n (codes "Permission denied.")) s)
@@ -106,9 +106,9 @@ pub data EndsProgramming (T : Telling) (n : ℕ) (player : ℤ) (g : Gathering) 
       EndsProgramming T n player g s (programmed n g.object i b s)
 
 -- A line of a connection that gathers: each is kept as it is, up to a dot.
-pub data Gathers (T : Telling) (n : ℕ) (player : ℤ) (g : Gathering) (line : List ℕ) (s : Live) : Live → Type 0 where
+pub data Gathers (T : Telling) (n : ℕ) (player : ℤ) (g : Gathering) (line : List ℕ) (s : WorldState) : WorldState → Type 0 where
   keeps : is_dot line ≡ false → Gathers T n player g line s (in_session (in_connections (with_changed n (with_gathering (Some (with_line line g))))) s)
-  ends : {s' : Live} → is_dot line ≡ true → EndsProgramming T n player g (in_session (in_connections (with_changed n (with_gathering None))) s) s' → Gathers T n player g line s s'
+  ends : {s' : WorldState} → is_dot line ≡ true → EndsProgramming T n player g (in_session (in_connections (with_changed n (with_gathering None))) s) s' → Gathers T n player g line s s'
 
 -- what the connection of this number gathers lines for, if for anything
 abbrev pub gathering_of : ℕ → Session → Option Gathering

@@ -11,7 +11,7 @@ use Rattle.moo_session_connection.specs.Connections.{client_known_as, client_her
 use Rattle.moo_session_connection.specs.Changes.{played}
 use Rattle.moo_session_task.specs.declared.hook.Hook.{Hook}
 use Rattle.moo_session_task.specs.declared.hook.Hook.TheVariants.{Created, Connected, Reconnected}
-use Rattle.moo_session_task.specs.declared.live.Live.{Live}
+use Rattle.moo_session_task.specs.declared.world_state.WorldState.{WorldState}
 use Rattle.moo_session_task.specs.Session.{Session, in_connections, caused}
 use Rattle.moo_session_task.specs.Sending.{sent, told}
 use Rattle.moo_session_task.specs.State.{in_session}
@@ -56,7 +56,7 @@ abbrev pub highest_in : World → ℤ
 highest_in w = highest (length w.objects)
 
 -- Whom an answer connects: a valid object with the player flag, where the connection isn't leaving.
-abbrev pub admitted : Live → ℕ → Option Tree → Option ℤ
+abbrev pub admitted : WorldState → ℕ → Option Tree → Option ℤ
 admitted s n answer =
     option_map_or (λ o. if is_player s.world o && is_some (client_here n s.session.connections) then Some o else None) (object_in answer) None
 
@@ -66,8 +66,8 @@ let_in n moment before (Some player) s = connected n player moment (int_lt befor
 
 -- `do_login_command` is called with these words and this line; its task ends before anybody is connected. Who is let in is new where
 -- the number is above the highest before the call.
-pub record LogsIn (T : Telling) (moment : ℕ) (n : ℕ) (words : List (List ℕ)) (line : List ℕ) (s s' : Live) : Type 0 where
+pub record LogsIn (T : Telling) (moment : ℕ) (n : ℕ) (words : List (List ℕ)) (line : List ℕ) (s s' : WorldState) : Type 0 where
   pub answer : Option Tree
-  pub asked : Live
+  pub asked : WorldState
   pub asks : CallsServerVerb T moment (codes "do_login_command") (own_number n) (strings_of words) line s answer asked
   pub leaves : in_session (let_in n moment (highest_in s.world) (admitted asked n answer)) asked ≡ s'

@@ -5,13 +5,17 @@ ghost use Rattle.moo_value.specs.Tree.{integer};
 ghost use Rattle.moo_builtin.specs.Telling.{Faults};
 ghost use Rattle.moo_session.specs.Events.{CallsOwnHook, CheckpointStarts, CheckpointEnds, Starts, all_parted};
 
-use moo_session_task::{Hook, Live, Session, call_server_verb, empty, run_hooks, word_list};
+use moo_session_task::{Hook, Session, WorldState, call_server_verb, empty, run_hooks, word_list};
 use moo_value::{ListLimit, MooList, Value};
 use moo_world::World;
 use std::alloc::{AllocError, Global};
 
 /// A checkpoint is about to begin. The error is want of memory.
-pub fn checkpoint_starts(alloc: Global, live: &mut Live, moment: u32) -> Result<(), AllocError>
+pub fn checkpoint_starts(
+    alloc: Global,
+    live: &mut WorldState,
+    moment: u32,
+) -> Result<(), AllocError>
     ensures { OnOk result (CheckpointStarts Faults moment live.old live.new) }
 {
     let args = no_values(alloc)?;
@@ -21,7 +25,7 @@ pub fn checkpoint_starts(alloc: Global, live: &mut Live, moment: u32) -> Result<
 /// A checkpoint has ended, done or failed. The error is want of memory.
 pub fn checkpoint_ends(
     alloc: Global,
-    live: &mut Live,
+    live: &mut WorldState,
     moment: u32,
     done: bool,
 ) -> Result<(), AllocError>
@@ -32,10 +36,15 @@ pub fn checkpoint_ends(
 }
 
 /// A server starts over a world, in which these players were connected when it was saved. The error is want of memory.
-pub fn start(alloc: Global, world: World, players: &[i32], moment: u32) -> Result<Live, AllocError>
+pub fn start(
+    alloc: Global,
+    world: World,
+    players: &[i32],
+    moment: u32,
+) -> Result<WorldState, AllocError>
     ensures { IfOk result (λ live. Starts Faults moment players.now world live) }
 {
-    let mut live = Live {
+    let mut live = WorldState {
         world,
         session: Session::new(alloc),
     };
@@ -58,7 +67,7 @@ fn part_all(session: &mut Session, players: &[i32]) -> Result<(), AllocError>
 // Calls a hook of the server's own, which has no player, and runs what it causes.
 fn call_own_hook(
     alloc: Global,
-    live: &mut Live,
+    live: &mut WorldState,
     moment: u32,
     name: &[u8],
     args: MooList,

@@ -12,7 +12,7 @@ use crate::verb_choice::{command_frame, verb_to_run};
 use moo_builtin_operator::is_true;
 use moo_command::laws::words_are_light;
 use moo_command::{Command, parse_command};
-use moo_session_task::{Live, Session, call_server_verb, run, word_list};
+use moo_session_task::{Session, WorldState, call_server_verb, run, word_list};
 use moo_value::{MooStr, Value};
 use std::alloc::{AllocError, Global};
 
@@ -20,7 +20,7 @@ use std::alloc::{AllocError, Global};
 /// error is want of memory.
 pub fn command(
     alloc: Global,
-    live: &mut Live,
+    live: &mut WorldState,
     moment: u32,
     number: u16,
     player: i32,
@@ -57,7 +57,7 @@ fn send_unless_empty(session: &mut Session, number: u16, line: &MooStr) -> Resul
 // What comes after `do_command`, which gave this answer.
 fn follow(
     alloc: Global,
-    live: &mut Live,
+    live: &mut WorldState,
     moment: u32,
     number: u16,
     player: i32,
@@ -87,7 +87,7 @@ fn is_true_answer(answer: &Option<Value>) -> bool
 // The verb that a command means runs, or a line tells that there is none.
 fn run_verb(
     alloc: Global,
-    live: &mut Live,
+    live: &mut WorldState,
     moment: u32,
     number: u16,
     player: i32,

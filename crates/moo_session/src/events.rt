@@ -5,11 +5,16 @@ ghost use Rattle.moo_session_connection.specs.Connections.{client_here, is_open}
 ghost use Rattle.moo_session.specs.Events.{Opens, Hears, HangsUp, hung_up, player_at};
 
 use crate::{log_in, meet_lines};
-use moo_session_task::{Hook, Live, Session, empty, run_hooks};
+use moo_session_task::{Hook, Session, WorldState, empty, run_hooks};
 use std::alloc::{AllocError, Global};
 
 /// A connection is opened at this moment, in seconds, under a number that none has. The error is want of memory.
-pub fn open(alloc: Global, live: &mut Live, moment: u32, number: u16) -> Result<(), AllocError>
+pub fn open(
+    alloc: Global,
+    live: &mut WorldState,
+    moment: u32,
+    number: u16,
+) -> Result<(), AllocError>
     requires { is_open number live.old.session.connections ≡ false }
     ensures { OnOk result (Opens Faults moment number live.old live.new) }
 {
@@ -21,9 +26,9 @@ pub fn open(alloc: Global, live: &mut Live, moment: u32, number: u16) -> Result<
 
 /// Bytes come on the connection of this number, which may end lines. Where it isn't open or is leaving they are dropped,
 /// which takes no memory. The error is want of memory.
-pub fn hear(
+pub fn receive(
     alloc: Global,
-    live: &mut Live,
+    live: &mut WorldState,
     moment: u32,
     number: u16,
     piece: &[u8],
@@ -31,14 +36,19 @@ pub fn hear(
     ensures heard { OnOk result (Hears Faults moment number piece.now live.old live.new) }
     ensures left { client_here number live.old.session.connections ≡ None → IsOk result × (live.new ≡ live.old) }
 {
-    let Some(lines) = live.session.hear(number, moment, piece)? else {
+    let Some(lines) = live.session.receive(number, moment, piece)? else {
         return Ok(());
     };
     meet_lines(alloc, live, moment, number, &lines)
 }
 
 /// The connection of this number hangs up, and its number is free. The error is want of memory.
-pub fn hang_up(alloc: Global, live: &mut Live, moment: u32, number: u16) -> Result<(), AllocError>
+pub fn hang_up(
+    alloc: Global,
+    live: &mut WorldState,
+    moment: u32,
+    number: u16,
+) -> Result<(), AllocError>
     ensures { OnOk result (HangsUp Faults moment number live.old live.new) }
 {
     free(&mut live.session, number)?;

@@ -7,7 +7,7 @@ ghost use Rattle.moo_session.specs.Inner.{MeetsNext};
 ghost use Rattle.moo_session.specs.Input.{MeetsLines};
 
 use crate::typed_line::type_line;
-use moo_session_task::{Live, Session, run_hooks};
+use moo_session_task::{Session, WorldState, run_hooks};
 use moo_value::MooStr;
 use std::alloc::{AllocError, Global};
 
@@ -15,7 +15,7 @@ use std::alloc::{AllocError, Global};
 /// connection that isn't open, or is leaving, are dropped. The error is want of memory.
 pub fn meet_lines(
     alloc: Global,
-    live: &mut Live,
+    live: &mut WorldState,
     moment: u32,
     number: u16,
     lines: &[MooStr],
@@ -32,7 +32,7 @@ pub fn meet_lines(
 // One line with its hooks, where the connection is there.
 fn meet_line(
     alloc: Global,
-    live: &mut Live,
+    live: &mut WorldState,
     moment: u32,
     number: u16,
     line: &MooStr,

@@ -7,7 +7,7 @@ ghost use Rattle.moo_session_task.specs.Seen.{seen_answer};
 ghost use Rattle.moo_session_task.specs.WordList.{FitsAList};
 
 use crate::connect::connect;
-use moo_session_task::{Live, call_server_verb, own_number, word_list};
+use moo_session_task::{WorldState, call_server_verb, own_number, word_list};
 use moo_value::{MooStr, Value};
 use moo_world::World;
 use std::alloc::{AllocError, Global};
@@ -16,7 +16,7 @@ use std::alloc::{AllocError, Global};
 /// player that it answers. The error is want of memory.
 pub fn log_in(
     alloc: Global,
-    live: &mut Live,
+    live: &mut WorldState,
     moment: u32,
     number: u16,
     words: Vec<MooStr>,
@@ -42,7 +42,7 @@ pub fn log_in(
 
 // Connects whom an answer admits. Who has a number above the highest before the call is new.
 fn let_in(
-    live: &mut Live,
+    live: &mut WorldState,
     moment: u32,
     number: u16,
     highest: i32,
@@ -57,7 +57,7 @@ fn let_in(
 }
 
 // Whom an answer connects.
-fn admitted(live: &Live, number: u16, answer: Option<Value>) -> Option<i32>
+fn admitted(live: &WorldState, number: u16, answer: Option<Value>) -> Option<i32>
     ensures { result ≡ admitted live.now number (seen_answer answer) }
 {
     let player = object_in(answer)?;

@@ -8,7 +8,7 @@ ghost use Rattle.moo_session.specs.Input.{PlayerTypes, kind_of, sets_prefix, set
 use crate::{begin_programming, command};
 use moo_command::laws::words_are_light;
 use moo_command::{Typed, read_typed};
-use moo_session_task::Live;
+use moo_session_task::WorldState;
 use moo_value::MooStr;
 use std::alloc::{AllocError, Global};
 
@@ -28,7 +28,7 @@ pub(crate) enum LineKind {
 /// `.program`, or a command. The error is want of memory.
 pub(crate) fn player_types(
     alloc: Global,
-    live: &mut Live,
+    live: &mut WorldState,
     moment: u32,
     number: u16,
     player: i32,
@@ -88,7 +88,7 @@ ghost use Rattle.moo_session.specs.Dispatch.{Commanded};
 // The command of what is typed in a line.
 fn run_command(
     alloc: Global,
-    live: &mut Live,
+    live: &mut WorldState,
     moment: u32,
     number: u16,
     player: i32,

@@ -6,7 +6,7 @@ ghost use Rattle.moo_session.specs.DotProgram.{EndsProgramming, programmed, told
 
 use crate::dot_program::own_verb;
 use moo_session_connection::Gathering;
-use moo_session_task::{Live, Session};
+use moo_session_task::{Session, WorldState};
 use moo_syntax::{SyntaxFault, SyntaxFaultKind, parse};
 use moo_syntax_grammar::{Names, Program};
 use moo_world::{Rights, WorldFault};
@@ -15,7 +15,7 @@ use std::alloc::{AllocError, Global};
 /// The lines become the program of the verb that they were gathered for, or the player is told why not.
 pub(crate) fn end_programming(
     alloc: Global,
-    live: &mut Live,
+    live: &mut WorldState,
     number: u16,
     player: i32,
     gathering: &Gathering,
@@ -36,7 +36,7 @@ pub(crate) fn end_programming(
 }
 
 fn set_program(
-    live: &mut Live,
+    live: &mut WorldState,
     number: u16,
     o: i32,
     index: usize,

@@ -4,7 +4,7 @@ ghost use Rattle.moo_builtin.specs.Telling.{Faults};
 ghost use Rattle.moo_session.specs.DotProgram.{Gathers, gathering_of, is_dot};
 
 use crate::program_end::end_programming;
-use moo_session_task::Live;
+use moo_session_task::WorldState;
 use moo_value::MooStr;
 use std::alloc::{AllocError, Global};
 
@@ -12,7 +12,7 @@ use std::alloc::{AllocError, Global};
 /// is want of memory.
 pub fn gather(
     alloc: Global,
-    live: &mut Live,
+    live: &mut WorldState,
     number: u16,
     player: i32,
     line: MooStr,

@@ -11,7 +11,7 @@ use crate::player_line::player_types;
 use crate::{gather, log_in};
 use moo_command::laws::words_are_light;
 use moo_command::words;
-use moo_session_task::{Live, Session};
+use moo_session_task::{Session, WorldState};
 use moo_value::MooStr;
 use std::alloc::{AllocError, Global};
 
@@ -19,7 +19,7 @@ use std::alloc::{AllocError, Global};
 /// error is want of memory.
 pub(crate) fn type_line(
     alloc: Global,
-    live: &mut Live,
+    live: &mut WorldState,
     moment: u32,
     number: u16,
     line: &MooStr,
@@ -39,7 +39,7 @@ pub(crate) fn type_line(
 // A line of a connection on which this player is connected.
 fn type_as(
     alloc: Global,
-    live: &mut Live,
+    live: &mut WorldState,
     moment: u32,
     number: u16,
     player: i32,
@@ -68,7 +68,7 @@ fn gathers(session: &Session, number: u16) -> bool
 // The line's words are those of the login.
 fn log_in_by_line(
     alloc: Global,
-    live: &mut Live,
+    live: &mut WorldState,
     moment: u32,
     number: u16,
     line: &MooStr,

@@ -208,9 +208,9 @@ whole-keep row players cs i d k e f h =
 row-set : (row : List Connection) (cs : List Client) (i : ℕ) (k : Client) → row ≡ row_of cs → slice_set row i k.connection ≡ row_of (slice_set cs i k)
 row-set row cs i k e = ap (λ (r : List Connection). slice_set r i k.connection) e ∙ sym (map-set seen cs i k)
 
-pub whole-hear : (row : List Connection) (players : BTreeMap ℤ ℕ) (cs : List Client) (i : ℕ) (d k : Client) → d ≡ get_or cs i d → number_of k ≡ number_of d → player_on k ≡ player_on d →
+pub whole-receive : (row : List Connection) (players : BTreeMap ℤ ℕ) (cs : List Client) (i : ℕ) (d k : Client) → d ≡ get_or cs i d → number_of k ≡ number_of d → player_on k ≡ player_on d →
     AreWhole row players cs → AreWhole (slice_set row i k.connection) players (slice_set cs i k)
-whole-hear row players cs i d k e f g h = (
+whole-receive row players cs i d k e f g h = (
   order-set cs i k d (f ∙ ap number_of e) h.0,
   own-set cs i k d (g ∙ ap player_on e) h.1,
   row-set row cs i k h.2,

@@ -13,7 +13,7 @@ use std::alloc::AllocError;
 impl Connections {
     /// Takes a piece that a connection sent at this moment, in seconds, and returns the lines that it ends. Returns
     /// `None` if the connection isn't open or is leaving; this allocates no memory. Fails only if memory runs out.
-    pub fn hear(
+    pub fn receive(
         &mut self,
         number: u16,
         moment: u32,
@@ -27,14 +27,14 @@ impl Connections {
         let Some(place) = self.place_here(number) else {
             return Ok(None);
         };
-        let lines = self.clients[place].hear(moment, piece)?;
+        let lines = self.clients[place].receive(moment, piece)?;
         self.row[place] = self.clients[place].connection;
         Ok(Some(lines))
     }
 }
 
 impl Client {
-    fn hear(&mut self, moment: u32, piece: &[u8]) -> Result<Vec<MooStr>, AllocError>
+    fn receive(&mut self, moment: u32, piece: &[u8]) -> Result<Vec<MooStr>, AllocError>
         ensures reads { IfOk result (λ lines. Reads self.old.reader piece.now lines.items self.new.reader) }
         ensures lines { IfOk result (λ lines. All IsLine lines.items) }
         ensures changed { OnOk result (self.new ≡ with_heard moment self.new.reader self.old) }

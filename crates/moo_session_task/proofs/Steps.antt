@@ -17,7 +17,7 @@ use Rattle.moo_eval_semantics.specs.Task.{End, value, uncaught, out_of_ticks, Ta
 use Rattle.moo_eval.specs.Ends.{IfEnded, LeavesNotices, texts}
 use Rattle.moo_session_connection.specs.Connections.{around}
 use Rattle.moo_session_task.specs.declared.hook.Hook.{Hook}
-use Rattle.moo_session_task.specs.declared.live.Live.{Live}
+use Rattle.moo_session_task.specs.declared.world_state.WorldState.{WorldState}
 use Rattle.moo_session_task.specs.Session.{Session, with_hooks}
 use Rattle.moo_session_task.specs.State.{state, in_session}
 use Rattle.moo_session_task.specs.Sending.{all_told}
@@ -44,7 +44,7 @@ alone (ended.OutOfTicks lines) near near' start w w' old ns e f h = noticed near
 alone ended.Memory near near' start w w' old ns e f h = tt
 
 -- a task that ended so
-ended_so : (moment : ℕ) (start : Frame) (s : Live) (w : World) (u : Session) (v : Option Tree) (notices : List Notice) (end : End) →
+ended_so : (moment : ℕ) (start : Frame) (s : WorldState) (w : World) (u : Session) (v : Option Tree) (notices : List Notice) (end : End) →
     TaskEnds Faults (around moment s.session.connections) start s.world end w notices → value_of end ≡ v → u ≡ all_told start.player (account_of end) (all_met notices s.session) →
     RunsTask Faults moment start s v (state w u)
 ended_so moment start s w u v notices end h e f = record {
@@ -57,7 +57,7 @@ ended_so moment start s w u v notices end h e f = record {
 }
 
 -- a task that ended, whose notices were met and whose end was told
-pub task_run : (moment : ℕ) (start : Frame) (s : Live) (w : World) (t u : Session) (e : code.Ended) (v : Option Tree) (notices : List Notice) →
+pub task_run : (moment : ℕ) (start : Frame) (s : WorldState) (w : World) (t u : Session) (e : code.Ended) (v : Option Tree) (notices : List Notice) →
     IfEnded e (λ end. TaskEnds Faults (around moment s.session.connections) start s.world end w notices) → t ≡ all_met notices s.session →
     EndIs e (λ end. (value_of end ≡ v) × (u ≡ all_told start.player (account_of end) t)) → RunsTask Faults moment start s v (state w u)
 task_run moment start s w t u (ended.Value x) v notices h f g =
@@ -68,7 +68,7 @@ task_run moment start s w t u (ended.OutOfTicks lines) v notices h f g =
     ended_so moment start s w u v notices (out_of_ticks (texts lines.items)) h g.0 (g.1 ∙ ap (λ (x : Session). all_told start.player (texts lines.items) x) f)
 task_run moment start s w t u ended.Memory v notices h f g = absurd g
 
-pub task_answers : (r : Result (Option Value) AllocError) (moment : ℕ) (start : Frame) (s : Live) (w : World) (t u : Session) (e : code.Ended) (notices : List Notice) →
+pub task_answers : (r : Result (Option Value) AllocError) (moment : ℕ) (start : Frame) (s : WorldState) (w : World) (t u : Session) (e : code.Ended) (notices : List Notice) →
     IfEnded e (λ end. TaskEnds Faults (around moment s.session.connections) start s.world end w notices) → t ≡ all_met notices s.session →
     IfOk r (λ v. EndIs e (λ end. (value_of end ≡ seen_answer v) × (u ≡ all_told start.player (account_of end) t))) →
     IfOk r (λ v. RunsTask Faults moment start s (seen_answer v) (state w u))
@@ -76,7 +76,7 @@ task_answers (Ok v) moment start s w t u e notices h f g = task_run moment start
 task_answers (Err fault) moment start s w t u e notices h f g = tt
 
 -- a verb of #0 that was found has run
-pub call_runs : (r : Result (Option Value) AllocError) (moment : ℕ) (name : List ℕ) (player : ℤ) (args : List Tree) (argstr : List ℕ) (s s' : Live) (found : ℤ × Verb) (start : Frame) →
+pub call_runs : (r : Result (Option Value) AllocError) (moment : ℕ) (name : List ℕ) (player : ℤ) (args : List Tree) (argstr : List ℕ) (s s' : WorldState) (found : ℤ × Verb) (start : Frame) →
     server_verb s.world name ≡ Some found → start ≡ server_frame found name player args argstr →
     IfOk r (λ v. RunsTask Faults moment start s (seen_answer v) s') → IfOk r (λ v. CallsServerVerb Faults moment name player args argstr s (seen_answer v) s')
 call_runs (Ok v) moment name player args argstr s s' found start e f h =
@@ -85,28 +85,28 @@ call_runs (Ok v) moment name player args argstr s s' found start e f h =
 call_runs (Err lack) moment name player args argstr s s' found start f g h = tt
 
 -- one step of the hooks that ran one
-pub next_run : (moment : ℕ) (s s' : Live) (t : Session) (h : Hook) (hs : List Hook) (v : Option Tree) → s.session.hooks ≡ h ∷ hs → t ≡ with_hooks hs s.session →
+pub next_run : (moment : ℕ) (s s' : WorldState) (t : Session) (h : Hook) (hs : List Hook) (v : Option Tree) → s.session.hooks ≡ h ∷ hs → t ≡ with_hooks hs s.session →
     CallsHook Faults moment h (state s.world t) v s' → RunsNext Faults moment s true s'
 next_run moment s s' t h hs v e f call = has_run e (subst (λ (x : Session). CallsHook Faults moment h (state s.world x) v s') f call)
 
 -- no hook waits
-pub next_none : (moment : ℕ) (s : Live) (t : Session) → s.session.hooks ≡ [] → t ≡ s.session → RunsNext Faults moment s false (state s.world t)
+pub next_none : (moment : ℕ) (s : WorldState) (t : Session) → s.session.hooks ≡ [] → t ≡ s.session → RunsNext Faults moment s false (state s.world t)
 next_none moment s t e f = subst (λ (x : Session). RunsNext Faults moment s false (state s.world x)) (sym f) (none_left e)
 
 -- the steps together
-pub hooks_go_on : (moment : ℕ) (s t : Live) → RunsNext Faults moment s true t → (end : Live) → HooksRun Faults moment t end → HooksRun Faults moment s end
+pub hooks_go_on : (moment : ℕ) (s t : WorldState) → RunsNext Faults moment s true t → (end : WorldState) → HooksRun Faults moment t end → HooksRun Faults moment s end
 hooks_go_on moment s t (has_run e call) end d = first_runs e call d
 
-pub hooks_end : (moment : ℕ) (s t : Live) → RunsNext Faults moment s false t → HooksRun Faults moment s t
+pub hooks_end : (moment : ℕ) (s t : WorldState) → RunsNext Faults moment s false t → HooksRun Faults moment s t
 hooks_end moment s t (none_left e) = none_waits e
 
 -- a step makes what may still come less
-pub next_lt : (moment : ℕ) (s t : Live) → RunsNext Faults moment s true t → potential t.session + 1 ≤ potential s.session
+pub next_lt : (moment : ℕ) (s t : WorldState) → RunsNext Faults moment s true t → potential t.session + 1 ≤ potential s.session
 next_lt moment s t (has_run {h = h} {hs = hs} {v = v} e call) =
     omega (arith, calls_le Faults moment (hook_name h) (player_of_hook h) (object (player_of_hook h) ∷ []) [] (in_session (with_hooks hs) s) t v call, ap (λ (xs : List Hook). length xs) e)
 
 -- a hook's verb that was called is the hook's
-pub hook_called : (r : Result (Option Value) AllocError) (moment : ℕ) (h : Hook) (name : List ℕ) (player : ℤ) (args : List Tree) (argstr : List ℕ) (s s' : Live) →
+pub hook_called : (r : Result (Option Value) AllocError) (moment : ℕ) (h : Hook) (name : List ℕ) (player : ℤ) (args : List Tree) (argstr : List ℕ) (s s' : WorldState) →
     name ≡ hook_name h → player ≡ player_of_hook h → args ≡ object player ∷ [] → argstr ≡ [] →
     IfOk r (λ v. CallsServerVerb Faults moment name player args argstr s (seen_answer v) s') → IfOk r (λ v. CallsHook Faults moment h s (seen_answer v) s')
 hook_called (Err lack) moment h name player args argstr s s' n p a g call = tt

@@ -7,7 +7,7 @@ use Rattle.moo_eval_frame.specs.declared.notice.Notice.{Notice}
 use Rattle.moo_eval_frame.specs.Surroundings.{Surroundings}
 use Rattle.moo_eval_semantics.specs.Task.{End, TaskEnds}
 use Rattle.moo_builtin.specs.Telling.{Telling, Choice, PassesPrograms, chosen_by}
-use Rattle.moo_session_task.specs.declared.live.Live.{Live}
+use Rattle.moo_session_task.specs.declared.world_state.WorldState.{WorldState}
 use Rattle.moo_session_task.specs.Tasks.{CallsServerVerb}
 use Rattle.moo_session_task.specs.Hooks.{HooksRun}
 
@@ -23,9 +23,9 @@ IsWithin T U = (around : Surroundings) (start : Frame) (before after : World) (e
 
 -- whatever is chosen to be told, the same each time
 abbrev pub OneResultOfCalls : Type 0
-OneResultOfCalls = (choice : Choice) → PassesPrograms choice → (moment : ℕ) (name : List ℕ) (player : ℤ) (args : List Tree) (argstr : List ℕ) (s s' t : Live) (v w : Option Tree) →
+OneResultOfCalls = (choice : Choice) → PassesPrograms choice → (moment : ℕ) (name : List ℕ) (player : ℤ) (args : List Tree) (argstr : List ℕ) (s s' t : WorldState) (v w : Option Tree) →
     CallsServerVerb (chosen_by choice) moment name player args argstr s v s' → CallsServerVerb (chosen_by choice) moment name player args argstr s w t → (v ≡ w) × (s' ≡ t)
 
 abbrev pub OneResultOfHooks : Type 0
-OneResultOfHooks = (choice : Choice) → PassesPrograms choice → (moment : ℕ) (s s' t : Live) →
+OneResultOfHooks = (choice : Choice) → PassesPrograms choice → (moment : ℕ) (s s' t : WorldState) →
     HooksRun (chosen_by choice) moment s s' → HooksRun (chosen_by choice) moment s t → s' ≡ t

@@ -8,7 +8,7 @@ use Rattle.moo_eval_frame.specs.declared.frame.Frame.{Frame}
 use Rattle.moo_eval_frame.specs.declared.notice.Notice.{Notice}
 use Rattle.moo_eval_semantics.specs.Task.{End, value, uncaught, out_of_ticks, TaskEnds}
 use Rattle.moo_session_connection.specs.Connections.{around}
-use Rattle.moo_session_task.specs.declared.live.Live.{Live}
+use Rattle.moo_session_task.specs.declared.world_state.WorldState.{WorldState}
 use Rattle.moo_session_task.specs.State.{state}
 use Rattle.moo_session_task.specs.Sending.{all_told}
 use Rattle.moo_session_task.specs.Notices.{all_met}
@@ -28,7 +28,7 @@ account_of (out_of_ticks lines) = lines
 
 -- A task that begins with this frame, at this moment: what it changed in the world stays, then what it asked for is met in order,
 -- then the lines that tell of its end go to its player.
-pub record RunsTask (T : Telling) (moment : ℕ) (start : Frame) (s : Live) (v : Option Tree) (s' : Live) : Type 0 where
+pub record RunsTask (T : Telling) (moment : ℕ) (start : Frame) (s : WorldState) (v : Option Tree) (s' : WorldState) : Type 0 where
   pub end : End
   pub after : World
   pub notices : List Notice
@@ -37,7 +37,7 @@ pub record RunsTask (T : Telling) (moment : ℕ) (start : Frame) (s : Live) (v :
   pub leaves : state after (all_told start.player (account_of end) (all_met notices s.session)) ≡ s'
 
 -- A verb of #0 is called, where there is one by this name that can be executed.
-pub data CallsServerVerb (T : Telling) (moment : ℕ) (name : List ℕ) (player : ℤ) (args : List Tree) (argstr : List ℕ) (s : Live) : Option Tree → Live → Type 0 where
+pub data CallsServerVerb (T : Telling) (moment : ℕ) (name : List ℕ) (player : ℤ) (args : List Tree) (argstr : List ℕ) (s : WorldState) : Option Tree → WorldState → Type 0 where
   is_missing : server_verb s.world name ≡ None → CallsServerVerb T moment name player args argstr s None s
-  runs : {found : ℤ × Verb} {v : Option Tree} {s' : Live} → server_verb s.world name ≡ Some found →
+  runs : {found : ℤ × Verb} {v : Option Tree} {s' : WorldState} → server_verb s.world name ≡ Some found →
       RunsTask T moment (server_frame found name player args argstr) s v s' → CallsServerVerb T moment name player args argstr s v s'

@@ -73,7 +73,7 @@ impl Session {
 
     /// A connection has sent a piece at this moment, in seconds: the lines that it ends, or `None` where the connection
     /// isn't open or is leaving, which takes no memory. `Err` where memory is wanting.
-    pub fn hear(
+    pub fn receive(
         &mut self,
         number: u16,
         moment: u32,
@@ -85,6 +85,6 @@ impl Session {
         ensures nobody { IfOk result (λ answer. IfNone answer ((client_here number self.old.connections ≡ None) × (self.new ≡ self.old))) }
         ensures left { client_here number self.old.connections ≡ None → result ≡ Ok None }
     {
-        self.connections.hear(number, moment, piece)
+        self.connections.receive(number, moment, piece)
     }
 }

@@ -7,14 +7,14 @@ ghost use Rattle.moo_session_task.specs.Hooks.{HooksRun, RunsNext, CallsHook, ho
 ghost use Rattle.moo_session_task.specs.Seen.{seen_answer};
 
 use crate::verbs::{call_server_verb, empty};
-use crate::{Hook, Live};
+use crate::{Hook, WorldState};
 use moo_value::{ListLimit, MooList, Value};
 use std::alloc::{AllocError, Global};
 
 /// Runs the hooks that wait, from the first on, until none waits, at this moment, in seconds. `Err` where memory is
 /// wanting.
 #[tactic(none)]
-pub fn run_hooks(alloc: Global, live: &mut Live, moment: u32) -> Result<(), AllocError>
+pub fn run_hooks(alloc: Global, live: &mut WorldState, moment: u32) -> Result<(), AllocError>
     ensures { OnOk result (HooksRun Faults moment live.old live.new) }
 {
     while run_next(alloc, live, moment)? {}
@@ -23,7 +23,7 @@ pub fn run_hooks(alloc: Global, live: &mut Live, moment: u32) -> Result<(), Allo
 
 // Runs the first hook that waits, and answers whether there was one.
 #[tactic(none)]
-fn run_next(alloc: Global, live: &mut Live, moment: u32) -> Result<bool, AllocError>
+fn run_next(alloc: Global, live: &mut WorldState, moment: u32) -> Result<bool, AllocError>
     ensures { IfOk result (λ more. RunsNext Faults moment live.old more live.new) }
 {
     let Some(hook) = live.session.next_hook() else {
@@ -36,7 +36,7 @@ fn run_next(alloc: Global, live: &mut Live, moment: u32) -> Result<bool, AllocEr
 #[tactic(auto)]
 fn call_hook(
     alloc: Global,
-    live: &mut Live,
+    live: &mut WorldState,
     moment: u32,
     hook: Hook,
 ) -> Result<Option<Value>, AllocError>

@@ -8,7 +8,7 @@ ghost use Rattle.moo_session_task.specs.Sending.{all_told};
 ghost use Rattle.moo_session_task.specs.Tasks.{RunsTask, value_of, account_of};
 ghost use Rattle.moo_session_task.specs.Seen.{seen_answer, EndIs};
 
-use crate::{Live, Session};
+use crate::{Session, WorldState};
 use moo_eval::{Ended, run_task};
 use moo_eval_frame::{Frame, Notice, Surroundings, TaskEnv};
 use moo_value::Value;
@@ -18,7 +18,7 @@ use std::alloc::{AllocError, Global};
 /// it ended where it has no value. Answers the value. `Err` where memory is wanting.
 pub fn run(
     alloc: Global,
-    live: &mut Live,
+    live: &mut WorldState,
     moment: u32,
     start: Frame,
 ) -> Result<Option<Value>, AllocError>
@@ -31,7 +31,12 @@ pub fn run(
 }
 
 // Runs the task over the row of the connections as they are, and answers what it asked for.
-fn run_alone(alloc: Global, live: &mut Live, moment: u32, start: Frame) -> (Ended, Vec<Notice>)
+fn run_alone(
+    alloc: Global,
+    live: &mut WorldState,
+    moment: u32,
+    start: Frame,
+) -> (Ended, Vec<Notice>)
     ensures ends { IfEnded result.0 (λ end. TaskEnds Faults (around moment live.old.session.connections) start live.old.world end live.new.world result.1.items) }
     ensures kept { live.new.session ≡ live.old.session }
 {

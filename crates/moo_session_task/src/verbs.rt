@@ -7,7 +7,7 @@ ghost use Rattle.moo_session_task.specs.Frames.{server_frame};
 ghost use Rattle.moo_session_task.specs.Tasks.{CallsServerVerb};
 ghost use Rattle.moo_session_task.specs.Seen.{seen_answer};
 
-use crate::Live;
+use crate::WorldState;
 use crate::tasks::run;
 use moo_eval_access::{Call, Found, called_verb, verb_frame};
 use moo_eval_frame::Frame;
@@ -19,7 +19,7 @@ use std::alloc::{AllocError, Global};
 /// one. `Err` where memory is wanting.
 pub fn call_server_verb(
     alloc: Global,
-    live: &mut Live,
+    live: &mut WorldState,
     moment: u32,
     verb: &[u8],
     player: i32,

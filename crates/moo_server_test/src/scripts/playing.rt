@@ -4,7 +4,7 @@
 use crate::scripts::streams::{Paper, Source};
 use log::sink::Memory;
 use moo_cli_script::run_script;
-use moo_server::LiveWorld;
+use moo_server::MooApplication;
 use std::alloc::Global;
 
 /// A wizard, #3, in a room, #2. Who opens a connection is #3.
@@ -23,7 +23,7 @@ pub fn play(
     mut script: Source,
     printed: &mut Paper,
 ) -> u8 {
-    run_script::<LiveWorld, Memory, Source, Source, Paper>(
+    run_script::<MooApplication, Memory, Source, Source, Paper>(
         alloc,
         log,
         &mut database,

@@ -7,7 +7,7 @@ use Rattle.moo_cli_script.proofs.handing.print_below.Given as goal
 
 abbrev pub invariant-loop-c : goal.invariant-loop-c
 invariant-loop-c g l = record {
-  printed : IsPrintedTo g.S.Sessions.layer l.initial.server l.server l.c;
-  text : Appends (g.O.Write.contents l.initial.output) (g.O.Write.contents l.output) (printed_below l.c (waiting_of g.S.Sessions.layer l.initial.server).sent);
+  printed : IsPrintedTo g.S.Application.layer l.initial.server l.server l.c;
+  text : Appends (g.O.Write.contents l.initial.output) (g.O.Write.contents l.output) (printed_below l.c (waiting_of g.S.Application.layer l.initial.server).sent);
   counted : l.watch.reads ≡ l.initial.watch.reads;
 }

@@ -9,7 +9,7 @@ use Rattle.moo_cli_script.proofs.playing.play.Goals as goal
 pub loop-script-init : goal.loop-script-init
 loop-script-init g c = record {
   fits = c.requires;
-  played = none_played g.S.Sessions.layer c.args.script (g.I.Read.remaining c.args.input.now) (g.O.Write.contents c.args.output.now);
+  played = none_played g.S.Application.layer c.args.script (g.I.Read.remaining c.args.input.now) (g.O.Write.contents c.args.output.now);
   fewer = omega arith;
 }
 
@@ -18,7 +18,7 @@ loop-script-preserved g c =
     let before = g.I.Read.remaining c.loop-script.input in
     let behind = g.I.Read.remaining c.next_line.new.input in
     let takes = at_some c.in_ok-line.field-0 c.in-Some.line _ (λ line. TakesLine before behind line.items) c.in-Some.is c.in_ok-line.ensures.line in
-    let on = went_on g.S.Sessions.layer c.args.script c.loop-script.script c.in-Goes.next c.loop-script.number c.in-Some.line.items c.as_slice.result.now c.in_ok-next.field-0
+    let on = went_on g.S.Application.layer c.args.script c.loop-script.script c.in-Goes.next c.loop-script.number c.in-Some.line.items c.as_slice.result.now c.in_ok-next.field-0
     (g.I.Read.remaining c.args.input.now) before behind (g.O.Write.contents c.args.output.now) (g.O.Write.contents c.loop-script.output) (g.O.Write.contents c.play_line.new.output)
     c.loop-script.invariant.played takes c.as_slice.ensures.value c.in-Goes.is c.in_ok-next.ensures.next in
     record {
@@ -32,7 +32,7 @@ returns-in-Stops-clause-plays g c =
     let before = g.I.Read.remaining c.loop-script.input in
     let behind = g.I.Read.remaining c.next_line.new.input in
     let takes = at_some c.in_ok-line.field-0 c.in-Some.line _ (λ line. TakesLine before behind line.items) c.in-Some.is c.in_ok-line.ensures.line in
-    IfOk-weaker c.tell_stop.result _ _ (λ status told. ended_at g.S.Sessions.layer c.args.script c.loop-script.script c.loop-script.number c.in-Some.line.items c.as_slice.result.now
+    IfOk-weaker c.tell_stop.result _ _ (λ status told. ended_at g.S.Application.layer c.args.script c.loop-script.script c.loop-script.number c.in-Some.line.items c.as_slice.result.now
     c.in-Stops.stop c.in_ok-next.field-0 (g.I.Read.remaining c.args.input.now) before behind (g.O.Write.contents c.args.output.now) (g.O.Write.contents c.loop-script.output)
     (g.O.Write.contents c.play_line.new.output) (g.O.Write.contents c.tell_stop.new.output) status c.loop-script.invariant.played takes c.as_slice.ensures.value c.in-Stops.is
     c.in_ok-next.ensures.next told) c.tell_stop.ensures.told
@@ -40,7 +40,7 @@ returns-in-Stops-clause-plays g c =
 pub returns-clause-plays : goal.returns-clause-plays
 returns-clause-plays g c =
     let end = at_none c.in_ok-line.field-0 (IsAtEnd (g.I.Read.remaining c.loop-script.input)) _ c.in_default.not-Some c.in_ok-line.ensures.line in
-    all_played g.S.Sessions.layer c.args.script c.loop-script.script c.loop-script.number (g.I.Read.remaining c.args.input.now) (g.I.Read.remaining c.loop-script.input)
+    all_played g.S.Application.layer c.args.script c.loop-script.script c.loop-script.number (g.I.Read.remaining c.args.input.now) (g.I.Read.remaining c.loop-script.input)
     (g.O.Write.contents c.args.output.now) (g.O.Write.contents c.loop-script.output) 0 c.loop-script.invariant.played end refl
 
 pub returns-in_err-line-clause-grown : goal.returns-in_err-line-clause-grown
@@ -56,7 +56,7 @@ pub returns-in-Stops-clause-grown : goal.returns-in-Stops-clause-grown
 returns-in-Stops-clause-grown g c =
     let old = g.O.Write.contents c.args.output.now in
     let mid = g.O.Write.contents c.loop-script.output in
-    let still = still_at g.S.Sessions.layer c.loop-script.script c.as_slice.result.now c.in-Stops.stop c.in_ok-next.field-0 old mid (g.O.Write.contents c.play_line.new.output) _
+    let still = still_at g.S.Application.layer c.loop-script.script c.as_slice.result.now c.in-Stops.stop c.in_ok-next.field-0 old mid (g.O.Write.contents c.play_line.new.output) _
     c.loop-script.invariant.played.grown c.in-Stops.is c.in_ok-next.ensures.next in
     err_weaker c.tell_stop.result _ _ (grown_silent c.tell_stop.new.watch old (g.O.Write.contents c.play_line.new.output) (g.O.Write.contents c.tell_stop.new.output) _ still)
     c.tell_stop.ensures.silent

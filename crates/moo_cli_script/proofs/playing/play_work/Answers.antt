@@ -10,5 +10,5 @@ returns-in_ok-hand_out-in-Ok-clause-next g c =
       c.in-Ok.script,
       c.in-Ok.ensures.does,
       handed.handed,
-      subst (λ (b : Bool). Appends (g.O.Write.contents c.args.output.now) (g.O.Write.contents c.hand_out.new.output) (printed_of g.S.Sessions.layer b c.in-Ok.script)) c.is_show-show.ensures handed.text,
+      subst (λ (b : Bool). Appends (g.O.Write.contents c.args.output.now) (g.O.Write.contents c.hand_out.new.output) (printed_of g.S.Application.layer b c.in-Ok.script)) c.is_show-show.ensures handed.text,
     )

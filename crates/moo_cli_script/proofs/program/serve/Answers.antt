@@ -1,12 +1,12 @@
 use Rattle.std.proofs.lemmas.Result.{IfOk-weaker}
 use Rattle.std.proofs.KnownBytes.{Appends-nil}
 use Rattle.moo_cli_script.proofs.Growing.{any_err, err_weaker, grown_more, grown_silent, not_grown}
-use Rattle.moo_cli_script.proofs.Serving.{held, not_served, nothing_printed, served}
+use Rattle.moo_cli_script.proofs.ServerCore.{held, not_served, nothing_printed, served}
 use Rattle.moo_cli_script.proofs.program.serve.Goals as goal
 
 pub returns-in_ok-hand_out-in-Ok-clause-answered : goal.returns-in_ok-hand_out-in-Ok-clause-answered
 returns-in_ok-hand_out-in-Ok-clause-answered g c =
-    let l = g.S.Sessions.layer in
+    let l = g.S.Application.layer in
     let holds = held c.in_ok-text.text.items c.new-disk.result c.new.result c.new-disk.ensures.inner c.new.ensures.images c.new.ensures.main c.new-disk.ensures.left in
     let handed = c.in_ok-hand_out-in-Ok.ensures in
     IfOk-weaker c.play.result _ _ (λ status plays. served l (g.F.Read.remaining c.args.database.now) (g.I.Read.remaining c.args.input.now) (g.O.Write.contents c.args.output.now)
@@ -16,7 +16,7 @@ returns-in_ok-hand_out-in-Ok-clause-answered g c =
 
 pub returns-in-Err-clause-answered : goal.returns-in-Err-clause-answered
 returns-in-Err-clause-answered g c =
-    let l = g.S.Sessions.layer in
+    let l = g.S.Application.layer in
     let holds = held c.in_ok-text.text.items c.new-disk.result c.new.result c.new-disk.ensures.inner c.new.ensures.images c.new.ensures.main c.new-disk.ensures.left in
     IfOk-weaker c.tell_opening.result _ _ (λ status told. not_served l (g.F.Read.remaining c.args.database.now) (g.I.Read.remaining c.args.input.now) (g.O.Write.contents c.args.output.now)
     (g.O.Write.contents c.tell_opening.new.output) c.in_ok-text.text.items c.new-disk.result c.in-Err.fault status c.in_ok-text.ensures.text holds c.in-Err.ensures.refused told.0 told.1)
@@ -29,7 +29,7 @@ pub returns-in_ok-hand_out-in-Ok-clause-grown : goal.returns-in_ok-hand_out-in-O
 returns-in_ok-hand_out-in-Ok-clause-grown g c =
     let old = g.O.Write.contents c.args.output.now in
     let mid = g.O.Write.contents c.hand_out.new.output in
-    let none = nothing_printed g.S.Sessions.layer c.in-Ok.script old mid c.in-Ok.ensures.opens.top c.in_ok-hand_out-in-Ok.ensures.text in
+    let none = nothing_printed g.S.Application.layer c.in-Ok.script old mid c.in-Ok.ensures.opens.top c.in_ok-hand_out-in-Ok.ensures.text in
     err_weaker c.play.result _ _ (grown_more c.play.new.watch old mid (g.O.Write.contents c.play.new.output) _ none) c.play.ensures.grown
 
 pub returns-in-Err-clause-grown : goal.returns-in-Err-clause-grown

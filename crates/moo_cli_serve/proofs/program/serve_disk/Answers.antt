@@ -29,9 +29,9 @@ returns-in_err-tell_address-clause-ended g c =
 
 pub returns-clause-served : goal.returns-clause-served
 returns-clause-served g c =
-    serves_so g.S.Sessions.layer g.D.Disk.view g.D.Disk.honest g.D.Disk.failures _ _ _ c.in_ok-serving.serving c.serve.new.self c.serve.result c.in_ok-serving.ensures.begun c.serve.ensures.course
+    serves_so g.S.Application.layer g.D.Disk.view g.D.Disk.honest g.D.Disk.failures _ _ _ c.in_ok-serving.serving c.serve.new.self c.serve.result c.in_ok-serving.ensures.begun c.serve.ensures.course
     c.serve.ensures.served
 
 pub returns-clause-ended : goal.returns-clause-ended
 returns-clause-ended g c =
-    stops_so g.S.Sessions.layer g.D.Disk.view g.D.Disk.honest g.D.Disk.failures _ _ _ c.in_ok-serving.serving c.serve.new.self c.serve.result c.in_ok-serving.ensures.begun c.serve.ensures.ended
+    stops_so g.S.Application.layer g.D.Disk.view g.D.Disk.honest g.D.Disk.failures _ _ _ c.in_ok-serving.serving c.serve.new.self c.serve.result c.in_ok-serving.ensures.begun c.serve.ensures.ended

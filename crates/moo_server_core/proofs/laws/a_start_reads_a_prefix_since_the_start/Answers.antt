@@ -4,7 +4,7 @@ use Rattle.moo_server_core.proofs.laws.a_start_reads_a_prefix_since_the_start.Go
 
 pub returns : goal.returns
 returns g c start end first opened last calls entries saved moment h opening spells chain =
-    kept_since_open g.S.Sessions.layer (lent_view g.D.Disk.view g.E.Disk.view) (lent_honest g.D.Disk.honest g.E.Disk.honest) start end (g.D.Disk.view first) (One opened) last calls entries saved
+    kept_since_open g.S.Application.layer (lent_view g.D.Disk.view g.E.Disk.view) (lent_honest g.D.Disk.honest g.E.Disk.honest) start end (g.D.Disk.view first) (One opened) last calls entries saved
     opening.no_checkpoint (opening.main h) (opening.honest_still h) spells
     (λ f left. g.met.D.Disk.only_now first f h left)
-    (chain_of g.S.Sessions.layer g.D.Disk.view g.D.Disk.honest g.E.Disk.view g.E.Disk.honest calls start end (One opened) last entries chain)
+    (chain_of g.S.Application.layer g.D.Disk.view g.D.Disk.honest g.E.Disk.view g.E.Disk.honest calls start end (One opened) last entries chain)

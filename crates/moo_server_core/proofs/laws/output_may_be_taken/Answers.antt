@@ -1,5 +1,5 @@
 use Rattle.std.proofs.Common.{Option, sym, subst}
-use Rattle.moo_server_core.specs.declared.serving.Open.{Open}
+use Rattle.moo_server_core.specs.declared.server_core.Open.{Open}
 use Rattle.moo_server_core.specs.Server.{OpenFollows}
 use Rattle.moo_server_core.proofs.laws.output_may_be_taken.Goals as goal
 

@@ -4,7 +4,7 @@ use Rattle.moo_disk.specs.StopAt.{inner_of}
 use Rattle.moo_disk.specs.declared.stop_at.StopAt.{StopAt}
 use Rattle.moo_checkpoint.proofs.TurnLemmas.{continues_within}
 use Rattle.moo_server_core.specs.Server.{OpenFollows}
-use Rattle.moo_server_core.specs.declared.serving.Open.{Open}
+use Rattle.moo_server_core.specs.declared.server_core.Open.{Open}
 use Rattle.moo_server_core.proofs.life_laws.a_stopping_disk_goes_on.Goals as goal
 
 within : (writing : Option Open) (disk : StopAt)

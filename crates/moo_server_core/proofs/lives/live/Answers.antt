@@ -8,7 +8,7 @@ use Rattle.moo_server_core.proofs.lives.live.Goals as goal
 
 pub returns-in-Ok-clause-lived : goal.returns-in-Ok-clause-lived
 returns-in-Ok-clause-lived g c =
-    let l = g.S.Sessions.layer in
+    let l = g.S.Application.layer in
     let o = c.in-Ok.ensures.opened in
     let events = c.args.life.now.events.items in
     let runs = subst (λ (es : List given.Event). Runs l g.D.Disk.view g.D.Disk.honest g.D.Disk.failures c.in-Ok.server c.run.new.self c.open.new.disk c.run.new.disk es c.run.result)

@@ -3,7 +3,7 @@ use Rattle.std.proofs.lemmas.Int.{to_z-of_z}
 use Rattle.moo_builtin.specs.Telling.{Faults}
 use Rattle.moo_session_connection.specs.Gathering.{Gathering}
 use Rattle.moo_session_connection.specs.Changes.{with_changed, with_gathering}
-use Rattle.moo_session_task.specs.declared.live.Live.{Live}
+use Rattle.moo_session_task.specs.declared.world_state.WorldState.{WorldState}
 use Rattle.moo_session_task.specs.Session.{Session, in_connections}
 use Rattle.moo_session_task.specs.State.{state, in_session}
 use Rattle.moo_session.specs.DotProgram.{Gathers, gathering_of, with_line}
@@ -12,9 +12,9 @@ use Rattle.moo_session.proofs.program_lines.gather.Goals as goal
 
 pub returns-then-is_dot : goal.returns-then-is_dot
 returns-then-is_dot c =
-    let s : Live = c.args.live.now in
+    let s : WorldState = c.args.live.now in
     let g = c.in-Some.gathering in
-    let t : Live = state s.world c.take_gathering.new.self in
+    let t : WorldState = state s.world c.take_gathering.new.self in
     let taken : gathering_of c.args.number s.session ≡ Some g = sym c.take_gathering.ensures.taken ∙ c.in-Some.is in
     let left : t ≡ in_session (in_connections (with_changed c.args.number (with_gathering None))) s = ap (λ (x : Session). state s.world x) c.take_gathering.ensures.changed in
     let player = to_z-of_z w32 c.args.player c.ranges.player in
@@ -23,10 +23,10 @@ returns-then-is_dot c =
 
 pub returns : goal.returns
 returns c =
-    let s : Live = c.args.live.now in
+    let s : WorldState = c.args.live.now in
     let g = c.in-Some.gathering in
-    let t : Live = state s.world c.take_gathering.new.self in
-    let u : Live = state s.world c.gather.new.self in
+    let t : WorldState = state s.world c.take_gathering.new.self in
+    let u : WorldState = state s.world c.gather.new.self in
     let taken : gathering_of c.args.number s.session ≡ Some g = sym c.take_gathering.ensures.taken ∙ c.in-Some.is in
     let left : t ≡ in_session (in_connections (with_changed c.args.number (with_gathering None))) s = ap (λ (x : Session). state s.world x) c.take_gathering.ensures.changed in
     let more : u ≡ in_session (in_connections (with_changed c.args.number (with_gathering (Some (with_line c.args.line g))))) t =

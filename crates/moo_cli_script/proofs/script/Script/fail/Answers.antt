@@ -5,7 +5,7 @@ use Rattle.moo_cli_script.proofs.script.Script.fail.Goals as goal
 
 pub returns-clause-fits : goal.returns-clause-fits
 returns-clause-fits g c =
-    let l = g.S.Sessions.layer in
+    let l = g.S.Application.layer in
     let server = c.args.self.server in
     let within = (c.a_failing_disk_goes_on.ensures server c.args.self.disk).1 c.requires.follows in
     record {

@@ -1,0 +1,152 @@
+//! The server: its sessions, and the checkpoint that is open.
+ghost use Rattle.std.specs.Prelude.{All, ℕ, [], Err, ◌≡◌, ◌≢◌, ◌↔◌, ◌||◌, None, false, true, length, IfOk, if◌then◌else◌};
+ghost use Rattle.moo_dbtext_read.specs.Saved.{Saved};
+ghost use Rattle.moo_server_core.specs.Application.{silence, then_out};
+ghost use Rattle.moo_server_core.specs.Courses.{phase_of};
+ghost use Rattle.moo_server_core.specs.Seen.{Flush, seen};
+ghost use Rattle.moo_server_core.specs.Meaning.{begun_at};
+
+use crate::event::Course;
+use crate::{Application, Cause, Event, Phase, Requests, RunFault};
+use moo_checkpoint::Checkpoint;
+use moo_disk::Disk;
+use moo_value::MooStr;
+
+#[derive(Drop)]
+pub(crate) struct Open {
+    pub(crate) checkpoint: Checkpoint,
+    /// It began at or after the first shutdown.
+    pub(crate) is_last: bool,
+}
+
+/// A server over a layer of sessions. The disk is lent to each run.
+#[derive(Drop)]
+pub struct ServerCore<S: Application> {
+    pub(crate) sessions: S,
+    pub(crate) moment: u32,
+    /// The next checkpoint is due at this moment.
+    pub(crate) due: u64,
+    /// A checkpoint is asked for.
+    pub(crate) asked: bool,
+    pub(crate) course: Course,
+    pub(crate) halted: bool,
+    pub(crate) writing: Option<Open>,
+}
+
+impl<S: Application> ServerCore<S> {
+    ghost use Rattle.moo_server_core.specs.Server.{IsAlive, Follows, Hands, Runs, Same, logged_alone, sent_alone, state_of, under_way_of, waiting_of};
+
+    /// A server over sessions that have just been started at a moment, in hooks that asked for so much.
+    pub(crate) fn over(sessions: S, asked: Requests, moment: u32) -> ServerCore<S>
+        ensures state { state_of S.layer result ≡ begun_at moment (asked.checkpoint || asked.shutdown) (if asked.shutdown then Course.Closing else Course.Running)
+            (S.layer.meaning.interval (S.layer.state sessions)) (S.layer.state sessions) }
+        ensures waiting { waiting_of S.layer result ≡ then_out (S.layer.waiting sessions) (S.layer.under_way sessions) }
+        ensures still { under_way_of S.layer result ≡ silence }
+        ensures alive { IsAlive result }
+        ensures no_checkpoint { result.writing ≡ None }
+    {
+        let mut sessions = sessions;
+        sessions.keep();
+        let due = u64::from(moment) + u64::from(sessions.interval());
+        let course = ServerCore::<S>::first_course(asked);
+        ServerCore {
+            sessions,
+            moment,
+            due,
+            asked: asked.checkpoint || asked.shutdown,
+            course,
+            halted: false,
+            writing: None,
+        }
+    }
+
+    fn first_course(asked: Requests) -> Course
+        ensures { result ≡ (if asked.shutdown then Course.Closing else Course.Running) }
+    {
+        if asked.shutdown {
+            return Course::Closing;
+        }
+        Course::Running
+    }
+
+    /// Where the server stands.
+    pub fn phase(&self) -> Phase
+        ensures { result ≡ phase_of self.now.halted self.now.course }
+    {
+        if self.halted {
+            return Phase::Halted;
+        }
+        match self.course {
+            Course::Running => Phase::Running,
+            Course::Closing => Phase::Closing,
+            Course::Closed => Phase::Closed,
+        }
+    }
+
+    /// Whether a connection is open, and leaving; no, once the server is halted.
+    pub fn is_leaving(&self, c: u16) -> bool
+        ensures { result ≡ (if self.now.halted then false else S.layer.meaning.is_leaving (state_of S.layer self.now).sessions c) }
+    {
+        if self.halted {
+            return false;
+        }
+        self.sessions.is_leaving(c)
+    }
+
+    /// All that waits for a connection's number, moved out. It takes no memory.
+    pub fn take_output(&mut self, c: u16) -> Vec<u8>
+        ensures all { result.items ≡ (waiting_of S.layer self.old).sent c }
+        ensures nothing { (waiting_of S.layer self.new).sent c ≡ [] }
+        ensures others { (k : ℕ) → k ≢ c → (waiting_of S.layer self.new).sent k ≡ (waiting_of S.layer self.old).sent k }
+        ensures log { (waiting_of S.layer self.new).logged ≡ (waiting_of S.layer self.old).logged }
+        ensures hands { Hands S.layer (sent_alone c result.items) self.old self.new }
+    {
+        self.sessions.take_output(c)
+    }
+
+    /// All lines that wait for the log, moved out. It takes no memory.
+    pub fn take_log(&mut self) -> Vec<MooStr>
+        ensures all { result.items ≡ (waiting_of S.layer self.old).logged }
+        ensures nothing { (waiting_of S.layer self.new).logged ≡ [] }
+        ensures others { (waiting_of S.layer self.new).sent ≡ (waiting_of S.layer self.old).sent }
+        ensures hands { Hands S.layer (logged_alone result.items) self.old self.new }
+    {
+        self.sessions.take_log()
+    }
+
+    /// Takes the events in order, and answers how many there are.
+    ///
+    /// The disk is the one of the server's last call, perhaps with a wrapper put round it. A refused event changes
+    /// nothing, and what comes behind it isn't looked at; want of memory halts the server.
+    pub fn run<D: Disk>(&mut self, disk: &mut D, events: &[Event]) -> Result<usize, RunFault>
+        requires { Follows S.layer D.view D.honest D.stands self.old disk.old }
+
+        // All are taken, and the server goes on.
+        ensures all { IfOk result (λ n. (n ≡ length events.now) × IsAlive self.new) }
+
+        // What the events do that are taken, what a crash may leave, and why the event behind them isn't taken.
+        ensures ran { Runs S.layer D.view D.honest D.failures self.old self.new disk.old disk.new events.now result }
+
+        // A halted server does nothing.
+        ensures halted { self.old.halted ≡ true
+            → (result ≡ Err (record { done = 0; cause = Cause.Halted })) × (self.new ≡ self.old) × (disk.new ≡ disk.old) }
+
+        // The disk is met in a `Flush` alone.
+        ensures still { All (λ event. seen event ≢ Flush) events.now → disk.new ≡ disk.old }
+        ensures follows { Follows S.layer D.view D.honest D.stands self.new disk.new }
+        ensures honest { D.honest disk.old ↔ D.honest disk.new }
+    {
+        if self.halted {
+            return Err(RunFault {
+                done: 0,
+                cause: Cause::Halted,
+            });
+        }
+        for (done, event) in events.iter().enumerate() {
+            if let Err(cause) = self.take(disk, event) {
+                return Err(RunFault { done, cause });
+            }
+        }
+        Ok(events.len())
+    }
+}

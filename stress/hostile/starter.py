@@ -9,7 +9,10 @@ WORLD = os.path.join(program.TOP, "worlds", "starter.db")
 ANN = ["open 1", "line 1 connect Ann open-sesame"]
 # A name of 60 letters is as long as one may be.
 LONG = "w" * 57
-LETTERS = "abcdefghijklmnopqrst"
+# Twenty letters of which no two names are made that look alike.
+LETTERS = "abcdefghijkmnopqstux"
+# The wizard's first password at moment 0; so many players may be made at once.
+WIZARD = ["open 0", "line 0 connect wizard sanotu-sorosi", "line 0 ;$login.most_in_minute = $login.most_in_day = 1000"]
 # Lines as short as they may be, and two that lead out of a room and in again.
 SHORT = ["l", "i", "l me", "l x", 'l "', "?", "who", "@who", "@audit", '"x', ":x", "x", "home", "post x", "wh x y", "page x y", "exam x", "@set x.y to z", "e\nw", "w\ne"]
 
@@ -26,7 +29,7 @@ def typed():
 
 def settled(events):
     """The starter world behind these events and a checkpoint."""
-    run = program.script(WORLD, "\n".join(events + ["open 0", "line 0 connect wizard", "line 0 @dump-database"] + ["flush"] * 30 + ["show"]) + "\n")
+    run = program.script(WORLD, "\n".join(WIZARD + events + ["line 0 @dump-database"] + ["flush"] * 30 + ["show"]) + "\n")
     return run.output[run.output.index("** LambdaMOO Database"):]
 
 

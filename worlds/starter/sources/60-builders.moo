@@ -44,6 +44,9 @@ if (!is_player(o))
   set_task_perms(player);
 endif
 `o.aliases = names[2..$] ! E_PROPNF, E_PERM';
+if (is_player(o))
+  $match:rebuild();
+endif
 player:tell("It is called ", $string:join(names, ", "), " (", o, ") now.");
 .
 
@@ -71,7 +74,7 @@ if (!names)
   return;
 endif
 try
-  o = create(kind);
+  o = $recycler:make(kind);
   o.name = names[1];
   o.r = 1;
   if (length(names) > 1)
@@ -80,7 +83,7 @@ try
   move(o, player);
   player:tell("You have made ", names[1], " (", o, "). ", this:quota_text());
 except e (E_QUOTA)
-  player:tell("Your quota is used up. @recycle something, or ask a wizard.");
+  player:tell(e[2] == "Resource limit exceeded" ? "Your quota is used up. @recycle something, or ask a wizard." | "That can't be done: " + e[2] + ".");
 except e (ANY)
   player:tell("That can't be made: ", e[2], ".");
 endtry
@@ -120,7 +123,8 @@ if (player == this)
 endif
 .
 
-@program $builder:@recycle any any any rd wiz
+// @recycle THING; @recycle! THING where that was told to be dear
+@program $builder:"@recycle @recycle!" any any any rd wiz
 if (player != this)
   return;
 endif
@@ -134,10 +138,29 @@ elseif (is_player(o))
 elseif (!$controls(player, o))
   player:tell(o.name, " isn't yours.");
   return;
+elseif (o <= #3 || o == $login.start)
+  player:tell("The world can't be without it.");
+  return;
 endif
 name = tostr(o.name, " (", o, ")");
+fault = "";
+if ($recycler:is_core(o))
+  fault = " belongs to the core of this world, whose programs may need it.";
+elseif (kids = length(children(o)))
+  fault = tostr(" has ", kids, kids == 1 ? " child." | " children.");
+else
+  for p in (o.contents)
+    if (is_player(p) && p != player)
+      fault = tostr(" has people in it: ", p.name, ".");
+    endif
+  endfor
+endif
+if (fault && verb != "@recycle!")
+  player:tell(name, fault, " If you are sure, type  @recycle! ", argstr);
+  return;
+endif
 try
-  recycle(o);
+  $recycler:keep(o);
   player:tell(name, " is gone. ", this:quota_text());
 except e (ANY)
   player:tell("That can't be recycled: ", e[2], ".");
@@ -190,7 +213,7 @@ elseif (length(ways) == 2 && !fresh && !$controls(player, room) && !`room.free_e
 endif
 try
   if (fresh)
-    room = create($room);
+    room = $recycler:make($room);
     room.name = to;
     room.r = 1;
     player:tell("You have dug ", to, " (", room, ").");
@@ -215,7 +238,7 @@ player:tell(this:quota_text());
 @program $builder:make_exit this none this rxd wiz
 set_task_perms(caller_perms());
 {names, from, to} = args;
-e = create($exit);
+e = $recycler:make($exit);
 try
   e.name = names[1];
   e.aliases = names[2..$];
@@ -223,7 +246,7 @@ try
   e:set_ends(from, to);
   from:add_exit(e);
 except x (ANY)
-  recycle(e);
+  $recycler:keep(e);
   raise(x[1], x[2]);
 endtry
 this:tell("You have made the exit ", names[1], " (", e, ") from ", from.name, " to ", to.name, ".");
@@ -337,6 +360,7 @@ key = $match:object(iobjstr, player);
 if ($match:found(o, dobjstr, player) && $match:found(key, iobjstr, player))
   try
     o.key = key;
+    o.key_serial = key.serial;
     player:tell(o.name, " opens for you and for whoever carries ", key.name, ".");
   except e (ANY)
     player:tell("That can't be locked: ", e[2], ".");

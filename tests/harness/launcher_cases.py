@@ -13,6 +13,9 @@ from functools import partial
 from outcome import PATIENCE, Outcome, Result, Skipped
 from row_file import TOP
 
+# The commands that the launcher takes from the system. A run has these alone on its path, and perhaps a kit.
+TOOLS = "awk cat chmod cp cut date dirname find grep mkdir mktemp mv paste readlink rm sed sh sha256sum sleep sort stat tail tar uname wc xargs".split()
+
 PARTS = ["moo", "release/sum", "release/check", "release/launch"]
 NEWER = "moo: the sources are newer than the release; this is the release\n"
 OLDER = "moo: the sources are newer than the program that was built here; this is that program\n"
@@ -37,9 +40,12 @@ class Folder:
         self.write("crates/moo/src/main.rt", "fn main() {}\n")
         self.write("crates.txt", "# One crate.\nmoo:\n")
         self.write("HANDLES", "none\n")
-        self.kit = pathlib.Path(top, "kit")
+        self.kit, self.tools = pathlib.Path(top, "kit"), pathlib.Path(top, "tools")
         self.kit.mkdir()
-        self.set_kit(f"mkdir -p crates/moo/out; printf '#!/bin/sh\\necho new \"$@\"\\n' > crates/moo/out/moo; chmod 755 crates/moo/out/moo")
+        self.tools.mkdir()
+        for tool in TOOLS:
+            (self.tools / tool).symlink_to(shutil.which(tool))
+        self.set_kit("mkdir -p crates/moo/out; printf '#!/bin/sh\\necho new \"$@\"\\n' > crates/moo/out/moo; chmod 755 crates/moo/out/moo")
 
     def write(self, name, text, is_program=False):
         path = self.top / name
@@ -71,8 +77,7 @@ class Folder:
 
     def run(self, *words, has_kit=False, command=None, **environ):
         """Runs the launcher with these words. The result has its standard error, and after it its output."""
-        folders = [folder for folder in os.environ["PATH"].split(":") if not os.path.exists(f"{folder}/rt")]
-        path = ":".join([str(self.kit)] * has_kit + folders)
+        path = f"{self.kit}:{self.tools}" if has_kit else str(self.tools)
         done = subprocess.run([command or self.top / "moo", *words], capture_output=True, timeout=PATIENCE, check=False,
                               stdin=subprocess.DEVNULL, env={"PATH": path, **environ})
         return Result(done.returncode, done.stderr + done.stdout)

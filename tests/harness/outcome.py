@@ -3,7 +3,7 @@
 import difflib
 import os
 import subprocess
-from typing import NamedTuple
+from typing import NamedTuple, Optional
 
 PATIENCE = 600
 LONGEST_LINE = 300
@@ -18,11 +18,11 @@ class Result(NamedTuple):
 
 
 class Outcome(NamedTuple):
-    """What a row wanted and what it got. `title` says what was run."""
+    """What a row wanted and what it got. `title` says what was run. A row that could not be played has no `wanted`."""
 
     place: str
     title: str
-    wanted: Result
+    wanted: Optional[Result]
     got: Result
 
     def is_passed(self):
@@ -35,7 +35,7 @@ class Skipped(Exception):
 
 def fault(place, error):
     """Returns the failed outcome of a row that could not be played."""
-    return Outcome(place, "could not be played", Result(0, b""), Result(None, f"{type(error).__name__}: {error}".encode()))
+    return Outcome(place, f"could not be played: {type(error).__name__}: {error}", None, Result(None, b""))
 
 
 class Program:
@@ -70,6 +70,9 @@ def shown(line):
 
 
 def lines_of(result):
+    """Returns what was printed, as lines that are shown."""
+    if not result.printed:
+        return ["(nothing)"]
     lines = result.printed.decode("utf-8", "backslashreplace").split("\n")
     return [shown(line) for line in (lines[:-1] if lines[-1] == "" else [*lines[:-1], lines[-1] + "(no line feed)"])]
 
@@ -83,6 +86,8 @@ def first_difference(wanted, got):
 
 def describe(outcome):
     """Returns the lines that show a failed outcome."""
+    if outcome.wanted is None:
+        return [f"FAILED {outcome.place}: {outcome.title}"]
     wanted, got = lines_of(outcome.wanted), lines_of(outcome.got)
     said = [f"FAILED {outcome.place}: {shown(outcome.title)}"]
     if len(wanted) + len(got) <= MOST_LINES:

@@ -4,7 +4,7 @@ ghost use Rattle.moo_dbtext_record.specs.declared.fault.DbFault.{DbFault};
 ghost use Rattle.moo_dbtext_record.specs.declared.fault.DbFaultKind.TheVariants as kind;
 ghost use Rattle.moo_disk.specs.Disk.{KeepsMain, KeepsSpare};
 ghost use Rattle.moo_dbtext_read.specs.Saved as saving;
-ghost use Rattle.moo_dbtext_read.specs.Saved.{saved_of, SpellsSaved, SpellsSavedWithin};
+ghost use Rattle.moo_dbtext_read.specs.Saved.{saved_of, SpellsSavedWithin};
 ghost use Rattle.moo_server_core.specs.Application.{silence};
 ghost use Rattle.moo_server_core.specs.Meaning.{Begins};
 ghost use Rattle.moo_dbtext_read.specs.Refusals.{Refuses as RefusesText};
@@ -26,8 +26,8 @@ impl<S: StartApplication> ServerCore<S> {
         disk: &mut D,
         moment: u32,
     ) -> Result<ServerCore<S>, OpenFault>
-        // It begins from a saved world that main spells: from the one that it spells within the limits, where it does.
-        ensures opened { IfOk result (λ server. (s : saving.Saved) × (D.honest disk.old → SpellsSaved (D.view disk.old).main_text s)
+        // It begins from a saved world that main spells within the limits of database texts.
+        ensures opened { IfOk result (λ server. (s : saving.Saved) × (D.honest disk.old → SpellsSavedWithin (D.view disk.old).main_text s)
             × Opened S.layer D.view D.honest server disk.old disk.new s moment) }
         ensures follows { IfOk result (λ server. Follows S.layer D.view D.honest D.stands server disk.new) }
         // Where the text is refused, this is what is told of it; want of memory is told by itself.

@@ -1,6 +1,7 @@
 -- Lives of a server over one disk, each ended by a crash, or by an end of the server alone.
-use Rattle.std.specs.Prelude.{◌≡◌, ◌≢◌, ◌⊎◌, ◌<◌, ◌≤◌, ℕ, List, [], ◌∷◌, length, map, take, slice_get, All, Some, Result, Ok, Err}
-use Rattle.moo_disk.specs.Disk.{DiskView, HasRisen, IsLeftBy}
+use Rattle.std.specs.Prelude.{◌≡◌, ◌≢◌, ◌⊎◌, ◌<◌, ◌≤◌, ℕ, List, [], ◌∷◌, length, take, slice_get, All, Some, Result, Ok, Err}
+use Rattle.moo_disk.specs.Disk.{DiskView, IsLeftBy, KeepsMain}
+use Rattle.moo_checkpoint.specs.Recovering.{CountsFault}
 use Rattle.moo_checkpoint.specs.declared.open_fault.OpenFault.{OpenFault}
 use Rattle.moo_checkpoint.specs.declared.open_fault.OpenFault.TheVariants.{Device, Memory as no_memory}
 use Rattle.moo_dbtext_read.specs.Saved.{Saved}
@@ -11,7 +12,7 @@ use Rattle.moo_server_core.specs.Meaning.{Entry}
 use Rattle.moo_server_core.specs.declared.event.Event as given
 use Rattle.moo_server_core.specs.declared.event.RunFault.{RunFault}
 use Rattle.moo_server_core.specs.declared.server_core.ServerCore.{ServerCore}
-use Rattle.moo_server_core.specs.Server.{Follows, IsAlive, Runs, done_of, traces_under}
+use Rattle.moo_server_core.specs.Server.{Follows, IsAlive, Runs, done_of, entries_of, traces_under}
 use Rattle.moo_server_core.specs.Calls.{Opened}
 use Rattle.moo_server_core.specs.declared.life.Life.{Life}
 use Rattle.moo_server_core.specs.declared.life.LifeBegin.{LifeBegin}
@@ -95,7 +96,7 @@ module _ {S Application : Type 0} (l : Layer S Application Saved) where
       pub opened : Opened l view honest life.start life.old life.opened life.saved life.moment
       pub open_counts : failures life.opened ≡ failures life.old
       pub runs : Runs l view honest failures life.start life.end life.opened life.new life.events life.result
-      pub entries : runs.ran.entries ≡ life.entries
+      pub entries : entries_of runs.ran.taken ≡ life.entries
       pub all : RanAll life.result life.events life.end
       -- without a `Flush` the disk is as the start left it
       pub still : All (λ event. seen event ≢ Flush) life.events → life.new ≡ life.opened
@@ -109,11 +110,15 @@ module _ {S Application : Type 0} (l : Layer S Application Saved) where
       pub is : IsLife run
       pub told : IsTold life run begin
 
-    -- A life that didn't begin: where main spells a saved world within the limits, the device failed, or memory was wanting.
+    -- A life that didn't begin, since no server was opened. Nothing was written. The device is reported if it failed, and where main
+    -- spells a saved world within the limits it is that or want of memory.
+    pub record NotBegun (old new : D) (fault : OpenFault) : Type 0 where
+      pub sound : honest old → (s : Saved) → l.meaning.Spells (view old).main_text s → IsSound fault
+      pub device : CountsFault (honest old) (failures old) (failures new) fault
+      pub main : honest old → KeepsMain (view old) (view new)
+
     abbrev pub IsMet : D → D → LivesCause → Type 0
-    IsMet old new (not_open fault) =
-        honest old → (s : Saved) → l.meaning.Spells (view old).main_text s
-        → ((fault ≡ Device) × HasRisen (failures old) (failures new)) ⊎ (fault ≡ no_memory)
+    IsMet old new (not_open fault) = NotBegun old new fault
     IsMet old new cause = ⊥
 
     module _ (images : D → List (List ℕ)) where
@@ -123,15 +128,24 @@ module _ {S Application : Type 0} (l : Layer S Application Saved) where
       EndsBefore life old NoSuchImage = (new : D) × (begin : LifeBegin) × HasLived life old new begin × HasNoImage images life.stop new
       EndsBefore life old Memory = ⊥
 
+      -- One life, over the disk that the one before it left. One of `texts` is under main before it, and one of `after` afterwards.
+      pub record LivesOnce (disk : D) (texts : List (List ℕ)) (life : LifeRun S D) (after : List (List ℕ)) (next : D) : Type 0 where
+        pub begins_over : life.old ≡ disk
+        pub honest_then : honest life.old
+        pub reads : IsOneOf texts life.main
+        -- it begins from the world that main spells within the limits
+        pub begins_from : l.meaning.Spells life.main life.saved
+        pub lived : IsLife life
+        -- The texts of the mark of its last report done and of later ones may be left, and those before too if none was done. A crash
+        -- leaves one of them, and that alone.
+        pub leaves : IsLeft life.stop (since_done texts (traces_under l.meaning life.entries)) after
+        pub ends : IsStopped view honest images life.stop life.new next
+
       -- Lives, the first of which begins over this disk, where one of these texts is under main; the texts and the disk that they leave.
-      -- From each life on count the texts of the mark of its last report done and of later ones, or, where none was done, also those
-      -- before. A crash leaves one of them, and that alone. Each life begins from the world that main spells within the limits.
       abbrev pub Lives : D → List (List ℕ) → List (LifeRun S D) → List (List ℕ) → D → Type 0
       Lives disk texts [] left last = (left ≡ texts) × (last ≡ disk)
       Lives disk texts (life ∷ lives) left last =
-          (life.old ≡ disk) × IsOneOf texts life.main × l.meaning.Spells life.main life.saved × honest life.old × IsLife life
-          × (after : List (List ℕ)) × IsLeft life.stop (since_done texts (traces_under l.meaning life.entries)) after
-          × (next : D) × IsStopped view honest images life.stop life.new next × Lives next after lives left last
+          (after : List (List ℕ)) × (next : D) × LivesOnce disk texts life after next × Lives next after lives left last
 
       -- lives up to some place, and the disk behind them
       pub record SoFar (lives : List Life) (begins : List LifeBegin) (first disk : D) : Type 0 where

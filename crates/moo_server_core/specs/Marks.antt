@@ -4,7 +4,7 @@ use Rattle.moo_dbtext_read.specs.Saved.{Saved}
 use Rattle.moo_server_core.specs.Application.{Layer}
 use Rattle.moo_server_core.specs.Crash.{NoneDone}
 use Rattle.moo_server_core.specs.Server.{state_of, traces_under}
-use Rattle.moo_server_core.specs.Calls.{IsPrefix, place_done}
+use Rattle.moo_server_core.specs.Calls.{IsPrefix}
 use Rattle.moo_server_core.specs.Lives.{LifeRun}
 use Rattle.moo_server_core.specs.declared.life.LifeStop.{LifeStop}
 use Rattle.moo_server_core.specs.declared.life.LifeStop.TheVariants.{Crash, ServerOnly}
@@ -21,7 +21,7 @@ module _ {S Application D : Type 0} (l : Layer S Application Saved) where
 
   -- the world at a mark of a life: that of the last report done, or a later one
   abbrev pub IsMarked : LifeRun S D → Saved → Type 0
-  IsMarked life saved = IsPrefix l (state_of l life.start) (place_done (traces_under l.meaning life.entries)) life.entries saved
+  IsMarked life saved = IsPrefix l (state_of l life.start) life.entries life.entries saved
 
   -- A world that lives keep, the last of them first: one at such a mark of the last life, or, where none of its checkpoints was
   -- reported done, one that was kept before it.

@@ -1,6 +1,6 @@
 -- What a list of events does, over any layer of sessions. In which `Flush` a checkpoint's report stands, and whether it says
 -- done or failed, is free here.
-use Rattle.std.specs.Prelude.{◌≡◌, ℕ, ◌+◌, nat_lt, nat_le, List, [], ◌∷◌, ◌++◌, map, Option, Some, None, is_none, Bool, true, false, if◌then◌else◌, ◌&&◌, ◌||◌, not, MatchBool}
+use Rattle.std.specs.Prelude.{◌≡◌, ℕ, ◌+◌, nat_lt, nat_le, List, [], ◌∷◌, map, Option, Some, None, is_none, Bool, true, false, if◌then◌else◌, ◌&&◌, ◌||◌, not, MatchBool}
 use Rattle.std.specs.Option.{option_map}
 use Rattle.moo_server_core.specs.Traces.{Report, Done, Failed, Trace}
 use Rattle.moo_server_core.specs.Courses.{is_closing, is_closed}

@@ -11,7 +11,7 @@ ghost use Rattle.moo_server_core.specs.Crash.{IsOneOf, last_of, since_done, text
 ghost use Rattle.moo_server_core.specs.Turns.{HasReport, flushes};
 ghost use Rattle.moo_server_core.specs.Meaning.{Entry, out_of};
 ghost use Rattle.moo_server_core.specs.Server.{Follows, IsAlive, Lived, Same, state_of, traces_under, waiting_of};
-ghost use Rattle.moo_server_core.specs.Calls.{Call, Calls, IsKept, LeavesMarked, Lent, One, Opened, StartsAgain, handed_in, lent_honest, lent_view};
+ghost use Rattle.moo_server_core.specs.Calls.{Call, Calls, IsKept, LeavesMarked, Lent, One, Opened, StartsAgain, Stopped, handed_in, lent_honest, lent_view};
 ghost use Rattle.moo_server_core.specs.declared.server_core.ServerCore.{ServerCore};
 
 use crate::{Application, StartApplication};
@@ -123,6 +123,16 @@ pub fn starting_again_reads_a_prefix<S: StartApplication, D: Disk, E: Disk, F: D
         → (found : F) → F.honest found
         → (lent_view D.view E.view last).left_since (lent_view D.view E.view disk).clock (F.view found).main_text
         → StartsAgain S.layer F.view F.honest (state_of S.layer start) saved entries later found }
+{}
+
+/// Starting again after a stop reads the world after a prefix of the events that ends with a mark, one that holds every
+/// event up to a mark whose checkpoint was reported done in a call that has returned. If none was, it may read the world
+/// that the stopped server began from. Main spells that world as a database text within the limits, and a server that is
+/// opened over that disk, of whatever type, begins from it.
+pub fn a_stopped_server_starts_again<S: StartApplication, D: Disk, E: Disk, F: Disk>()
+    ensures { (stopped : Stopped S.layer D.view D.honest E.view E.honest) (found : F)
+        → F.honest found → (F.view found).main_text ≡ stopped.left
+        → StartsAgain S.layer F.view F.honest (state_of S.layer stopped.start) stopped.saved stopped.entries stopped.later found }
 {}
 
 /// The same of a stop at any moment since the start began, inside the start too.

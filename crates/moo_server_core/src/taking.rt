@@ -1,9 +1,10 @@
 //! What a server does in one event.
-ghost use Rattle.std.specs.Prelude.{ℕ, ◌≡◌, ◌≢◌, ◌↔◌, ◌≤◌, ◌||◌, None, false, true, OnOk, IfErr, Err, IsOk, Some, [], if◌then◌else◌};
+ghost use Rattle.std.specs.Prelude.{ℕ, ◌≡◌, ◌≢◌, ◌↔◌, ◌||◌, None, false, true, OnOk, IfErr, Err, IsOk, Some, [], if◌then◌else◌};
 ghost use Rattle.moo_disk.specs.Disk.{Gains};
 ghost use Rattle.moo_dbtext_read.specs.Saved.{Saved};
 ghost use Rattle.moo_server_core.specs.Application.{Finishes, IsApt, Output, is_dropped, seen_happening, then_out};
 ghost use Rattle.moo_server_core.specs.Crash.{IsOneOf, Survives};
+ghost use Rattle.moo_server_core.specs.Turns.{CountsReport, FailsAtMostOnce};
 ghost use Rattle.moo_server_core.specs.Seen.{Flush, seen};
 ghost use Rattle.moo_server_core.specs.Meaning.{State, Acts, Entry, FindsFree, Hears, Marks, is_due, MayWant, is_for_leaving, is_passed_over, refusal, refusal_in};
 
@@ -137,7 +138,7 @@ impl<S: Application> ServerCore<S> {
         ensures halted { self.new.halted ≡ self.old.halted }
         ensures follows { OnOk result (OpenFollows D.view D.honest D.stands self.new.writing disk.new) }
         ensures gains { D.honest disk.old → Gains (IsOneOf (on_its_way self.old)) (D.view disk.old) (D.view disk.new) }
-        ensures no_fewer { D.failures disk.old ≤ D.failures disk.new }
+        ensures at_most_once { FailsAtMostOnce (D.failures disk.old) (D.failures disk.new) }
         ensures honest { D.honest disk.old ↔ D.honest disk.new }
     {
         let Some(mut open) = self.writing.take() else {
@@ -201,14 +202,15 @@ impl<S: Application> ServerCore<S> {
         requires accepted { refusal S.layer.meaning (state_of S.layer self.old) (seen event.now) ≡ None }
         requires counts { is_passed_over S.layer.meaning (state_of S.layer self.old) (seen event.now) ≡ false }
         ensures takes { OnOk result ((entry : Entry Saved) × (entry.event ≡ seen event.now)
-            × Does S.layer.meaning D.view D.honest D.failures (state_of S.layer self.old) (state_of S.layer self.new)
+            × Does S.layer.meaning D.view D.honest (state_of S.layer self.old) (state_of S.layer self.new)
             self.old.writing self.new.writing disk.old disk.new entry
+            × CountsReport entry.report (D.failures disk.old) (D.failures disk.new)
             × (under_way_of S.layer self.new ≡ entry.out)) }
         ensures waiting { waiting_of S.layer self.new ≡ waiting_of S.layer self.old }
         ensures halted { self.new.halted ≡ self.old.halted }
         ensures follows { OnOk result (OpenFollows D.view D.honest D.stands self.new.writing disk.new) }
         ensures gains { D.honest disk.old → Gains (IsOneOf (on_its_way self.old)) (D.view disk.old) (D.view disk.new) }
-        ensures no_fewer { D.failures disk.old ≤ D.failures disk.new }
+        ensures at_most_once { FailsAtMostOnce (D.failures disk.old) (D.failures disk.new) }
         ensures still { seen event.now ≢ Flush → disk.new ≡ disk.old }
         ensures honest { D.honest disk.old ↔ D.honest disk.new }
         ensures memory { IfErr result (λ _. MayWant S.layer.meaning (state_of S.layer self.old) (seen event.now)) }
@@ -226,8 +228,9 @@ impl<S: Application> ServerCore<S> {
         requires follows { Follows S.layer D.view D.honest D.stands self.old disk.old }
         requires alive { IsAlive self.old }
         ensures takes { OnOk result ((entry : Entry Saved) × (entry.event ≡ seen event.now)
-            × Does S.layer.meaning D.view D.honest D.failures (state_of S.layer self.old) (state_of S.layer self.new)
+            × Does S.layer.meaning D.view D.honest (state_of S.layer self.old) (state_of S.layer self.new)
             self.old.writing self.new.writing disk.old disk.new entry
+            × CountsReport entry.report (D.failures disk.old) (D.failures disk.new)
             × (waiting_of S.layer self.new ≡ then_out (waiting_of S.layer self.old) entry.out)
             × IsAlive self.new) }
         ensures memory { result ≡ Err Cause.Memory → (self.new.halted ≡ true)
@@ -237,7 +240,7 @@ impl<S: Application> ServerCore<S> {
         ensures refused { IfErr result (λ cause. cause ≢ Cause.Memory
             → (refusal S.layer.meaning (state_of S.layer self.old) (seen event.now) ≡ Some cause) × (self.new ≡ self.old) × (disk.new ≡ disk.old)) }
         ensures follows { Follows S.layer D.view D.honest D.stands self.new disk.new }
-        ensures no_fewer { D.failures disk.old ≤ D.failures disk.new }
+        ensures at_most_once { FailsAtMostOnce (D.failures disk.old) (D.failures disk.new) }
         ensures still { seen event.now ≢ Flush → disk.new ≡ disk.old }
         ensures honest { D.honest disk.old ↔ D.honest disk.new }
     {

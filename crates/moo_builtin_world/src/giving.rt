@@ -1,5 +1,5 @@
 //! Functions that define properties, and that change their info: 'Operations on Properties' of the LambdaMOO
-//! Programmer's Manual, 'Functions over the world' of docs/LANGUAGE.md. Arguments that don't fit the function's row
+//! Programmer's Manual, 'Functions over the world' of docs/reference/language.md. Arguments that don't fit the function's row
 //! raise E_TYPE; no call has such arguments.
 ghost use Rattle.std.specs.Prelude.{◌≡◌, ◌∷◌, []};
 ghost use Rattle.moo_value.specs.Compare.{folded};

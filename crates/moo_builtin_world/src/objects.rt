@@ -1,5 +1,5 @@
 //! Functions on objects and their parents: 'Fundamental Operations on Objects' and 'Operations on Player Objects' of
-//! the LambdaMOO Programmer's Manual, 'Functions over the world' of docs/LANGUAGE.md. Arguments that don't fit the
+//! the LambdaMOO Programmer's Manual, 'Functions over the world' of docs/reference/language.md. Arguments that don't fit the
 //! function's row raise E_TYPE; no call has such arguments.
 ghost use Rattle.std.specs.Prelude.{◌≡◌, ◌<◌, ◌∷◌, [], IfOk, map, pos, All};
 ghost use Rattle.moo_value.specs.Tree.{object};

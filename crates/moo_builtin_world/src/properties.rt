@@ -1,5 +1,5 @@
 //! Functions that inspect, clear or delete properties: 'Operations on Properties' of the LambdaMOO Programmer's
-//! Manual, 'Functions over the world' of docs/LANGUAGE.md. Arguments that don't fit the function's row raise E_TYPE;
+//! Manual, 'Functions over the world' of docs/reference/language.md. Arguments that don't fit the function's row raise E_TYPE;
 //! no call has such arguments.
 ghost use Rattle.std.specs.Prelude.{◌≡◌, ◌∷◌, [], IfOk, IsOk, None, Some, map};
 ghost use Rattle.moo_builtin_world.specs.Order.{asked};

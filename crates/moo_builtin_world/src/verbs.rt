@@ -1,5 +1,5 @@
 //! Functions that inspect verbs: 'Operations on Verbs' of the LambdaMOO Programmer's Manual, 'Functions over the
-//! world' of docs/LANGUAGE.md. Arguments that don't fit the function's row raise E_TYPE; no call has such arguments.
+//! world' of docs/reference/language.md. Arguments that don't fit the function's row raise E_TYPE; no call has such arguments.
 ghost use Rattle.std.specs.Prelude.{◌≡◌, ◌<◌, ◌∷◌, [], IfOk, IfSome, length, map};
 ghost use Rattle.moo_value.specs.Tree.{object, string, list_of};
 ghost use Rattle.moo_value.specs.View.{tree, trees};

@@ -16,7 +16,7 @@ use std::alloc::Global;
 use std::io::{BufRead, Read, Write};
 
 /// Opens a server over the database in memory, at moment 0, takes the events of the script's lines, prints what is sent behind each,
-/// and answers the exit status (docs/SCRIPT.md). The lines of the server's log are logged, each as a record of level Info. The database
+/// and answers the exit status (docs/reference/script.md). The lines of the server's log are logged, each as a record of level Info. The database
 /// is read alone.
 pub fn run_script<S: StartApplication, R: Log, F: Read, I: BufRead, O: Write>(
     alloc: Global,

@@ -1,4 +1,4 @@
-//! The choice of the verb that a command runs (docs/COMMANDS.md, "Choosing a verb"). Nothing here allocates memory.
+//! The choice of the verb that a command runs (docs/reference/commands.md, "Choosing a verb"). Nothing here allocates memory.
 ghost use Rattle.std.specs.Prelude.{◌≡◌, ◌<◌, ◌∷◌, length, slice_get, IfSome};
 ghost use Rattle.std.specs.Option.{option_and_then, unwrap_or};
 ghost use Rattle.std.specs.List.{filter_map, position};

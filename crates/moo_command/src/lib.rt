@@ -1,5 +1,5 @@
 //! Parses a typed line into a command: its words, its verb and its objects. Chooses the verb that it runs
-//! (docs/COMMANDS.md).
+//! (docs/reference/commands.md).
 #![tactic(auto)]
 
 mod choice;

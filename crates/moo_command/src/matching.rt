@@ -1,4 +1,4 @@
-//! The object that a text names to a player (docs/COMMANDS.md, "Objects"). Nothing here allocates memory.
+//! The object that a text names to a player (docs/reference/commands.md, "Objects"). Nothing here allocates memory.
 ghost use Rattle.std.specs.Prelude.{◌≡◌};
 ghost use Rattle.moo_command.specs.Objects.{matched, room_of, named, named_near, near};
 

@@ -1,4 +1,4 @@
-//! The prepositions of commands, by the words that spell them (docs/COMMANDS.md, "Prepositions").
+//! The prepositions of commands, by the words that spell them (docs/reference/commands.md, "Prepositions").
 ghost use Rattle.std.specs.Prelude.{◌≡◌, ◌≤◌, length, map, IfSome};
 ghost use Rattle.moo_command.specs.Inner.{form_of, form_table, form_among, begins_with};
 

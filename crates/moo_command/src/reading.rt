@@ -15,7 +15,7 @@ const QUOTE: u8 = b'"';
 
 const BACKSLASH: u8 = b'\\';
 
-/// Returns the words of a line of any length (docs/COMMANDS.md, "Words"). Fails only if memory runs out.
+/// Returns the words of a line of any length (docs/reference/commands.md, "Words"). Fails only if memory runs out.
 pub fn words(alloc: Global, line: &MooStr) -> Result<Vec<MooStr>, AllocError>
     ensures { IfOk result (λ words. Words line.now words.items) }
 {

@@ -19,4 +19,4 @@ mod tour;
 
 pub use fault::RestoreFault;
 pub use link::Link;
-pub use restoring::{check_objects, restore, restore_checked};
+pub use restoring::{check_objects, restore_checked};

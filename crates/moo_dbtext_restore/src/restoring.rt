@@ -29,27 +29,9 @@ use moo_world::World;
 use moo_world_tree::Forest;
 use std::alloc::{AllocError, Global};
 
-/// Returns the world that these records describe. Takes the objects by number (`None` for a recycled one), the
-/// programs by object and verb, and the players. The world shares strings, lists and programs with them. Fails with
-/// the first fault, or if memory runs out.
-pub fn restore(
-    alloc: Global,
-    objects: &[Option<ObjectRecord>],
-    programs: &[Vec<Option<Program>>],
-    players: Vec<i32>,
-) -> Result<World, RestoreFault>
-    requires { AreWithinLimits (records_from objects.now programs.now players.items) }
-    ensures world { IfOk result (λ w. Says (records_from objects.now programs.now players.items) w) }
-    ensures fault { IfErr result (IsFaultOf (records_from objects.now programs.now players.items)) }
-{
-    let parents = parent_links(alloc, objects)?;
-    let tour = tour_of(alloc, &parents)?;
-    check(alloc, objects, &tour)?;
-    let world = made_world(alloc, objects, programs, players, &parents, &tour)?;
-    Ok(world)
-}
-
-/// Restores objects in which `check_objects` found no fault, without a second check. Fails only if memory runs out.
+/// Returns the world that these records describe, in which `check_objects` found no fault. Takes the objects by number
+/// (`None` for a recycled one), the programs by object and verb, and the players. The world shares strings, lists and
+/// programs with them. Fails only if memory runs out.
 pub fn restore_checked(
     alloc: Global,
     objects: &[Option<ObjectRecord>],
@@ -90,7 +72,7 @@ fn made_world(
     Ok(World::from_parts(made, inheritance, containment, players))
 }
 
-/// Checks the records of objects, and returns the fault that `restore` would return.
+/// Checks the records of objects, and returns their first fault.
 pub fn check_objects(alloc: Global, objects: &[Option<ObjectRecord>]) -> Result<(), RestoreFault>
     // Without a fault, no object is at fault.
     ensures placed { OnOk result (IsFirst (IsWellPlaced (with_objects objects.now)) (length objects.now) None) }

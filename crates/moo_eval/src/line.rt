@@ -1,4 +1,4 @@
-//! Runs a line of input as a program: 'Running a line' of docs/LANGUAGE.md.
+//! Runs a line of input as a program: 'Running a line' of docs/reference/language.md.
 ghost use Rattle.std.specs.Prelude.{◌≡◌, ◌≢◌, [], ◌∷◌, IfOk, IfSome, IfNone, OnOk};
 ghost use Rattle.moo_value.specs.Tree.{IsText};
 ghost use Rattle.moo_value.specs.Size.{IsString};

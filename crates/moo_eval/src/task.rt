@@ -1,4 +1,4 @@
-//! Runs whole tasks: 'MOO Tasks' of the LambdaMOO Programmer's Manual, 'Tracebacks' and 'Limits' of docs/LANGUAGE.md.
+//! Runs whole tasks: 'MOO Tasks' of the LambdaMOO Programmer's Manual, 'Tracebacks' and 'Limits' of docs/reference/language.md.
 ghost use Rattle.std.specs.Prelude.{◌≡◌};
 ghost use Rattle.moo_eval_frame.specs.Seen.{seen_flow, IsKnown};
 ghost use Rattle.moo_eval_frame.specs.Variables.{first_bindings, value_of_name};

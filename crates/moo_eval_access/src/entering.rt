@@ -1,5 +1,5 @@
 //! Enters the verbs of calls: 'Calling Built-in Functions and Other Verbs' of the LambdaMOO Programmer's Manual,
-//! 'Expressions' and 'Limits' of docs/LANGUAGE.md.
+//! 'Expressions' and 'Limits' of docs/reference/language.md.
 ghost use Rattle.std.specs.Prelude.{◌≡◌, if◌then◌else◌, is_some, ◌∷◌, [], None, Some, Ok, Err, codes, option_map, IfOk, IfErr, OnOk, IsTrue};
 ghost use Rattle.std.specs.Option.{unwrap_or};
 ghost use Rattle.moo_value.specs.Tree.{Tree, object, string, list_of};

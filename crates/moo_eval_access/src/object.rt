@@ -1,5 +1,5 @@
 //! Properties of objects: 'Getting and Setting the Values of Properties' of the LambdaMOO Programmer's Manual,
-//! 'Expressions' of docs/LANGUAGE.md.
+//! 'Expressions' of docs/reference/language.md.
 ghost use Rattle.std.specs.Prelude.{◌≡◌, None, IfErr};
 ghost use Rattle.moo_value.specs.View.{tree};
 ghost use Rattle.moo_value.specs.Tree.{object, string};

@@ -1,5 +1,5 @@
 //! Targets of assignments: 'Replacing an Element of a List or String' and 'Replacing a Subsequence of a List or String'
-//! of the LambdaMOO Programmer's Manual, 'Assignment' of docs/LANGUAGE.md.
+//! of the LambdaMOO Programmer's Manual, 'Assignment' of docs/reference/language.md.
 ghost use Rattle.std.specs.Prelude.{◌≡◌, ◌∷◌, [], Ok, Err, map, IfOk, IfErr, IfSome, IfNone, OnOk};
 ghost use Rattle.moo_value.specs.Tree.{Tree};
 ghost use Rattle.moo_value.specs.View.{tree};

@@ -1,4 +1,4 @@
-//! The number of arguments of a call: 'Functions' of docs/LANGUAGE.md.
+//! The number of arguments of a call: 'Functions' of docs/reference/language.md.
 ghost use Rattle.std.specs.Prelude.{◌≡◌, IsTrue, Some};
 ghost use Rattle.moo_value.specs.declared.error_code.ErrorCode.TheVariants.{Arguments};
 ghost use Rattle.moo_syntax_function.specs.Table.{row};

@@ -1,6 +1,6 @@
 //! Functions that leave a notice, which the server handles once the task has ended: 'Operations on Network
 //! Connections', 'Operations on Player Objects' and 'Administrative Operations' of the LambdaMOO Programmer's Manual,
-//! 'Functions over the running task' of docs/LANGUAGE.md. Arguments that don't fit the function's row raise E_TYPE;
+//! 'Functions over the running task' of docs/reference/language.md. Arguments that don't fit the function's row raise E_TYPE;
 //! no call has such arguments. A call that raises changes nothing.
 ghost use Rattle.std.specs.Prelude.{◌≡◌, ◌++◌, ◌∷◌, [], ℕ, OnOk};
 ghost use Rattle.moo_value.specs.View.{tree, trees};

@@ -1,5 +1,5 @@
 //! Functions that inspect the open connections: 'Operations on Network Connections' of the LambdaMOO Programmer's
-//! Manual, 'Functions over the running task' of docs/LANGUAGE.md.
+//! Manual, 'Functions over the running task' of docs/reference/language.md.
 ghost use Rattle.std.specs.Prelude.{◌≡◌, ◌++◌, OnOk};
 ghost use Rattle.moo_value.specs.View.{tree, trees};
 ghost use Rattle.moo_eval_frame.specs.Outcome.{answers};

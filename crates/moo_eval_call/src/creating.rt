@@ -1,5 +1,5 @@
 //! `create`: 'Fundamental Operations on Objects' of the LambdaMOO Programmer's Manual, 'Functions over the running
-//! task' of docs/LANGUAGE.md.
+//! task' of docs/reference/language.md.
 ghost use Rattle.std.specs.Prelude.{◌≡◌};
 ghost use Rattle.moo_eval_frame.specs.Seen.{IsKnownFailure};
 ghost use Rattle.moo_eval_call.specs.Creating.{may_be_parent, owner_of_new, creating};

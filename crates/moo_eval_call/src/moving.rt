@@ -1,5 +1,5 @@
 //! `move`: 'Object Movement' of the LambdaMOO Programmer's Manual, 'Functions over the running task' of
-//! docs/LANGUAGE.md. If no frame is left for a verb that is to be called, E_MAXREC is raised; earlier changes stay.
+//! docs/reference/language.md. If no frame is left for a verb that is to be called, E_MAXREC is raised; earlier changes stay.
 ghost use Rattle.std.specs.Prelude.{◌≡◌};
 ghost use Rattle.moo_eval_frame.specs.Seen.{IsKnownFailure};
 ghost use Rattle.moo_eval_call.specs.Moving.{move_calls, is_to_move, moved, moving, may_enter, accepted, has_come, left_behind};

@@ -1,5 +1,5 @@
 //! `pass`: 'Object-Oriented Programming' of the LambdaMOO Programmer's Manual, 'Functions over the running task' of
-//! docs/LANGUAGE.md.
+//! docs/reference/language.md.
 ghost use Rattle.std.specs.Prelude.{◌≡◌};
 ghost use Rattle.moo_value.specs.View.{trees};
 ghost use Rattle.moo_eval_frame.specs.Seen.{IsKnownFailure};

@@ -1,5 +1,5 @@
 //! `recycle`: 'Fundamental Operations on Objects' of the LambdaMOO Programmer's Manual, 'Functions over the running
-//! task' of docs/LANGUAGE.md. If no frame is left for a verb that is to be called, E_MAXREC is raised; earlier
+//! task' of docs/reference/language.md. If no frame is left for a verb that is to be called, E_MAXREC is raised; earlier
 //! changes stay.
 ghost use Rattle.std.specs.Prelude.{◌≡◌};
 ghost use Rattle.moo_eval_frame.specs.Seen.{IsKnownFailure};

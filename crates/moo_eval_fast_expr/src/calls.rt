@@ -1,5 +1,5 @@
 //! Calls of verbs whose worth is known at once, since the verb returns first what is known from what it is told of its call: 'Calling
-//! Built-in Functions and Other Verbs' of the LambdaMOO Programmer's Manual, docs/LANGUAGE.md.
+//! Built-in Functions and Other Verbs' of the LambdaMOO Programmer's Manual, docs/reference/language.md.
 ghost use Rattle.std.specs.Prelude.{◌≡◌, ◌≤◌, List, Option, None, Some, Ok, IfSome};
 ghost use Rattle.moo_value.specs.Tree.{Tree, object, string};
 ghost use Rattle.moo_value.specs.View.{tree as value_tree, trees};

@@ -1,5 +1,5 @@
 //! Elements of lists, which stay where they are, and characters of strings: 'Indexing into Lists' and 'Indexing into Strings' of the
-//! LambdaMOO Programmer's Manual, docs/LANGUAGE.md.
+//! LambdaMOO Programmer's Manual, docs/reference/language.md.
 ghost use Rattle.std.specs.Prelude.{◌≡◌, ◌≤◌, suc, pos, Ok, IfSome};
 ghost use Rattle.moo_value.specs.Tree.{integer};
 ghost use Rattle.moo_value.specs.View.{tree as value_tree};

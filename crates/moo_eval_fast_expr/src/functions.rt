@@ -1,5 +1,5 @@
 //! Calls of functions over values alone whose arguments are known at once, as in `tostr(i, " ", s)`: 'Calling Built-in Functions and
-//! Other Verbs' of the LambdaMOO Programmer's Manual, docs/LANGUAGE.md.
+//! Other Verbs' of the LambdaMOO Programmer's Manual, docs/reference/language.md.
 ghost use Rattle.std.specs.Prelude.{◌≡◌, ◌≤◌, ℕ, List, Ok, Some, IfSome, IsTrue, true};
 ghost use Rattle.moo_value.specs.Tree.{integer};
 ghost use Rattle.moo_value.specs.View.{tree as value_tree, trees};

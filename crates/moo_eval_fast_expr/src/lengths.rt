@@ -1,5 +1,5 @@
 //! Lengths of what stands in variables, as in `length(l)`, which are known at once: 'Manipulating List Values' of the LambdaMOO
-//! Programmer's Manual, docs/LANGUAGE.md.
+//! Programmer's Manual, docs/reference/language.md.
 ghost use Rattle.std.specs.Prelude.{◌≡◌, ◌≤◌, Ok, Some, IsTrue, IfSome};
 ghost use Rattle.moo_value.specs.Tree.{integer};
 ghost use Rattle.moo_value.specs.View.{tree as value_tree};

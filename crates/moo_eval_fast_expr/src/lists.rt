@@ -1,5 +1,5 @@
 //! Lists that are written out, and parts of lists and strings: 'Creating New Lists', 'Extracting a Subsequence of a List' and 'Extracting a
-//! Substring' of the LambdaMOO Programmer's Manual, docs/LANGUAGE.md.
+//! Substring' of the LambdaMOO Programmer's Manual, docs/reference/language.md.
 ghost use Rattle.std.specs.Prelude.{◌≡◌, ◌≤◌, Ok, IfSome};
 ghost use Rattle.moo_value.specs.Tree.{integer};
 ghost use Rattle.moo_value.specs.View.{tree as value_tree, trees};

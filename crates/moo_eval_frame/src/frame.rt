@@ -1,5 +1,5 @@
 //! Frames, and their lines in a traceback: 'Naming Values Within a Verb' and 'MOO Tasks' of the LambdaMOO
-//! Programmer's Manual, 'Variables' and 'Tracebacks' of docs/LANGUAGE.md. Objects are given by their numbers, #-1 for
+//! Programmer's Manual, 'Variables' and 'Tracebacks' of docs/reference/language.md. Objects are given by their numbers, #-1 for
 //! none.
 ghost use Rattle.std.specs.Prelude.{◌≡◌, IfOk};
 ghost use Rattle.moo_eval_frame.specs.State.{trace_frame};

@@ -1,5 +1,5 @@
 //! The laws of `move`, `create` and `recycle`: 'Fundamental Operations on Objects' of the LambdaMOO Programmer's Manual,
-//! 'Functions over the running task' of docs/LANGUAGE.md.
+//! 'Functions over the running task' of docs/reference/language.md.
 ghost use Rattle.moo_eval_semantics.specs.MoveCreateRecycle.{WhatMoveDoes, WhatCreateDoes, WhatCreateForDoes, WhatRecycleDoes};
 
 /// `move` calls the new place's `accept`, moves the object, and calls the old place's `exitfunc` and then the new

@@ -1,5 +1,5 @@
 //! What an opening, bytes and a hang-up do to a world and its sessions, hooks included, and the calls that the server
-//! itself makes (docs/SESSIONS.md).
+//! itself makes (docs/reference/commands.md).
 #![tactic(auto)]
 
 mod checkpoints;

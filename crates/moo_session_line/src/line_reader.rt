@@ -1,4 +1,4 @@
-//! The lines of a connection, from the pieces in which its bytes come (docs/COMMANDS.md, "Lines").
+//! The lines of a connection, from the pieces in which its bytes come (docs/reference/commands.md, "Lines").
 ghost use Rattle.std.specs.Prelude.{◌≡◌, ◌≤◌, ◌++◌, ℕ, List, length, take, filter, [], IsTrue, IfOk, OnOk, OnErr, All, false, ◌&&◌, ◌==◌};
 ghost use Rattle.moo_value.specs.Size.{IsString};
 ghost use Rattle.moo_session_line.specs.Lines.{lines, rest, is_kept, line_limit};

@@ -29,11 +29,10 @@ pub use fault::WorldFault;
 pub use looking::VerbAt;
 pub use moo_world_object::{
     BuiltInProperty, Flags, Need, Object, ObjectSpecifier, Preposition, PrepositionSpecifier,
-    PropCell, PropPerms, Verb, VerbArgs, VerbPerms,
+    PropCell, PropPerms, Row, Verb, VerbArgs, VerbPerms,
 };
 pub use moo_world_table::MOST;
-pub use moo_world_tree::Below;
-use moo_world_tree::Forest;
+pub use moo_world_tree::{Below, Forest};
 pub use rights::{Action, Rights};
 use std::marker::Model;
 

@@ -1,7 +1,12 @@
 // Players: what everybody can do, guests too.
 
 @property $player.password - wiz = 0
+// {how many wrong passwords since the last right one, when the last of them was typed}
+@property $player.wrong - wiz = {}
 @property $player.ownership_quota r wiz = 20
+// {when the day began, how many things were made since}, and how many may be made in a day
+@property $player.made r wiz = {0, 0}
+@property $player.most_in_day r wiz = 60
 @property $player.home r wiz = #2
 @property $player.last_place r wiz = #-1
 @property $player.last_connect r wiz = 0
@@ -9,15 +14,83 @@
 @property $player.first_connect r wiz = 0
 @property $player.lesson r = 1
 @property $player.gender rc = "they"
+// how long a line and a page may be; what is left of the last page
+@property $player.linelength r wiz = 78
+@property $player.pagelength r wiz = 0
+@property $player.rest - wiz = {}
+// whom one gags and who gags one; what is refused, as {"pages", who or #-1}; since when one is muted, and for how many seconds
+@property $player.gags r wiz = {}
+@property $player.gagged_by r wiz = {}
+@property $player.refusals r wiz = {}
+@property $player.muted r wiz = {0, 0}
 
-@program $player:tell this none this rxd wiz
-notify(this, tostr(@args));
+// Nothing is told of what a player causes whom this one gags, or who is muted.
+@program $player:"tell tell_lines" this none this rxd wiz
+if (player != this && valid(player))
+  {at, span} = `player.muted ! ANY => {0, 0}';
+  if (player in this.gags || (span && time() - at >= 0 && time() - at < span))
+    return;
+  endif
+endif
+if (verb == "tell")
+  notify(this, tostr(@args));
+  return;
+endif
+lines = args[1];
+if (this.pagelength && length(lines) > this.pagelength)
+  n = length(lines);
+  this.rest = lines[this.pagelength + 1..min(n, 500)];
+  lines = {@lines[1..this.pagelength], tostr("(", length(this.rest), " more lines: type  @more)")};
+endif
+for l in (lines)
+  l = tostr(l);
+  for part in (this.linelength < 78 && length(l) > this.linelength ? $string:wrap(l, this.linelength) | {l})
+    notify(this, part);
+  endfor
+endfor
 .
 
-@program $player:tell_lines this none this rxd wiz
-for l in (args[1])
-  notify(this, tostr(l));
-endfor
+@program $player:@more none none none rd wiz
+if (player == this)
+  rest = this.rest;
+  this.rest = {};
+  this:tell_lines(rest ? rest | {"There is no more."});
+endif
+.
+
+// @linelength 60, @pagelength 20: how texts are broken for this player; 0 for not at all
+@program $player:"@linelength @pagelength" any any any rd wiz
+if (player != this)
+  return;
+endif
+n = toint(argstr);
+if (argstr && (tostr(n) != argstr || n < 0 || n > 8000 || (n && n < (verb == "@linelength" ? 20 | 5))))
+  player:tell("For example: @linelength 60   or: @pagelength 20   (0: not at all)");
+  return;
+elseif (argstr && verb == "@linelength")
+  this.linelength = n ? n | 20000;
+elseif (argstr)
+  this.pagelength = n;
+endif
+n = verb == "@linelength" ? this.linelength | this.pagelength;
+player:tell(verb == "@linelength" ? "Lines are broken at " | "Pages end after ", n ? tostr(n, verb == "@linelength" ? " characters." | " lines.") | "no line.");
+.
+
+// May this one speak, to WHO (or to all)? Else it is told why not. KIND is what WHO may refuse.
+@program $player:may_speak this none this rxd wiz
+{?who = #-1, ?kind = ""} = args;
+{at, span} = this.muted;
+since = time() - at;
+if (span && since >= 0 && since < span)
+  notify(this, tostr("You are muted, for ", $time:span(span - since), " more."));
+elseif (valid(who) && who in this.gagged_by)
+  notify(this, who.name + " hears nothing of you.");
+elseif (valid(who) && ({kind, #-1} in who.refusals || {kind, this} in who.refusals))
+  notify(this, tostr(who.name, " refuses ", kind, {kind, #-1} in who.refusals ? "." | " of yours."));
+else
+  return 1;
+endif
+return 0;
 .
 
 @program $player:accept this none this rxd
@@ -69,9 +142,19 @@ if (args[1])
 elseif ($news.changed > this.last_disconnect)
   notify(this, "There is news: type  news.");
 endif
-if (this.wizard && this.password == "")
+n = 0;
+for l in (this.letters)
+  n = n + !l[5];
+endfor
+if (n)
+  notify(this, tostr("You have ", n, n == 1 ? " letter that isn't read" | " letters that aren't read", ": type  @mail."));
+endif
+if (this.editing)
+  notify(this, tostr("You are still writing ", $editor:title(this.editing), ". A line of one dot ends, .q drops it, .h shows more."));
+endif
+if (this == #3 && $login:unclaimed())
   notify(this, "");
-  notify(this, "!! YOU HAVE NO PASSWORD. Anybody who can reach this port can connect as you.");
+  notify(this, "!! Your password is one that the world has made, from the moment of its start.");
   notify(this, "!! Type  @password NEW  now. (It will stand readable in the world's file.)");
 endif
 .
@@ -141,6 +224,10 @@ player:tell_lines(names ? $string:flow("You carry:", names) | {"You carry nothin
 $login:who(player);
 .
 
+@program $player:eval any any any rd
+player:tell("You are not a programmer. (A wizard makes programmers: help programming)");
+.
+
 @program $player:"help @help ?" any any any rd
 $help:show(player, argstr);
 .
@@ -160,10 +247,10 @@ elseif (!i)
 endif
 text = $string:trim(argstr[i..$]);
 o = $match:player(args[1]);
-if (!valid(o))
-  player:tell(o == #-2 ? "More than one player's name begins so." | "There is no player of that name.");
+if (!$match:found_player(o, args[1], player) || !player:may_speak(o, "pages"))
+  return;
 elseif (!(o in connected_players()))
-  player:tell(o.name, " isn't connected.");
+  player:tell(o.name, " isn't connected.", $isa(player, $builder) && $isa(o, $builder) ? tostr(" To leave a letter:  @send ", o.name, " ", text[1..min(30, length(text))], length(text) > 30 ? ".." | "") | "");
 else
   here = player.location;
   notify(o, tostr(player.name, " pages you", valid(here) ? " from " + here.name | "", ": ", text));
@@ -198,9 +285,81 @@ else
   return;
 endif
 o = name == "me" ? player | $match:among(name, people);
-if ($match:found(o, name, player))
+if ($match:found(o, name, player) && player:may_speak(o, "whispers"))
   notify(o, tostr(player.name, " whispers to you: ", text));
   player:tell("You whisper to ", o.name, ".");
+endif
+.
+
+// @gag NAME: nothing is heard of what NAME does; @ungag NAME
+@program $player:"@gag @ungag" any any any rd wiz
+if (player != this)
+  return;
+elseif (!argstr)
+  names = {};
+  for o in (this.gags)
+    names = valid(o) ? {@names, o.name} | names;
+  endfor
+  player:tell_lines($string:wrap(names ? "You gag " + $string:english(names) + "." | "You gag nobody. For example: @gag NAME"));
+  return;
+endif
+o = $match:player(argstr);
+if (!$match:found_player(o, argstr, player))
+  return;
+elseif (verb == "@ungag")
+  player:tell(o in this.gags ? "You hear " + o.name + " again." | "You don't gag " + o.name + ".");
+  this.gags = setremove(this.gags, o);
+  o.gagged_by = setremove(o.gagged_by, this);
+elseif (o == player)
+  player:tell("Not yourself.");
+elseif (length(this.gags) >= 50)
+  player:tell("You gag fifty already. @ungag somebody first.");
+else
+  this.gags = setadd(this.gags, o);
+  o.gagged_by = setadd(o.gagged_by, this);
+  player:tell("You hear no more of ", o.name, ". (@ungag ", o.name, ")");
+endif
+.
+
+// @refuse pages, @refuse pages from NAME; @unrefuse the same
+@program $player:"@refuse @unrefuse" any any any rd wiz
+if (player != this)
+  return;
+endif
+p = $string:split(args, "from");
+word = p ? p[1] | argstr;
+kind = "";
+for k in ({"pages", "whispers", "letters", "things", "visits"})
+  if (word && index(k, word) == 1)
+    kind = k;
+  endif
+endfor
+if (!argstr)
+  lines = {};
+  for r in (this.refusals)
+    if (r[2] == #-1 || valid(r[2]))
+      lines = {@lines, tostr("You refuse ", r[1], r[2] == #-1 ? "." | " from " + r[2].name + ".")};
+    endif
+  endfor
+  player:tell_lines(lines ? lines | {"You refuse nothing. For example: @refuse pages   or: @refuse letters from NAME"});
+  return;
+elseif (!kind)
+  player:tell("You can refuse pages, whispers, letters, things and visits. For example: @refuse pages from NAME");
+  return;
+endif
+o = p ? $match:player(p[2]) | #-1;
+if (p && !$match:found_player(o, p[2], player))
+  return;
+endif
+what = tostr(kind, p ? " from " + o.name | "");
+if (verb == "@unrefuse")
+  player:tell({kind, o} in this.refusals ? "You take " + what + " again." | "You don't refuse " + what + ".");
+  this.refusals = setremove(this.refusals, {kind, o});
+elseif (length(this.refusals) >= 50)
+  player:tell("You refuse fifty things already. @unrefuse something first.");
+else
+  this.refusals = setadd(this.refusals, {kind, o});
+  player:tell("You refuse ", what, ". (@unrefuse ", what, ")");
 endif
 .
 
@@ -283,6 +442,46 @@ endif
 dest:announce(player.name + words[2], {player});
 .
 
+// The exits of the room, and where they lead.
+@program $player:"@ways ways" none none none rd
+here = player.location;
+lines = {};
+for e in ($isa(here, $room) ? here.exits[1..min(40, length(here.exits))] | {})
+  if ($isa(e, $exit))
+    names = {e.name, @(typeof(more = `e.aliases ! ANY => {}') == LIST ? more[1..min(5, length(more))] | {})};
+    lines = {@lines, tostr("  ", $string:left($string:join(names, ", "), 24), " to ", valid(e.dest) ? e.dest.name | "nowhere", e:unlocked_for(player) ? "" | " (locked)")};
+  endif
+endfor
+player:tell_lines(lines ? lines | {"There are no exits."});
+.
+
+// @join NAME: to where NAME is, unless that is locked or NAME refuses visits
+@program $player:@join any any any rd wiz
+if (player != this)
+  return;
+endif
+o = $match:player(argstr);
+if (!$match:found_player(o, argstr, player))
+  return;
+elseif (!(o in connected_players()) || !valid(o.location))
+  player:tell(o.name, " isn't here, nor anywhere.");
+elseif (o.location == player.location)
+  player:tell("You are together.");
+elseif (!player:may_speak(o, "visits"))
+  return;
+elseif (!$isa(o.location, $room) || !(`o.location:accept(player) ! ANY => 0'))
+  player:tell("You can't go where ", o.name, " is.");
+else
+  from = player.location;
+  place = o.location;
+  move(player, place);
+  if (valid(from))
+    from:announce(tostr(player.name, " goes to join ", o.name, "."), {player});
+  endif
+  place:announce(tostr(player.name, " comes to join ", o.name, "."), {player});
+endif
+.
+
 @program $player:@sethome none none none rd wiz
 if (player != this)
   return;
@@ -300,25 +499,19 @@ endif
 if (player != this || !$isa(player, $builder))
   player:tell("Guests have no password.");
   return;
-elseif (player.password == "")
-  if (length(args) != 1)
-    player:tell("Type  @password NEW.");
-    return;
-  endif
-  new = args[1];
-elseif (length(args) != 2)
-  player:tell("Type  @password OLD NEW.");
-  return;
-elseif (!equal(player.password, args[1]))
-  player:tell("Your old password is another one.");
-  return;
-else
-  new = args[2];
 endif
-if (length(new) < 5 || length(new) > 60)
-  player:tell("A password has 5 to 60 characters.");
+first = player == #3 && $login.first_password;
+if (length(args) != (first ? 1 | 2))
+  player:tell(first ? "Type  @password NEW." | "Type  @password OLD NEW.");
+elseif (!first && !equal(player.password, args[1]))
+  player:tell("Your old password is another one.");
+elseif (fault = $login:password_fault(args[length(args)]))
+  player:tell(fault);
 else
-  player.password = new;
+  player.password = args[length(args)];
+  if (first)
+    $login.first_password = 0;
+  endif
   player:tell("Your password is changed. It stands readable in the world's file: use it nowhere else.");
 endif
 .
@@ -365,10 +558,13 @@ if (lines)
 endif
 .
 
-// post TEXT: writes on the board of the room
+// post TEXT: writes on the board of the room; post alone opens the editor
 @program $player:post any any any rd
 for o in (valid(player.location) ? player.location.contents | {})
   if (!is_player(o) && $isa(o, $board))
+    if (!argstr && $isa(player, $builder) && player:may_speak())
+      return $editor:start(player, "board", o, "", {});
+    endif
     return o:add(argstr);
   endif
 endfor
@@ -406,6 +602,16 @@ this.last_place = #-1;
 this.lesson = 1;
 clear_property(this, "description");
 clear_property(this, "gender");
+// who was gagged, or gagged others, was another guest
+for o in (this.gags)
+  `o.gagged_by = setremove(o.gagged_by, this) ! ANY';
+endfor
+for o in (this.gagged_by)
+  `o.gags = setremove(o.gags, this) ! ANY';
+endfor
+this.gags = this.gagged_by = this.refusals = this.editing = this.rest = {};
+this.linelength = $player.linelength;
+this.pagelength = 0;
 if (valid(this.location))
   `move(this, #-1) ! ANY';
 endif

@@ -1,0 +1,77 @@
+"""The program moo, run over a database and a script of events, and what a run takes."""
+import os, re, resource, subprocess, tempfile, time
+
+TOP = os.path.dirname(os.path.dirname(os.path.dirname(os.path.realpath(__file__))))
+MOO = os.environ.get("MOO") or subprocess.run([os.path.join(TOP, "moo"), "--path"], check=True, stdout=subprocess.PIPE, text=True).stdout.rstrip("\n")
+STACK = 65_536 * 1024
+# The most bytes that `moo serve` reads of a connection at once: what they say is one event.
+PIECE = int(os.environ.get("PIECE", 256))
+# The most address space of one run, in bytes: a program that wants more is refused memory, and the machine stays up.
+ROOM = int(os.environ.get("ROOM", 3 << 30))
+
+
+class Run:
+    """What a run printed, its status, its processor time as a user in seconds, and its peak of memory in megabytes."""
+
+    def __init__(self, output, errors, status, usage, peak):
+        self.output, self.errors, self.status = output, errors, status
+        self.seconds, self.system, self.megabytes = usage.ru_utime, usage.ru_stime, peak
+
+    def last(self):
+        return self.output.splitlines()[-1] if self.output.splitlines() else ""
+
+
+def limit(room=ROOM):
+    resource.setrlimit(resource.RLIMIT_STACK, (STACK, resource.getrlimit(resource.RLIMIT_STACK)[1]))
+    resource.setrlimit(resource.RLIMIT_AS, (room, room))
+
+
+def script(database, events, patience=900, most=1 << 24, room=ROOM):
+    """Runs `moo script` on a database file; the events are a text or bytes, or the path of a file behind an @."""
+    with tempfile.TemporaryDirectory() as folder:
+        path = os.path.join(folder, "events")
+        if isinstance(events, str) and events.startswith("@"):
+            path = events[1:]
+        else:
+            open(path, "wb").write(events if isinstance(events, bytes) else events.encode("latin-1"))
+        return run([MOO, "script", database], path, folder, patience, most, room)
+
+
+def run(words, given, folder, patience, most, room):
+    output, errors = os.path.join(folder, "output"), os.path.join(folder, "errors")
+    with open(given, "rb") as stdin, open(output, "wb") as stdout, open(errors, "wb") as stderr:
+        child = subprocess.Popen(words, stdin=stdin, stdout=stdout, stderr=stderr, preexec_fn=lambda: limit(room))
+        status, usage, peak = wait(child, patience)
+    return Run(text(output, most), text(errors, most), status, usage, peak)
+
+
+def wait(child, patience):
+    """The status of a child, its usage, and its peak of memory in megabytes as last seen; one that takes more seconds than that is
+    ended, with the status None. What the system tells of a child's peak behind its end is no less than this process's own."""
+    end, peak = time.monotonic() + patience, 0
+    while True:
+        peak = max(peak, memory(child.pid))
+        number, status, usage = os.wait4(child.pid, os.WNOHANG)
+        if number:
+            child.returncode = os.waitstatus_to_exitcode(status)
+            return child.returncode, usage, peak
+        if time.monotonic() > end:
+            child.kill()
+            usage = os.wait4(child.pid, 0)[2]
+            child.returncode = -9
+            return None, usage, peak
+        time.sleep(0.005)
+
+
+def memory(number):
+    """The peak of a process's memory so far, in megabytes; 0 where it has ended."""
+    with open(f"/proc/{number}/status") as file:
+        found = re.search(r"VmHWM:\s+(\d+)", file.read())
+    return int(found.group(1)) / 1024 if found else 0
+
+
+def text(path, most):
+    """What a file holds; of a long one only what it ends with."""
+    with open(path, "rb") as file:
+        file.seek(max(0, os.path.getsize(path) - most))
+        return file.read().decode("latin-1")

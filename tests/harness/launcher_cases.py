@@ -1,0 +1,222 @@
+"""Which program ./moo runs: cases over a small folder of sources, with programs and a kit that say who they are."""
+
+import hashlib
+import os
+import pathlib
+import platform
+import shutil
+import stat
+import subprocess
+import tempfile
+from functools import partial
+
+from outcome import PATIENCE, Outcome, Result, Skipped
+from row_file import TOP
+
+# The commands that the launcher takes from the system. A run has these alone on its path, and perhaps a kit.
+TOOLS = "awk cat chmod cp cut date dirname find grep mkdir mktemp mv paste readlink rm sed sh sha256sum sleep sort stat tail tar uname wc xargs".split()
+
+PARTS = ["moo", "release/sum", "release/check", "release/launch"]
+NEWER = "moo: the sources are newer than the release; this is the release\n"
+OLDER = "moo: the sources are newer than the program that was built here; this is that program\n"
+BUILDS = "moo: proving and building 1 crates, once ..\n"
+NOTHING = ("moo: there is no program: release/moo cannot run here, and nothing was built here"
+           " (building needs the command rt of the Rattle kit)\n")
+
+
+def program(name):
+    """Returns a program that prints its name and its arguments."""
+    return f'#!/bin/sh\necho {name} "$@"\n'
+
+
+class Folder:
+    """A repository with one crate. It has no kit on the path unless a run asks for one."""
+
+    def __init__(self, top):
+        self.top = pathlib.Path(top, "work")
+        for part in PARTS:
+            (self.top / part).parent.mkdir(parents=True, exist_ok=True)
+            shutil.copy(TOP / part, self.top / part)
+        self.write("crates/moo/src/main.rt", "fn main() {}\n")
+        self.write("crates.txt", "# One crate.\nmoo:\n")
+        self.write("HANDLES", "none\n")
+        self.kit, self.tools = pathlib.Path(top, "kit"), pathlib.Path(top, "tools")
+        self.kit.mkdir()
+        self.tools.mkdir()
+        for tool in TOOLS:
+            (self.tools / tool).symlink_to(shutil.which(tool))
+        self.set_kit("mkdir -p crates/moo/out; printf '#!/bin/sh\\necho new \"$@\"\\n' > crates/moo/out/moo; chmod 755 crates/moo/out/moo")
+
+    def write(self, name, text, is_program=False):
+        path = self.top / name
+        path.parent.mkdir(parents=True, exist_ok=True)
+        path.write_text(text)
+        path.chmod(0o755 if is_program else 0o644)
+
+    def set_kit(self, commands):
+        """Makes the command rt do this."""
+        (self.kit / "rt").write_text(f"#!/bin/sh\n{commands}\n")
+        (self.kit / "rt").chmod(stat.S_IRWXU)
+
+    def sum(self):
+        return subprocess.run([self.top / "release/sum"], stdout=subprocess.PIPE, text=True, check=True).stdout
+
+    def release(self):
+        """Makes a release of the sources as they are."""
+        self.write("release/moo", program("released"), True)
+        self.write("release/moo.sha256", hashlib.sha256(program("released").encode()).hexdigest() + "  moo\n")
+        self.write("release/sources.sum", self.sum())
+
+    def build(self):
+        """Makes a program that was built from the sources as they are."""
+        self.write("crates/moo/out/moo", program("built"), True)
+        self.write("crates/moo/out/moo.sources", f"{self.sum().strip()} {hashlib.sha256(program('built').encode()).hexdigest()}\n")
+
+    def change(self):
+        self.write("crates/moo/src/main.rt", "fn main() { }\n")
+
+    def run(self, *words, has_kit=False, command=None, **environ):
+        """Runs the launcher with these words. The result has its standard error, and after it its output."""
+        path = f"{self.kit}:{self.tools}" if has_kit else str(self.tools)
+        done = subprocess.run([command or self.top / "moo", *words], capture_output=True, timeout=PATIENCE, check=False,
+                              stdin=subprocess.DEVNULL, env={"PATH": path, **environ})
+        return Result(done.returncode, done.stderr + done.stdout)
+
+
+def the_release_is_run(folder):
+    folder.release()
+    yield folder.run("expr", "a b"), 0, "released expr a b\n"
+
+
+def what_was_built_here_is_run_before_the_release(folder):
+    folder.release()
+    folder.build()
+    yield folder.run("expr", has_kit=True), 0, "built expr\n"
+
+
+def times_of_files_are_not_looked_at(folder):
+    folder.release()
+    os.utime(folder.top / "crates/moo/src/main.rt", (2_000_000_000, 2_000_000_000))
+    yield folder.run("expr", has_kit=True), 0, "released expr\n"
+    folder.build()
+    folder.change()
+    os.utime(folder.top / "crates/moo/src/main.rt", (0, 0))
+    yield folder.run("expr"), 0, NEWER + "released expr\n"
+
+
+def without_a_kit_the_release_of_older_sources_is_run(folder):
+    folder.release()
+    folder.change()
+    yield folder.run("expr"), 0, NEWER + "released expr\n"
+
+
+def changed_sources_are_built_once(folder):
+    folder.release()
+    folder.build()
+    folder.change()
+    yield folder.run("expr", has_kit=True), 0, BUILDS + "new expr\n"
+    yield folder.run("expr", has_kit=True), 0, "new expr\n"
+    yield folder.run("build", has_kit=True), 0, "moo: crates/moo/out/moo was built from these sources\n"
+
+
+def a_word_in_the_environment_asks_for_the_release(folder):
+    folder.release()
+    folder.change()
+    yield folder.run("expr", has_kit=True, MOO_RELEASE="1"), 0, NEWER + "released expr\n"
+
+
+def a_word_forbids_a_build(folder):
+    folder.build()
+    folder.change()
+    yield folder.run("--no-build", "expr", has_kit=True), 0, OLDER + "built expr\n"
+    folder.write("crates/moo/src/main.rt", "fn main() {}\n")
+    folder.release()
+    folder.change()
+    yield folder.run("--no-build", "expr", has_kit=True), 0, NEWER + "released expr\n"
+
+
+def there_is_no_program(folder):
+    yield folder.run("expr"), 2, NOTHING
+    yield folder.run("--no-build", "expr", has_kit=True), 2, NOTHING
+    yield folder.run("build"), 2, "moo: the command rt of the Rattle kit is not on the path\n"
+
+
+def a_damaged_release_is_not_run(folder):
+    folder.release()
+    folder.write("release/moo", program("damaged"), True)
+    yield folder.run("expr"), 2, NOTHING
+    yield folder.run("expr", has_kit=True), 0, BUILDS + "new expr\n"
+
+
+def a_program_that_others_put_there_is_not_run(folder):
+    folder.release()
+    folder.build()
+    folder.write("crates/moo/out/moo", program("other"), True)
+    yield folder.run("expr"), 0, "released expr\n"
+
+
+def a_build_that_fails_ends_with_status_2(folder):
+    folder.release()
+    folder.change()
+    folder.set_kit("echo it fails; exit 1")
+    yield folder.run("expr", has_kit=True), 2, BUILDS + "it fails\n"
+
+
+def each_file_counts_but_those_of_out(folder):
+    folder.release()
+    folder.write("crates/moo/out/kept", "")
+    yield folder.run("expr"), 0, "released expr\n"
+    folder.write("crates/moo/proofs/Lib.antt", "")
+    yield folder.run("expr"), 0, NEWER + "released expr\n"
+    (folder.top / "crates/moo/proofs/Lib.antt").unlink()
+    folder.write("HANDLES", "Net\n")
+    yield folder.run("expr"), 0, NEWER + "released expr\n"
+
+
+def the_path_is_printed(folder):
+    folder.release()
+    yield folder.run("--path"), 0, f"{folder.top}/release/moo\n"
+
+
+def an_installed_program_needs_no_repository(folder):
+    folder.release()
+    place = folder.top.parent / "place"
+    yield folder.run("install", str(place)), 0, ""
+    shutil.rmtree(folder.top)
+    yield folder.run("serve", "a.db", command=place / "moo"), 0, "released serve a.db\n"
+
+
+CASES = [
+    the_release_is_run,
+    what_was_built_here_is_run_before_the_release,
+    times_of_files_are_not_looked_at,
+    without_a_kit_the_release_of_older_sources_is_run,
+    changed_sources_are_built_once,
+    a_word_in_the_environment_asks_for_the_release,
+    a_word_forbids_a_build,
+    there_is_no_program,
+    a_damaged_release_is_not_run,
+    a_program_that_others_put_there_is_not_run,
+    a_build_that_fails_ends_with_status_2,
+    each_file_counts_but_those_of_out,
+    the_path_is_printed,
+    an_installed_program_needs_no_repository,
+]
+
+
+def play_case(place, case):
+    """Plays a case: its outcome is the first run that ends or prints otherwise than wanted."""
+    if (platform.system(), platform.machine()) != ("Linux", "x86_64"):
+        raise Skipped("the release is for x86-64 Linux")
+    with tempfile.TemporaryDirectory() as top:
+        for number, (got, status, printed) in enumerate(case(Folder(top)), 1):
+            wanted = Result(status, printed.encode())
+            if got != wanted:
+                return [Outcome(place, f"run {number} of ./moo", wanted, got)]
+    return [Outcome(place, "", wanted, got)]
+
+
+def units():
+    """Returns the units that play all cases, each with its place."""
+    places = ["the launcher: " + case.__name__.replace("_", " ") for case in CASES]
+    return [(place, partial(play_case, place, case)) for place, case in zip(places, CASES)]

@@ -1,0 +1,184 @@
+"""What `moo serve` prints, logs and answers, and what its clients see, byte by byte. Each case is over a new database, tests/serve/start.db:
+everyone who connects is the wizard, whose verb `eval` runs what follows a semicolon."""
+
+import pathlib
+import re
+import shutil
+import subprocess
+import tempfile
+from functools import partial
+
+from outcome import Outcome, Result, Skipped
+from serving import DATA, FILE, Server, Unlike, reset, rest, same, sees, sees_last, starting
+
+LISTENS = "listening on 127.0.0.1:PORT\n"
+BEGUN = "[INFO  moo] listening on 127.0.0.1:PORT over programs.db\n"
+GREETING = b"*** Connected ***\r\n"
+LOOKED = b"I couldn't understand that.\r\n"
+LAST = b"*** Shutting down ***\r\n"
+
+# What the clock says, one value after another, and the time of the world then.
+CLOCKS = [(2_000_000_000, 2_000_000_000), (1_500_000_000, 2_000_000_000), (2_000_000_005, 2_000_000_005)]
+
+# Sends 200 lines of 65,536 letters to the one who types it, and writes to the log.
+BIG = b';s = "x"; for i in [1..16] s = s + s; endfor for i in [1..200] notify(player, s); endfor server_log("told");'
+
+# What lets fewer bytes wait than so many such lines: an option, or the 16,777,216 that may wait if none is given.
+FEWER = [(["--most-waiting", "1000000"], 200), ([], 600)]
+
+
+def block(folder):
+    """Gives a folder the name of the file of a checkpoint that is being written."""
+    (folder / (FILE + ".new")).mkdir()
+
+
+# What the world runs as it begins, what else is there, the options; what is printed, what is logged, the status.
+PROGRAMS = [
+    ('server_log("up");', {}, ["--rounds", "1"], LISTENS, BEGUN + "[INFO  moo] up\n", 0),
+    ("dump_database();", {}, ["--rounds", "5"], LISTENS, BEGUN + "[INFO  moo] checkpoint done: 453 bytes\n", 0),
+    ("dump_database();", {"before": block}, ["--rounds", "1"], LISTENS,
+     BEGUN + "[WARN  moo] checkpoint failed: HERE/programs.db.new: Is a directory (os error 21)\n", 0),
+    ("shutdown();", {}, ["--rounds", "1000000000"], LISTENS, BEGUN + "[INFO  moo] checkpoint done: 448 bytes\n", 0),
+    ("return 0;", {"is_taken": True}, ["--rounds", "1"], "refused: Device\n",
+     "[WARN  moo] 127.0.0.1:PORT: Address already in use (os error 98)\n", 3),
+    ("return 2.5;", {}, ["--rounds", "1"], "line 78: Program #0:1 line 1 BadToken\n",
+     "[WARN  moo] programs.db: line 78: Program #0:1 line 1 BadToken\n", 1),
+]
+
+# The database's text, or no file; what is printed, what is logged, the status.
+DATABASES = [
+    ("** LambdaMOO Database, Format Version 4 **\n4\n", "line 3: Truncated\n", "[WARN  moo] programs.db: line 3: Truncated\n", 1),
+    (None, "refused: Device\n", "[WARN  moo] programs.db: No such file or directory (os error 2)\n", 3),
+]
+
+
+def a_world_is_served(moo, program, found, options, *wanted):
+    with Server(moo, starting(program), *options, **found) as server:
+        server.is_over(*wanted)
+
+
+def a_database_is_refused(moo, text, *wanted):
+    with Server(moo, text, "--rounds", "1") as server:
+        server.is_over(*wanted)
+
+
+def a_client_looks_and_is_redirected(moo):
+    with Server(moo, starting("return 0;")) as server:
+        client = server.connect()
+        client.sendall(b"look\r\n")
+        sees(client, GREETING + LOOKED)
+        other = server.connect()
+        sees_last(client, b"*** Redirecting connection to new port ***\r\n")
+        other.sendall(b"look\r\n;shutdown();\r\n")
+        sees_last(other, b"*** Redirecting old connection to this port ***\r\n" + LOOKED + LAST)
+        server.is_over(LISTENS, BEGUN + "[INFO  moo] checkpoint done: 446 bytes\n")
+
+
+def output_waits_until_it_is_read(moo):
+    """All lines come, then the one that says that it is disconnected, and then the end: one who is leaving is closed after the last byte."""
+    with Server(moo, starting("return 0;")) as server:
+        client = server.connect()
+        client.sendall(BIG + b"boot_player(player);\n")
+        server.wait("logged", r"\[INFO  moo\] told")
+        sees_last(client, GREETING + 200 * (65_536 * b"x" + b"\r\n") + b"*** Disconnected ***\r\n")
+        same("logged", server.read("logged"), BEGUN + "[INFO  moo] told\n")
+
+
+def one_who_never_reads_is_hung_up(moo, options, lines):
+    with Server(moo, starting("return 0;"), *options) as server:
+        client = server.connect()
+        client.sendall(BIG.replace(b"200", b"%d" % lines) + b"boot_player(player);\n")
+        server.wait("logged", r"\[INFO  moo\] told")
+        logged = server.read("logged")
+        same("logged", re.sub(r"up: \d{7,8} bytes", "up: MANY bytes", logged),
+             BEGUN + "[WARN  moo] connection 0 is hung up: MANY bytes wait for it\n[INFO  moo] told\n")
+        # What the system had taken comes, and then the end.
+        waiting = int(re.search(r"up: (\d+) bytes", logged)[1])
+        same("bytes", len(rest(client)) + waiting, len(GREETING) + lines * 65_538 + len(b"*** Disconnected ***\r\n"))
+        other = server.connect()
+        other.sendall(b";shutdown();\n")
+        sees_last(other, GREETING + LAST)
+
+
+def the_next_one_under_a_number_starts_clean(moo):
+    """The first one leaves half a line, and output that waits. The log has the number of who comes."""
+    hooks = ('set_verb_code(#0, "do_login_command", {"server_log(tostr(player)); return #3;"});\n'
+             'add_verb(#0, {#3, "rxd", "user_client_disconnected"}, {"this", "none", "this"});\n'
+             'set_verb_code(#0, "user_client_disconnected", {"server_log(\\"left\\");"});')
+    with Server(moo, starting(hooks)) as server:
+        first = server.connect()
+        first.sendall(b"look\nlook\n" + BIG + b"\nhalf a line")
+        server.wait("logged", r"\[INFO  moo\] told")
+        reset(first)
+        server.wait("logged", r"\[INFO  moo\] left")
+        client = server.connect()
+        client.sendall(b"\n;shutdown();\n")
+        sees_last(client, GREETING + LAST)
+        told = ["#-2", "told", "left", "#-2", "checkpoint done: 761 bytes"]
+        server.is_over(LISTENS, BEGUN + "".join(f"[INFO  moo] {line}\n" for line in told))
+
+
+def a_clock_that_is_set_back_is_not_shown(moo):
+    """What the world takes for the time: the last moment that it was given counts until the clock has passed it."""
+    compiler = next(filter(None, map(shutil.which, ["cc", "gcc", "clang"])), None)
+    if compiler is None:
+        raise Skipped("there is no C compiler, by which such a clock is made")
+    with tempfile.TemporaryDirectory() as folder:
+        clock, library = pathlib.Path(folder, "clock"), pathlib.Path(folder, "clock.so")
+        subprocess.run([compiler, "-shared", "-fPIC", "-o", library, DATA / "clock.c"], check=True)
+        clock.write_text("1900000000")
+        with Server(moo, starting("return 0;"), environ={"LD_PRELOAD": str(library), "CLOCK": str(clock)}) as server:
+            client = server.connect()
+            sees(client, GREETING)
+            for says, shown in CLOCKS:
+                (clock.parent / "next").write_text(str(says))
+                (clock.parent / "next").replace(clock)
+                # The round that answers this gives the world the new moment.
+                client.sendall(b"look\n")
+                sees(client, LOOKED)
+                client.sendall(b";return time();\n")
+                sees(client, b"{1, %d}\r\n" % shown)
+            client.sendall(b";shutdown();\n")
+            sees_last(client, LAST)
+
+
+def a_shutdown_is_written_and_the_server_closes(moo):
+    with Server(moo, starting("return 0;")) as server:
+        client = server.connect()
+        client.sendall(b';#2.name = "A Hall"; shutdown();\n')
+        sees_last(client, GREETING + LAST)
+        server.is_over(LISTENS, BEGUN + "[INFO  moo] checkpoint done: 438 bytes\n")
+        same("database", (server.folder / FILE).read_text(), starting("return 0;").replace("The First Room", "A Hall"))
+
+
+CASES = [
+    *((a_world_is_served, case) for case in PROGRAMS),
+    *((a_database_is_refused, case) for case in DATABASES),
+    *((one_who_never_reads_is_hung_up, case) for case in FEWER),
+    (a_client_looks_and_is_redirected, ()),
+    (output_waits_until_it_is_read, ()),
+    (the_next_one_under_a_number_starts_clean, ()),
+    (a_clock_that_is_set_back_is_not_shown, ()),
+    (a_shutdown_is_written_and_the_server_closes, ()),
+]
+
+
+def as_bytes(value):
+    """Returns what was seen or wanted, as a difference is shown."""
+    return value if isinstance(value, bytes) else str(value).encode()
+
+
+def play_case(program, place, show, case):
+    """Plays a case: its outcome is the first thing that was seen otherwise than wanted."""
+    title = place + "".join(f", {part!r}" for part in case[:1])
+    try:
+        show(program.path, *case)
+    except Unlike as fault:
+        return [Outcome(place, f"{title}: {fault.what}", Result(0, as_bytes(fault.wanted)), Result(0, as_bytes(fault.seen)))]
+    return [Outcome(place, title, Result(0, b""), Result(0, b""))]
+
+
+def units(program):
+    """Returns the units that play all cases, each with its place."""
+    places = ["serving: " + show.__name__.replace("_", " ") for show, _ in CASES]
+    return [(place, partial(play_case, program, place, show, case)) for place, (show, case) in zip(places, CASES)]

@@ -1,0 +1,133 @@
+// The recycler: a thing that goes is emptied and kept, and its number is handed out again. So nobody can use the numbers up.
+
+@object $recycler from #1 named Recycler
+@object $record from #1 named Record
+@object $post from #1 named Post
+@object $editor from #1 named Editor
+@object $note from $thing named generic note
+@object $vehicle from $room named generic vehicle
+;for o in ({$recycler, $record, $post, $editor}) o.owner = #3; endfor
+@property $recycler.pool r wiz = {}
+@property $recycler.last_serial r wiz = 0
+
+// An object of the kind KIND for whoever asks, with one less of the quota. A player makes most_in_day of them in a day.
+@program $recycler:make this none this rxd wiz
+{kind} = args;
+who = caller_perms();
+if (!valid(who) || !valid(kind))
+  raise(E_INVARG);
+elseif (!(kind.f || $controls(who, kind)))
+  raise(E_PERM);
+endif
+quota = `who.ownership_quota ! E_PROPNF => {}';
+if (typeof(quota) == INT && quota < 1)
+  raise(E_QUOTA);
+elseif (!who.wizard && $isa(who, $player))
+  {day, n} = who.made;
+  since = time() - day;
+  if (since < 0 || since >= 86400)
+    day = time();
+    n = 0;
+  endif
+  if (n >= who.most_in_day)
+    raise(E_QUOTA, "you have made as many things today as may be made in a day");
+  endif
+  who.made = {day, n + 1};
+endif
+o = #-1;
+while (this.pool && o == #-1)
+  o = this.pool[1];
+  this.pool = listdelete(this.pool, 1);
+  o = valid(o) && o.owner == #-1 ? o | #-1;
+endwhile
+if (o != #-1)
+  // what the owner may set belongs to the owner from the change of the parent on
+  chparent(o, #-1);
+  o.owner = who;
+  chparent(o, kind);
+  if (typeof(quota) == INT)
+    who.ownership_quota = quota - 1;
+  endif
+else
+  o = create(kind, who);
+endif
+this.last_serial = this.last_serial + 1;
+o.serial = this.last_serial;
+return o;
+.
+
+// Why WHO can't make N things more, or "".
+@program $recycler:fault this none this rxd wiz
+{who, n} = args;
+quota = `who.ownership_quota ! E_PROPNF => {}';
+if (typeof(quota) == INT && quota < n)
+  return tostr("Your quota is used up: that takes ", n, ", and you can make ", quota, " more.");
+elseif (!who.wizard && $isa(who, $player))
+  {day, made} = who.made;
+  since = time() - day;
+  if (since >= 0 && since < 86400 && made + n > who.most_in_day)
+    return "You have made as many things today as may be made in a day.";
+  endif
+endif
+return "";
+.
+
+// Does the core need it: is it older than the players' own things, or has #0 a name for it?
+@program $recycler:is_core this none this rxd
+{o} = args;
+if (o <= $login.core_end)
+  return 1;
+endif
+for name in (properties(#0))
+  if (`#0.(name) ! ANY => 0' == o)
+    return 1;
+  endif
+endfor
+return 0;
+.
+
+// Takes an object away. What is in it stays where it is, or goes to its owner; kinds of it become kinds of its own kind.
+// What is large, and what belongs to the core, is recycled by the server, and its number isn't used again.
+@program $recycler:keep this none this rxd wiz
+{o} = args;
+if (!valid(o) || is_player(o) || o <= #3)
+  raise(E_INVARG);
+elseif (!$controls(caller_perms(), o))
+  raise(E_PERM);
+endif
+// first what the object itself does about it: it may fail, or use up the ticks
+`o:recycle() ! ANY';
+if (!valid(o))
+  return;
+elseif (this:is_core(o) || length(verbs(o)) > 100 || length(properties(o)) > 100 || length(children(o)) > 50)
+  return recycle(o);
+endif
+for c in (o.contents)
+  for place in ({o.location, c.owner, #-1})
+    if (place == #-1 || (valid(place) && `place:accept(c) ! ANY => 0'))
+      `move(c, place) ! ANY';
+      break;
+    endif
+  endfor
+endfor
+for c in (children(o))
+  chparent(c, parent(o));
+endfor
+while (verbs(o))
+  delete_verb(o, 1);
+endwhile
+for name in (properties(o))
+  delete_property(o, name);
+endfor
+move(o, #-1);
+chparent(o, #-1);
+who = o.owner;
+o.name = "recycled object";
+o.owner = #-1;
+o.r = o.w = o.f = 0;
+chparent(o, #1);
+if (valid(who) && typeof(`who.ownership_quota ! ANY => 0') == INT && is_player(who))
+  who.ownership_quota = who.ownership_quota + 1;
+endif
+this.pool = {@this.pool, o};
+.

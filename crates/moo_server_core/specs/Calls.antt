@@ -9,7 +9,7 @@ use Rattle.moo_server_core.specs.declared.event.Event as given
 use Rattle.moo_server_core.specs.declared.server_core.ServerCore.{ServerCore}
 use Rattle.moo_server_core.specs.Server.{Hands, IsAlive, Ran, entries_of, state_of, traces_under, waiting_of}
 
--- The disk of a call: one of the first type, or of another, as one that has it within and makes a call fail.
+-- The disk of a call has one of two types. The second may be a wrapper of the first, such as one that makes a call fail.
 pub data Lent (D E : Type 0) : Type 0 where
   One : D → Lent D E
   Other : E → Lent D E
@@ -22,8 +22,8 @@ abbrev pub lent_honest : {D E : Type 0} → (D → Type 0) → (E → Type 0) �
 lent_honest honest honest' (One disk) = honest disk
 lent_honest honest honest' (Other disk) = honest' disk
 
--- A disk is handed on as another value, perhaps with a wrapper put round it, or taken out of one: main reads as before, and
--- a crash leaves no more.
+-- A disk is handed on as another value: perhaps it was put into a wrapper, or taken out of one. Main reads as before, and a crash
+-- leaves no more than before.
 pub record HandsOn {D : Type 0} (view : D → DiskView) (honest : D → Type 0) (old new : D) : Type 0 where
   pub main : honest old → KeepsMain (view old) (view new)
   pub honest_still : honest old → honest new
@@ -50,12 +50,12 @@ module _ {S Application : Type 0} (l : Layer S Application Saved) where
     pub alive : IsAlive server
     pub no_checkpoint : server.writing ≡ None
     pub begins : Begins l.meaning saved moment (waiting_of l server) (state_of l server)
-    -- main spells, within the limits, no other world than that which it began from
+    -- main spells no other world within the limits than the one that it began from
     pub only : honest old → (s : Saved) → l.meaning.Spells (view old).main_text s → s ≡ saved
     pub main : honest old → KeepsMain (view old) (view new)
     pub honest_still : honest old → honest new
 
-  -- it is a run over such a disk
+  -- the call was a run over such a disk
   pub record IsRun {D : Type 0} (view : D → DiskView) (honest : D → Type 0) {X : Type 0} (call : Call S X) (old new : D) : Type 0 where
     pub ran : Ran l view honest call.before call.server old new call.events call.done
     pub entries : entries_of ran.taken ≡ call.entries
@@ -104,8 +104,8 @@ module _ {S Application : Type 0} (l : Layer S Application Saved) where
       pub left : List ℕ
       pub leaves : (lent_view view view' last).left_since (lent_view view view' disk).clock left
 
-  -- After some calls and before others, `at_first` what a crash left before the start: what a crash since then leaves is the text of
-  -- a mark, of that of the last report done or a later one, or, where none was done, what a crash left at first.
+  -- What a crash leaves after the calls of `entries` and before the end of those of `later`: the text of the mark of the last report
+  -- done in `entries`, or of a later mark. If none was done, it may also be what a crash left before the start, which is `at_first`.
   abbrev pub LeavesMarked : (List ℕ → Type 0) → List (Entry Saved) → List (Entry Saved) → List ℕ → Type 0
   LeavesMarked at_first entries later c =
       (NoneDone (traces_under l.meaning entries) × at_first c)
@@ -125,15 +125,15 @@ module _ {S Application : Type 0} (l : Layer S Application Saved) where
     pub enough : (front behind : List (Entry Saved)) (e : Entry Saved) → returned ≡ front ++ e ∷ behind → e.mark ≢ None
         → IsDoneNext (traces_under l.meaning behind) → length front ≤ length prefix
 
-  -- A text that spells, within the limits, the saved world after a prefix of the events that ends with a mark, and that holds every event
-  -- before the last checkpoint reported done in `entries` began; or, where none was, the world read at the start.
+  -- A text that spells, within the limits, the saved world after such a prefix, where the calls of `entries` have returned. If no report
+  -- in them was done, it may spell the world that was read at the start, which is `first`.
   pub record IsKept (start : State Application) (first : Saved) (entries later : List (Entry Saved)) (c : List ℕ) : Type 0 where
     pub saved : Saved
     pub spelled : l.meaning.Spells c saved
     pub which : (NoneDone (traces_under l.meaning entries) × (saved ≡ first)) ⊎ IsPrefix start entries (entries ++ later) saved
 
-  -- Starting again over a disk: main spells, within the limits of database texts, the saved world after such a prefix, or that which was read
-  -- at the start, and a server that is opened over it begins from this world.
+  -- A start over this disk reads such a world: main spells it within the limits of database texts, and a server that is opened over the
+  -- disk begins from it.
   pub record StartsAgain {D : Type 0} (view : D → DiskView) (honest : D → Type 0) (start : State Application) (first : Saved) (entries later : List (Entry Saved)) (found : D) : Type 0 where
     pub saved : Saved
     pub spelled : SpellsSavedWithin (view found).main_text saved

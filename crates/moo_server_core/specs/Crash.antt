@@ -18,19 +18,19 @@ abbrev pub texts_of_marks : List Trace → List (List ℕ)
 texts_of_marks [] = []
 texts_of_marks (trace ∷ traces) = only_text trace.mark ++ texts_of_marks traces
 
--- the last one alone
+-- only the last one
 abbrev pub last_of : {A : Type 0} → List A → List A
 last_of [] = []
 last_of (x ∷ []) = x ∷ []
 last_of (x ∷ y ∷ xs) = last_of (y ∷ xs)
 
--- after a report done, the mark before it is the earliest that counts
+-- after a report done, the texts before that of the last mark no longer count
 abbrev pub after_report : Option Report → List (List ℕ) → List (List ℕ)
 after_report None texts = texts
 after_report (Some Done) texts = last_of texts
 after_report (Some report) texts = texts
 
--- the texts of the marks from that of the last report done on; where none is done, those before too
+-- the text of the mark of the last report done, and those of the later marks; if no report is done, also those before
 abbrev pub since_done : List (List ℕ) → List Trace → List (List ℕ)
 since_done texts [] = texts
 since_done texts (trace ∷ traces) = since_done (after_report trace.report texts ++ only_text trace.mark) traces

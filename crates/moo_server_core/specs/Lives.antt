@@ -1,4 +1,4 @@
--- Lives of a server over one disk, each ended by a crash, or by an end of the server alone.
+-- Lives of a server over one disk. Each ends by a crash, or by an end of the server alone.
 use Rattle.std.specs.Prelude.{◌≡◌, ◌≢◌, ◌⊎◌, ◌<◌, ◌≤◌, ℕ, List, [], ◌∷◌, length, take, slice_get, All, Some, Result, Ok, Err}
 use Rattle.moo_disk.specs.Disk.{DiskView, IsLeftBy, KeepsMain}
 use Rattle.moo_checkpoint.specs.Recovering.{CountsFault}
@@ -38,32 +38,32 @@ pub record LifeRun (S D : Type 0) : Type 0 where
   pub opened : D
   pub new : D
 
--- what may be under main after a life's end, of these texts
+-- which of these texts may be under main after the end of a life
 abbrev pub IsLeft : LifeStop → List (List ℕ) → List (List ℕ) → Type 0
 IsLeft ServerOnly texts left = left ≡ texts
 IsLeft (Crash i) texts left = (c : List ℕ) × IsOneOf texts c × (left ≡ c ∷ [])
 
--- what a crash left of an honest disk: the text of that number, alone
+-- what a crash left of an honest disk: only the text of that number
 pub record IsCrashed {D : Type 0} (view : D → DiskView) (honest : D → Type 0) (images : D → List (List ℕ)) (i : ℕ) (end new : D) : Type 0 where
   pub left : IsLeftBy (view end) (view new)
   pub image : slice_get (images end) i ≡ Some (view new).main_text
   pub honest_still : honest new
 
--- the disk behind a life's end
+-- the disk after the end of a life
 abbrev pub IsStopped : {D : Type 0} → (D → DiskView) → (D → Type 0) → (D → List (List ℕ)) → LifeStop → D → D → Type 0
 IsStopped view honest images (Crash i) end new = honest end → IsCrashed view honest images i end new
 IsStopped view honest images ServerOnly end new = new ≡ end
 
--- a crash leaves no text of the number that is asked for
+-- the crash leaves no text of that number
 abbrev pub HasNoImage : {D : Type 0} → (D → List (List ℕ)) → LifeStop → D → Type 0
 HasNoImage images (Crash i) end = length (images end) ≤ i
 HasNoImage images ServerOnly end = ⊥
 
--- the device, or want of memory
+-- the device failed, or memory ran out
 abbrev pub IsSound : OpenFault → Type 0
 IsSound fault = (fault ≡ Device) ⊎ (fault ≡ no_memory)
 
--- where nothing kept it from it, it ran all its events
+-- a run without a fault took all its events
 abbrev pub RanAll : {S : Type 0} → Result ℕ RunFault → List given.Event → ServerCore S → Type 0
 RanAll (Ok n) events end = (n ≡ length events) × IsAlive end
 RanAll (Err fault) events end = Unit {0}
@@ -76,7 +76,7 @@ module _ {S Application : Type 0} (l : Layer S Application Saved) where
     pub text_is : text ≡ l.meaning.text_of saved
     pub follows : Follows l view honest stands server new
 
-  -- what is answered of a life
+  -- what is returned of a life
   pub record IsTold {D : Type 0} (life : Life) (run : LifeRun S D) (begin : LifeBegin) : Type 0 where
     pub moment : run.moment ≡ life.moment
     pub events : run.events ≡ life.events.items
@@ -90,7 +90,7 @@ module _ {S Application : Type 0} (l : Layer S Application Saved) where
   AreTold lives runs begins = ⊥
 
   module _ {D : Type 0} (view : D → DiskView) (honest : D → Type 0) (failures : D → ℕ) where
-    -- It began by an `open`, in which the device didn't fail, and what it did is a run's.
+    -- It began by an `open` in which the device didn't fail, and then ran its events.
     pub record IsLife (life : LifeRun S D) : Type 0 where
       pub main : life.main ≡ (view life.old).main_text
       pub opened : Opened l view honest life.start life.old life.opened life.saved life.moment
@@ -102,7 +102,7 @@ module _ {S Application : Type 0} (l : Layer S Application Saved) where
       pub still : All (λ event. seen event ≢ Flush) life.events → life.new ≡ life.opened
       pub honest_still : honest life.old → honest life.new
 
-    -- what a life was, and what is answered of it
+    -- what a life was, and what is returned of it
     pub record HasLived (life : Life) (old new : D) (begin : LifeBegin) : Type 0 where
       pub run : LifeRun S D
       pub old_is : run.old ≡ old
@@ -111,7 +111,7 @@ module _ {S Application : Type 0} (l : Layer S Application Saved) where
       pub told : IsTold life run begin
 
     -- A life that didn't begin, since no server was opened. Nothing was written. The device is reported if it failed, and where main
-    -- spells a saved world within the limits it is that or want of memory.
+    -- spells a saved world within the limits, either it failed or memory ran out.
     pub record NotBegun (old new : D) (fault : OpenFault) : Type 0 where
       pub sound : honest old → (s : Saved) → l.meaning.Spells (view old).main_text s → IsSound fault
       pub device : CountsFault (honest old) (failures old) (failures new) fault
@@ -147,7 +147,7 @@ module _ {S Application : Type 0} (l : Layer S Application Saved) where
       Lives disk texts (life ∷ lives) left last =
           (after : List (List ℕ)) × (next : D) × LivesOnce disk texts life after next × Lives next after lives left last
 
-      -- lives up to some place, and the disk behind them
+      -- lives up to some place, and the disk after them
       pub record SoFar (lives : List Life) (begins : List LifeBegin) (first disk : D) : Type 0 where
         pub runs : List (LifeRun S D)
         pub left : List (List ℕ)
@@ -161,12 +161,12 @@ module _ {S Application : Type 0} (l : Layer S Application Saved) where
       abbrev pub LivesSoFar : List Life → List LifeBegin → D → Type 0
       LivesSoFar lives begins first = (disk : D) × SoFar lives begins first disk
 
-      -- what the next life met, if it is there
+      -- what the next life met, if there is one
       abbrev pub NextMeets : List Life → ℕ → LivesCause → D → Type 0
       NextMeets lives place Memory disk = Unit {0}
       NextMeets lives place cause disk = (life : Life) × (slice_get lives place ≡ Some life) × EndsBefore life disk cause
 
-      -- the lives before that of the fault's place, and what that one met
+      -- the lives before the one that the fault names, and what that one met
       pub record EndsAt (lives : List Life) (first : D) (fault : LivesFault) : Type 0 where
         pub place : fault.life < length lives
         pub begins : List LifeBegin

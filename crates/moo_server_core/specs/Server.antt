@@ -1,4 +1,4 @@
--- What a server is seen as, and what a run does to it and to its disk.
+-- The state of a server, and what a run does to it and to its disk.
 use Rattle.std.specs.Prelude.{◌≡◌, ◌≢◌, ◌⊎◌, ◌-◌, ℕ, List, [], ◌∷◌, take, map, slice_get, Result, Ok, Err, IfErr, Option, Some, None, Bool, true, false, eqb, if◌then◌else◌}
 use Rattle.std.specs.Option.{option_map}
 use Rattle.moo_disk.specs.Disk.{DiskView}
@@ -28,7 +28,7 @@ abbrev pub text_of_open : Option Open → List (List ℕ)
 text_of_open None = []
 text_of_open (Some o) = text_of o.checkpoint ∷ []
 
--- the turns that it still takes, 0 where none is open
+-- the turns that it still takes, 0 if none is open
 abbrev pub turns_of : Option Open → ℕ
 turns_of None = 0
 turns_of (Some o) = turns_left o.checkpoint
@@ -55,13 +55,13 @@ pub record TakenEvent (S Saved D : Type 0) : Type 0 where
 abbrev pub entries_of : {S Saved D : Type 0} → List (TakenEvent S Saved D) → List (Entry Saved)
 entries_of taken = map (λ one. one.entry) taken
 
--- From such a disk on the device failed in each event whose report is failed, and in no other.
+-- From such a disk on, the device failed in each event that reports a checkpoint as failed, and in no other.
 abbrev pub FailsAsReported : {S Saved D : Type 0} → (D → ℕ) → D → List (TakenEvent S Saved D) → Type 0
 FailsAsReported failures disk [] = Unit {0}
 FailsAsReported failures disk (one ∷ taken) =
     CountsReport one.entry.report (failures disk) (failures one.disk) × FailsAsReported failures one.disk taken
 
--- bytes for one number, and lines for the log, alone
+-- output of bytes for one number alone, and of lines for the log alone
 abbrev pub sent_alone : ℕ → List ℕ → Output
 sent_alone c bytes = record { sent = λ k. if eqb k c then bytes else []; logged = [] }
 
@@ -89,7 +89,7 @@ module _ {Application Saved : Type 0} (m : Meaning Application Saved) where
   MarksSpell [] = Unit {0}
   MarksSpell (entry ∷ entries) = MarkSpells entry.mark × MarksSpell entries
 
-  -- What a turn of the open checkpoint does, where its report is this.
+  -- What a turn of the open checkpoint does, with this report.
   pub record Turns {D : Type 0} (view : D → DiskView) (honest : D → Type 0) (failures : D → ℕ) (before after : State Application) (was is : Option Open) (old new : D) (report : Option Report) (out : Output) : Type 0 where
     pub reports : Reports m Flush report before out after
     pub unreported : report ≡ None → text_of_open is ≡ text_of_open was
@@ -122,20 +122,20 @@ module _ {S Application Saved : Type 0} (l : Layer S Application Saved) where
     writing = is_last_of server.writing;
   }
 
-  -- what was sent and wasn't taken yet
+  -- the output that waits to be taken
   abbrev pub waiting_of : ServerCore S → Output
   waiting_of server = l.waiting server.sessions
 
-  -- what goes out of the event that is being taken
+  -- the output of the event that is being taken
   abbrev pub under_way_of : ServerCore S → Output
   under_way_of server = l.under_way server.sessions
 
-  -- No event is being taken, and the disk is as the last call left it, perhaps with a wrapper put round it since.
+  -- No event is being taken, and the disk is as the last call left it, perhaps in a wrapper now.
   pub record Follows {D : Type 0} (view : D → DiskView) (honest : D → Type 0) (stands : D → Type 0) (server : ServerCore S) (disk : D) : Type 0 where
     pub still : under_way_of server ≡ silence
     pub continues : OpenFollows view honest stands server.writing disk
 
-  -- Events were taken, one after another, however many calls they came in: what they did, and what a crash may leave.
+  -- What events did, one after another, in however many calls they came, and what a crash may leave.
   pub record Lived {D : Type 0} (view : D → DiskView) (honest : D → Type 0) (before after : ServerCore S) (old new : D) (entries : List (Entry Saved)) : Type 0 where
     pub end : State Application
     pub run : Run l.meaning (state_of before) entries end
@@ -144,7 +144,7 @@ module _ {S Application Saved : Type 0} (l : Layer S Application Saved) where
     pub spelled : MarksSpell l.meaning entries
     -- what a crash may leave, at the end and at any moment since the start
     pub survives : honest old → Survives view old new (on_its_way before) (on_its_way after) (traces_under l.meaning entries)
-    -- the report of a checkpoint comes by its last turn
+    -- the report of a checkpoint comes in its last turn, or in an earlier one in which the device failed
     pub in_time : IsInTime (turns_of before.writing) (traces_under l.meaning entries)
     pub turns : IsAlive after → turns_of after.writing ≡ turns_left_after (turns_of before.writing) (traces_under l.meaning entries)
     -- a halted server does nothing
@@ -158,7 +158,7 @@ module _ {S Application Saved : Type 0} (l : Layer S Application Saved) where
       pub does : Does l.meaning view honest (state_of before) (state_of one.server) before.writing one.server.writing old one.disk one.entry
       -- what it sent waits, after what waited before, and nothing else does
       pub waiting : waiting_of one.server ≡ then_out (waiting_of before) one.entry.out
-      -- the disk is met in a `Flush` alone
+      -- only a `Flush` makes a call of the disk
       pub still : one.entry.event ≢ Flush → one.disk ≡ old
       pub honest_still : honest old → honest one.disk
 
@@ -186,14 +186,14 @@ module _ {S Application Saved : Type 0} (l : Layer S Application Saved) where
       -- nothing else was done, or a further event halted the server
       pub ends : ((after ≡ reached) × (new ≡ disk)) ⊎ Halts reached after disk new
 
-  -- nothing but what waits is another
+  -- nothing but the output that waits differs
   pub record Same (one other : ServerCore S) : Type 0 where
     pub state : state_of other ≡ state_of one
     pub writing : other.writing ≡ one.writing
     pub halted : other.halted ≡ one.halted
     pub under_way : under_way_of one ≡ silence → under_way_of other ≡ silence
 
-  -- So much of what waits was handed out, and nothing else happened.
+  -- So much of the output that waits was handed out, and nothing else changed.
   pub record Hands (handed : Output) (one other : ServerCore S) : Type 0 where
     pub same : Same one other
     pub waiting : waiting_of one ≡ then_out handed (waiting_of other)
@@ -209,12 +209,12 @@ module _ {S Application Saved : Type 0} (l : Layer S Application Saved) where
     is_refused : (event : given.Event) (cause : Cause) → IsAlive before → IsAlive after → refusal l.meaning (state_of reached) (seen event) ≡ Some cause
         → HasCause before reached after (Some event) cause
 
-  -- A run answers this: it took so many events, the device failed in those whose report is failed, and this is why it ended.
+  -- A run returns this result: it took so many events, the device failed in those that report a failure, and this is why it ended.
   pub record Runs {D : Type 0} (view : D → DiskView) (honest : D → Type 0) (failures : D → ℕ) (before after : ServerCore S) (old new : D) (events : List given.Event) (result : Result ℕ RunFault) : Type 0 where
     pub ran : Ran view honest before after old new events (done_of result)
     pub fails : FailsAsReported failures old ran.taken
-    -- in an event that halted the server the device may have failed too, and in no other that isn't taken
+    -- in an event that halted the server the device may have failed once more
     pub at_most_once : FailsAtMostOnce (failures ran.disk) (failures new)
-    -- the event after those that were taken meets the disk in a `Flush` alone
+    -- the event after those that were taken makes a call of the disk only if it is a `Flush`
     pub still : (event : given.Event) → slice_get events (done_of result) ≡ Some event → seen event ≢ Flush → new ≡ ran.disk
     pub refused : IfErr result (λ fault. HasCause before ran.reached after (slice_get events fault.done) fault.cause)

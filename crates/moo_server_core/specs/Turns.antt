@@ -1,4 +1,4 @@
--- The turns that an open checkpoint still takes, its report, and the device's failures.
+-- The turns that an open checkpoint still takes, its report, and the failures of the device.
 use Rattle.std.specs.Prelude.{◌≡◌, ◌≢◌, ◌⊎◌, ℕ, ◌+◌, ◌-◌, List, [], ◌∷◌, length, Option, Some, None, Bool, true, false}
 use Rattle.moo_disk.specs.Disk.{HasRisen}
 use Rattle.moo_checkpoint.specs.Checkpoint.{pieces}
@@ -35,7 +35,7 @@ IsInTime left [] = Unit {0}
 IsInTime left (trace ∷ traces) =
     (left ≡ 1 → trace.flush ≡ true → trace.report ≢ None) × (trace.report ≡ Some Done → left ≡ 1) × IsInTime (turns_after left trace) traces
 
--- The device failed in the event whose report this is, if that is failed, and else it didn't.
+-- The device failed in an event with this report if it is a failure, and not otherwise.
 abbrev pub CountsReport : Option Report → ℕ → ℕ → Type 0
 CountsReport None before now = now ≡ before
 CountsReport (Some Done) before now = now ≡ before

@@ -18,7 +18,7 @@ use std::alloc::AllocError;
 impl<S: Application> ServerCore<S> {
     ghost use Rattle.moo_server_core.specs.Server.{IsAlive, Does, Follows, OpenFollows, Opens, MarkSpells, Turns, on_its_way, state_of, under_way_of, waiting_of};
 
-    // Something happens to the sessions.
+    // Gives the application an input, and notes the requests that result.
     fn apply(&mut self, happening: Input) -> Result<(), AllocError>
         requires { IsApt S.layer.meaning (S.layer.state self.old.sessions) (seen_happening happening) }
         ensures hears { OnOk result ((out : Output)
@@ -35,7 +35,7 @@ impl<S: Application> ServerCore<S> {
         Ok(())
     }
 
-    // A request stands until a checkpoint begins, and a shutdown makes the server close.
+    // Notes requests. A checkpoint stays requested until it begins, and a shutdown makes the server close.
     fn note_requests(&mut self, asked: Requests)
         ensures asked { self.new.asked ≡ (asked.checkpoint || (asked.shutdown || self.old.asked)) }
         ensures course { self.new.course ≡ (if asked.shutdown then Course.Closing else self.old.course) }
@@ -53,7 +53,7 @@ impl<S: Application> ServerCore<S> {
         }
     }
 
-    // The event's own effect.
+    // Applies the event's own effect.
     fn act(&mut self, event: &Event) -> Result<(), AllocError>
         requires { FindsFree S.layer.meaning (state_of S.layer self.old) (seen event.now) }
         ensures acts { OnOk result ((out : Output)
@@ -86,7 +86,7 @@ impl<S: Application> ServerCore<S> {
         self.asked || self.due <= u64::from(self.moment)
     }
 
-    // Begins a checkpoint where one is due.
+    // Begins a checkpoint if one is due.
     fn begin_due_checkpoint(&mut self) -> Result<(), AllocError>
         ensures marks { OnOk result ((mark : _) × (out : Output)
             × Marks S.layer.meaning mark (state_of S.layer self.old) out (state_of S.layer self.new)
@@ -110,7 +110,7 @@ impl<S: Application> ServerCore<S> {
         Ok(())
     }
 
-    // Reports that the open checkpoint has ended, which closes the server where it was the last.
+    // Reports that the open checkpoint has ended. If it was the last, the server is closed.
     fn report(&mut self, is_last: bool, done: bool) -> Result<(), AllocError>
         ensures reports { OnOk result ((out : Output) × (mid : State S.State)
             × Hears S.layer.meaning (Finishes done) (state_of S.layer self.old) out mid
@@ -154,7 +154,7 @@ impl<S: Application> ServerCore<S> {
         }
     }
 
-    // What keeps an event from being taken.
+    // Returns the reason why an event is refused, if it is.
     fn refusal(&self, event: &Event) -> Option<Cause>
         ensures { result ≡ refusal S.layer.meaning (state_of S.layer self.now) (seen event.now) }
     {
@@ -196,7 +196,7 @@ impl<S: Application> ServerCore<S> {
         Some(Cause::NoSuchConnection)
     }
 
-    // An event that isn't refused.
+    // Takes an event that isn't refused.
     fn try_take<D: Disk>(&mut self, disk: &mut D, event: &Event) -> Result<(), AllocError>
         requires follows { Follows S.layer D.view D.honest D.stands self.old disk.old }
         requires accepted { refusal S.layer.meaning (state_of S.layer self.old) (seen event.now) ≡ None }
@@ -223,7 +223,7 @@ impl<S: Application> ServerCore<S> {
         self.begin_due_checkpoint()
     }
 
-    // One event. A want of memory halts the server; another refusal changes nothing.
+    // Takes one event. If memory runs out, the server halts. A refused event changes nothing.
     pub(crate) fn take<D: Disk>(&mut self, disk: &mut D, event: &Event) -> Result<(), Cause>
         requires follows { Follows S.layer D.view D.honest D.stands self.old disk.old }
         requires alive { IsAlive self.old }

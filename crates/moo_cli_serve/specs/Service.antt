@@ -4,7 +4,7 @@ use Rattle.slab.specs.Slab.{Slab}
 use Rattle.moo_disk.specs.Disk.{DiskView, KeepsMain, KeepsSpare}
 use Rattle.moo_dbtext_record.specs.declared.fault.DbFault.{DbFault}
 use Rattle.moo_dbtext_record.specs.declared.fault.DbFaultKind.TheVariants as kind
-use Rattle.moo_dbtext_read.specs.Saved.{Saved, SpellsSaved, SpellsSavedWithin}
+use Rattle.moo_dbtext_read.specs.Saved.{Saved, SpellsSavedWithin}
 use Rattle.moo_dbtext_read.specs.Refusals.{Refuses as RefusesText}
 use Rattle.moo_checkpoint.specs.Recovering.{CountsFault}
 use Rattle.moo_checkpoint.specs.declared.open_fault.OpenFault.{OpenFault}
@@ -40,10 +40,10 @@ pub record Waits {S D : Type 0} (old new : Serving S D) : Type 0 where
   pub sockets : (c : ℕ) → held new.sockets.sockets c ≡ held old.sockets.sockets c
 
 module _ {S Application D : Type 0} (l : Layer S Application Saved) (view : D → DiskView) (honest : D → Type 0) where
-  -- A server was begun from what a disk holds, at a moment: from a saved world that main spells. Nothing was written.
+  -- A server was begun from what a disk holds, at a moment: from a saved world that main spells within the limits of database texts. Nothing was written.
   pub record IsBegunFrom (disk : D) (moment : ℕ) (server : inner.Serving S) (left : D) : Type 0 where
     pub saved : Saved
-    pub spelled : honest disk → SpellsSaved (view disk).main_text saved
+    pub spelled : honest disk → SpellsSavedWithin (view disk).main_text saved
     pub opened : Opened l view honest server disk left saved moment
     pub spare : honest disk → KeepsSpare (view disk) (view left)
 

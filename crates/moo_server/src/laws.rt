@@ -52,6 +52,7 @@ pub fn starting_again_reads_a_prefix_since_the_start<D: Disk, E: Disk, F: Disk>(
     >();
 }
 
+pub use crate::disk_laws::{a_failing_disk_is_handed_on, a_stopping_disk_is_handed_on};
 pub use moo_server_core::laws::{
     a_failing_disk_goes_on, a_refused_start_loses_nothing, a_report_comes,
     a_report_done_is_durable, a_start_reads_a_prefix, a_start_reads_a_prefix_since_the_start,

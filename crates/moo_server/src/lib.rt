@@ -2,6 +2,7 @@
 #![tactic(auto)]
 
 mod connected;
+mod disk_laws;
 mod happening;
 pub mod laws;
 mod lives;

@@ -1,4 +1,4 @@
-//! What a round gives to a server first.
+//! The events that a round gives to a server first.
 ghost use Rattle.std.specs.Prelude.{◌≡◌, ◌++◌, ℕ, List, IfOk, OnOk};
 ghost use Rattle.moo_server_core.specs.declared.event.Event as given;
 ghost use Rattle.moo_cli_serve.specs.Rounds.{Begins, IsTold};
@@ -9,7 +9,8 @@ use moo_server_core::Event;
 use std::alloc::AllocError;
 use std::rt::Clock;
 
-/// What came on the sockets, the moment, and a flush. The last moment that was told is set.
+/// Returns the events of a round: those of the sockets, the moment, and a flush. Sets the last reported moment. Fails only if
+/// memory runs out.
 pub fn come<L: Clock + Log>(
     rt: &L,
     sockets: &mut Sockets,
@@ -23,7 +24,7 @@ pub fn come<L: Clock + Log>(
     Ok(events)
 }
 
-// The clock may be set back: then the last moment stands until it is passed.
+// Appends the moment, unless the clock was set back. Then the last reported moment stays until the clock has passed it.
 fn tell(now: Option<u32>, moment: &mut u32, events: &mut Vec<Event>) -> Result<(), AllocError>
     ensures { OnOk result ((timed : List given.Event) × IsTold now moment.old moment.new timed × (events.new.items ≡ events.old.items ++ timed)) }
 {
@@ -37,7 +38,7 @@ fn tell(now: Option<u32>, moment: &mut u32, events: &mut Vec<Event>) -> Result<(
     Ok(())
 }
 
-/// Seconds since 1970, where the clock tells. They fit until 2106.
+/// Returns the seconds since 1970, or `None` if the clock fails or is past the year 2106.
 pub fn now(clock: &impl Clock) -> Option<u32> {
     let since = clock.since_1970().ok()?;
     u32::try_from(since.as_secs()).ok()

@@ -1,4 +1,4 @@
-//! Why a server ends before it is closed.
+//! The reasons why a server ends before it is closed.
 ghost use Rattle.std.specs.Prelude.{◌≡◌};
 ghost use Rattle.moo_cli_serve.specs.Status.{fault_status};
 ghost use Rattle.moo_cli_serve.specs.declared.fault.ServeFault.TheVariants.{Memory, Open, Refused, Sockets};
@@ -10,28 +10,28 @@ use std::alloc::AllocError;
 use std::io;
 use thiserror::Error;
 
-/// Why a server ends before it is closed. Each is told as a line of the program's output, with the exit status `status`.
+/// The reason why a server ends before it is closed. The program prints it as a line, and exits with the status `status`.
 #[derive(Debug, Drop, Error)]
 pub enum ServeFault {
     /// The database is refused, or can't be read.
     #[error("{0}")]
     Open(OpenFault),
-    /// The address can't be had, or sockets can't be waited for.
+    /// The address is not available, or the system can't report which sockets are ready.
     #[error("{0}")]
     Sockets(SocketsFault),
-    /// The line that tells where it listens can't be written.
+    /// The line with the server's address can't be written.
     #[error("refused: Device")]
     Output(io::Error),
     /// The server refused an event.
     #[error("refused: {0:?}")]
     Refused(Cause),
-    /// There was no memory for what came.
+    /// Memory ran out for what came.
     #[error("refused: Memory")]
     Memory,
 }
 
 impl ServeFault {
-    /// The program's exit status: 1 for a database that is refused, 3 for a device, 4 for memory, 5 for an event.
+    /// Returns the program's exit status: 1 for a refused database, 3 for a device, 4 for memory, 5 for an event.
     pub fn status(&self) -> u8
         ensures { result ≡ fault_status self.now }
     {

@@ -1,4 +1,4 @@
-//! A server is given events, each in a run of its own.
+//! Events that a server takes, each in a run of its own.
 ghost use Rattle.std.specs.Prelude.{◌≡◌, ℕ, List, [], IfErr, OnOk, if◌then◌else◌};
 ghost use Rattle.moo_server_core.specs.Application.{Output};
 ghost use Rattle.moo_server_core.specs.Seen.{seen};
@@ -12,8 +12,8 @@ use moo_disk::Disk;
 use moo_server_core::{Cause, Event, Phase, ServerCore, StartApplication};
 use std::slice;
 
-/// Gives events to a server, one after another, each in a run of its own. What waits for a connection that hung up goes nowhere, so that
-/// the next one under its number starts clean.
+/// Gives events to a server, one after another, each in a run of its own. Drops what waits for a connection that hung up, so
+/// that the next connection of its number starts empty. Returns the cause if the server refuses an event.
 pub fn give<S: StartApplication, D: Disk>(
     server: &mut ServerCore<S>,
     disk: &mut D,
@@ -34,7 +34,7 @@ pub fn give<S: StartApplication, D: Disk>(
     Ok(())
 }
 
-/// The same, but a server that is closed is given nothing.
+/// Gives events to a server as `give` does, unless it is closed.
 pub fn give_if_open<S: StartApplication, D: Disk>(
     server: &mut ServerCore<S>,
     disk: &mut D,
@@ -52,7 +52,7 @@ pub fn give_if_open<S: StartApplication, D: Disk>(
     give(server, disk, events)
 }
 
-// Where a connection hung up, what waits for it is taken and dropped.
+// Takes and drops what waits for a connection that hung up.
 fn forget<S: StartApplication>(server: &mut ServerCore<S>, event: &Event)
     ensures handed { (handed : Output) × Hands S.layer handed server.old server.new }
     ensures waiting { (c : ℕ) → (waiting_of S.layer server.new).sent c ≡ (if hangs_up c (seen event.now) then [] else (waiting_of S.layer server.old).sent c) }

@@ -1,4 +1,4 @@
-//! What goes out in a round, and the connections that are closed then.
+//! The output of a round, and the connections that it closes.
 ghost use Rattle.std.specs.Prelude.{◌≡◌, ◌≢◌, ℕ, List, IfOk, OnOk};
 ghost use Rattle.moo_server_core.specs.Application.{Output};
 ghost use Rattle.moo_server_core.specs.Server.{Hands, waiting_of};
@@ -10,7 +10,8 @@ use moo_cli_sockets::{Sockets, put};
 use moo_server_core::{Event, ServerCore, StartApplication};
 use std::alloc::{AllocError, Global};
 
-/// One write to each socket, of what waits for its connection: the hang-ups of those that are closed then.
+/// Writes once to each socket what waits for its connection. Returns the hang-ups of the connections that it closes. Fails only
+/// if memory runs out.
 pub fn write_all<S: StartApplication, L: Log>(
     rt: &L,
     alloc: Global,
@@ -30,7 +31,7 @@ pub fn write_all<S: StartApplication, L: Log>(
     Ok(parted)
 }
 
-// One write to a connection's socket, if it has one, and its hang-up where it is closed then.
+// Writes once to a connection's socket, if it has one. Returns its hang-up if the connection is closed.
 fn write<S: StartApplication, L: Log>(
     rt: &L,
     server: &mut ServerCore<S>,
@@ -57,7 +58,7 @@ fn write<S: StartApplication, L: Log>(
     Ok(Some(Event::Hangup(c)))
 }
 
-// Whether one is hung up: the socket failed, or the connection leaves and nothing waits, or too much does.
+// Returns whether a connection is hung up: its socket failed, or it leaves and nothing waits, or too much waits.
 fn is_parted(most: usize, is_leaving: bool, waiting: Option<usize>) -> bool
     ensures { result ≡ is_parted most is_leaving waiting }
 {
@@ -75,7 +76,7 @@ fn tell_waiting<L: Log>(rt: &L, c: u16, most: usize, waiting: Option<usize>) {
     }
 }
 
-/// Writes the lines that wait for the log.
+/// Takes the lines that wait for the log, and logs them. Their target is `moo`.
 pub fn log_lines<S: StartApplication, L: Log>(rt: &L, server: &mut ServerCore<S>)
     ensures { Logs S.layer server.old server.new }
 {

@@ -1,5 +1,5 @@
 //! Rounds between the sockets of connections and a server over a disk.
-//! A room behind `moo`.
+//! An internal crate of `moo`.
 #![tactic(auto)]
 
 mod coming;

@@ -1,4 +1,4 @@
-//! `moo serve`: a database file, served until it is closed.
+//! The command `moo serve`.
 ghost use Rattle.std.specs.Prelude.{IfErr, OnOk};
 ghost use Rattle.moo_cli_serve.specs.Program.{FailsFile, NoDisk, ServesFile, ShowsService};
 ghost use Rattle.moo_cli_serve.specs.Service.{Fails, IsOutside, Serves};
@@ -17,23 +17,23 @@ use std::io::{ErrorKind, Write};
 use std::net::{IpAddr, Net, SocketAddr};
 use std::rt::{Clock, Files};
 
-/// What is to be served, and how.
+/// The parameters of a server.
 #[derive(Clone, Copy, Debug)]
 pub struct Served<'a> {
     /// The path of the database file.
     pub db: &'a str,
-    /// The address to listen on.
+    /// The address on which it listens.
     pub host: IpAddr,
-    /// The port; 0 takes any free one.
+    /// The port, or 0 for any that is free.
     pub port: u16,
-    /// The most rounds.
+    /// The greatest number of rounds.
     pub rounds: u64,
-    /// A connection for which more bytes wait is hung up.
+    /// The number of waiting bytes past which a connection is hung up.
     pub most_waiting: usize,
 }
 
-/// Serves a database until it is closed or the rounds are over, and answers the program's exit status. The output gets the line
-/// `listening on ADDRESS`, or one that tells why there is no server; the log tells the rest.
+/// Serves a database file until the server is closed or the rounds are over, and returns the program's exit status. Prints the
+/// line `listening on ADDRESS`, or a line with the reason why it ends. Everything else goes to the log.
 pub fn run_serve<S: StartApplication, R: Net + Clock + Log, F: Files + Drop, O: Write>(
     rt: &R,
     files: F,
@@ -53,7 +53,7 @@ pub fn run_serve<S: StartApplication, R: Net + Clock + Log, F: Files + Drop, O: 
     }
 }
 
-// Serves the database under a file's name.
+// Serves the database file.
 fn serve_file<S: StartApplication, R: Net + Clock + Log, F: Files + Drop, O: Write>(
     rt: &R,
     files: F,
@@ -73,7 +73,8 @@ fn serve_file<S: StartApplication, R: Net + Clock + Log, F: Files + Drop, O: Wri
     }
 }
 
-/// Serves what a disk holds. The output gets the line that tells where it listens.
+/// Serves the database of a disk, and prints the line with the address. Returns the reason if it ends before the server is
+/// closed or the rounds are over.
 pub fn serve_disk<S: StartApplication, D: Disk + Watched + Drop, R: Net + Clock + Log, O: Write>(
     rt: &R,
     alloc: Global,
@@ -98,7 +99,7 @@ pub fn serve_disk<S: StartApplication, D: Disk + Watched + Drop, R: Net + Clock 
     serving.serve(rt, served.rounds)
 }
 
-// Why there is no disk.
+// Returns why there is no disk, and logs the system's reason.
 fn no_disk<R: Log>(rt: &R, served: Served<'_>, error: io::Error) -> ServeFault
     ensures { NoDisk result }
 {
@@ -109,7 +110,7 @@ fn no_disk<R: Log>(rt: &R, served: Served<'_>, error: io::Error) -> ServeFault
     ServeFault::Open(OpenFault::Device)
 }
 
-// Where no spare can be made beside the file, each checkpoint will fail.
+// Logs a warning if no spare can be made, since then every checkpoint will fail.
 fn tell_spare<R: Log, F: Files + Drop>(rt: &R, disk: &FileDisk<F>) {
     if let Err(error) = disk.try_spare() {
         warn!(rt; target: "moo::serve", "no checkpoint can be made: {}: {error}", disk.spare());
@@ -130,14 +131,14 @@ fn tell_address<O: Write>(
     output.flush().map_err(ServeFault::Output)
 }
 
-// The reason of a fault goes to the log: in the system's words where a device has answered them.
+// Logs the reason of a fault, in the system's words if a device failed.
 fn tell_reason<R: Log>(rt: &R, served: Served<'_>, fault: &ServeFault) {
     match fault {
         ServeFault::Sockets(SocketsFault::Device(error)) => {
             warn!(rt; target: "moo::serve", "{}:{}: {error}", served.host, served.port);
         }
         ServeFault::Output(error) => tell_output(rt, error),
-        // A disk's is told where it was met.
+        // The reason of a disk was logged when it failed.
         ServeFault::Open(OpenFault::Device) => {}
         other => warn!(rt; target: "moo::serve", "{}: {other}", served.db),
     }
@@ -147,7 +148,7 @@ fn tell_output<R: Log>(rt: &R, error: &io::Error) {
     warn!(rt; target: "moo::serve", "standard output: {error}");
 }
 
-// The output is told why it ends. Where it fails only now, the log tells that too.
+// Prints why it ends. If the output fails only now, logs that too.
 fn tell<R: Log, O: Write>(rt: &R, output: &mut O, fault: &ServeFault) {
     let Err(error) = write_line(output, fault) else {
         return;
@@ -157,7 +158,7 @@ fn tell<R: Log, O: Write>(rt: &R, output: &mut O, fault: &ServeFault) {
     }
 }
 
-// Why it ends, a refused database in the words of the program's other commands. It takes no memory.
+// Prints why it ends, in the words of the program's other commands. Takes no memory.
 fn write_line<O: Write>(output: &mut O, fault: &ServeFault) -> io::Result<()> {
     writeln!(output, "{fault}")?;
     output.flush()

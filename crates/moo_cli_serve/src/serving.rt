@@ -22,12 +22,12 @@ use std::rt::Clock;
 /// The longest wait of an idle server, in seconds: a moment has whole ones.
 const WAIT_SECONDS: u64 = 1;
 
-/// What a round found.
+/// The outcome of a round.
 #[derive(Clone, Copy, Debug, PartialEq, Eq)]
 pub enum Round {
-    /// There may be more to do at once.
+    /// More may be done at once.
     Busy,
-    /// Nothing can be done before a socket is ready or the clock goes on.
+    /// Nothing can be done until a socket is ready or the clock goes on.
     Idle,
     /// The server is closed.
     Over,
@@ -40,15 +40,15 @@ pub struct Serving<S: StartApplication, D: Disk> {
     sockets: Sockets,
     server: Server<S>,
     disk: D,
-    /// The last moment that was told.
+    /// The last reported moment.
     moment: u32,
-    /// A connection for which more bytes wait is hung up.
+    /// The number of waiting bytes past which a connection is hung up.
     most_waiting: usize,
 }
 
 impl<S: StartApplication, D: Disk + Watched> Serving<S, D> {
-    /// Opens a server on a disk, and listens on a port of an address. Port 0 takes any free one. Where the disk can't be read, why is told
-    /// in a line of the log.
+    /// Opens a server over a disk, and listens on a port of an address. Port 0 takes any that is free. If the disk can't be read,
+    /// logs the reason and returns the fault.
     pub fn open<N: Net + Clock + Log>(
         rt: &N,
         alloc: Global,
@@ -77,7 +77,7 @@ impl<S: StartApplication, D: Disk + Watched> Serving<S, D> {
         })
     }
 
-    /// Where it listens.
+    /// Returns the address on which it listens.
     pub fn address(&self) -> Result<SocketAddr, ServeFault>
         ensures { IfErr result IsOutside }
     {
@@ -85,7 +85,8 @@ impl<S: StartApplication, D: Disk + Watched> Serving<S, D> {
         Ok(address)
     }
 
-    /// At most so many rounds, with a wait after each that found nothing. It ends early once the server is closed.
+    /// Makes at most so many rounds, and waits after each that found nothing. Ends early once the server is closed, or with the
+    /// reason of a fault.
     pub fn serve<L: Clock + Log>(&mut self, rt: &L, rounds: u64) -> Result<(), ServeFault>
         requires { Follows S.layer D.view D.honest D.stands self.old.server self.old.disk }
         ensures follows { Follows S.layer D.view D.honest D.stands self.new.server self.new.disk }
@@ -102,7 +103,7 @@ impl<S: StartApplication, D: Disk + Watched> Serving<S, D> {
         Ok(())
     }
 
-    // A round, and a wait behind one that found nothing. It answers whether the server goes on.
+    // Makes a round, and waits if it found nothing. Returns whether the server goes on.
     fn step<L: Clock + Log>(&mut self, rt: &L) -> Result<bool, ServeFault>
         requires { Follows S.layer D.view D.honest D.stands self.old.server self.old.disk }
         ensures follows { Follows S.layer D.view D.honest D.stands self.new.server self.new.disk }
@@ -122,8 +123,9 @@ impl<S: StartApplication, D: Disk + Watched> Serving<S, D> {
         }
     }
 
-    /// One round: what came on the sockets, the moment and a flush are given to the server, each event in a run of its own; then one write
-    /// to each socket for which bytes wait, and the hang-ups of those that are closed by it. Once the server is closed nothing is done.
+    /// Makes one round. Gives the server what came on the sockets, the moment and a flush, each event in a run of its own. Then
+    /// writes once to each socket for which bytes wait, and gives the server the hang-ups of the connections that this closes.
+    /// Does nothing once the server is closed.
     #[tactic(none)]
     pub fn round<L: Clock + Log>(&mut self, rt: &L) -> Result<Round, ServeFault>
         requires { Follows S.layer D.view D.honest D.stands self.old.server self.old.disk }
@@ -143,7 +145,7 @@ impl<S: StartApplication, D: Disk + Watched> Serving<S, D> {
         Ok(self.found(calls))
     }
 
-    // A round of a server that isn't closed.
+    // Makes a round of a server that isn't closed.
     #[tactic(none)]
     fn turn<L: Clock + Log>(&mut self, rt: &L) -> Result<(), ServeFault>
         requires { Follows S.layer D.view D.honest D.stands self.old.server self.old.disk }
@@ -178,7 +180,7 @@ impl<S: StartApplication, D: Disk + Watched> Serving<S, D> {
         matches!(self.server.phase(), Phase::Closed)
     }
 
-    // What a round found, before which the disk had made so many calls.
+    // Returns the outcome of a round, before which the disk had made so many calls.
     fn found(&self, calls: u64) -> Round
         ensures { (result ≡ Round.Over) ↔ IsClosed self.now.server }
     {
@@ -201,7 +203,7 @@ impl<S: StartApplication, D: Disk + Watched> Serving<S, D> {
     }
 }
 
-// The server that begins from what a disk holds. Where it can't be read, why is told.
+// Opens a server over a disk. Logs the reason if the disk can't be read.
 fn begin<S: StartApplication, D: Disk + Watched, L: Log>(
     rt: &L,
     alloc: Global,
@@ -221,7 +223,7 @@ fn begin<S: StartApplication, D: Disk + Watched, L: Log>(
     }
 }
 
-// Tells what became of a checkpoint, where a call of the disk was its last: before, there had been so many.
+// Logs the end of a checkpoint, if the last call of the disk ended one. Before the round the disk had made so many calls.
 fn tell_checkpoint<D: Watched, L: Log>(rt: &L, disk: &D, calls: u64) {
     if disk.calls() == calls {
         return;
@@ -234,7 +236,7 @@ fn tell_checkpoint<D: Watched, L: Log>(rt: &L, disk: &D, calls: u64) {
     }
 }
 
-// Tells why the disk failed, if it did.
+// Logs why the disk failed, if it did.
 fn tell_failure<D: Watched, L: Log>(rt: &L, disk: &D) {
     if let News::Failed(file, error) = disk.news() {
         warn!(rt; target: "moo::serve", "{file}: {error}");

@@ -1,5 +1,5 @@
 //! The surface of `moo_builtin`.
-use moo_builtin::{Caller, Outcome};
+use moo_builtin::{Caller, Function, Outcome};
 use moo_value::{MooStr, Value};
 use moo_world::World;
 use std::alloc::Global;
@@ -14,6 +14,16 @@ pub fn call_plain(
 ) -> Outcome {
     let caller = Caller { programmer, moment };
     moo_builtin::call_plain(alloc, name, args, world, caller)
+}
+
+pub fn call_found(
+    alloc: Global,
+    function: Option<Function>,
+    args: &mut [Value],
+    world: &mut World,
+    caller: Caller,
+) -> Outcome {
+    moo_builtin::call_found(alloc, function, args, world, caller)
 }
 
 /// Returns the value, if there is one.

@@ -2,7 +2,7 @@
 use moo_disk::{CrashDisk, Disk};
 use moo_server::{
     Cause, Event, Life, LifeBegin, LifeStop, LivesCause, LivesFault, OpenFault, Phase, RunFault,
-    Server,
+    Server, ServerCore, StartApplication,
 };
 use moo_value::MooStr;
 use std::alloc::Global;
@@ -32,6 +32,15 @@ pub fn is_leaving(server: &Server, c: u16) -> bool {
 
 pub fn phase(server: &Server) -> Phase {
     server.phase()
+}
+
+/// Opens a server of another application.
+pub fn open<S: StartApplication, D: Disk>(
+    alloc: Global,
+    disk: &mut D,
+    moment: u32,
+) -> Result<ServerCore<S>, OpenFault> {
+    ServerCore::<S>::open(alloc, disk, moment)
 }
 
 pub fn run_lives<D: CrashDisk + Drop>(

@@ -1,12 +1,22 @@
 //! The surface of `moo_syntax`.
 use moo_syntax::{
-    Codes, Expr, Handler, Item, Literal, Names, Program, Stmt, SyntaxFault, SyntaxFaultKind,
+    Arm, Codes, Expr, Handler, Item, Literal, Name, NameInterner, Names, Program, Stmt,
+    SyntaxFault, SyntaxFaultKind, Text,
 };
 use moo_value::MooStr;
 use std::alloc::{AllocError, Global};
 
 pub fn parse(alloc: Global, lines: &[MooStr], names: Names) -> Result<Program, SyntaxFault> {
     moo_syntax::parse(alloc, lines, names)
+}
+
+pub fn parse_with(
+    alloc: Global,
+    known: &mut NameInterner,
+    lines: &[MooStr],
+    names: Names,
+) -> Result<Program, SyntaxFault> {
+    moo_syntax::parse_with(alloc, known, lines, names)
 }
 
 pub fn try_clone(program: &Program) -> Result<Program, AllocError> {
@@ -120,5 +130,29 @@ pub fn fit_any(codes: &Codes) -> bool {
     match codes {
         Codes::Any => true,
         Codes::Listed(_) => false,
+    }
+}
+
+/// Returns the name of a variable, if an expression is one.
+pub fn variable(expr: &Expr) -> Option<&Name> {
+    match expr {
+        Expr::Variable(name) => Some(name),
+        _ => None,
+    }
+}
+
+/// Returns the text of a string, if a literal is one.
+pub fn string(literal: &Literal) -> Option<&Text> {
+    match literal {
+        Literal::Str(text) => Some(text),
+        _ => None,
+    }
+}
+
+/// Returns the branches after the first, if a statement is an `if`.
+pub fn branches(stmt: &Stmt) -> Option<&[Arm]> {
+    match stmt {
+        Stmt::If(_, _, arms) => Some(arms.as_slice()),
+        _ => None,
     }
 }

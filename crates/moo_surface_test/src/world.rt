@@ -2,7 +2,7 @@
 use moo_syntax::Program;
 use moo_value::{ErrorCode, MooStr, Value};
 use moo_world::{
-    Action, Need, ObjectSpecifier, PrepositionSpecifier, PropCell, PropPerms, Rights, Verb,
+    Action, Forest, Need, ObjectSpecifier, PrepositionSpecifier, PropCell, PropPerms, Rights, Verb,
     VerbArgs, VerbAt, VerbPerms, World, WorldFault,
 };
 use std::alloc::Global;
@@ -143,6 +143,14 @@ pub fn players(world: &World) -> &[i32] {
 
 pub fn verb(world: &World, o: i32, index: usize) -> Option<&Verb> {
     world.verb(o, index)
+}
+
+pub fn inheritance(world: &World) -> &Forest {
+    world.inheritance()
+}
+
+pub fn containment(world: &World) -> &Forest {
+    world.containment()
 }
 
 pub fn row(world: &World, o: i32) -> Option<&[PropCell]> {

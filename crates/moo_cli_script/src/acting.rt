@@ -1,4 +1,4 @@
-//! What a script does with its server and its disk.
+//! The actions of a script on its server and its disk.
 ghost use Rattle.std.specs.Prelude.{◌≡◌, ◌≤◌, IfErr, IfOk, OnOk};
 ghost use Rattle.moo_server_core.specs.Seen.{seen};
 ghost use Rattle.moo_server_core.specs.Server.{IsAlive};
@@ -13,7 +13,7 @@ use moo_server_core::{Cause, Event, Phase, ServerCore, StartApplication};
 use std::alloc::Global;
 
 impl<S: StartApplication> Script<S> {
-    /// A server over a disk, at a moment.
+    /// Opens a server over a disk, at a moment. Returns the fault if there is no server.
     pub(crate) fn open(
         alloc: Global,
         disk: FailAt<MemoryDisk>,
@@ -35,7 +35,7 @@ impl<S: StartApplication> Script<S> {
         }
     }
 
-    /// Hands the server one event.
+    /// Gives the server one event. Returns the cause if the server refuses it.
     pub(crate) fn take(&mut self, event: Event) -> Result<(), Cause>
         requires { Fits S.layer self.old }
         ensures takes { OnOk result (Takes S.layer (seen event) self.old self.new) }
@@ -54,7 +54,7 @@ impl<S: StartApplication> Script<S> {
         }
     }
 
-    // The moment behind an event that is taken.
+    // Returns the moment after an event that is taken.
     fn moment_behind(&self, event: &Event) -> u32
         requires { IsAlive self.now.server }
         ensures { result ≡ moment_at self.now.server.course (seen event.now) self.now.moment }
@@ -65,7 +65,7 @@ impl<S: StartApplication> Script<S> {
         }
     }
 
-    // The number above all connections that were opened, behind an event.
+    // Returns a number above those of all opened connections, after an event.
     fn top_behind(&self, event: &Event) -> u32
         requires { self.now.top ≤ 65536 }
         ensures most { result ≤ 65536 }
@@ -77,7 +77,7 @@ impl<S: StartApplication> Script<S> {
         }
     }
 
-    /// Lets the k-th call of the disk from now on fail.
+    /// Sets the k-th call of the disk from now on to fail.
     pub(crate) fn fail(self, k: u64, has_effect: bool) -> Script<S>
         requires { Fits S.layer self }
         ensures fails { IsToFail S.layer k has_effect self result }
@@ -98,7 +98,7 @@ impl<S: StartApplication> Script<S> {
         }
     }
 
-    /// Another server over the disk as it reads, at the same moment. A call that is to fail still fails.
+    /// Opens another server over the disk as it reads, at the same moment. A call that is set to fail still fails.
     pub(crate) fn reopen(self, alloc: Global) -> Result<Script<S>, OpenFault>
         requires { Fits S.layer self }
         ensures opens { IfOk result (Opens S.layer self.disk self.server.moment) }
@@ -114,7 +114,8 @@ impl<S: StartApplication> Script<S> {
         Script::open(alloc, disk, moment)
     }
 
-    /// Another server over what a crash leaves, at the same moment. No call is to fail any more.
+    /// Opens another server over the disk with the i-th text that a crash may leave, at the same moment. No call is set to
+    /// fail then.
     pub(crate) fn crash(self, alloc: Global, i: usize) -> Result<Script<S>, Refused>
         requires { Fits S.layer self }
         ensures crashes { IfOk result (Crashes S.layer i self) }

@@ -1,4 +1,4 @@
-//! What waits in a server is printed and logged.
+//! The output and the log lines that wait in a server.
 ghost use Rattle.std.specs.Prelude.{◌≡◌, ◌<◌, ◌≤◌, ◌++◌, ℕ, [], IfErr, OnErr, OnOk};
 ghost use Rattle.std.specs.Io.KnownBytes.{Appends};
 ghost use Rattle.moo_server_core.specs.Application.{Output};
@@ -17,8 +17,8 @@ use moo_value::MooStr;
 use std::io::Write;
 
 impl<S: StartApplication> Script<S> {
-    /// Prints the main text where it is to be shown, and then, connection by connection, what was sent. The lines of the server's
-    /// log are logged.
+    /// Prints the main text if `show` says so, then what was sent, connection by connection. Logs the lines of the server's
+    /// log. Returns the refusal if the output fails.
     pub(crate) fn hand_out<R: Log, O: Write>(
         &mut self,
         rt: &R,
@@ -68,7 +68,7 @@ fn print_below<S: StartApplication, O: Write>(
     Ok(())
 }
 
-// Each line is a record of its own. A line of the log has no other bytes than text.
+// Logs each line as a record of its own.
 fn log_lines<R: Log>(rt: &R, lines: &[MooStr]) {
     for line in lines {
         if let Ok(line) = str::from_utf8(line.as_bytes()) {

@@ -15,7 +15,7 @@ use moo_server_core::StartApplication;
 use std::alloc::Global;
 use std::io::{BufRead, Write};
 
-/// What comes behind a line.
+/// The state after a line.
 pub(crate) enum Next<S: StartApplication> {
     /// The script goes on.
     Goes(Script<S>),
@@ -23,7 +23,8 @@ pub(crate) enum Next<S: StartApplication> {
     Stops(Stop),
 }
 
-/// Does what the input's lines ask for, prints what comes of each, and answers the exit status.
+/// Does what the input's lines ask for, prints what comes of each, and returns the exit status. Returns the refusal if the
+/// input or the output fails or memory runs out.
 pub(crate) fn play<S: StartApplication, R: Log, I: BufRead, O: Write>(
     alloc: Global,
     rt: &R,
@@ -49,7 +50,7 @@ pub(crate) fn play<S: StartApplication, R: Log, I: BufRead, O: Write>(
     Ok(0)
 }
 
-// Does what a line asks for, and prints what comes of it. Nothing is printed where the script ends at it.
+// Does what a line asks for, and prints what comes of it. Prints nothing if the script ends at the line.
 #[tactic(auto, using(crate::proofs::Growing::still_silent))]
 fn play_line<S: StartApplication, R: Log, O: Write>(
     alloc: Global,
@@ -77,7 +78,7 @@ fn play_line<S: StartApplication, R: Log, O: Write>(
     play_work(alloc, rt, script, work, output, watch)
 }
 
-// Does a line's work, and prints what comes of it.
+// Does the work of a line, and prints what comes of it.
 fn play_work<S: StartApplication, R: Log, O: Write>(
     alloc: Global,
     rt: &R,

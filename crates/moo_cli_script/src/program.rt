@@ -1,4 +1,4 @@
-//! `moo script`: a server over a database in memory, and the events of a script.
+//! The command `moo script`.
 ghost use Rattle.std.specs.Prelude.{◌⊎◌, IfErr, IfOk};
 ghost use Rattle.moo_cli_io.specs.Refused.{IsEarned};
 ghost use Rattle.moo_cli_script.specs.Playing.{GivesUp, IsAnswered, ShowsScript};
@@ -15,9 +15,9 @@ use moo_server_core::StartApplication;
 use std::alloc::Global;
 use std::io::{BufRead, Read, Write};
 
-/// Opens a server over the database in memory, at moment 0, takes the events of the script's lines, prints what is sent behind each,
-/// and answers the exit status (docs/reference/script.md). The lines of the server's log are logged, each as a record of level Info. The database
-/// is read alone.
+/// Opens a server over the database in memory, at moment 0. Gives it the events of the script's lines, prints what it sends
+/// after each, and returns the exit status (docs/reference/script.md). Logs each line of the server's log as a record of
+/// level Info. Only reads the database.
 pub fn run_script<S: StartApplication, R: Log, F: Read, I: BufRead, O: Write>(
     alloc: Global,
     rt: &R,
@@ -38,7 +38,8 @@ pub fn run_script<S: StartApplication, R: Log, F: Read, I: BufRead, O: Write>(
     )
 }
 
-/// The same, with what was seen of the database, and of the input, the output and the memory.
+/// Runs a script as `run_script` does. Records in `loading` the failures of the database, and in `watch` those of the input,
+/// the output and memory.
 pub fn script_watched<S: StartApplication, R: Log, F: Read, I: BufRead, O: Write>(
     alloc: Global,
     rt: &R,

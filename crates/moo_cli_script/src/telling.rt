@@ -1,4 +1,4 @@
-//! Why a script ends, told in a line.
+//! The line that reports why a script ends.
 ghost use Rattle.std.specs.Prelude.{◌≡◌, IfErr, IfOk};
 ghost use Rattle.std.specs.Io.KnownBytes.{Appends};
 ghost use Rattle.moo_cli_io.specs.Refused.{IsEarned};
@@ -13,16 +13,16 @@ use moo_server_core::Cause;
 use std::alloc::Global;
 use std::io::Write;
 
-/// Why a script ends at a line.
+/// The reason why a script ends at a line.
 #[derive(Clone, Copy)]
 pub(crate) enum Stop {
     /// The line has no form.
     BadLine,
-    /// What it asks for is refused.
+    /// What the line asks for is refused.
     Refused(Refused),
 }
 
-/// Tells why a script ends at the line of this number, counted from 1, and answers the exit status.
+/// Prints why a script ends at the line of this number, counted from 1, and returns the exit status.
 pub(crate) fn tell_stop<O: Write>(
     alloc: Global,
     stop: Stop,
@@ -43,7 +43,7 @@ pub(crate) fn tell_stop<O: Write>(
     }
 }
 
-/// Tells why a line isn't done, and answers the exit status.
+/// Prints why a line isn't done, and returns the exit status.
 fn tell_refused<O: Write>(
     alloc: Global,
     refused: Refused,
@@ -67,7 +67,7 @@ fn tell_refused<O: Write>(
     }
 }
 
-/// Tells why there is no server, and answers the exit status.
+/// Prints why there is no server, and returns the exit status.
 pub(crate) fn tell_opening<O: Write>(
     alloc: Global,
     fault: OpenFault,

@@ -1,4 +1,4 @@
-//! What a line of a script asks for, as it is done.
+//! The work of a line of a script.
 ghost use Rattle.std.specs.Prelude.{◌≡◌, ◌++◌, codes, IfErr, IfOk};
 ghost use Rattle.moo_cli_script.specs.ScriptLines.{Step, step};
 ghost use Rattle.moo_cli_script.specs.Script.{Does, Fits, IsRefused};
@@ -9,18 +9,18 @@ use crate::script::{Refused, Script};
 use moo_server_core::{Event, StartApplication};
 use std::alloc::{AllocError, Global};
 
-/// What a line of a script asks for: an event of the server, or something of its disk.
+/// The work that a line of a script asks for.
 #[derive(Drop)]
 pub(crate) enum Work {
-    /// The server is given an event.
+    /// Give the server an event.
     Event(Event),
-    /// A call of the disk is to fail, without or with its effect.
+    /// Set a call of the disk to fail, without or with its effect.
     Fail(u64, bool),
-    /// Another server is opened.
+    /// Open another server.
     Reopen,
-    /// A crash leaves the text of this number, and another server is opened.
+    /// Crash with the text of this number, and open another server.
     Crash(usize),
-    /// The main text is printed.
+    /// Print the main text.
     Show,
 }
 
@@ -32,7 +32,7 @@ impl Work {
     }
 }
 
-/// What is to be done.
+/// Returns the work of a line. Fails only if memory runs out.
 pub(crate) fn work_of(alloc: Global, asked: ScriptLine<'_>) -> Result<Work, AllocError>
     ensures { IfOk result (λ work. IsWork work (step asked.entry)) }
 {
@@ -51,7 +51,7 @@ pub(crate) fn work_of(alloc: Global, asked: ScriptLine<'_>) -> Result<Work, Allo
     Ok(work)
 }
 
-// The text and an LF.
+// Returns the text and an LF.
 fn typed(alloc: Global, text: &[u8]) -> Result<Vec<u8>, AllocError>
     ensures { IfOk result (λ bytes. bytes.items ≡ text.now ++ codes "\n") }
 {
@@ -60,7 +60,7 @@ fn typed(alloc: Global, text: &[u8]) -> Result<Vec<u8>, AllocError>
     Ok(bytes)
 }
 
-/// Does it, or tells why it can't be done.
+/// Does the work, or returns why it is refused.
 pub(crate) fn follow<S: StartApplication>(
     alloc: Global,
     script: Script<S>,

@@ -1,5 +1,5 @@
 -- Output that is handed out between two calls.
-use Rattle.std.proofs.Common.{◌≡◌, ◌≢◌, ℕ, suc, ◌+◌, ◌<◌, ◌≤◌, ⊎_elim, List, [], Option, refl, sym, ◌∙◌, ap, subst, arith}
+use Rattle.std.proofs.Common.{◌≡◌, ◌≢◌, ℕ, suc, ◌+◌, ◌<◌, ◌≤◌, ⊎_elim, List, [], Option, refl, sym, ◌∙◌, ap, subst, append_assoc, arith}
 use Rattle.moo_dbtext_read.specs.Saved.{Saved}
 use Rattle.moo_server_core.specs.Application.{Layer, Output, silence, then_out}
 use Rattle.moo_disk.specs.Disk.{DiskView}
@@ -7,13 +7,18 @@ use Rattle.moo_server_core.specs.declared.server_core.Open.{Open}
 use Rattle.moo_server_core.specs.declared.server_core.ServerCore.{ServerCore}
 use Rattle.moo_server_core.specs.Meaning.{State}
 use Rattle.moo_server_core.specs.Server.{Follows, Hands, OpenFollows, Same, waiting_of}
-use Rattle.moo_server_core.proofs.Out.{then_then}
 use Rattle.std.proofs.lemmas.Bool.{cases_lt}
 use Rattle.std.proofs.KnownBytes.{Appends-trans}
 use Rattle.std.specs.Io.KnownBytes.{Appends}
 use Rattle.moo_cli_script.specs.Printed.{sent_lines}
 use Rattle.moo_cli_script.specs.declared.script.Script.{Script}
 use Rattle.moo_cli_script.specs.Script.{Fits, HandsOut, ScriptDisk, disk_honest, disk_stands, disk_view, printed_below}
+
+out_assoc : (a b c : Output) → then_out (then_out a b) c ≡ then_out a (then_out b c)
+out_assoc a b c = λ i. record {
+  sent = λ n. append_assoc (a.sent n) (b.sent n) (c.sent n) i;
+  logged = append_assoc a.logged b.logged c.logged i;
+}
 
 module _ {S Application : Type 0} (l : Layer S Application Saved) where
   pub same_self : (server : ServerCore S) → Same l server server
@@ -33,7 +38,7 @@ module _ {S Application : Type 0} (l : Layer S Application Saved) where
   pub hands_join : (h h' : Output) (a b c : ServerCore S) → Hands l h a b → Hands l h' b c → Hands l (then_out h h') a c
   hands_join h h' a b c first second = record {
     same = same_join a b c first.same second.same;
-    waiting = first.waiting ∙ ap (λ (o : Output). then_out h o) second.waiting ∙ sym (then_then h h' (waiting_of l c));
+    waiting = first.waiting ∙ ap (λ (o : Output). then_out h o) second.waiting ∙ sym (out_assoc h h' (waiting_of l c));
   }
 
   pub follows_same : {D : Type 0} (view : D → DiskView) (honest stands : D → Type 0) (one other : ServerCore S) (disk : D) → Same l one other

@@ -1,3 +1,2 @@
-mod HandedOn
 mod Players
 mod Worlds

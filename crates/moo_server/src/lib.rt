@@ -2,7 +2,6 @@
 #![tactic(auto)]
 
 mod connected;
-mod disk_laws;
 mod happening;
 pub mod laws;
 mod lives;

@@ -1,3 +1,4 @@
+mod HandedOn
 mod Living
 mod Kept
 pub mod OneRun

@@ -166,4 +166,5 @@ pub fn a_failing_disk_goes_on<S: Application, D: Disk>()
         ↔ Follows S.layer ⟦<FailAt<D> as Disk>⟧.view ⟦<FailAt<D> as Disk>⟧.honest ⟦<FailAt<D> as Disk>⟧.stands server disk }
 {}
 
+pub use crate::disk_laws::{a_failing_disk_is_handed_on, a_stopping_disk_is_handed_on};
 pub use crate::life_laws::{a_stopping_disk_goes_on, lives_begin_from_marks, one_run};

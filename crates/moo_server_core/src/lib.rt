@@ -4,6 +4,7 @@
 
 mod application;
 mod begin;
+mod disk_laws;
 mod event;
 pub mod laws;
 mod life;

@@ -1,7 +1,7 @@
 use Rattle.std.proofs.Common.{sym, subst}
 use Rattle.moo_disk.specs.FailAt.{inner_of}
-use Rattle.moo_server.proofs.HandedOn.{keeps_same}
-use Rattle.moo_server.proofs.disk_laws.a_failing_disk_is_handed_on.Goals as goal
+use Rattle.moo_server_core.proofs.HandedOn.{keeps_same}
+use Rattle.moo_server_core.proofs.disk_laws.a_failing_disk_is_handed_on.Goals as goal
 
 pub returns-clause-put_in : goal.returns-clause-put_in
 returns-clause-put_in g c disk failing is = record {

@@ -198,12 +198,12 @@ module _ {S Application : Type 0} (l : Layer S Application Saved) where
             (subst (λ (d : ScriptDisk). HandsOn disk_view disk_honest d new) (ap within chain.1) second.on);
       }
       by_calls (call ∷ calls) chain single taken =
-          let next : LentCall = record call { handed = then_out first.handed call.handed } in record {
-            calls = first.calls ++ next ∷ calls;
+          record {
+            calls = first.calls ++ (record call { handed = then_out first.handed call.handed }) ∷ calls;
             entries = first.entries ++ second.entries;
             last = second.last;
             disk = second.disk;
-            chain = chain_append first.calls (next ∷ calls) before first.last second.last (One old) (One first.disk) (One second.disk) first.entries second.entries first.chain (
+            chain = chain_append first.calls ((record call { handed = then_out first.handed call.handed }) ∷ calls) before first.last second.last (One old) (One first.disk) (One second.disk) first.entries second.entries first.chain (
               hands_join l first.handed call.handed first.last mid call.before first.hands chain.0,
               on_join (lent_view disk_view disk_view) (lent_honest disk_honest disk_honest) (One first.disk) (One between) call.old (on_lent first.disk between first.on) chain.1,
               of_call call (then_out first.handed call.handed) call.old call.disk chain.2,
@@ -211,8 +211,8 @@ module _ {S Application : Type 0} (l : Layer S Application Saved) where
               chain.4,
               chain.5,
             );
-            single = single_append first.calls (next ∷ calls) first.single single;
-            taken = taken_append first.calls (next ∷ calls) ∙ ap (λ (es : List Event). es ++ taken_in (call ∷ calls)) first.taken
+            single = single_append first.calls ((record call { handed = then_out first.handed call.handed }) ∷ calls) first.single single;
+            taken = taken_append first.calls ((record call { handed = then_out first.handed call.handed }) ∷ calls) ∙ ap (λ (es : List Event). es ++ taken_in (call ∷ calls)) first.taken
                 ∙ ap (λ (es : List Event). events ++ es) taken;
             handed = second.handed;
             hands = second.hands;

@@ -58,7 +58,7 @@ LentDisk = Lent ScriptDisk ScriptDisk
 on_lent : (a b : ScriptDisk) → HandsOn disk_view disk_honest a b → HandsOn (lent_view disk_view disk_view) (lent_honest disk_honest disk_honest) (One a) (One b)
 on_lent a b on = record { main = on.main; honest_still = on.honest_still }
 
-within : LentDisk → ScriptDisk
+abbrev within : LentDisk → ScriptDisk
 within (One disk) = disk
 within (Other disk) = disk
 

@@ -11,9 +11,9 @@ use Rattle.moo_dbtext_read.specs.Saved.{Saved, SpellsSavedWithin}
 use Rattle.moo_dbtext_read.specs.Refusals.{Refuses as RefusesText}
 use Rattle.moo_checkpoint.specs.declared.open_fault.OpenFault.{OpenFault}
 use Rattle.moo_checkpoint.specs.declared.open_fault.OpenFault.TheVariants as opening_fault
-use Rattle.moo_server_core.specs.Application.{Layer}
+use Rattle.moo_server_core.specs.Application.{Layer, Output}
 use Rattle.moo_server_core.specs.Seen.{Event, Open, Bytes, Hangup, Moment, Flush, seen}
-use Rattle.moo_server_core.specs.Server.{Follows, IsAlive, Runs, Same, waiting_of}
+use Rattle.moo_server_core.specs.Server.{Follows, Hands, IsAlive, Runs, Same, waiting_of}
 use Rattle.moo_server_core.specs.Calls.{Opened}
 use Rattle.moo_server_core.specs.declared.event.Event as given
 use Rattle.moo_server_core.specs.declared.event.Cause.{Cause}
@@ -164,6 +164,7 @@ module _ {S Application : Type 0} (l : Layer S Application Saved) where
   -- What waited for connections that were opened is handed out, and the log's lines are; nothing else is another.
   pub record HandsOut (old new : Script S) : Type 0 where
     pub same : Same l old.server new.server
+    pub hands : (handed : Output) × Hands l handed old.server new.server
     pub nothing : (c : ℕ) → c < old.top → (waiting_of l new.server).sent c ≡ []
     pub others : (c : ℕ) → old.top ≤ c → (waiting_of l new.server).sent c ≡ (waiting_of l old.server).sent c
     pub logged : (waiting_of l new.server).logged ≡ []

@@ -13,7 +13,7 @@ use Rattle.moo_server_core.specs.Calls.{Call, Calls, IsCallOf, Lent, One, Other}
 use Rattle.moo_server_core.specs.declared.event.Event.{Event}
 use Rattle.moo_server_core.specs.declared.event.Event.TheVariants as the
 use Rattle.moo_server_core.specs.declared.event.RunFault.{RunFault}
-use Rattle.moo_server_core.specs.declared.serving.Open.{Open}
+use Rattle.moo_server_core.specs.declared.server_core.Open.{Open}
 use Rattle.moo_server_core.specs.declared.server_core.ServerCore.{ServerCore}
 use Rattle.moo_server_core.proofs.Joining.{gains_none}
 use Rattle.moo_server_core.proofs.Running.{waits_of}

@@ -10,7 +10,7 @@ use Rattle.moo_dbtext_read.specs.Saved.{Saved}
 use Rattle.moo_server_core.specs.Application.{Layer, Output, silence, then_out}
 use Rattle.moo_server_core.specs.Meaning.{Entry}
 use Rattle.moo_server_core.specs.Seen.{Event, seen}
-use Rattle.moo_server_core.specs.Server.{Hands, Runs}
+use Rattle.moo_server_core.specs.Server.{Hands, Runs, entries_of}
 use Rattle.moo_server_core.specs.Calls.{Call, Calls, HandsOn, IsCallOf, Lent, One, Other, lent_honest, lent_view}
 use Rattle.moo_server_core.specs.declared.event.Event as given
 use Rattle.moo_server_core.specs.declared.server_core.ServerCore.{ServerCore}
@@ -123,8 +123,8 @@ module _ {S Application : Type 0} (l : Layer S Application Saved) where
   course_one : (before after : ServerCore S) (old new : ScriptDisk) (event : given.Event)
       → Runs l disk_view disk_honest disk_failures before after old new (event ∷ []) (Ok 1) → Course l before old (seen event ∷ []) after new
   course_one before after old new event runs = record {
-    calls = record { handed = silence; before = before; old = One old; events = event ∷ []; done = 1; entries = runs.ran.entries; server = after; disk = One new } ∷ [];
-    entries = runs.ran.entries;
+    calls = record { handed = silence; before = before; old = One old; events = event ∷ []; done = 1; entries = entries_of runs.ran.taken; server = after; disk = One new } ∷ [];
+    entries = entries_of runs.ran.taken;
     last = after;
     disk = new;
     chain = (
@@ -133,7 +133,7 @@ module _ {S Application : Type 0} (l : Layer S Application Saved) where
       record { ran = runs.ran; entries = refl; honest_still = λ h. h },
       [],
       (refl, refl, refl),
-      sym (append-nil runs.ran.entries),
+      sym (append-nil (entries_of runs.ran.taken)),
     );
     single = (refl, tt);
     taken = refl;

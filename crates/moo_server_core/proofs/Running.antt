@@ -1,5 +1,5 @@
 -- A run, event by event.
-use Rattle.std.proofs.Common.{◌≡◌, ◌≢◌, ◌⊎◌, inl, inr, ⊎_elim, ℕ, ◌+◌, ◌<◌, ◌≤◌, List, [], ◌∷◌, ◌++◌, length, get_or, take, map, Option, Some, Ok, Err, Bool, true, false, refl, sym, ◌∙◌, ap, subst, arith}
+use Rattle.std.proofs.Common.{◌≡◌, ◌≢◌, ◌⊎◌, inl, inr, ⊎_elim, ℕ, ◌+◌, ◌<◌, ◌≤◌, List, [], ◌∷◌, ◌++◌, length, get_or, take, map, Option, Some, None, Ok, Err, Bool, true, false, refl, sym, ◌∙◌, ap, subst, arith}
 use Rattle.std.specs.Prelude.{slice_get}
 use Rattle.std.proofs.lemmas.List.{append-nil, map-append, map_more, take_all}
 use Rattle.std.proofs.lemmas.Option.{slice_get-get_or}
@@ -257,7 +257,7 @@ module _ {S Application Saved : Type 0} (l : Layer S Application Saved) where
     goes_none failures server disk events = record { taken = []; events_are = refl; each = (refl, refl); fails = tt }
 
     pub goes_more : (failures : D → ℕ) (before mid after : ServerCore S) (old between new : D) (events : List given.Event) (done : ℕ) (d : given.Event) → done < length events → d ≡ get_or events done d
-        → IsAlive mid → (seen d ≢ Flush → new ≡ between) → (honest between → honest new) → Goes failures before mid old between events done
+        → IsAlive mid → ((seen d ≢ Flush) ⊎ (mid.writing ≡ None) → new ≡ between) → (honest between → honest new) → Goes failures before mid old between events done
         → Took failures mid after between new (seen d) → Goes failures before after old new events (done + 1)
     goes_more failures before mid after old between new events done d lt event_is alive still keeps goes took =
         let one : TakenEvent S Saved D = record { entry = took.0; server = after; disk = new } in
@@ -266,7 +266,7 @@ module _ {S Application Saved : Type 0} (l : Layer S Application Saved) where
           events_are = ap (map (λ (e : Entry Saved). e.event)) (map-append (λ (t : TakenEvent S Saved D). t.entry) goes.taken (one ∷ []))
               ∙ map-append (λ (e : Entry Saved). e.event) (entries_of goes.taken) (one.entry ∷ []) ∙ (λ i. goes.events_are i ++ (took.1 ∙ ap seen event_is) i ∷ []) ∙ sym (map_more seen events done d lt);
           each = each_more goes.taken before mid old between one goes.each
-              (record { alive_before = alive; alive_after = took.5; does = took.2; waiting = took.4; still = λ other. still (λ flush. other (took.1 ∙ flush)); honest_still = keeps });
+              (record { alive_before = alive; alive_after = took.5; does = took.2; waiting = took.4; still = λ nothing. still (⊎_elim (λ other. inl (λ flush. other (took.1 ∙ flush))) (λ none. inr none) nothing); honest_still = keeps });
           fails = fails_more failures goes.taken before mid old between one goes.each goes.fails took.3;
         }
 
@@ -306,7 +306,7 @@ module _ {S Application Saved : Type 0} (l : Layer S Application Saved) where
 
     -- a refused event leaves the run as it was, and a halt all that a crash may leave
     pub run_stops : (cause : Cause) → done < length events → d ≡ get_or events done d → IsAlive before → IsAlive mid
-        → FailsAtMostOnce (failures between) (failures new) → (seen d ≢ Flush → new ≡ between)
+        → FailsAtMostOnce (failures between) (failures new) → ((seen d ≢ Flush) ⊎ (mid.writing ≡ None) → new ≡ between)
         → (cause ≡ Memory → (after.halted ≡ true) × (waiting_of l after ≡ waiting_of l mid)
         × (honest between → Survives view between new (on_its_way mid) (on_its_way after) []))
         → (cause ≡ Memory → MayWant l.meaning (state_of l mid) (seen d))
@@ -322,7 +322,7 @@ module _ {S Application Saved : Type 0} (l : Layer S Application Saved) where
           ran = record { taken = goes.taken; events_are = goes.events_are; reached = mid; disk = between; each = goes.each; ends = ends };
           fails = goes.fails;
           at_most_once = at_most_once;
-          still = λ event is other'. still (λ flush. other' (ap seen (let same : event ≡ d = cc (next, is) in same) ∙ flush));
+          still = λ event is nothing. still (⊎_elim (λ other'. inl (λ flush. other' (ap seen (let same : event ≡ d = cc (next, is) in same) ∙ flush))) (λ none. inr none) nothing);
           refused = subst (λ (e : Option given.Event). HasCause l before mid after e cause) (sym next) has;
         }
 

@@ -158,8 +158,8 @@ module _ {S Application Saved : Type 0} (l : Layer S Application Saved) where
       pub does : Does l.meaning view honest (state_of before) (state_of one.server) before.writing one.server.writing old one.disk one.entry
       -- what it sent waits, after what waited before, and nothing else does
       pub waiting : waiting_of one.server ≡ then_out (waiting_of before) one.entry.out
-      -- only a `Flush` makes a call of the disk
-      pub still : one.entry.event ≢ Flush → one.disk ≡ old
+      -- only a `Flush` makes a call of the disk, and only while a checkpoint is open
+      pub still : (one.entry.event ≢ Flush) ⊎ (before.writing ≡ None) → one.disk ≡ old
       pub honest_still : honest old → honest one.disk
 
     -- Each of these events did so, one after another: they lead from a server and its disk to another state of both.
@@ -215,6 +215,6 @@ module _ {S Application Saved : Type 0} (l : Layer S Application Saved) where
     pub fails : FailsAsReported failures old ran.taken
     -- in an event that halted the server the device may have failed once more
     pub at_most_once : FailsAtMostOnce (failures ran.disk) (failures new)
-    -- the event after those that were taken makes a call of the disk only if it is a `Flush`
-    pub still : (event : given.Event) → slice_get events (done_of result) ≡ Some event → seen event ≢ Flush → new ≡ ran.disk
+    -- the event after those that were taken makes a call of the disk only if it is a `Flush` and a checkpoint is open
+    pub still : (event : given.Event) → slice_get events (done_of result) ≡ Some event → (seen event ≢ Flush) ⊎ (ran.reached.writing ≡ None) → new ≡ ran.disk
     pub refused : IfErr result (λ fault. HasCause before ran.reached after (slice_get events fault.done) fault.cause)

@@ -139,6 +139,7 @@ impl<S: Application> ServerCore<S> {
         ensures follows { OnOk result (OpenFollows D.view D.honest D.stands self.new.writing disk.new) }
         ensures gains { D.honest disk.old → Gains (IsOneOf (on_its_way self.old)) (D.view disk.old) (D.view disk.new) }
         ensures at_most_once { FailsAtMostOnce (D.failures disk.old) (D.failures disk.new) }
+        ensures idle { self.old.writing ≡ None → disk.new ≡ disk.old }
         ensures honest { D.honest disk.old ↔ D.honest disk.new }
     {
         let Some(mut open) = self.writing.take() else {
@@ -211,6 +212,7 @@ impl<S: Application> ServerCore<S> {
         ensures follows { OnOk result (OpenFollows D.view D.honest D.stands self.new.writing disk.new) }
         ensures gains { D.honest disk.old → Gains (IsOneOf (on_its_way self.old)) (D.view disk.old) (D.view disk.new) }
         ensures at_most_once { FailsAtMostOnce (D.failures disk.old) (D.failures disk.new) }
+        ensures idle { self.old.writing ≡ None → disk.new ≡ disk.old }
         ensures still { seen event.now ≢ Flush → disk.new ≡ disk.old }
         ensures honest { D.honest disk.old ↔ D.honest disk.new }
         ensures memory { IfErr result (λ _. MayWant S.layer.meaning (state_of S.layer self.old) (seen event.now)) }
@@ -241,6 +243,7 @@ impl<S: Application> ServerCore<S> {
             → (refusal S.layer.meaning (state_of S.layer self.old) (seen event.now) ≡ Some cause) × (self.new ≡ self.old) × (disk.new ≡ disk.old)) }
         ensures follows { Follows S.layer D.view D.honest D.stands self.new disk.new }
         ensures at_most_once { FailsAtMostOnce (D.failures disk.old) (D.failures disk.new) }
+        ensures idle { self.old.writing ≡ None → disk.new ≡ disk.old }
         ensures still { seen event.now ≢ Flush → disk.new ≡ disk.old }
         ensures honest { D.honest disk.old ↔ D.honest disk.new }
     {

@@ -8,9 +8,9 @@ ghost use Rattle.moo_cli_serve.specs.declared.fault.ServeFault.{ServeFault};
 use moo_disk::Disk;
 use moo_server_core::StartApplication;
 
-/// A disk that is left at any moment of what `serve_disk` did over it is found again with the world after a prefix of the
-/// events, whether the server served to its end, or ended before. The disk is honest at first, and every text that a crash may
-/// leave then spells the world that the server read.
+/// Shows which world a start finds on a disk that was left at any moment of what `serve_disk` did: the world after a prefix of
+/// the events. It holds of a server that served to its end, and of one that ended before for a fault. The disk has to be honest
+/// at first, and every text that a crash may leave then has to spell the world that the server read.
 pub fn a_served_world_is_found_again<S: StartApplication, D: Disk, F: Disk>()
     ensures served { (first : D) (most rounds : ℕ) (serves : Serves S.layer D.view D.honest first most rounds) (text : List ℕ)
         (stopped : IsStopped S.layer D.view D.honest first serves.start.server serves.start.disk serves.course.0 serves.end.server serves.end.disk serves.course.1 text)

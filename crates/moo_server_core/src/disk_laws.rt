@@ -9,8 +9,8 @@ ghost use Rattle.moo_server_core.specs.Calls.{HandsOn, One, Other, lent_honest, 
 
 use moo_disk::{Disk, FailAt, MemoryDisk, StopAt};
 
-/// Between two calls a disk may be put into one that makes a call fail, taken out of such a one, or put into another. Each
-/// of these hands the disk on: main reads as before, and a crash leaves no more than before.
+/// Shows that a disk is handed on if it is put into a `FailAt` between two calls, taken out of one, or put into another one.
+/// Main then reads as before, and a crash leaves no more than before.
 pub fn a_failing_disk_is_handed_on<D: Disk>()
     ensures put_in { (disk : D) (failing : FailAt D) → inner_of failing ≡ disk
         → HandsOn (lent_view D.view ⟦<FailAt<D> as Disk>⟧.view) (lent_honest D.honest ⟦<FailAt<D> as Disk>⟧.honest) (One disk) (Other failing) }
@@ -20,8 +20,7 @@ pub fn a_failing_disk_is_handed_on<D: Disk>()
         → HandsOn (lent_view D.view ⟦<FailAt<D> as Disk>⟧.view) (lent_honest D.honest ⟦<FailAt<D> as Disk>⟧.honest) (Other old) (Other new) }
 {}
 
-/// Between two calls a disk in memory may be put into one that stops in a call, or taken out of such a one. Both hand the disk
-/// on.
+/// Shows that a disk in memory is handed on if it is put into a `StopAt` between two calls, or taken out of one.
 pub fn a_stopping_disk_is_handed_on()
     ensures put_in { (disk : MemoryDisk) (stopping : StopAt) → stopping_inner_of stopping ≡ disk
         → HandsOn (lent_view ⟦<MemoryDisk as Disk>⟧.view ⟦<StopAt as Disk>⟧.view) (lent_honest ⟦<MemoryDisk as Disk>⟧.honest ⟦<StopAt as Disk>⟧.honest) (One disk) (Other stopping) }

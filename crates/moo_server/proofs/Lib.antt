@@ -1,3 +1,7 @@
+<<<<<<< HEAD
+pub mod Worlds
+=======
 mod HandedOn
 mod Players
 mod Worlds
+>>>>>>> origin/main

@@ -12,7 +12,6 @@ mod parsing;
 mod prepositions;
 mod reading;
 mod splitting;
-mod text;
 mod typed;
 mod word_laws;
 
@@ -21,5 +20,4 @@ pub use command::Command;
 pub use matching::{match_object, room_of};
 pub use parsing::parse_command;
 pub use reading::{skip_blanks, words};
-pub use text::string_of;
 pub use typed::{Typed, read_typed, typed_behind};

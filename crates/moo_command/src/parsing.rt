@@ -15,7 +15,7 @@ use crate::command::Command;
 use crate::matching::match_object;
 use crate::splitting::{Division, joined, split};
 use crate::word_laws::words_are_light;
-use crate::{Typed, read_typed, skip_blanks, string_of, typed_behind};
+use crate::{Typed, read_typed, skip_blanks, typed_behind};
 use moo_value::MooStr;
 use moo_world::World;
 use moo_world_object::Preposition;
@@ -49,7 +49,7 @@ fn typed_in(alloc: Global, line: &MooStr) -> Result<Option<Typed>, AllocError>
     let Some(verb) = verb_leading(&bytes[at..]) else {
         return read_typed(alloc, line);
     };
-    let verb = string_of(alloc, Vec::from_slice(alloc, verb)?)?;
+    let verb = MooStr::from_text(alloc, Vec::from_slice(alloc, verb)?)?;
     let typed = typed_behind(alloc, verb, line, at + 1)?;
     Ok(Some(typed))
 }
@@ -81,7 +81,7 @@ fn nothing_typed(alloc: Global) -> Result<Typed, AllocError>
     ensures rest { IfOk result (λ t. t.rest ≡ []) }
     ensures args { IfOk result (λ t. t.args.items ≡ []) }
 {
-    let verb = string_of(alloc, Vec::new(alloc))?;
+    let verb = MooStr::empty(alloc)?;
     let rest = verb.try_clone()?;
     let args = Vec::new(alloc);
     Ok(Typed { verb, rest, args })

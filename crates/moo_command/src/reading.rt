@@ -5,7 +5,6 @@ ghost use Rattle.moo_command.specs.Words.{Word, Words};
 ghost use Rattle.moo_command.specs.FirstWord.{unindented};
 ghost use Rattle.moo_command.specs.WordsInner.{goes_on};
 
-use crate::text::string_of;
 use moo_value::MooStr;
 use std::alloc::{AllocError, Global};
 
@@ -80,7 +79,7 @@ pub(crate) fn read_word(
             behind += 1;
         }
     }
-    let word = string_of(alloc, word)?;
+    let word = MooStr::from_text(alloc, word)?;
     Ok((word, behind))
 }
 

@@ -5,7 +5,6 @@ ghost use Rattle.moo_command.specs.Prepositions.{Splits, joined};
 ghost use Rattle.moo_command.specs.Inner.{parts_of};
 
 use crate::prepositions::preposition_at;
-use crate::string_of;
 use moo_value::MooStr;
 use moo_world_object::Preposition;
 use std::alloc::{AllocError, Global};
@@ -47,12 +46,12 @@ pub(crate) fn joined(alloc: Global, words: &[MooStr]) -> Result<MooStr, AllocErr
 {
     let mut text = Vec::new(alloc);
     let Some((first, others)) = words.split_first() else {
-        return string_of(alloc, text);
+        return MooStr::from_text(alloc, text);
     };
     text.extend_from_slice(first.as_bytes())?;
     for word in others {
         text.push(b' ')?;
         text.extend_from_slice(word.as_bytes())?;
     }
-    string_of(alloc, text)
+    MooStr::from_text(alloc, text)
 }

@@ -1,2 +1,1 @@
-mod Players
-mod Worlds
+pub mod Worlds

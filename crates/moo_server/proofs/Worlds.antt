@@ -1,19 +1,19 @@
 -- What a happening, a taking and a start leave of a world with its connections.
-use Rattle.std.proofs.Common.{◌≡◌, ◌≢◌, ℕ, List, [], ◌∷◌, ◌++◌, None, Result, Ok, Err, Bool, true, false, refl, sym, ◌∙◌, ap, subst}
+use Rattle.std.proofs.Common.{◌≡◌, ◌≢◌, ℕ, ◌≤◌, List, [], ◌∷◌, ◌++◌, Result, Ok, Err, Bool, true, false, refl, sym, ◌∙◌, ap, subst, arith}
 use Rattle.std.specs.Prelude.{◌&&◌, not, eqb, IfOk, OnOk}
 use Rattle.std.proofs.lemmas.Bool.{eq-eqb, eqb-true}
 use Rattle.moo_builtin.specs.Telling.{Faults}
-use Rattle.moo_session_connection.specs.Connections.{client_here, is_open}
+use Rattle.moo_session_connection.specs.Connections.{number_limit}
 use Rattle.moo_session_connection.specs.Streams.{stream}
+use Rattle.moo_dbtext_object.specs.Lines.{IsCountOf, limited}
 use Rattle.moo_session_task.specs.declared.world_state.WorldState.{WorldState}
 use Rattle.moo_server_core.specs.declared.application.Requests.{Requests}
-use Rattle.moo_server_core.specs.Application.{Input, Opens, Receives, HangsUp, Starts, Finishes, HandsOut, HandsOutLog, Happens, Output, Started, is_dropped, silence}
+use Rattle.moo_server_core.specs.Application.{Input, HandsOut, HandsOutLog, Happens, Output, Started, silence}
 use Rattle.moo_session_connection.specs.Outbox.{Bytes, Outbox, bytes_of, log_under_way, log_waiting, sent_under_way, sent_waiting}
 use Rattle.moo_dbtext_read.specs.Saved.{Saved}
 use Rattle.moo_session.specs.Events as event
-use Rattle.moo_server.specs.Live.{Becomes, live_layer, live_meaning, settled, told_of}
+use Rattle.moo_server.specs.Live.{Becomes, live_layer, settled, told_of}
 use Rattle.moo_server.specs.declared.moo_application.MooApplication.{MooApplication}
-use Rattle.moo_server.proofs.Players.{none_there}
 
 pub happens_of : (happening : Input) (moment : ℕ) (old new : MooApplication) (end : WorldState) (asked : Requests)
     → Becomes Faults happening moment (settled old.live) end → new.live ≡ settled end
@@ -37,13 +37,13 @@ append_none : {X : Type 0} (xs : List X) → xs ≡ xs ++ []
 append_none [] = refl
 append_none (x ∷ xs) = ap (λ (l : List _). x ∷ l) (append_none xs)
 
--- bytes that nobody is there to read
-pub dropped_of : (c : ℕ) (piece : List ℕ) (moment : ℕ) (old new : MooApplication) → client_here c old.live.session.connections ≡ None
+-- what changes nothing, as bytes that nobody is there to read
+pub dropped : (happening : Input) (moment : ℕ) (old new : MooApplication) → Becomes Faults happening moment (settled old.live) (settled old.live)
     → new.live ≡ settled old.live → new.outbox ≡ old.outbox
-    → Happens live_layer (Receives c piece) moment old new (record { checkpoint = false; shutdown = false })
-dropped_of c piece moment old new nobody live outbox = record {
+    → Happens live_layer happening moment old new (record { checkpoint = false; shutdown = false })
+dropped happening moment old new becomes live outbox = record {
   told = told_of old.live.session.closing (settled old.live).session;
-  happens = record { end = settled old.live; becomes = event.dropped nobody; told_is = refl; new_is = live };
+  happens = record { end = settled old.live; becomes = becomes; told_is = refl; new_is = live };
   goes_out = λ i. record {
     sent = λ k. (ap (λ (o : Outbox). sent_under_way o k) outbox ∙ append_none (sent_under_way old.outbox k)) i;
     logged = (ap log_under_way outbox ∙ append_none (log_under_way old.outbox)) i;
@@ -97,17 +97,6 @@ started_of saved moment new end asked starts live checkpoint shutdown none no_lo
   shuts = shutdown;
 }
 
--- what nobody is there to read, whatever happens
-pub dropped_any : (happening : Input) (moment : ℕ) (old new : MooApplication) → is_dropped (live_meaning Faults) old.live happening ≡ true
-    → new.live ≡ settled old.live → new.outbox ≡ old.outbox
-    → Happens live_layer happening moment old new (record { checkpoint = false; shutdown = false })
-dropped_any (Receives c piece) moment old new gone live outbox =
-    dropped_of c piece moment old new (none_there (is_open c old.live.session.connections) (client_here c old.live.session.connections) gone) live outbox
-dropped_any (Opens c) moment old new gone live outbox = absurd (cc gone)
-dropped_any (HangsUp c) moment old new gone live outbox = absurd (cc gone)
-dropped_any Starts moment old new gone live outbox = absurd (cc gone)
-dropped_any (Finishes done) moment old new gone live outbox = absurd (cc gone)
-
 -- what was moved out
 pub moved : {E : Type 0} (r : Result Requests E) (happening : Input) (moment : ℕ) (old new : MooApplication) (end : WorldState)
     → Becomes Faults happening moment (settled old.live) end → new.live ≡ settled end
@@ -117,3 +106,7 @@ pub moved : {E : Type 0} (r : Result Requests E) (happening : Input) (moment : �
     → IfOk r (Happens live_layer happening moment old new)
 moved (Ok asked) happening moment old new end becomes live checkpoint shutdown sent log = happens_of happening moment old new end asked becomes live checkpoint shutdown sent log
 moved (Err e) happening moment old new end becomes live checkpoint shutdown sent log = tt
+
+-- the connected players are few enough to be saved
+pub few_enough : (n : ℕ) → n ≤ number_limit → IsCountOf limited n
+few_enough n h = omega (arith, h)

@@ -1,11 +1,9 @@
 -- The world with its connections, as the layer of sessions that a server is over.
-use Rattle.std.specs.Prelude.{◌≡◌, ℕ, ℤ, List, [], ◌∷◌, ◌++◌, Option, Some, None, Bool, false, ◌&&◌, not, is_none}
-use Rattle.std.specs.Option.{option_map}
+use Rattle.std.specs.Prelude.{◌≡◌, ℕ, [], Bool, false, ◌&&◌, not}
 use Rattle.moo_dbtext_read.specs.Saved.{Saved, SpellsSavedWithin}
 use Rattle.moo_dbtext.specs.Canonical.{canonical}
 use Rattle.moo_builtin.specs.Telling.{Telling, Faults}
-use Rattle.moo_eval_frame.specs.declared.surroundings.Connection.{Connection}
-use Rattle.moo_session_connection.specs.Connections.{Connections, client_here, is_open, players_of}
+use Rattle.moo_session_connection.specs.Connections.{is_open, is_leaving, players_of}
 use Rattle.moo_session_connection.specs.Streams.{stream}
 use Rattle.moo_session_task.specs.declared.world_state.WorldState.{WorldState}
 use Rattle.moo_session_task.specs.Session.{Session}
@@ -17,23 +15,6 @@ use Rattle.moo_session.specs.Interval.{interval}
 use Rattle.moo_server_core.specs.Application.{Input, Opens, Receives, Starts, Finishes, Layer, Meaning, Told}
 use Rattle.moo_server_core.specs.Application.{HangsUp as HangsUpOn}
 use Rattle.moo_server.specs.declared.moo_application.MooApplication.{MooApplication}
-
--- a connection of this number is open that nobody is on any more: it is leaving
-abbrev pub is_gone : Connections → ℕ → Bool
-is_gone connections n = is_open n connections && is_none (client_here n connections)
-
--- who is connected on a connection, as tasks see it
-abbrev pub player_in : Connection → Option ℤ
-player_in connection = option_map (λ login. login.player) connection.login
-
-abbrev pub player_list : Option ℤ → List ℤ
-player_list None = []
-player_list (Some player) = player ∷ []
-
--- who is connected on these, in their order
-abbrev pub players_in : List Connection → List ℤ
-players_in [] = []
-players_in (c ∷ cs) = player_list (player_in c) ++ players_in cs
 
 -- with nothing sent, logged or asked for
 abbrev pub settled_session : Session → Session
@@ -79,7 +60,7 @@ live_meaning T = record {
   happens = LiveHappens T;
   starts = LiveStarts T;
   is_open = λ s c. is_open c s.session.connections;
-  is_leaving = λ s c. is_gone s.session.connections c;
+  is_leaving = λ s c. is_leaving c s.session.connections;
   interval = λ s. interval s.world;
   saved_of = λ s. record { world = s.world; connected = players_of s.session.connections };
   text_of = canonical;

@@ -1,12 +1,11 @@
 //! What happens to a world with its connections, and what comes of it.
-ghost use Rattle.std.specs.Prelude.{◌≡◌, ◌++◌, ◌&&◌, not, ℕ, IfOk, OnOk};
+ghost use Rattle.std.specs.Prelude.{◌≡◌, ◌++◌, ◌&&◌, not, ℕ, true, IfOk, OnOk};
 ghost use Rattle.moo_builtin.specs.Telling.{Faults};
 ghost use Rattle.moo_session_connection.specs.Streams.{stream};
 ghost use Rattle.moo_server_core.specs.Application.{IsApt, is_dropped, seen_happening};
 ghost use Rattle.moo_session_connection.specs.Outbox.{log_under_way, log_waiting, sent_under_way, sent_waiting};
 ghost use Rattle.moo_server.specs.Live.{Becomes, live_meaning, settled};
 
-use crate::connected::is_gone;
 use moo_server_core::{Input, Requests};
 use moo_session::{WorldState, checkpoint_ends, checkpoint_starts, hang_up, open, receive};
 use moo_session_connection::Outbox;
@@ -21,12 +20,13 @@ pub(crate) fn discard_leftovers(live: &mut WorldState)
     let _asked = live.session.take_asked();
 }
 
-/// Whether it is bytes for a connection that is leaving.
+/// Returns whether it is bytes for a connection that is leaving. Nothing comes of them.
 pub(crate) fn is_dropped(live: &WorldState, happening: Input) -> bool
-    ensures { result ≡ is_dropped (live_meaning Faults) live.now (seen_happening happening.entry) }
+    ensures nothing { result ≡ true → (moment : ℕ) → Becomes Faults (seen_happening happening.entry) moment (settled live.now) (settled live.now) }
+    ensures is { result ≡ is_dropped (live_meaning Faults) live.now (seen_happening happening.entry) }
 {
     match happening {
-        Input::Receives(c, _) => is_gone(live.session.connections(), c),
+        Input::Receives(c, _) => live.session.connections().is_leaving(c),
         _ => false,
     }
 }

@@ -1,7 +1,6 @@
 //! The world with its connections and what waits to be taken: the layer of sessions that a server is over.
 ghost use Rattle.std.specs.Prelude.{◌≡◌};
 
-use crate::connected::{is_gone, players};
 use crate::happening::{apply, discard_leftovers, is_dropped, move_out};
 use moo_dbtext::write_world_and_connected;
 use moo_dbtext_read::Saved;
@@ -54,7 +53,7 @@ impl Application for MooApplication {
     }
 
     fn is_leaving(&self, c: u16) -> bool {
-        is_gone(self.live.session.connections(), c)
+        self.live.session.connections().is_leaving(c)
     }
 
     fn interval(&self) -> u32 {
@@ -69,8 +68,9 @@ impl Application for MooApplication {
         self.outbox.take_log()
     }
 
+    #[tactic(auto, using(crate::proofs::Worlds::few_enough))]
     fn text(&self) -> Result<Vec<u8>, AllocError> {
-        let connected = players(self.alloc, self.live.session.connections())?;
+        let connected = self.live.session.connections().players()?;
         write_world_and_connected(self.alloc, &self.live.world, &connected)
     }
 }

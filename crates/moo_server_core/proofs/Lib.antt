@@ -5,7 +5,7 @@ pub mod OneRun
 mod Calling
 mod Coming
 mod Heard
-mod Idle
+pub mod Idle
 pub mod Joining
 pub mod Marked
 mod Out

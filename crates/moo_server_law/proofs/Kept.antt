@@ -17,6 +17,7 @@ use Rattle.moo_session_task.specs.Session.{Session, in_connections}
 use Rattle.moo_session_task.specs.Sending.{sent_to, told, all_told}
 use Rattle.moo_session_task.specs.Leaving.{parted, disconnected_from}
 use Rattle.moo_session_task.specs.Notices.{met, all_met}
+use Rattle.moo_server_law.proofs.Carried.{KeepsBoth, IsCarried}
 
 -- at most one connection has this number, and it holds this rest
 pub data Lone (n : ℕ) (r : Rest) : List Client → Type 0 where
@@ -64,11 +65,7 @@ lone_goes n r test nobody = nobody
 lone_goes n r test (another {c = c} {cs = cs} e h) = another_goes (test c) n r test c cs e h (lone_goes n r test h)
 lone_goes n r test (itself {c = c} {cs = cs} e f g) = itself_goes (test c) n r test c cs e f g
 
--- a change that touches neither number nor reader
-pub record KeepsBoth (f : Client → Client) : Type 0 where
-  pub number : (n : ℕ) (c : Client) → has_number n (f c) ≡ has_number n c
-  pub reader : (c : Client) → (f c).reader ≡ c.reader
-
+-- one is changed
 none_changed_at : (b : Bool) (n : ℕ) (test : Client → Bool) (f : Client → Client) → ((c : Client) → has_number n (f c) ≡ has_number n c) → (c : Client) (cs : List Client) → has_number n c ≡ false → find (has_number n) cs ≡ None →
     find (has_number n) (changed test f cs) ≡ None → find (has_number n) (cond b (f c ∷ cs) (c ∷ changed test f cs)) ≡ None
 none_changed_at true n test f k c cs e g ih = none_again n (f c) cs (k c ∙ e) g
@@ -93,60 +90,8 @@ lone_changed n r test f k nobody = nobody
 lone_changed n r test f k (another {c = c} {cs = cs} e h) = another_changed (test c) n r test f k c cs e h (lone_changed n r test f k h)
 lone_changed n r test f k (itself {c = c} {cs = cs} e g h) = itself_changed (test c) n r test f k c cs e g h
 
-pub lone_kept : (n m : ℕ) (r : Rest) (f : Client → Client) → KeepsBoth f → (s : Connections) → Lone n r s.clients → Lone n r (with_changed m f s).clients
-lone_kept n m r f k s h = lone_changed n r (has_number m) f k h
-
-plays_keep : (player : ℤ) (moment : ℕ) → KeepsBoth (as_playing player moment)
-plays_keep player moment = record { number = λ n c. refl; reader = λ c. refl }
-
-pub prefix_keeps : (text : List ℕ) → KeepsBoth (with_prefix text)
-prefix_keeps text = record { number = λ n c. refl; reader = λ c. refl }
-
-pub suffix_keeps : (text : List ℕ) → KeepsBoth (with_suffix text)
-suffix_keeps text = record { number = λ n c. refl; reader = λ c. refl }
-
-pub gathering_keeps : (g : Option Gathering) → KeepsBoth (with_gathering g)
-gathering_keeps g = record { number = λ n c. refl; reader = λ c. refl }
-
--- what is sent, and who leaves
-pub sent_to_keeps : (n : ℕ) (r : Rest) (o : Option Client) (line : List ℕ) (s : Session) → Keeps n r s → Keeps n r (sent_to o line s)
-sent_to_keeps n r None line s h = h
-sent_to_keeps n r (Some c) line s h = h
-
-left_keeps : (n : ℕ) (r : Rest) (test : Client → Bool) (o : Option Client) (s : Connections) → Lone n r s.clients → Lone n r (left_where test o s).clients
-left_keeps n r test None s h = h
-left_keeps n r test (Some c) s h = lone_goes n r test h
-
-pub played_keeps : (n m : ℕ) (r : Rest) (player : ℤ) (moment : ℕ) (s : Connections) → Lone n r s.clients → Lone n r (played m player moment s).clients
-played_keeps n m r player moment s h =
-    lone_kept n m r (as_playing player moment) (plays_keep player moment) (displaced player s) (left_keeps n r (is_played_by player) (client_playing player s) s h)
-
-parted_keeps : (n : ℕ) (r : Rest) (o : Option ℤ) (s : Session) → Keeps n r s → Keeps n r (parted o s)
-parted_keeps n r None s h = h
-parted_keeps n r (Some player) s h = h
-
-disconnected_keeps : (n : ℕ) (r : Rest) (who : ℤ) (o : Option Client) (line : List ℕ) (s : Session) → Keeps n r s → Keeps n r (disconnected_from who o line s)
-disconnected_keeps n r who None line s h = h
-disconnected_keeps n r who (Some c) line s h =
-    parted_keeps n r (player_on c) (in_connections (left_by who) (sent_to (Some c) line s)) (left_keeps n r (is_known_as who) (client_known_as who s.connections) s.connections h)
-
-met_keeps : (n : ℕ) (r : Rest) (x : Notice) (s : Session) → Keeps n r s → Keeps n r (met x s)
-met_keeps n r (notice.Notify who line) s h = sent_to_keeps n r (client_known_as who s.connections) line s h
-met_keeps n r (notice.BootPlayer who) s h = disconnected_keeps n r who (client_known_as who s.connections) (codes "*** Disconnected ***") s h
-met_keeps n r (notice.SetPlayerFlag o true) s h = h
-met_keeps n r (notice.SetPlayerFlag o false) s h = disconnected_keeps n r o (client_known_as o s.connections) (codes "*** Disconnected ***") s h
-met_keeps n r (notice.Recycle o) s h = disconnected_keeps n r o (client_known_as o s.connections) (codes "*** Recycled ***") s h
-met_keeps n r notice.DumpDatabase s h = h
-met_keeps n r (notice.Shutdown why) s h = nobody
-met_keeps n r (notice.ServerLog line) s h = h
-
-pub all_met_keeps : (n : ℕ) (r : Rest) (xs : List Notice) (s : Session) → Keeps n r s → Keeps n r (all_met xs s)
-all_met_keeps n r [] s h = h
-all_met_keeps n r (x ∷ xs) s h = all_met_keeps n r xs (met x s) (met_keeps n r x s h)
-
-pub all_told_keeps : (n : ℕ) (r : Rest) (who : ℤ) (ls : List (List ℕ)) (s : Session) → Keeps n r s → Keeps n r (all_told who ls s)
-all_told_keeps n r who [] s h = h
-all_told_keeps n r who (line ∷ ls) s h = all_told_keeps n r who ls (told who line s) (sent_to_keeps n r (client_known_as who s.connections) line s h)
+pub lone_is_carried : (n : ℕ) (r : Rest) → IsCarried (Lone n r)
+lone_is_carried n r = record { goes = λ test cs h. lone_goes n r test h; changes = λ test f k cs h. lone_changed n r test f k h; none = nobody }
 
 -- the connection's own bytes
 heard_step : (b : Bool) (n moment : ℕ) (r after : Rest) (c : Client) (cs : List Client) → has_number n c ≡ b → b ≡ true → find (has_number n) cs ≡ None →

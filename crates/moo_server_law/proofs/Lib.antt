@@ -1,10 +1,13 @@
 mod Due
+pub mod Order
 mod Empty
 pub mod UniqueLines
 pub mod Unique
 pub mod Agreeing
 pub mod Hookless
+pub mod Carried
 pub mod Kept
 pub mod Typed
+pub mod RunTyped
 mod Layer
 mod Within

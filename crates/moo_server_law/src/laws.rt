@@ -5,7 +5,7 @@ ghost use Rattle.moo_server_core.specs.Lives.{LifeRun, Lives};
 ghost use Rattle.moo_server_core.specs.Marks.{BeginFromKept};
 ghost use Rattle.moo_server.specs.Live.{live_layer};
 ghost use Rattle.moo_server.specs.declared.moo_application.MooApplication.{MooApplication};
-ghost use Rattle.moo_server_law.specs.Laws.{NothingIsDue};
+ghost use Rattle.moo_server_law.specs.Laws.{NothingIsDue, NumbersRise};
 
 pub mod runs;
 pub mod sessions;
@@ -17,6 +17,12 @@ use moo_server::MooApplication;
 #[tactic(none)]
 pub fn nothing_is_due_while_a_connection_is_open()
     ensures { NothingIsDue }
+{}
+
+/// In a run from a start, each mark names the players who are connected then, in the order of the numbers of their connections.
+#[tactic(none)]
+pub fn marks_name_players_by_rising_numbers()
+    ensures { NumbersRise }
 {}
 
 /// Of lives over an honest disk whose first crash leaves its main text alone, each behind the first begins from the world at a mark of

@@ -1,7 +1,7 @@
 -- The steps of the program are those of the meaning.
-use Rattle.std.proofs.Common.{◌≡◌, ℕ, ◌+◌, ◌≤◌, ℤ, Bool, true, false, cond, List, [], ◌∷◌, ◌++◌, length, Option, Some, None, sym, ◌∙◌, ap, subst, arith}
-use Rattle.std.specs.Prelude.{Result, Ok, Err, OnOk, IfSome, codes, ◌==◌}
-use Rattle.std.specs.Option.{option_map_or}
+use Rattle.std.proofs.Common.{◌≡◌, ℕ, ◌+◌, ◌≤◌, ℤ, Bool, true, false, cond, List, [], ◌∷◌, ◌++◌, length, Option, Some, None, Bor, refl, sym, ◌∙◌, ap, subst, arith}
+use Rattle.std.specs.Prelude.{Result, Ok, Err, OnOk, IfSome, codes, ◌==◌, is_some}
+use Rattle.std.specs.Option.{option_map_or, option_copied}
 use Rattle.std.specs.declared.alloc.AllocError.{AllocError}
 use Rattle.moo_value.specs.Tree.{Tree}
 use Rattle.moo_value.specs.Size.{list_weight}
@@ -108,5 +108,7 @@ pub of_client : (r : Result (Unit {0}) AllocError) (o : Option Client) (client :
 of_client (Ok v) o client P e h = subst (λ (x : Option Client). IfSome x P) (sym e) h
 of_client (Err short) o client P e h = tt
 
-pub of_nobody : (o : Option Client) (P : Client → Type 0) → o ≡ None → IfSome o P
-of_nobody o P e = subst (λ (x : Option Client). IfSome x P) (sym e) tt
+-- what is found where a reference leads
+pub is_some_copied : {X : Type 0} → (o : Option (Bor X)) → is_some (option_copied o) ≡ true → is_some o ≡ true
+is_some_copied (Some x) e = refl
+is_some_copied None e = e

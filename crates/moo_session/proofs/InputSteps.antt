@@ -133,6 +133,11 @@ command_run r o moment n player who words all line s u p e h =
     let P : ℤ → List (List ℕ) → Type 0 = λ x ws. OnOk r (IfSome o (λ c. Commanded Faults moment n c x ws line s u)) in
     subst (λ (ws : List (List ℕ)). P player ws) e (subst (λ (x : ℤ). P x words) p h)
 
+-- who isn't gone is here
+pub someone : (o : Option Client) → is_none o ≡ false → is_some o ≡ true
+someone (Some c) e = refl
+someone None e = absurd cc
+
 none_here : (o : Option Client) → is_none o ≡ true → o ≡ None
 none_here None e = refl
 none_here (Some c) e = absurd cc

@@ -8,7 +8,7 @@ use Rattle.moo_builtin.specs.Telling.{Faults}
 use Rattle.moo_session_task.specs.WordList.{FitsAList}
 use Rattle.moo_session_task.proofs.Depths.{light_words_fit}
 use Rattle.moo_session_connection.specs.declared.client.Client.{Client}
-use Rattle.moo_session_connection.specs.Connections.{Connections, client_here, is_open, is_leaving}
+use Rattle.moo_session_connection.specs.Connections.{Connections, client_here}
 use Rattle.moo_session_connection.specs.Changes.{joined, HasHeard}
 use Rattle.moo_session_task.specs.declared.world_state.WorldState.{WorldState}
 use Rattle.moo_session_task.specs.Session.{Session, no_session, in_connections}
@@ -19,14 +19,6 @@ use Rattle.moo_session_task.specs.Hooks.{HooksRun}
 use Rattle.moo_session.specs.Login.{LogsIn}
 use Rattle.moo_session.specs.Input.{MeetsLines}
 use Rattle.moo_session.specs.Events.{Opens, Hears, dropped, heard, HangsUp, hung_up, CallsOwnHook, Starts, all_parted}
-
-none_of : (o : Option Client) (b : Bool) → (is_some o || b) ≡ false → o ≡ None
-none_of None b e = refl
-none_of (Some c) b e = absurd cc
-
--- of a number that none has there is no connection
-pub free_number : (n : ℕ) (s : Connections) → is_open n s ≡ false → client_here n s ≡ None
-free_number n s e = none_of (client_here n s) (is_leaving n s) e
 
 pub no_words_fit : (words : List (List ℕ)) → words ≡ [] → FitsAList words
 no_words_fit words e = subst (λ (ws : List (List ℕ)). FitsAList ws) (sym e) (light_words_fit [] (omega arith))

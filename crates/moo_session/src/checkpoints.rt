@@ -5,8 +5,8 @@ ghost use Rattle.moo_value.specs.Tree.{integer};
 ghost use Rattle.moo_builtin.specs.Telling.{Faults};
 ghost use Rattle.moo_session.specs.Events.{CallsOwnHook, CheckpointStarts, CheckpointEnds, Starts, all_parted};
 
-use moo_session_task::{Hook, Session, WorldState, call_server_verb, empty, run_hooks, word_list};
-use moo_value::{ListLimit, MooList, Value};
+use moo_session_task::{Hook, Session, WorldState, call_server_verb, run_hooks, word_list};
+use moo_value::{ListLimit, MooList, MooStr, Value};
 use moo_world::World;
 use std::alloc::{AllocError, Global};
 
@@ -75,7 +75,7 @@ fn call_own_hook(
     requires { IsString name.now }
     ensures { OnOk result (CallsOwnHook Faults moment name.now args live.old live.new) }
 {
-    let argstr = empty(alloc)?;
+    let argstr = MooStr::empty(alloc)?;
     let _answer = call_server_verb(alloc, live, moment, name, -1, args, argstr)?;
     run_hooks(alloc, live, moment)
 }

@@ -1,5 +1,5 @@
 //! A player's command, with what goes before and after it.
-ghost use Rattle.std.specs.Prelude.{◌≡◌, OnOk, IfSome};
+ghost use Rattle.std.specs.Prelude.{◌≡◌, OnOk, IfSome, IsSome};
 ghost use Rattle.moo_builtin.specs.Telling.{Faults};
 ghost use Rattle.moo_command.specs.Seen.{command_of};
 ghost use Rattle.moo_session.specs.Dispatch.{Commanded, Follows, RunsVerb, is_true_answer, sent_unless_empty};
@@ -16,8 +16,8 @@ use moo_session_task::{Session, WorldState, call_server_verb, run, word_list};
 use moo_value::{MooStr, Value};
 use std::alloc::{AllocError, Global};
 
-/// A player's command on the connection of this number, where it is open and not leaving: the line, and all its words. The
-/// error is want of memory.
+/// Runs a player's command on the connection of this number, which is open and not leaving: the line, and all its words.
+/// Fails only if memory runs out.
 pub fn command(
     alloc: Global,
     live: &mut WorldState,
@@ -29,11 +29,10 @@ pub fn command(
 ) -> Result<(), AllocError>
     requires words { FitsAList words.items }
     requires line { IsLine line.now }
+    requires here { IsSome (client_here number live.old.session.connections) }
     ensures { OnOk result (IfSome (client_here number live.old.session.connections) (λ client. Commanded Faults moment number client player words.items line.now live.old live.new)) }
 {
-    let Some(client) = live.session.connections().client_here(number) else {
-        return Ok(());
-    };
+    let client = live.session.connections().client_here(number).unwrap();
     let prefix = client.prefix.try_clone()?;
     let suffix = client.suffix.try_clone()?;
     send_unless_empty(&mut live.session, number, &prefix)?;

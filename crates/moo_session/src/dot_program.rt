@@ -1,6 +1,7 @@
 //! How a player begins to program a verb.
-ghost use Rattle.std.specs.Prelude.{◌≡◌, OnOk, IfOk};
-ghost use Rattle.moo_session.specs.DotProgram.{programming_begun, begun_by_word, begun_for, gathering_for, own_verb, ready_line};
+ghost use Rattle.std.specs.Prelude.{◌≡◌, position, OnOk, IfOk};
+ghost use Rattle.moo_session_task.specs.Sending.{sent};
+ghost use Rattle.moo_session.specs.DotProgram.{is_colon, programming_begun, begun_by_word, begun_for, gathering_for, own_verb, ready_line};
 
 use moo_builtin::is_programmer;
 use moo_command::match_object;
@@ -54,9 +55,6 @@ fn begin_by_word(
     }
 }
 
-ghost use Rattle.std.specs.Prelude.{position};
-ghost use Rattle.moo_session.specs.DotProgram.{is_colon};
-
 fn colon_in(bytes: &[u8]) -> Option<usize>
     ensures { result ≡ position is_colon bytes.now }
 {
@@ -97,8 +95,6 @@ fn gather_for(
     session.gather(number, Some(Gathering::new(alloc, o, verb)));
     Ok(())
 }
-
-ghost use Rattle.moo_session_task.specs.Sending.{sent};
 
 fn ready_line(alloc: Global, o: i32, verb: &[u8]) -> Result<Vec<u8>, AllocError>
     ensures { IfOk result (λ line. line.items ≡ ready_line o verb.now) }

@@ -5,7 +5,8 @@ ghost use Rattle.moo_session_connection.specs.Connections.{client_here, is_open}
 ghost use Rattle.moo_session.specs.Events.{Opens, Hears, HangsUp, hung_up, player_at};
 
 use crate::{log_in, meet_lines};
-use moo_session_task::{Hook, Session, WorldState, empty, run_hooks};
+use moo_session_task::{Hook, Session, WorldState, run_hooks};
+use moo_value::MooStr;
 use std::alloc::{AllocError, Global};
 
 /// A connection is opened at this moment, in seconds, under a number that none has. The error is want of memory.
@@ -19,7 +20,7 @@ pub fn open(
     ensures { OnOk result (Opens Faults moment number live.old live.new) }
 {
     live.session.join(number, moment)?;
-    let line = empty(alloc)?;
+    let line = MooStr::empty(alloc)?;
     log_in(alloc, live, moment, number, Vec::new(alloc), line)?;
     run_hooks(alloc, live, moment)
 }

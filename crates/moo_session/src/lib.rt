@@ -9,6 +9,7 @@ mod dot_program;
 mod events;
 mod input;
 mod intervals;
+pub mod laws;
 mod login;
 mod player_line;
 mod program_end;

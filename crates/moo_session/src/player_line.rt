@@ -1,8 +1,10 @@
 //! A player's line.
-ghost use Rattle.std.specs.Prelude.{◌≡◌, ◌∷◌, ◌++◌, [], OnOk, IfOk, IfSome};
+ghost use Rattle.std.specs.Prelude.{◌≡◌, ◌∷◌, ◌++◌, [], OnOk, IfOk, IfSome, IsSome};
 ghost use Rattle.moo_builtin.specs.Telling.{Faults};
 ghost use Rattle.moo_session_connection.specs.Connections.{client_here};
 ghost use Rattle.moo_session_line.specs.Rest.{IsLine};
+ghost use Rattle.moo_command.specs.FirstWord.{IsTyped};
+ghost use Rattle.moo_session.specs.Dispatch.{Commanded};
 ghost use Rattle.moo_session.specs.Input.{PlayerTypes, kind_of, sets_prefix, sets_suffix};
 
 use crate::{begin_programming, command};
@@ -24,8 +26,8 @@ pub(crate) enum LineKind {
     Command,
 }
 
-/// A player's line that isn't gathered: nothing without words, what goes before or after the output of commands,
-/// `.program`, or a command. The error is want of memory.
+/// Takes a player's line that isn't gathered, on a connection that is open and not leaving: nothing without words, the text
+/// before or after the output of commands, `.program`, or a command. Fails only if memory runs out.
 pub(crate) fn player_types(
     alloc: Global,
     live: &mut WorldState,
@@ -34,7 +36,8 @@ pub(crate) fn player_types(
     player: i32,
     line: &MooStr,
 ) -> Result<(), AllocError>
-    requires { IsLine line.now }
+    requires line { IsLine line.now }
+    requires here { IsSome (client_here number live.old.session.connections) }
     ensures { OnOk result (IfSome (client_here number live.old.session.connections) (λ client. PlayerTypes Faults moment number client player line.now live.old live.new)) }
 {
     let Some(typed) = read_typed(alloc, line)? else {
@@ -82,9 +85,6 @@ fn sets_suffix(word: &[u8]) -> bool
     word == b"SUFFIX".as_slice() || word == b"OUTPUTSUFFIX".as_slice()
 }
 
-ghost use Rattle.moo_command.specs.FirstWord.{IsTyped};
-ghost use Rattle.moo_session.specs.Dispatch.{Commanded};
-
 // The command of what is typed in a line.
 fn run_command(
     alloc: Global,
@@ -97,6 +97,7 @@ fn run_command(
 ) -> Result<(), AllocError>
     requires typed { IsTyped line.now typed.verb typed.rest typed.args.items }
     requires line { IsLine line.now }
+    requires here { IsSome (client_here number live.old.session.connections) }
     ensures { OnOk result (IfSome (client_here number live.old.session.connections) (λ client. Commanded Faults moment number client player (typed.verb ∷ typed.args.items) line.now live.old live.new)) }
 {
     words_are_light();

@@ -1,5 +1,5 @@
 //! Lines that are gathered.
-ghost use Rattle.std.specs.Prelude.{◌≡◌, OnOk, IfSome};
+ghost use Rattle.std.specs.Prelude.{◌≡◌, OnOk, IfSome, IsSome};
 ghost use Rattle.moo_builtin.specs.Telling.{Faults};
 ghost use Rattle.moo_session.specs.DotProgram.{Gathers, gathering_of, is_dot};
 
@@ -8,8 +8,8 @@ use moo_session_task::WorldState;
 use moo_value::MooStr;
 use std::alloc::{AllocError, Global};
 
-/// A line of the connection of this number, where it gathers lines: it is kept, or it is the dot that ends them. The error
-/// is want of memory.
+/// Takes a line of the connection of this number, which gathers lines: the line is kept, or it is the dot that ends them.
+/// Fails only if memory runs out.
 pub fn gather(
     alloc: Global,
     live: &mut WorldState,
@@ -17,11 +17,10 @@ pub fn gather(
     player: i32,
     line: MooStr,
 ) -> Result<(), AllocError>
+    requires { IsSome (gathering_of number live.old.session) }
     ensures { OnOk result (IfSome (gathering_of number live.old.session) (λ g. Gathers Faults number player g line live.old live.new)) }
 {
-    let Some(mut gathering) = live.session.take_gathering(number) else {
-        return Ok(());
-    };
+    let mut gathering = live.session.take_gathering(number).unwrap();
     if is_dot(&line) {
         return end_programming(alloc, live, number, player, &gathering);
     }

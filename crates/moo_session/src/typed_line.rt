@@ -1,5 +1,5 @@
 //! One line.
-ghost use Rattle.std.specs.Prelude.{◌≡◌, OnOk, IfSome, is_some};
+ghost use Rattle.std.specs.Prelude.{◌≡◌, OnOk, IfSome, IsSome, is_some};
 ghost use Rattle.moo_builtin.specs.Telling.{Faults};
 ghost use Rattle.moo_session_connection.specs.Connections.{client_here};
 ghost use Rattle.moo_session_line.specs.Rest.{IsLine};
@@ -15,8 +15,8 @@ use moo_session_task::{Session, WorldState};
 use moo_value::MooStr;
 use std::alloc::{AllocError, Global};
 
-/// One line of the connection of this number, where it is open and not leaving, without the hooks that it causes. The
-/// error is want of memory.
+/// Takes one line of the connection of this number, which is open and not leaving, without the hooks that it causes. Fails
+/// only if memory runs out.
 pub(crate) fn type_line(
     alloc: Global,
     live: &mut WorldState,
@@ -24,12 +24,11 @@ pub(crate) fn type_line(
     number: u16,
     line: &MooStr,
 ) -> Result<(), AllocError>
-    requires { IsLine line.now }
+    requires line { IsLine line.now }
+    requires here { IsSome (client_here number live.old.session.connections) }
     ensures { OnOk result (IfSome (client_here number live.old.session.connections) (λ client. Types Faults moment number client line.now live.old live.new)) }
 {
-    let Some(client) = live.session.connections().client_here(number) else {
-        return Ok(());
-    };
+    let client = live.session.connections().client_here(number).unwrap();
     match client.connection.login {
         None => log_in_by_line(alloc, live, moment, number, line),
         Some(login) => type_as(alloc, live, moment, number, login.player, line),
@@ -45,7 +44,8 @@ fn type_as(
     player: i32,
     line: &MooStr,
 ) -> Result<(), AllocError>
-    requires { IsLine line.now }
+    requires line { IsLine line.now }
+    requires here { IsSome (client_here number live.old.session.connections) }
     ensures { OnOk result (IfSome (client_here number live.old.session.connections) (λ client. TypesAs moment number client player line.now live.old live.new)) }
 {
     if gathers(&live.session, number) {

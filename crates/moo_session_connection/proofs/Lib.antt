@@ -3,4 +3,5 @@ pub mod Known
 pub mod Players
 pub mod Rows
 pub mod Search
+pub mod Numbers
 pub mod OutboxRows

@@ -1,6 +1,6 @@
 -- The open connections of a server.
-use Rattle.std.specs.Prelude.{◌≡◌, ℕ, ◌<◌, ℤ, Bool, false, ◌||◌, is_some, List, [], ◌∷◌, Option, Some, find}
-use Rattle.std.specs.List.{list_any}
+use Rattle.std.specs.Prelude.{◌≡◌, ℕ, ◌+◌, ◌<◌, ◌≤◌, ℤ, Bool, false, ◌||◌, is_some, List, [], ◌∷◌, Option, Some, find}
+use Rattle.std.specs.List.{list_any, count_by}
 use Rattle.moo_eval_frame.specs.Surroundings.{Surroundings}
 use Rattle.moo_session_connection.specs.declared.client.Client.{Client}
 use Rattle.moo_session_connection.specs.Clients.{number_of, player_on, is_number, has_number, is_known_as, is_played_by, row_of, players_on}
@@ -56,6 +56,22 @@ NonePlayedBy player (c ∷ cs) = is_played_by player c ≡ false × NonePlayedBy
 abbrev pub HaveOwnPlayers : List Client → Type 0
 HaveOwnPlayers [] = Unit {0}
 HaveOwnPlayers (c ∷ cs) = ((player : ℤ) → player_on c ≡ Some player → NonePlayedBy player cs) × HaveOwnPlayers cs
+
+-- the numbers of connections are below this
+abbrev pub number_limit : ℕ
+number_limit = 65536
+
+abbrev pub HaveNumbersBelowLimit : List Client → Type 0
+HaveNumbersBelowLimit [] = Unit {0}
+HaveNumbersBelowLimit (c ∷ cs) = number_of c < number_limit × HaveNumbersBelowLimit cs
+
+-- how many open connections have this number, those that are leaving included
+abbrev pub count_numbered : ℕ → Connections → ℕ
+count_numbered n s = count_by (is_number n) s.leaving + count_by (has_number n) s.clients
+
+-- No two open connections have the same number: a number that is leaving is there once, and no client has it.
+abbrev pub HaveOwnNumbers : Connections → Type 0
+HaveOwnNumbers s = (n : ℕ) → count_numbered n s ≤ 1
 
 -- the surroundings of a task at this moment: a task sees the connections that aren't leaving
 abbrev pub around : ℕ → Connections → Surroundings

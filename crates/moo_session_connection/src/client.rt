@@ -1,11 +1,11 @@
 //! One open connection.
-ghost use Rattle.std.specs.Prelude.{◌≡◌, [], IfOk};
+ghost use Rattle.std.specs.Prelude.{◌≡◌, IfOk};
 ghost use Rattle.moo_session_connection.specs.Clients.{newcomer, player_on};
 
 use crate::gathering::Gathering;
 use moo_eval_frame::Connection;
 use moo_session_line::LineReader;
-use moo_value::{MooStr, ValueFault};
+use moo_value::MooStr;
 use std::alloc::{AllocError, Global};
 
 /// An open connection that is not leaving.
@@ -38,8 +38,8 @@ impl Client {
                 heard: None,
             },
             reader: LineReader::new(alloc),
-            prefix: empty(alloc)?,
-            suffix: empty(alloc)?,
+            prefix: MooStr::empty(alloc)?,
+            suffix: MooStr::empty(alloc)?,
             gathering: None,
         })
     }
@@ -49,16 +49,5 @@ impl Client {
         ensures { result ≡ player_on self.now }
     {
         Some(self.connection.login?.player)
-    }
-}
-
-// Returns the empty string.
-fn empty(alloc: Global) -> Result<MooStr, AllocError>
-    ensures { IfOk result (λ s. s ≡ []) }
-{
-    match MooStr::try_from_vec(alloc, Vec::new(alloc)) {
-        Ok(string) => Ok(string),
-        Err(ValueFault::Memory) => Err(AllocError),
-        Err(ValueFault::BadByte | ValueFault::TooHeavy) => unreachable!(),
     }
 }

@@ -25,14 +25,15 @@ pub struct Connections {
 impl Model for Connections {
     ghost use Rattle.std.specs.Prelude.{◌≡◌};
     ghost use Rattle.moo_session_connection.specs.Clients.{row_of};
-    ghost use Rattle.moo_session_connection.specs.Connections.{Connections as Contents, AreInOrder, HaveOwnPlayers};
+    ghost use Rattle.moo_session_connection.specs.Connections.{Connections as Contents, AreInOrder, HaveOwnPlayers, HaveNumbersBelowLimit, HaveOwnNumbers};
     ghost use Rattle.moo_session_connection.specs.Players.{LeadsToPlayers};
 
     ghost Value = { Contents };
 
     ghost view = { λ s. record { clients = s.clients.items; leaving = s.leaving.items } };
 
-    ghost invariant = { λ s. AreInOrder s.clients.items × HaveOwnPlayers s.clients.items × (s.row.items ≡ row_of s.clients.items) × LeadsToPlayers s.players s.clients.items };
+    ghost invariant = { λ s. (AreInOrder s.clients.items × HaveOwnPlayers s.clients.items × (s.row.items ≡ row_of s.clients.items) × LeadsToPlayers s.players s.clients.items)
+        × HaveNumbersBelowLimit s.clients.items × HaveOwnNumbers (record { clients = s.clients.items; leaving = s.leaving.items }) };
 }
 
 impl Connections {

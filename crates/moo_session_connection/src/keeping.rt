@@ -1,10 +1,13 @@
 //! The state that a connection keeps for its player.
 ghost use Rattle.std.specs.Prelude.{◌≡◌, None};
+ghost use Rattle.std.specs.Option.{option_and_then};
+ghost use Rattle.moo_session_connection.specs.Connections.{client_here};
 ghost use Rattle.moo_session_connection.specs.Changes.{with_changed, with_prefix, with_suffix, with_gathering};
 
 use crate::connections::Connections;
 use crate::gathering::Gathering;
 use moo_value::MooStr;
+use std::mem;
 
 impl Connections {
     /// Sets the text that goes before the output of commands.
@@ -46,8 +49,3 @@ impl Connections {
         mem::replace(&mut self.clients[place].gathering, None)
     }
 }
-
-ghost use Rattle.std.specs.Option.{option_and_then};
-ghost use Rattle.moo_session_connection.specs.Connections.{client_here};
-
-use std::mem;

@@ -1,5 +1,5 @@
 //! Connections that leave.
-ghost use Rattle.std.specs.Prelude.{◌≡◌, ◌<◌, ◌++◌, ◌∷◌, [], map, length, OnOk, slice_index_or};
+ghost use Rattle.std.specs.Prelude.{◌≡◌, ◌<◌, ◌++◌, ◌∷◌, [], map, length, IfOk, OnOk, OnErr, slice_index_or};
 ghost use Rattle.std.specs.List.{remove};
 ghost use Rattle.moo_session_connection.specs.Clients.{number_of};
 ghost use Rattle.moo_session_connection.specs.Connections.{NonePlayedBy};
@@ -9,7 +9,7 @@ ghost use Rattle.moo_session_connection.specs.declared.client.Client.{Client as 
 use crate::client::Client;
 use crate::connections::Connections;
 use crate::playing::remove_player;
-use std::alloc::AllocError;
+use std::alloc::{AllocError, Global};
 
 impl Connections {
     /// Marks the connection that goes by this number as leaving, if there is one. Fails only if memory runs out.
@@ -48,7 +48,7 @@ impl Connections {
     pub fn leave_all(&mut self) -> Result<(), AllocError>
         ensures { OnOk result (self.new ≡ all_left self.old) }
     {
-        push_numbers(&mut self.leaving, &self.clients)?;
+        push_numbers(self.alloc, &mut self.leaving, &self.clients)?;
         self.clients.clear();
         self.row.clear();
         self.players.clear();
@@ -56,11 +56,21 @@ impl Connections {
     }
 }
 
-fn push_numbers(numbers: &mut Vec<u16>, clients: &[Client]) -> Result<(), AllocError>
-    ensures { OnOk result (numbers.new.items ≡ numbers.old.items ++ map number_of clients.now) }
+// Appends the numbers of these connections. If memory runs out, nothing changes.
+fn push_numbers(alloc: Global, numbers: &mut Vec<u16>, clients: &[Client]) -> Result<(), AllocError>
+    ensures ok { OnOk result (numbers.new.items ≡ numbers.old.items ++ map number_of clients.now) }
+    ensures err { OnErr result (numbers.new.items ≡ numbers.old.items) }
 {
+    let more = numbers_of(alloc, clients)?;
+    numbers.extend_from_slice(&more)
+}
+
+fn numbers_of(alloc: Global, clients: &[Client]) -> Result<Vec<u16>, AllocError>
+    ensures { IfOk result (λ numbers. numbers.items ≡ map number_of clients.now) }
+{
+    let mut numbers = Vec::new(alloc);
     for client in clients {
         numbers.push(client.connection.number)?;
     }
-    Ok(())
+    Ok(numbers)
 }

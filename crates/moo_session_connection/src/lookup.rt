@@ -1,10 +1,10 @@
 //! Connections by the numbers that they go by.
-ghost use Rattle.std.specs.Prelude.{◌≡◌, ℕ, position, IfOk, IfErr, IfSome, IfNone};
+ghost use Rattle.std.specs.Prelude.{◌≡◌, ℕ, None, true, position, IfOk, IfErr, IfSome, IfNone};
 ghost use Rattle.std.specs.Option.{option_copied};
 ghost use Rattle.moo_session_connection.specs.Clients.{own_number, has_number, is_known_as, is_played_by};
 ghost use Rattle.moo_session_connection.specs.Searching.{IsRising, IsAt, IsGap};
 ghost use Rattle.moo_session_connection.specs.Players.{is_unplayed_as, earlier};
-ghost use Rattle.moo_session_connection.specs.Connections.{client_here, client_known_as, client_playing, is_open, is_leaving, HaveOwnPlayers};
+ghost use Rattle.moo_session_connection.specs.Connections.{client_here, client_known_as, is_open, is_leaving, HaveOwnPlayers};
 
 use crate::client::Client;
 use crate::connections::Connections;
@@ -27,17 +27,11 @@ impl Connections {
         Some(&self.clients[place])
     }
 
-    /// Returns the connection on which this player is connected.
-    pub fn client_playing(&self, player: i32) -> Option<&Client>
-        ensures { option_copied result ≡ client_playing player self.now }
-    {
-        let place = self.place_playing(player)?;
-        Some(&self.clients[place])
-    }
-
     /// Returns whether the connection of this number is leaving.
     pub fn is_leaving(&self, number: u16) -> bool
-        ensures { result ≡ is_leaving number self.now }
+        ensures is { result ≡ is_leaving number self.now }
+        // nobody is on it any more
+        ensures left { is_leaving number self.now ≡ true → client_here number self.now ≡ None }
     {
         self.leaving.iter().any(|other| *other == number)
     }

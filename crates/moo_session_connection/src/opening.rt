@@ -1,8 +1,8 @@
 //! Connections that open and close.
-ghost use Rattle.std.specs.Prelude.{◌≡◌, ◌≤◌, None, length, position, OnOk};
+ghost use Rattle.std.specs.Prelude.{◌≡◌, ◌<◌, ◌≤◌, None, false, length, position, OnOk};
 ghost use Rattle.std.specs.List.{position_or_len, insert};
-ghost use Rattle.moo_session_connection.specs.Clients.{player_on, is_number, is_above, without_first};
-ghost use Rattle.moo_session_connection.specs.Connections.{client_here, AreInOrder};
+ghost use Rattle.moo_session_connection.specs.Clients.{number_of, player_on, is_number, is_above, without_first};
+ghost use Rattle.moo_session_connection.specs.Connections.{client_here, is_open, number_limit, AreInOrder};
 ghost use Rattle.moo_session_connection.specs.Changes.{joined, freed};
 
 use crate::client::Client;
@@ -14,7 +14,7 @@ use std::alloc::AllocError;
 impl Connections {
     /// Opens a connection at this moment, in seconds. Fails only if memory runs out.
     pub fn join(&mut self, number: u16, moment: u32) -> Result<(), AllocError>
-        requires { client_here number self.old ≡ None }
+        requires { is_open number self.old ≡ false }
         ensures { OnOk result (self.new ≡ joined number moment self.old) }
     {
         let client = Client::new(self.alloc, number, moment)?;
@@ -26,6 +26,8 @@ impl Connections {
         requires inside { place ≤ length self.old.clients }
         requires order { AreInOrder (insert self.old.clients place client) }
         requires nobody { player_on client ≡ None }
+        requires below { number_of client < number_limit }
+        requires free { is_open (number_of client) self.old ≡ false }
         ensures { OnOk result (self.new ≡ record self.old { clients = insert self.old.clients place client }) }
     {
         let connection = client.connection;

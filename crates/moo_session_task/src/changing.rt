@@ -1,8 +1,8 @@
 //! Changes of one connection.
-ghost use Rattle.std.specs.Prelude.{◌≡◌, None, Some, Ok, OnOk, IfOk, IfSome, IfNone, All};
+ghost use Rattle.std.specs.Prelude.{◌≡◌, false, None, Some, Ok, OnOk, IfOk, IfSome, IfNone, All};
 ghost use Rattle.std.specs.Option.{option_and_then};
 ghost use Rattle.moo_session_line.specs.Rest.{IsLine};
-ghost use Rattle.moo_session_connection.specs.Connections.{client_here};
+ghost use Rattle.moo_session_connection.specs.Connections.{client_here, is_open};
 ghost use Rattle.moo_session_connection.specs.Changes.{joined, freed, played, left_by, with_changed, with_prefix, with_suffix, with_gathering, HasHeard};
 ghost use Rattle.moo_session_task.specs.Session.{in_connections};
 
@@ -12,9 +12,9 @@ use moo_value::MooStr;
 use std::alloc::AllocError;
 
 impl Session {
-    /// A connection is opened at this moment, in seconds. `Err` where memory is wanting.
+    /// Opens a connection at this moment, in seconds, under a number that none has. Fails only if memory runs out.
     pub fn join(&mut self, number: u16, moment: u32) -> Result<(), AllocError>
-        requires { client_here number self.old.connections ≡ None }
+        requires { is_open number self.old.connections ≡ false }
         ensures { OnOk result (self.new ≡ in_connections (joined number moment) self.old) }
     {
         self.connections.join(number, moment)

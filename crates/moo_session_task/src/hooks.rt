@@ -6,9 +6,9 @@ ghost use Rattle.moo_builtin.specs.Telling.{Faults};
 ghost use Rattle.moo_session_task.specs.Hooks.{HooksRun, RunsNext, CallsHook, hook_name, player_of_hook};
 ghost use Rattle.moo_session_task.specs.Seen.{seen_answer};
 
-use crate::verbs::{call_server_verb, empty};
+use crate::verbs::call_server_verb;
 use crate::{Hook, WorldState};
-use moo_value::{ListLimit, MooList, Value};
+use moo_value::{ListLimit, MooList, MooStr, Value};
 use std::alloc::{AllocError, Global};
 
 /// Runs the hooks that wait, from the first on, until none waits, at this moment, in seconds. `Err` where memory is
@@ -44,7 +44,7 @@ fn call_hook(
 {
     let player = player_of(hook);
     let args = one_object(alloc, player)?;
-    let argstr = empty(alloc)?;
+    let argstr = MooStr::empty(alloc)?;
     call_server_verb(alloc, live, moment, name_of(hook), player, args, argstr)
 }
 

@@ -20,5 +20,5 @@ pub use moo_session_connection::{Client, Connections, Gathering, Sent, own_numbe
 pub use session::Session;
 pub use strings::word_list;
 pub use tasks::run;
-pub use verbs::{call_server_verb, empty, name};
+pub use verbs::call_server_verb;
 pub use world_state::WorldState;

@@ -1,5 +1,5 @@
 //! Verbs of #0 that the server itself calls.
-ghost use Rattle.std.specs.Prelude.{◌≡◌, IfOk, []};
+ghost use Rattle.std.specs.Prelude.{◌≡◌, IfOk};
 ghost use Rattle.moo_value.specs.Size.{IsString};
 ghost use Rattle.moo_builtin.specs.Telling.{Faults};
 ghost use Rattle.moo_eval_access.specs.SeenCalled.{found_of};
@@ -11,7 +11,7 @@ use crate::WorldState;
 use crate::tasks::run;
 use moo_eval_access::{Call, Found, called_verb, verb_frame};
 use moo_eval_frame::Frame;
-use moo_value::{MooList, MooStr, Value, ValueFault};
+use moo_value::{MooList, MooStr, Value};
 use std::alloc::{AllocError, Global};
 
 /// Calls a verb of #0 at this moment, in seconds, where there is one by this name that can be executed: with these
@@ -54,29 +54,18 @@ fn server_frame(
         iobj: -1,
         verb,
         argstr,
-        dobjstr: empty(alloc)?,
-        prepstr: empty(alloc)?,
-        iobjstr: empty(alloc)?,
+        dobjstr: MooStr::empty(alloc)?,
+        prepstr: MooStr::empty(alloc)?,
+        iobjstr: MooStr::empty(alloc)?,
         args,
     };
     verb_frame(alloc, found, call)
 }
 
-/// The empty string.
-pub fn empty(alloc: Global) -> Result<MooStr, AllocError>
-    ensures { IfOk result (λ s. s ≡ []) }
-{
-    name(alloc, b"")
-}
-
-/// The string of these bytes. `Err` where memory is wanting.
-pub fn name(alloc: Global, bytes: &[u8]) -> Result<MooStr, AllocError>
+// Returns the string of these bytes. Fails only if memory runs out.
+fn name(alloc: Global, bytes: &[u8]) -> Result<MooStr, AllocError>
     requires { IsString bytes.now }
     ensures { IfOk result (λ s. s ≡ bytes.now) }
 {
-    match MooStr::try_from_bytes(alloc, bytes) {
-        Ok(string) => Ok(string),
-        Err(ValueFault::Memory) => Err(AllocError),
-        Err(ValueFault::BadByte | ValueFault::TooHeavy) => unreachable!(),
-    }
+    MooStr::from_text(alloc, Vec::from_slice(alloc, bytes)?)
 }

@@ -1,5 +1,6 @@
 //! The laws of sessions.
 ghost use Rattle.moo_server_law.specs.Sessions.{OneResultByChoice, OneResultOfSingleFaults, ChosenMayBeTold, NoHookIsLeft};
+ghost use Rattle.moo_server_law.specs.Stream.{LinesOfTheRun, LinesOfTheWholeStream};
 
 /// For one input an event has at most one result, whatever is chosen to be told of texts that are no programs.
 #[tactic(none)]
@@ -35,11 +36,16 @@ pub fn no_hook_is_left()
     ensures { NoHookIsLeft }
 {}
 
-ghost use Rattle.moo_server_law.specs.Stream.{LinesOfTheWholeStream};
-
 /// However the bytes of a connection were cut into pieces, and whatever happened in between, the lines that they ended are
 /// those of all its bytes.
 #[tactic(none)]
 pub fn lines_of_the_whole_stream()
     ensures { LinesOfTheWholeStream }
+{}
+
+/// Of a server's run: however the bytes of a connection are cut into events, whatever other events come in between, and
+/// whatever checkpoints begin and end, the lines that each piece ends are those by which the lines of all its bytes grow.
+#[tactic(none)]
+pub fn lines_of_the_run()
+    ensures { LinesOfTheRun }
 {}

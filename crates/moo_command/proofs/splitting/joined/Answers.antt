@@ -20,6 +20,6 @@ loop-word-preserved c =
     c.word-item.is c.as_bytes-in-loop-word.ensures.string
     )
 
-pub string_of-requires-2 : goal.string_of-requires-2
-string_of-requires-2 c =
+pub from_text-requires-2 : goal.from_text-requires-2
+from_text-requires-2 c =
     joined_is_string c.args.words.now c.in-Some.others.now c.loop-word.word-index c.loop-word.text.items c.loop-word-test.false c.loop-word.invariant c.requires

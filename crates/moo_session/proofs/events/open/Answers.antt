@@ -1,8 +1,5 @@
-use Rattle.moo_session.proofs.Steps.{free_number, no_words_fit, opened}
+use Rattle.moo_session.proofs.Steps.{no_words_fit, opened}
 use Rattle.moo_session.proofs.events.open.Goals as goal
-
-pub join-requires : goal.join-requires
-join-requires c = free_number c.args.number c.args.live.now.session.connections c.requires
 
 pub log_in-requires : goal.log_in-requires
 log_in-requires c = no_words_fit c.new.result.items c.new.ensures.items

@@ -11,6 +11,9 @@ command-requires-clause-words c =
     let light = c.words_are_light.ensures.words c.args.line.now all (typed_words c.args.line.now t.verb t.rest t.args.items c.requires.typed) in
     subst (λ (ws : List (List ℕ)). FitsAList ws) (sym c.in_ok-words.ensures) (words_fit c.args.line.now all c.requires.line light)
 
+pub command-requires-clause-here : goal.command-requires-clause-here
+command-requires-clause-here c = c.requires.here
+
 pub command-requires-clause-line : goal.command-requires-clause-line
 command-requires-clause-line c = c.requires.line
 

@@ -13,9 +13,9 @@ use Rattle.moo_session.proofs.program_lines.gather.Goals as goal
 pub returns-then-is_dot : goal.returns-then-is_dot
 returns-then-is_dot c =
     let s : WorldState = c.args.live.now in
-    let g = c.in-Some.gathering in
+    let g = c.unwrap-gathering.result in
     let t : WorldState = state s.world c.take_gathering.new.self in
-    let taken : gathering_of c.args.number s.session ≡ Some g = sym c.take_gathering.ensures.taken ∙ c.in-Some.is in
+    let taken : gathering_of c.args.number s.session ≡ Some g = sym c.take_gathering.ensures.taken ∙ c.unwrap-gathering.ensures in
     let left : t ≡ in_session (in_connections (with_changed c.args.number (with_gathering None))) s = ap (λ (x : Session). state s.world x) c.take_gathering.ensures.changed in
     let player = to_z-of_z w32 c.args.player c.ranges.player in
     of_gathered c.end_programming.result (gathering_of c.args.number s.session) g (λ (x : Gathering). Gathers Faults c.args.number c.args.player x c.args.line s c.end_programming.new.live) taken
@@ -24,10 +24,10 @@ returns-then-is_dot c =
 pub returns : goal.returns
 returns c =
     let s : WorldState = c.args.live.now in
-    let g = c.in-Some.gathering in
+    let g = c.unwrap-gathering.result in
     let t : WorldState = state s.world c.take_gathering.new.self in
     let u : WorldState = state s.world c.gather.new.self in
-    let taken : gathering_of c.args.number s.session ≡ Some g = sym c.take_gathering.ensures.taken ∙ c.in-Some.is in
+    let taken : gathering_of c.args.number s.session ≡ Some g = sym c.take_gathering.ensures.taken ∙ c.unwrap-gathering.ensures in
     let left : t ≡ in_session (in_connections (with_changed c.args.number (with_gathering None))) s = ap (λ (x : Session). state s.world x) c.take_gathering.ensures.changed in
     let more : u ≡ in_session (in_connections (with_changed c.args.number (with_gathering (Some (with_line c.args.line g))))) t =
     ap (λ (x : Session). state s.world x) (c.gather.ensures ∙ ap (λ (x : Gathering). in_connections (with_changed c.args.number (with_gathering (Some x))) c.take_gathering.new.self) c.in_ok-push.ensures) in

@@ -3,6 +3,9 @@ use Rattle.moo_session_connection.specs.Connections.{client_here}
 use Rattle.moo_session.proofs.InputSteps.{line_gathered, line_played}
 use Rattle.moo_session.proofs.typed_line.type_as.Goals as goal
 
+pub gather-requires : goal.gather-requires
+gather-requires c = sym c.gathers.ensures ∙ c.if-gathers.true
+
 pub returns-then-gathers : goal.returns-then-gathers
 returns-then-gathers c =
     let who : to_z w32 (of_z w32 c.args.player) ≡ c.args.player = (let fits : SFits w32 c.args.player = search rules in to_z-of_z fits) in

@@ -5,12 +5,12 @@ use Rattle.moo_builtin.specs.Telling.{Faults}
 use Rattle.moo_server_core.specs.declared.application.Requests.{Requests}
 use Rattle.moo_server_core.specs.Application.{seen_happening}
 use Rattle.moo_server.specs.Live.{Becomes}
-use Rattle.moo_server.proofs.Worlds.{dropped_any, moved}
+use Rattle.moo_server.proofs.Worlds.{dropped, moved}
 use Rattle.moo_server.proofs.moo_application.MooApplicationApplication.apply.Goals as goal
 
 pub returns-then-is_dropped-clause-happens : goal.returns-then-is_dropped-clause-happens
 returns-then-is_dropped-clause-happens c =
-    dropped_any (seen_happening c.args.happening) c.args.moment c.args.self.now (record c.args.self.now { live = c.discard_leftovers.new.live }) (sym c.is_dropped.ensures ∙ c.if-is_dropped.true) c.discard_leftovers.ensures refl
+    dropped (seen_happening c.args.happening) c.args.moment c.args.self.now (record c.args.self.now { live = c.discard_leftovers.new.live }) (c.is_dropped.ensures.nothing c.if-is_dropped.true c.args.moment) c.discard_leftovers.ensures refl
 
 pub returns-clause-happens : goal.returns-clause-happens
 returns-clause-happens c =

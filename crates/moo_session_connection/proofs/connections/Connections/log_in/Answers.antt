@@ -10,6 +10,7 @@ use Rattle.moo_session_connection.specs.Changes.{with_changed, as_playing}
 use Rattle.moo_session_connection.proofs.Places.{changed_at, changed_nowhere}
 use Rattle.moo_session_connection.proofs.Players.{IsWith, IsWithout}
 use Rattle.moo_session_connection.proofs.Rows.{whole-play, whole-unchanged, same_whole, read_back}
+use Rattle.moo_session_connection.proofs.Numbers.{numbers-set}
 use Rattle.moo_session_connection.proofs.connections.Connections.log_in.Goals as goal
 
 pub returns-in_default-clause-ok : goal.returns-in_default-clause-ok
@@ -18,7 +19,8 @@ returns-in_default-clause-ok c =
     ap (λ (cs : List Client). record c.args.self.now { clients = cs }) (sym (changed_nowhere (has_number c.args.number) (as_playing c.args.player c.args.moment) c.args.self.now.clients e))
 
 pub invariant_of-self : goal.invariant_of-self
-invariant_of-self c = whole-unchanged c.self.inside.row.items c.self.inside.players c.insert.new.self c.self.inside.clients.items c.in_err-insert.ensures.err c.self.invariant
+invariant_of-self c =
+    (whole-unchanged c.self.inside.row.items c.self.inside.players c.insert.new.self c.self.inside.clients.items c.in_err-insert.ensures.err c.self.invariant.0, c.self.invariant.1, c.self.invariant.2)
 
 pub invariant_of-self-2 : goal.invariant_of-self-2
 invariant_of-self-2 c =
@@ -39,9 +41,11 @@ invariant_of-self-2 c =
     subst (λ (m : ℕ). IsWith p m c.self.inside.players c.insert.new.self) (sym number) (λ q. c.in_ok-insert.ensures.updates.0 q) in
     let one : c.index.result.now ≡ d = c.index.ensures ∙ get_or_default items c.in-Some.place c.index.result.now d place.0 ∙ sym c.index_mut.ensures.value in
     let taken : IsWithout d c.insert.new.self c.remove_player.new.players = subst (λ (x : Client). IsWithout x c.insert.new.self c.remove_player.new.players) one c.remove_player.ensures in
-    same_whole _ _ c.remove_player.new.players _ _ (ap (λ (x : Client). slice_set c.self.inside.row.items c.in-Some.place x.connection) back) refl
+    let whole = same_whole _ _ c.remove_player.new.players _ _ (ap (λ (x : Client). slice_set c.self.inside.row.items c.in-Some.place x.connection) back) refl
     (whole-play c.self.inside.row.items c.self.inside.players c.insert.new.self c.remove_player.new.players items c.in-Some.place d k p place.0 c.index_mut.ensures.value refl refl none
-    added taken c.self.invariant)
+    added taken c.self.invariant.0) in
+    let numbers = numbers-set c.self.inside.leaving.items items c.in-Some.place d k c.index_mut.ensures.value refl (c.self.invariant.1, c.self.invariant.2) in
+    (whole, numbers.0, numbers.1)
 
 pub returns-clause-ok : goal.returns-clause-ok
 returns-clause-ok c =

@@ -13,7 +13,7 @@ returns-in_err-number-clause-place c =
     let items : List Client = c.self.inside.clients.items in
     let p : ℤ = to_z w32 (of_z w32 c.args.player) in
     let same : p ≡ c.args.player = (let fits : SFits w32 c.args.player = search rules in to_z-of_z fits) in
-    let gone : number_playing p items ≡ None = sym (c.self.invariant.3 p) ∙ sym c.get.ensures.value ∙ ap option_copied c.in_err-number.was in
+    let gone : number_playing p items ≡ None = sym (c.self.invariant.0.3 p) ∙ sym c.get.ensures.value ∙ ap option_copied c.in_err-number.was in
     c.from_residual.ensures
     ∙ sym (no_player p items gone)
     ∙ ap (λ (q : ℤ). position (is_played_by q) items) same
@@ -25,9 +25,9 @@ returns-clause-place c =
     let p : ℤ = to_z w32 (of_z w32 c.args.player) in
     let n : ℕ = c.in_ok-number.number.now in
     let same : p ≡ c.args.player = (let fits : SFits w32 c.args.player = search rules in to_z-of_z fits) in
-    let leads : number_playing p items ≡ Some n = sym (c.self.invariant.3 p) ∙ sym c.get.ensures.value ∙ ap option_copied c.in_ok-number.was in
+    let leads : number_playing p items ≡ Some n = sym (c.self.invariant.0.3 p) ∙ sym c.get.ensures.value ∙ ap option_copied c.in_ok-number.was in
     c.place_here.ensures
     ∙ sym (ap (λ (s : Connections). position (has_number n) s.clients) c.self.view_is)
-    ∙ player_place p n items c.self.invariant.0 leads
+    ∙ player_place p n items c.self.invariant.0.0 leads
     ∙ ap (λ (q : ℤ). position (is_played_by q) items) same
     ∙ ap (λ (s : Connections). position (is_played_by c.args.player) s.clients) c.self.view_is

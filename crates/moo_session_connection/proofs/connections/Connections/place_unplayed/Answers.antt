@@ -28,7 +28,7 @@ returns-in-Some c =
     let own : c.args.who ≡ own_number n = sym same ∙ c.in_ok-number.ensures.some in
     let at : position (has_number n) items ≡ Some c.in_ok-place.place =
     ap (λ (s : Connections). position (has_number n) s.clients) c.self.view_is ∙ sym c.place_numbered.ensures ∙ c.in_ok-place.was in
-    unplayed_place (Some c.in-Some.field-0) c.args.who n c.in_ok-place.place items c.index.result.now c.self.invariant.0 own at (ap (λ (k : Client). k.connection.login) (sym c.index.ensures) ∙ c.in-Some.is)
+    unplayed_place (Some c.in-Some.field-0) c.args.who n c.in_ok-place.place items c.index.result.now c.self.invariant.0.0 own at (ap (λ (k : Client). k.connection.login) (sym c.index.ensures) ∙ c.in-Some.is)
     ∙ ap (λ (s : Connections). position (is_unplayed_as c.args.who) s.clients) c.self.view_is
 
 pub returns-in-None : goal.returns-in-None
@@ -39,5 +39,5 @@ returns-in-None c =
     let own : c.args.who ≡ own_number n = sym same ∙ c.in_ok-number.ensures.some in
     let at : position (has_number n) items ≡ Some c.in_ok-place.place =
     ap (λ (s : Connections). position (has_number n) s.clients) c.self.view_is ∙ sym c.place_numbered.ensures ∙ c.in_ok-place.was in
-    unplayed_place None c.args.who n c.in_ok-place.place items c.index.result.now c.self.invariant.0 own at (ap (λ (k : Client). k.connection.login) (sym c.index.ensures) ∙ c.in-None.is)
+    unplayed_place None c.args.who n c.in_ok-place.place items c.index.result.now c.self.invariant.0.0 own at (ap (λ (k : Client). k.connection.login) (sym c.index.ensures) ∙ c.in-None.is)
     ∙ ap (λ (s : Connections). position (is_unplayed_as c.args.who) s.clients) c.self.view_is

@@ -5,6 +5,7 @@ use Rattle.moo_session_connection.specs.Connections.{Connections}
 use Rattle.moo_session_connection.specs.Clients.{has_number}
 use Rattle.moo_session_connection.specs.Changes.{with_changed, with_suffix}
 use Rattle.moo_session_connection.proofs.Places.{changed_at, changed_nowhere}
+use Rattle.moo_session_connection.proofs.Numbers.{numbers-set}
 use Rattle.moo_session_connection.proofs.Rows.{whole-keep}
 use Rattle.moo_session_connection.proofs.connections.Connections.set_suffix.Goals as goal
 
@@ -14,7 +15,9 @@ returns-in_default c =
     ap (λ (cs : List Client). record c.args.self.now { clients = cs }) (sym (changed_nowhere (has_number c.args.number) (with_suffix c.args.text) c.args.self.now.clients e))
 
 pub invariant_of-self : goal.invariant_of-self
-invariant_of-self c = whole-keep c.self.inside.row.items c.self.inside.players c.self.inside.clients.items c.in-Some.place c.index_mut.result.now _ c.index_mut.ensures.value refl c.self.invariant
+invariant_of-self c =
+    let numbers = numbers-set c.self.inside.leaving.items c.self.inside.clients.items c.in-Some.place c.index_mut.result.now _ c.index_mut.ensures.value refl (c.self.invariant.1, c.self.invariant.2) in
+    (whole-keep c.self.inside.row.items c.self.inside.players c.self.inside.clients.items c.in-Some.place c.index_mut.result.now _ c.index_mut.ensures.value refl c.self.invariant.0, numbers.0, numbers.1)
 
 pub returns : goal.returns
 returns c =

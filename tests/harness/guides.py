@@ -118,6 +118,8 @@ def outcome(session, status, answers):
 def play_page(program, page):
     """Plays all sessions of a page, one after another in one world."""
     all_sessions = sessions(page)
+    if not all_sessions:
+        return []
     status, answers = play_steps(program, [step for session in all_sessions for step in session.steps])
     outcomes, at = [], 0
     for session in all_sessions:

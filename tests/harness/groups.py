@@ -4,6 +4,7 @@ from functools import partial
 
 import command_rows
 import database_rows
+import guides
 import launcher_cases
 import program_rows
 import script_rows
@@ -72,4 +73,5 @@ def all_groups(program):
         ("the starter world", [("worlds/starter", partial(starter.play_build, program))]),
         ("its transcripts", starter.transcripts(program)),
         ("the example of the page on scripts", [("docs", partial(starter.play_example, program))]),
+        ("the sessions of the guides", guides.units(program)),
     ]

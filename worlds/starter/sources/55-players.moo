@@ -24,7 +24,7 @@
 @property $player.refusals r wiz = {}
 @property $player.muted r wiz = {0, 0}
 
-// Nothing is told of what a player causes whom this one gags, or who is muted.
+// Drops what is caused by a player whom this one gags, or who is muted.
 @program $player:"tell tell_lines" this none this rxd wiz
 if (player != this && valid(player))
   {at, span} = `player.muted ! ANY => {0, 0}';
@@ -76,7 +76,7 @@ n = verb == "@linelength" ? this.linelength | this.pagelength;
 player:tell(verb == "@linelength" ? "Lines are broken at " | "Pages end after ", n ? tostr(n, verb == "@linelength" ? " characters." | " lines.") | "no line.");
 .
 
-// May this one speak, to WHO (or to all)? Else it is told why not. KIND is what WHO may refuse.
+// May this one speak, to WHO (or to all)? Else it reads why not. KIND is what WHO may refuse.
 @program $player:may_speak this none this rxd wiz
 {?who = #-1, ?kind = ""} = args;
 {at, span} = this.muted;

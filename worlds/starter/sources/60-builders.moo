@@ -45,7 +45,7 @@ if (!is_player(o))
 endif
 `o.aliases = names[2..$] ! E_PROPNF, E_PERM';
 if (is_player(o))
-  $match:rebuild();
+  $match:enter(o);
 endif
 player:tell("It is called ", $string:join(names, ", "), " (", o, ") now.");
 .
@@ -124,7 +124,7 @@ if (player == this)
 endif
 .
 
-// @recycle THING; @recycle! THING where that was told to be dear
+// @recycle THING asks if others need the thing; @recycle! THING does it
 @program $builder:"@recycle @recycle!" any any any rd wiz
 if (player != this)
   return;

@@ -48,6 +48,7 @@ if (o != #-1)
   if (typeof(quota) == INT)
     who.ownership_quota = quota - 1;
   endif
+  `o:initialize() ! E_VERBNF';
 else
   o = create(kind, who);
 endif

@@ -20,6 +20,8 @@ What you type is added as a line. A line of one dot ends, and keeps what is writ
 {who, kind, what, name, lines, ?raw = 0} = args;
 if (!(caller_perms() in {who, $keeper} || caller_perms().wizard))
   raise(E_PERM);
+elseif (!(kind in {"verb", "text", "letter", "list", "board"}) || (kind == "board" && !$isa(what, $board)))
+  raise(E_INVARG);
 endif
 who.editing = {kind, what, name, lines, length(lines) + 1, raw};
 if (!raw)
@@ -32,6 +34,8 @@ endif
 {kind, what, name, @rest} = args[1];
 if (kind == "letter")
   return "a letter to " + what.name;
+elseif (kind == "list")
+  return "a letter to the list " + name;
 elseif (kind == "board")
   return "a note for " + $string:the(what.name);
 endif
@@ -51,7 +55,7 @@ endfor
 notify(who, ".");
 .
 
-// A line of somebody who writes; true where it is dealt with.
+// Takes a line of somebody who writes; true if no command is to run for it.
 @program $editor:line this none this rxd wiz
 if (caller != #0)
   raise(E_PERM);
@@ -79,7 +83,7 @@ if (caller != this)
 endif
 {who, text} = args;
 {kind, what, name, lines, at, raw} = who.editing;
-most = {2000, 60, 12, 200}[kind in {"verb", "letter", "board"} || 4];
+most = {2000, 60, 60, 12, 200}[kind in {"verb", "letter", "list", "board"} || 5];
 if (length(lines) >= most)
   who:tell("That is as long as it may be: ", most, " lines.");
 elseif (kind != "verb" && length(text) > 1000)
@@ -155,6 +159,8 @@ try
     fault = told ? told[1] | "";
   elseif (kind == "letter")
     fault = lines ? $post:send(who, what, lines) | "There is nothing in it.";
+  elseif (kind == "list")
+    fault = lines ? $post:send_list(who, name, lines) | "There is nothing in it.";
   elseif (kind == "board")
     fault = lines ? (what:add(lines) ? "" | "It isn't pinned.") | "There is nothing in it.";
   else
@@ -266,40 +272,149 @@ player:tell("@edit ", this.local_editing ? "sends the text to your client, which
 @property $post.most r wiz = 30
 @property $post.most_in_day r wiz = 50
 
-// Sends a letter of lines from WHO to WHOM; what is wrong, or "".
-@program $post:send this none this rxd wiz
-{who, whom, lines} = args;
-if (caller_perms() != who && !caller_perms().wizard)
-  raise(E_PERM);
-endif
+// {{name, who made it, those who get its letters}, ..}
+@property $post.lists - wiz = {}
+
+// What is wrong with a letter of lines from WHO, or "".
+@program $post:fault this none this rxd wiz
+{who, lines} = args;
 size = 0;
 for l in (lines)
   size = size + length(l);
 endfor
 {day, n} = who.sent;
 since = time() - day;
-if (since < 0 || since >= 86400)
-  day = time();
-  n = 0;
-endif
 if (!$isa(who, $builder))
   return "Guests can't send letters. Type help create.";
-elseif (!valid(whom) || !$isa(whom, $builder) || !is_player(whom))
-  return "Guests have no letter box.";
 elseif (length(lines) > 60 || size > 8000)
   return "A letter has at most 60 lines and 8,000 characters.";
+elseif (n >= this.most_in_day && since >= 0 && since < 86400 && !who.wizard)
+  return "You have sent as many letters today as may be sent in a day.";
+endif
+return "";
+.
+
+// Counts a letter of WHO's day.
+@program $post:count this none this rxd wiz
+if (caller != this)
+  raise(E_PERM);
+endif
+{who} = args;
+{day, n} = who.sent;
+since = time() - day;
+who.sent = since < 0 || since >= 86400 ? {time(), 1} | {day, n + 1};
+.
+
+@program $post:deliver this none this rxd wiz
+if (caller != this)
+  raise(E_PERM);
+endif
+{who, name, whom, lines} = args;
+whom.letters = {@whom.letters, {who, name, time(), lines, 0}};
+notify(whom, tostr("A letter from ", name, " has come. (@mail)"));
+.
+
+// Sends a letter of lines from WHO to WHOM; what is wrong, or "".
+@program $post:send this none this rxd wiz
+{who, whom, lines} = args;
+if (caller_perms() != who && !caller_perms().wizard)
+  raise(E_PERM);
+endif
+fault = this:fault(who, lines);
+if (fault)
+  return fault;
+elseif (!valid(whom) || !$isa(whom, $builder) || !is_player(whom))
+  return "Guests have no letter box.";
 elseif (length(whom.letters) >= this.most)
   return whom.name + "'s letter box is full.";
-elseif (n >= this.most_in_day && !who.wizard)
-  return "You have sent as many letters today as may be sent in a day.";
 elseif (!who:may_speak(whom, "letters"))
   return "It isn't sent.";
 endif
-who.sent = {day, n + 1};
-whom.letters = {@whom.letters, {who, who.name, time(), lines, 0}};
+this:count(who);
 who:tell("Your letter to ", whom.name, " is sent.");
-notify(whom, tostr("A letter from ", who.name, " has come. (@mail)"));
+this:deliver(who, who.name, whom, lines);
 return "";
+.
+
+// The place of the list of that name, or 0.
+@program $post:list this none this rxd wiz
+for i in [1..length(this.lists)]
+  if (this.lists[i][1] == args[1])
+    return i;
+  endif
+endfor
+return 0;
+.
+
+// Sends a letter to those who get the letters of a list, of whom WHO has to be one.
+@program $post:send_list this none this rxd wiz
+{who, name, lines} = args;
+if (caller_perms() != who && !caller_perms().wizard)
+  raise(E_PERM);
+endif
+i = this:list(name);
+fault = this:fault(who, lines);
+if (!i)
+  return "There is no list of that name. (@lists)";
+elseif (fault)
+  return fault;
+elseif (!(who in this.lists[i][3]))
+  return "Only who gets its letters writes to a list: @subscribe " + name;
+elseif (!who:may_speak())
+  return "It isn't sent.";
+endif
+this:count(who);
+n = 0;
+for o in (this.lists[i][3])
+  if (valid(o) && is_player(o) && $isa(o, $builder) && !(o in who.gagged_by || {"letters", #-1} in o.refusals || {"letters", who} in o.refusals) && length(o.letters) < this.most)
+    n = n + 1;
+    this:deliver(who, who.name + " to *" + this.lists[i][1], o, lines);
+  endif
+endfor
+who:tell("Your letter is sent to ", n, n == 1 ? " player." | " players.");
+return "";
+.
+
+// @lists; @newlist NAME, @rmlist NAME; @subscribe NAME, @unsubscribe NAME
+@program $builder:"@lists @newlist @rmlist @subscribe @unsubscribe" any any any rd wiz
+if (player != this)
+  return;
+elseif (verb == "@lists")
+  for l in ($post.lists)
+    player:tell(player in l[3] ? "* " | "  ", $string:left(l[1], 18), $string:left(length(l[3]), 4), length(l[3]) == 1 ? "reader, of " | "readers, of ", valid(l[2]) ? l[2].name | "nobody");
+  endfor
+  player:tell($post.lists ? "@subscribe NAME, @send *NAME TEXT; @newlist NAME; * is yours." | "There are no lists. To make one: @newlist NAME");
+  return;
+endif
+name = argstr && argstr[1] == "*" ? argstr[2..$] | argstr;
+i = $post:list(name);
+if (verb == "@newlist")
+  if (i || length(name) < 2 || length(name) > 16 || index(name, " "))
+    player:tell(i ? "There is such a list." | "A list's name has 2 to 16 characters, and no blank. For example: @newlist tea");
+  elseif (length($post.lists) >= 50)
+    player:tell("There are fifty lists already.");
+  else
+    $post.lists = {@$post.lists, {name, player, {player}}};
+    player:tell("The list ", name, " is made, and you get its letters: @send *", name, " TEXT");
+  endif
+elseif (!i)
+  player:tell("There is no list ", $string:quoted(name), ". (@lists)");
+elseif (verb == "@rmlist")
+  if (player.wizard || $post.lists[i][2] == player)
+    $post.lists = listdelete($post.lists, i);
+    player:tell("The list ", name, " is gone.");
+  else
+    player:tell("It isn't yours.");
+  endif
+elseif (verb == "@unsubscribe")
+  $post.lists[i][3] = setremove($post.lists[i][3], player);
+  player:tell("You get no more letters of ", name, ".");
+elseif (length($post.lists[i][3]) >= 100)
+  player:tell("It has a hundred readers already.");
+else
+  $post.lists[i][3] = setadd($post.lists[i][3], player);
+  player:tell("You get the letters of ", name, ". (@unsubscribe ", name, ")");
+endif
 .
 
 // @send NAME TEXT; @send NAME alone opens the editor
@@ -310,13 +425,21 @@ elseif (!args)
   player:tell("For example: @send ", player.name, " Come to tea.   or, for several lines: @send ", player.name);
   return;
 endif
+i = index(argstr, " ");
+text = i ? $string:trim(argstr[i..$]) | "";
+if (index(args[1], "*") == 1)
+  name = args[1][2..$];
+  if (!text && $post:list(name))
+    $editor:start(player, "list", $post, name, {});
+  elseif (fault = $post:send_list(player, name, {text}))
+    player:tell(fault);
+  endif
+  return;
+endif
 o = $match:player(args[1]);
 if (!$match:found_player(o, args[1], player) || !player:may_speak(o, "letters"))
   return;
-endif
-i = index(argstr, " ");
-text = i ? $string:trim(argstr[i..$]) | "";
-if (text)
+elseif (text)
   fault = $post:send(player, o, {text});
   if (fault)
     player:tell(fault);
@@ -347,7 +470,7 @@ elseif (verb == "@mail" && !args)
   for i in [1..length(all)]
     l = all[i];
     first = l[4] ? l[4][1] | "";
-    player:tell(l[5] ? "  " | "* ", $string:right(i, 2), "  ", $time:text(l[3]), "  ", $string:left(l[2], 16), "  ", length(first) > 30 ? first[1..30] + ".." | first);
+    player:tell(l[5] ? "  " | "* ", $string:right(i, 2), "  ", $time:text(l[3]), "  ", $string:left(l[2], 20), "  ", length(first) > 30 ? first[1..30] + ".." | first);
   endfor
   player:tell(all ? "@mail N reads one, @answer N TEXT answers, @rmmail N throws it away; * isn't read." | "You have no letters.");
   return;
@@ -380,7 +503,7 @@ else
 endif
 .
 
-// A note: a thing with lines to be read, and written by its owner, or by who holds it where open_to_all is set.
+// A note: a thing with lines to be read, and written by its owner, or by who holds it if open_to_all is set.
 
 ;$note.f = 1;
 @property $note.text rc = {}

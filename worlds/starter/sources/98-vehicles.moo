@@ -1,4 +1,4 @@
-// A vehicle: a room that stands in a room, and is driven through its exits by who is in it.
+// A vehicle: a room that is in a room, and is driven through its exits by who is in it.
 
 ;$vehicle.f = 1; $vehicle.aliases = {};
 

@@ -67,7 +67,7 @@ fn begun(alloc: Global, ends: [(usize, usize); 3]) -> Result<Vec<u8>, Fail> {
     Ok(letters)
 }
 
-/// The same by what a checkpoint and a crash do to the texts that may be left. Main reads as the last of them.
+/// The expected texts by what a checkpoint and a crash do to the texts that may be left. Main reads as the last of them.
 fn expected(alloc: Global, ends: [(usize, usize); 3]) -> Result<Vec<u8>, Fail> {
     let mut letters = Vec::new(alloc);
     let mut left = vec![in alloc; b'R']?;

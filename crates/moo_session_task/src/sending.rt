@@ -35,7 +35,7 @@ impl Session {
         }
     }
 
-    /// The same with several lines.
+    /// Sends several lines, in order, to who goes by this number, if anybody does.
     pub fn tell_all(&mut self, who: i32, lines: &[Vec<u8>]) -> Result<(), AllocError>
         ensures { OnOk result (self.new ≡ all_told who (texts lines.now) self.old) }
     {

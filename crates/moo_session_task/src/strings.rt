@@ -1,5 +1,4 @@
 //! The words of a typed line as a list of the language.
-//! A room behind `moo_session`.
 ghost use Rattle.std.specs.Prelude.{◌≡◌, IfOk};
 ghost use Rattle.moo_value.specs.View.{trees};
 ghost use Rattle.moo_session_task.specs.WordList.{strings_of, FitsAList};

@@ -24,7 +24,9 @@ KNOWN = {f"tests/{folder}/{name}.rows" for folder, names in FILES.items() for na
 
 
 def units_of(program, block):
-    """Returns the units of a block: one for each row, or one for all rows that are typed one after another."""
+    """Returns the units of a block: one for each row, or one for all rows that are typed one after another. A block has rows."""
+    if not block.rows:
+        raise Broken(f"{block.place}: a block without rows")
     if block.kind == "programs" and block.database:
         return [(block.place, partial(program_rows.play_typed, program, block))]
     play = {

@@ -99,7 +99,7 @@ def transcript(place, lines):
 
 
 def parse(name, text):
-    """Returns the blocks of a file. Each of them has rows."""
+    """Returns the blocks of a file."""
     blocks, begun = [], []
     lines = text.removesuffix("\n").split("\n")
     for number, line in enumerate(lines, 1):
@@ -118,9 +118,6 @@ def parse(name, text):
                 begun = [line]
             else:
                 blocks[-1].rows.append(one_line(place, blocks[-1].kind, line))
-    for block in blocks:
-        if not block.rows:
-            raise Broken(f"{block.place}: a block without rows")
     return blocks
 
 

@@ -10,7 +10,7 @@ it were the first, in order; then `N programs refused`, or the fault that ends t
 behind that is told. MENDED is given the text with the refused programs empty. DB is never written.
 
 The exit status is 0 where nothing is refused, 1 where something is, 3 where DB can't be read, 4 where memory was wanting, and
-2 for words that ask for nothing.
+2 for words that ask for nothing or name no program.
 """
 
 import argparse
@@ -20,6 +20,9 @@ import subprocess
 import sys
 import tempfile
 from typing import NamedTuple
+
+# The program, unless another is named.
+MOO = pathlib.Path(__file__).resolve().parent.parent.parent / "moo"
 
 # How many programs one small database has.
 MANY = 200
@@ -121,7 +124,7 @@ def tell(found, status, said, out):
 
 def main():
     parser = argparse.ArgumentParser(description="Every program of a database that is refused.")
-    parser.add_argument("--moo", default="./moo", help="the program (./moo by default)")
+    parser.add_argument("--moo", default=str(MOO), help="the program (by default `moo` at the top of the repository)")
     parser.add_argument("DB", type=pathlib.Path)
     parser.add_argument("MENDED", type=pathlib.Path, nargs="?")
     words = parser.parse_args()
@@ -130,8 +133,12 @@ def main():
     except OSError as error:
         print(error, file=sys.stderr)
         return 3
-    with tempfile.TemporaryDirectory() as room:
-        found, status, said = survey(Moo(words.moo, room), lines)
+    try:
+        with tempfile.TemporaryDirectory() as room:
+            found, status, said = survey(Moo(words.moo, room), lines)
+    except FileNotFoundError as error:
+        print(error, file=sys.stderr)
+        return 2
     if words.MENDED:
         words.MENDED.write_bytes(b"\n".join(lines))
     return tell(found, status, said, sys.stdout.buffer)

@@ -18,22 +18,22 @@ use Rattle.moo_syntax.proofs.Examples.{example}
 use Rattle.moo_syntax.proofs.Ends.{all_end}
 
 -- the token comes first, if one is named
-abbrev IsFirst : Option Token → List Token → Type 0
+abbrev pub IsFirst : Option Token → List Token → Type 0
 IsFirst None ts = Unit {0}
 IsFirst (Some x) ts = (us : List Token) × (ts ≡ x ∷ us)
 
 -- tokens before each rest for which the fact holds
-record Closed (s : Sort) (close : List Token → List Token) (Q : Fact s) (o : Option Token) : Type 0 where
-  tokens : List Token → List Token
-  given : Of s
-  first : (r : List Token) → IsFirst o (tokens r)
-  holds : (r : List Token) → Q (tokens r) given (close r)
+pub record Closed (s : Sort) (close : List Token → List Token) (Q : Fact s) (o : Option Token) : Type 0 where
+  pub tokens : List Token → List Token
+  pub given : Of s
+  pub first : (r : List Token) → IsFirst o (tokens r)
+  pub holds : (r : List Token) → Q (tokens r) given (close r)
 
 first_passes : (f : Token → Bool) (x : Token) (b : Bool) (ts : List Token) → f x ≡ b → IsFirst (Some x) ts → next_passes f ts ≡ b
 first_passes f x b ts h i = subst (λ v. next_passes f v ≡ b) (sym i.1) h
 
 -- a reading that can be brought to an end
-closed : (g : Rules) (s : Sort) (close : List Token → List Token) (Q : Fact s) {p : Reading s} {o : Option Token} → CanEnd s p o → Ends s close p Q → ((ts : List Token) (e : Of s) (r : List Token) → Reads (grammar g) s p ts e r → Q ts e r) → Closed s close Q o
+pub closed : (g : Rules) (s : Sort) (close : List Token → List Token) (Q : Fact s) {p : Reading s} {o : Option Token} → CanEnd s p o → Ends s close p Q → ((ts : List Token) (e : Of s) (r : List Token) → Reads (grammar g) s p ts e r → Q ts e r) → Closed s close Q o
 closed g s close Q (can_give {e = e}) m n = record { tokens = close; given = e; first = λ r. tt; holds = λ r. n (close r) e (close r) gives }
 closed g s close Q (can_read {k = k}) m n =
     let x = example k in

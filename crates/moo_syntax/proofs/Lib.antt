@@ -11,6 +11,10 @@ pub mod Words
 pub mod Examples
 pub mod Ends
 pub mod Continued
+pub mod Swapped
+pub mod Rests
+pub mod Openings
+pub mod Reached
 pub mod Before
 pub mod Whole
 pub mod Exceeding
@@ -20,3 +24,4 @@ pub mod Walks
 pub mod AllWalks
 pub mod Told
 pub mod ToldLines
+pub mod OneLine

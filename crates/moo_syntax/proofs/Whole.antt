@@ -17,7 +17,7 @@ use Rattle.moo_syntax.specs.Cursor.{left}
 use Rattle.moo_syntax.specs.Outcome.{ToldBy, why, HasFailed}
 use Rattle.moo_syntax.specs.Stops.{Passes, StopsBy}
 use Rattle.moo_syntax_grammar.specs.Tokens.{words, is_sign, is_bad, next_passes}
-use Rattle.moo_syntax.specs.Programs.{SameUpTo, NoProgram, BeginsProgram, with_targets, with_functions, with_loops, IsBadToken, by_nodes, line_of}
+use Rattle.moo_syntax.specs.Programs.{SameUpTo, NoProgram, BeginsProgram, BeginsSome, with_targets, with_functions, with_loops, IsBadToken, by_nodes, line_of}
 use Rattle.moo_syntax.specs.Places.{is_jump, IsJump, at_keyword, at_name, IsCalled}
 use Rattle.moo_syntax.specs.Outgrown.{Deepens}
 use Rattle.moo_syntax_token.specs.declared.sign.Sign.TheVariants as sign
@@ -32,6 +32,7 @@ use Rattle.moo_syntax_grammar.proofs.Admitted.{admitted, loose_admits}
 use Rattle.moo_syntax.proofs.Passing.{failure_passes}
 use Rattle.moo_syntax.proofs.Words.{words_drop, words_length}
 use Rattle.moo_syntax.proofs.Before.{here_at, next_at, each_before, begins_before}
+use Rattle.moo_syntax.proofs.Reached.{begins_until, begins_before_rest}
 use Rattle.moo_syntax.proofs.Told.{told_target, told_call, told_jump}
 
 -- where the reading gives up, no tokens that agree up to the place are a program
@@ -75,6 +76,10 @@ refused_before g n ss b h d =
       omega (arith, words_length ss),
       λ us e same c. no_program_before again (subst (λ v. Agree v (words ss) us) w.2 (agree_at n ss us (omega arith) same)) c,
     )
+
+-- some loose program begins with the tokens of one that ended before others
+pub begins_before_others : (n : ℕ) (ss : List Spot) (b : Block) → n < length ss → Reads (grammar loose) block (grammar loose (statements [])) (words ss) b (words (drop n ss)) → BeginsSome loose (words ss) n
+begins_before_others n ss b h d = begins_before_rest n (omega (arith, h, words_length ss)) (sym (words_drop n ss)) d
 
 bad_token : (x : Token) → is_bad x ≡ true → x ≡ token.Bad
 bad_token token.Bad h = refl
@@ -167,6 +172,7 @@ module _ (names : Names) (spots : List Spot) (old new : Cursor) (from : left old
   -- the meaning of the place at which the reading of statements stopped
   pub stop_of : (f : Fault) → old.at ≡ 0 → HasFailed names (statements []) most_nodes old new f → StopsBy names spots new.at f
   stop_of Unexpected z w = record {
+    begins = begins_until new.at (omega (arith, reached, words_length spots)) (sym (words_drop new.at spots)) (failed_at Unexpected loose w (loose_admits (strict names)));
     none = told_at Unexpected loose w (loose_admits (strict names));
     passes = subst (λ v. Passes (words spots) v) to (subst (λ v. Passes v (left new)) from (failure_passes loose (w.fails loose (loose_admits (strict names)))));
   }

@@ -79,13 +79,14 @@ abbrev pub AreSound : List Token → Type 0
 AreSound [] = Unit {0}
 AreSound (x ∷ ts) = (is_bad x ≡ false) × AreSound ts
 
--- No program begins with the tokens of the text up to one on line n, whatever it assigns to, calls and jumps out of.
--- None of the tokens is bad.
+-- A place on line n is the first at which the text is no program, whatever programs assign to, call and jump out of. Some program begins
+-- with the tokens before it, and none with those up to and with the one there. All of these are sound.
 pub record IsUnexpected (lines : List (List ℕ)) (n : ℕ) : Type 0 where
   pub spots : List Spot
   pub reading : IsReading lines spots
   pub at : ℕ
   pub line : n ≡ line_of lines (drop at spots)
+  pub begins : BeginsSome loose (words spots) at
   pub none : NoProgram loose (words spots) at
   pub sound : AreSound (take (suc at) (words spots))
 

@@ -10,7 +10,7 @@ use Rattle.moo_syntax_grammar.specs.Grammar.{IsProgram}
 use Rattle.moo_syntax_grammar.specs.Texts.{IsWithin}
 use Rattle.moo_syntax.specs.declared.fault.Fault.{Fault}
 use Rattle.moo_syntax.specs.declared.fault.Fault.TheVariants.{Unexpected, BadTarget, UnknownFunction, BadLoopName, TooDeep, Memory}
-use Rattle.moo_syntax.specs.Programs.{AssignsNoTarget, IsBadJump, NoProgram, BeginsProgram, with_targets, with_functions, with_loops, IsOutside, Exceeds}
+use Rattle.moo_syntax.specs.Programs.{AssignsNoTarget, IsBadJump, NoProgram, BeginsProgram, BeginsSome, with_targets, with_functions, with_loops, IsOutside, Exceeds}
 use Rattle.moo_syntax.specs.Places.{IsCalled}
 use Rattle.moo_syntax.specs.Ground.{of_value, ground_at}
 
@@ -25,8 +25,9 @@ pub data Passes : List Token → List Token → Type 0 where
   none : {r : List Token} → Passes r r
   one : {x : Token} {ts r : List Token} → is_bad x ≡ false → Passes ts r → Passes (x ∷ ts) r
 
--- no program continues at the place, and no bad token is before it
+-- some program begins with the tokens before the place, none continues there, and no bad token is before it
 pub record IsStuckAt (spots : List Spot) (at : ℕ) : Type 0 where
+  pub begins : BeginsSome loose (words spots) at
   pub none : NoProgram loose (words spots) at
   pub passes : Passes (words spots) (words (drop at spots))
 

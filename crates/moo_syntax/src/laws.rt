@@ -1,13 +1,19 @@
 //! Laws of the faults that `parse` reports.
-ghost use Rattle.std.specs.Prelude.{◌≢◌, ◌≤◌, ◌<◌, ◌⊎◌, ℕ, List, length};
+ghost use Rattle.std.specs.Prelude.{◌≡◌, ◌≢◌, ◌≤◌, ◌<◌, ◌⊎◌, ℕ, List, length};
 ghost use Rattle.moo_syntax_ast.specs.Tree.{Block};
 ghost use Rattle.moo_syntax_ast.specs.Limits.{most_nodes};
 ghost use Rattle.moo_syntax_grammar.specs.declared.names.Names.{Names};
 ghost use Rattle.moo_syntax_grammar.specs.Tokens.{words};
 ghost use Rattle.moo_syntax_grammar.specs.Texts.{IsProgramOf, IsParsed};
 ghost use Rattle.moo_syntax.specs.declared.syntax_fault.SyntaxFaultKind.{SyntaxFaultKind};
-ghost use Rattle.moo_syntax.specs.declared.syntax_fault.SyntaxFaultKind.TheVariants.{TooDeep, Memory};
+ghost use Rattle.moo_syntax.specs.declared.syntax_fault.SyntaxFaultKind.TheVariants.{Unexpected, TooDeep, Memory};
 ghost use Rattle.moo_syntax.specs.Programs.{Blames, IsTooDeep, HasLongLine, text_length};
+
+pub use moo_syntax_grammar::laws::{
+    admitted_programs, one_program, one_program_of_text, programs_are_loose,
+    programs_under_any_names,
+};
+pub use moo_syntax_token::laws::one_token_list;
 
 /// Proves that the text of a program within the limits has no fault except out of memory.
 pub fn programs_are_not_blamed()
@@ -22,6 +28,12 @@ pub fn blamed_texts_are_no_programs()
 /// Proves that a fault, except out of memory, is on a line of the text, counted from 1.
 pub fn told_lines_are_lines()
     ensures { (names : Names) (lines : List (List ℕ)) (n : ℕ) (k : SyntaxFaultKind) → Blames names lines n k → k ≢ Memory → (1 ≤ n) × (n ≤ length lines) }
+{}
+
+/// Proves that a text has at most one line on which it stops being a program, whatever programs assign to, call and
+/// jump out of.
+pub fn one_unexpected_line()
+    ensures { (names : Names) (lines : List (List ℕ)) (m n : ℕ) → Blames names lines m Unexpected → Blames names lines n Unexpected → m ≡ n }
 {}
 
 /// Proves that a text that is too deep has more bytes than a path may have nodes, or is a program with an overlong

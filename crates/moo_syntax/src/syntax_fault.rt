@@ -13,14 +13,14 @@ pub enum SyntaxFaultKind {
     BadToken,
     /// No program continues with this token.
     Unexpected,
+    /// A path has too many nodes, too many brackets are open, or a line of the full listing is too long.
+    TooDeep,
+    /// No built-in function has this name.
+    UnknownFunction(MooStr),
     /// The expression before the `=` can't be assigned to.
     BadTarget,
     /// A `break` or a `continue` is in no loop, or in none that has its name.
     BadLoopName,
-    /// No built-in function has this name.
-    UnknownFunction(MooStr),
-    /// A path has too many nodes, too many brackets are open, or a line of the full listing is too long.
-    TooDeep,
     /// Out of memory.
     Memory,
 }

@@ -49,7 +49,7 @@ impl Model for Program {
 
     ghost view = { λ p. block p.parts.value.statements.items };
 
-    ghost invariant = { λ p. IsWithinLimits (block p.parts.value.statements.items) × HasText (block p.parts.value.statements.items) × (p.parts.value.names.items ≡ slots (block p.parts.value.statements.items)) × (p.parts.value.texts.items ≡ slots (block p.parts.value.statements.items)) × AreOrdered p.parts.value.names.items p.parts.value.order.items };
+    ghost invariant = { λ p. IsWithinLimits (block p.parts.value.statements.items) × HasText (block p.parts.value.statements.items) × (p.parts.value.names.items ≡ slots (block p.parts.value.statements.items)) × AreOrdered p.parts.value.names.items p.parts.value.order.items × (p.parts.value.texts.items ≡ slots (block p.parts.value.statements.items)) };
 }
 
 impl Program {

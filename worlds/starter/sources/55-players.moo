@@ -14,6 +14,10 @@
 @property $player.first_connect r wiz = 0
 @property $player.lesson r = 1
 @property $player.gender rc = "they"
+// how long a line and a page may be; what is left of the last page
+@property $player.linelength r wiz = 78
+@property $player.pagelength r wiz = 0
+@property $player.rest - wiz = {}
 // whom one gags and who gags one; what is refused, as {"pages", who or #-1}; since when one is muted, and for how many seconds
 @property $player.gags r wiz = {}
 @property $player.gagged_by r wiz = {}
@@ -30,11 +34,46 @@ if (player != this && valid(player))
 endif
 if (verb == "tell")
   notify(this, tostr(@args));
-else
-  for l in (args[1])
-    notify(this, tostr(l));
-  endfor
+  return;
 endif
+lines = args[1];
+if (this.pagelength && length(lines) > this.pagelength)
+  n = length(lines);
+  this.rest = lines[this.pagelength + 1..min(n, 500)];
+  lines = {@lines[1..this.pagelength], tostr("(", length(this.rest), " more lines: type  @more)")};
+endif
+for l in (lines)
+  l = tostr(l);
+  for part in (this.linelength < 78 && length(l) > this.linelength ? $string:wrap(l, this.linelength) | {l})
+    notify(this, part);
+  endfor
+endfor
+.
+
+@program $player:@more none none none rd wiz
+if (player == this)
+  rest = this.rest;
+  this.rest = {};
+  this:tell_lines(rest ? rest | {"There is no more."});
+endif
+.
+
+// @linelength 60, @pagelength 20: how texts are broken for this player; 0 for not at all
+@program $player:"@linelength @pagelength" any any any rd wiz
+if (player != this)
+  return;
+endif
+n = toint(argstr);
+if (argstr && (tostr(n) != argstr || n < 0 || n > 8000 || (n && n < (verb == "@linelength" ? 20 | 5))))
+  player:tell("For example: @linelength 60   or: @pagelength 20   (0: not at all)");
+  return;
+elseif (argstr && verb == "@linelength")
+  this.linelength = n ? n | 20000;
+elseif (argstr)
+  this.pagelength = n;
+endif
+n = verb == "@linelength" ? this.linelength | this.pagelength;
+player:tell(verb == "@linelength" ? "Lines are broken at " | "Pages end after ", n ? tostr(n, verb == "@linelength" ? " characters." | " lines.") | "no line.");
 .
 
 // May this one speak, to WHO (or to all)? Else it is told why not. KIND is what WHO may refuse.
@@ -102,6 +141,16 @@ if (args[1])
   notify(this, "type  north,  then  east.  Or type  help.");
 elseif ($news.changed > this.last_disconnect)
   notify(this, "There is news: type  news.");
+endif
+n = 0;
+for l in (this.letters)
+  n = n + !l[5];
+endfor
+if (n)
+  notify(this, tostr("You have ", n, n == 1 ? " letter that isn't read" | " letters that aren't read", ": type  @mail."));
+endif
+if (this.editing)
+  notify(this, tostr("You are still writing ", $editor:title(this.editing), ". A line of one dot ends, .q drops it, .h shows more."));
 endif
 if (this == #3 && $login:unclaimed())
   notify(this, "");
@@ -175,6 +224,10 @@ player:tell_lines(names ? $string:flow("You carry:", names) | {"You carry nothin
 $login:who(player);
 .
 
+@program $player:eval any any any rd
+player:tell("You are not a programmer. (A wizard makes programmers: help programming)");
+.
+
 @program $player:"help @help ?" any any any rd
 $help:show(player, argstr);
 .
@@ -197,7 +250,7 @@ o = $match:player(args[1]);
 if (!$match:found_player(o, args[1], player) || !player:may_speak(o, "pages"))
   return;
 elseif (!(o in connected_players()))
-  player:tell(o.name, " isn't connected.");
+  player:tell(o.name, " isn't connected.", $isa(player, $builder) && $isa(o, $builder) ? tostr(" To leave a letter:  @send ", o.name, " ", text[1..min(30, length(text))], length(text) > 30 ? ".." | "") | "");
 else
   here = player.location;
   notify(o, tostr(player.name, " pages you", valid(here) ? " from " + here.name | "", ": ", text));
@@ -389,6 +442,46 @@ endif
 dest:announce(player.name + words[2], {player});
 .
 
+// The exits of the room, and where they lead.
+@program $player:"@ways ways" none none none rd
+here = player.location;
+lines = {};
+for e in ($isa(here, $room) ? here.exits[1..min(40, length(here.exits))] | {})
+  if ($isa(e, $exit))
+    names = {e.name, @(typeof(more = `e.aliases ! ANY => {}') == LIST ? more[1..min(5, length(more))] | {})};
+    lines = {@lines, tostr("  ", $string:left($string:join(names, ", "), 24), " to ", valid(e.dest) ? e.dest.name | "nowhere", e:unlocked_for(player) ? "" | " (locked)")};
+  endif
+endfor
+player:tell_lines(lines ? lines | {"There are no exits."});
+.
+
+// @join NAME: to where NAME is, unless that is locked or NAME refuses visits
+@program $player:@join any any any rd wiz
+if (player != this)
+  return;
+endif
+o = $match:player(argstr);
+if (!$match:found_player(o, argstr, player))
+  return;
+elseif (!(o in connected_players()) || !valid(o.location))
+  player:tell(o.name, " isn't here, nor anywhere.");
+elseif (o.location == player.location)
+  player:tell("You are together.");
+elseif (!player:may_speak(o, "visits"))
+  return;
+elseif (!$isa(o.location, $room) || !(`o.location:accept(player) ! ANY => 0'))
+  player:tell("You can't go where ", o.name, " is.");
+else
+  from = player.location;
+  place = o.location;
+  move(player, place);
+  if (valid(from))
+    from:announce(tostr(player.name, " goes to join ", o.name, "."), {player});
+  endif
+  place:announce(tostr(player.name, " comes to join ", o.name, "."), {player});
+endif
+.
+
 @program $player:@sethome none none none rd wiz
 if (player != this)
   return;
@@ -465,10 +558,13 @@ if (lines)
 endif
 .
 
-// post TEXT: writes on the board of the room
+// post TEXT: writes on the board of the room; post alone opens the editor
 @program $player:post any any any rd
 for o in (valid(player.location) ? player.location.contents | {})
   if (!is_player(o) && $isa(o, $board))
+    if (!argstr && $isa(player, $builder) && player:may_speak())
+      return $editor:start(player, "board", o, "", {});
+    endif
     return o:add(argstr);
   endif
 endfor
@@ -513,7 +609,9 @@ endfor
 for o in (this.gagged_by)
   `o.gags = setremove(o.gags, this) ! ANY';
 endfor
-this.gags = this.gagged_by = this.refusals = {};
+this.gags = this.gagged_by = this.refusals = this.editing = this.rest = {};
+this.linelength = $player.linelength;
+this.pagelength = 0;
 if (valid(this.location))
   `move(this, #-1) ! ANY';
 endif

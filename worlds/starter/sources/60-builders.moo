@@ -6,7 +6,7 @@ if (player != this)
 endif
 p = $string:split(args, "to");
 if (!p || !p[1] || !p[2])
-  player:tell("For example: @rename lamp to brass lamp,lamp,light");
+  player:tell("For example: @rename whistle to tin whistle,whistle,pipe");
   return;
 endif
 o = $match:object(p[1], player);
@@ -59,13 +59,13 @@ set_task_perms(player);
 p = $string:split(args, "named");
 p = p ? p | $string:split(args, "called");
 if (!p || !p[1] || !p[2])
-  player:tell("For example: @create $thing named brass lamp,lamp");
+  player:tell("For example: @create $thing named tin whistle,whistle");
   return;
 endif
 kind = $match:object(p[1], player);
 if (!$match:found(kind, p[1], player))
   return;
-elseif ($isa(kind, $room) || $isa(kind, $exit))
+elseif (($isa(kind, $room) && !$isa(kind, $vehicle)) || $isa(kind, $exit))
   player:tell("Rooms and exits are made by @dig.");
   return;
 endif
@@ -80,7 +80,8 @@ try
   if (length(names) > 1)
     o.aliases = names[2..$];
   endif
-  move(o, player);
+  here = player.location;
+  move(o, $isa(o, $vehicle) && valid(here) && (`here:accept(o) ! ANY => 0') ? here | player);
   player:tell("You have made ", names[1], " (", o, "). ", this:quota_text());
 except e (E_QUOTA)
   player:tell(e[2] == "Resource limit exceeded" ? "Your quota is used up. @recycle something, or ask a wizard." | "That can't be done: " + e[2] + ".");
@@ -211,6 +212,14 @@ elseif (length(ways) == 2 && !fresh && !$controls(player, room) && !`room.free_e
   player:tell("You can't make an exit there: the room isn't yours.");
   return;
 endif
+// first it is asked whether all of it can be made: else a room without ways would be left
+fault = $recycler:fault(player, length(ways) + fresh);
+fault = fault || !ways ? fault | here:exit_fault(player);
+fault = fault || length(ways) < 2 || fresh ? fault | room:exit_fault(player);
+if (fault)
+  player:tell(fault);
+  return;
+endif
 try
   if (fresh)
     room = $recycler:make($room);
@@ -319,12 +328,12 @@ endif
 set_task_perms(player);
 i = index(argstr, " to ");
 if (!i)
-  player:tell("For example: @set lamp.lit to 1   or: @set north.leave_msg to climbs the stairs.");
+  player:tell("For example: @set whistle.fixed to 1   or: @set north.leave_msg to climbs the stairs.");
   return;
 endif
 p = $match:part($string:trim(argstr[1..i - 1]), ".", player);
 if (!p)
-  player:tell("For example: @set lamp.lit to 1   or: @set north.leave_msg to climbs the stairs.");
+  player:tell("For example: @set whistle.fixed to 1   or: @set north.leave_msg to climbs the stairs.");
   return;
 elseif (p[2] in {"name", "aliases"} && $controls(player, p[1]))
   // @rename looks at names: everybody has to be able to read and to type them
@@ -350,8 +359,11 @@ endtry
 .
 
 // @lock THING with KEY, @unlock THING
-@program $builder:@lock any with any rd wiz
+@program $builder:@lock any any any rd wiz
 if (player != this)
+  return;
+elseif (!dobjstr || !(prepstr in {"with", "using"}) || !iobjstr)
+  player:tell("For example: @lock box with key   or, for nobody but you: @lock here with me");
   return;
 endif
 set_task_perms(player);
@@ -368,16 +380,19 @@ if ($match:found(o, dobjstr, player) && $match:found(key, iobjstr, player))
 endif
 .
 
-@program $builder:@unlock any none none rd wiz
+@program $builder:@unlock any any any rd wiz
 if (player != this)
+  return;
+elseif (!argstr)
+  player:tell("For example: @unlock box");
   return;
 endif
 set_task_perms(player);
-o = $match:object(dobjstr, player);
-if ($match:found(o, dobjstr, player))
+o = $match:object(argstr, player);
+if ($match:found(o, argstr, player))
   try
     o.key = #-1;
-    player:tell(o.name, " isn't locked.");
+    player:tell(o.name, " is unlocked.");
   except e (ANY)
     player:tell("That can't be unlocked: ", e[2], ".");
   endtry
@@ -385,8 +400,11 @@ endif
 .
 
 // @move THING to PLACE
-@program $builder:@move any at/to any rd wiz
+@program $builder:@move any any any rd wiz
 if (player != this)
+  return;
+elseif (!dobjstr || prepstr != "to" || !iobjstr)
+  player:tell("For example: @move box to me   or: @move #12 to here");
   return;
 endif
 set_task_perms(player);
@@ -407,8 +425,11 @@ endtry
 .
 
 // @eject NAME: out of a room of one's own
-@program $builder:@eject any none none rd wiz
+@program $builder:@eject any any any rd wiz
 if (player != this)
+  return;
+elseif (!argstr)
+  player:tell("For example: @eject NAME   (out of a room of yours)");
   return;
 endif
 here = player.location;

@@ -56,6 +56,22 @@ o.serial = this.last_serial;
 return o;
 .
 
+// Why WHO can't make N things more, or "".
+@program $recycler:fault this none this rxd wiz
+{who, n} = args;
+quota = `who.ownership_quota ! E_PROPNF => {}';
+if (typeof(quota) == INT && quota < n)
+  return tostr("Your quota is used up: that takes ", n, ", and you can make ", quota, " more.");
+elseif (!who.wizard && $isa(who, $player))
+  {day, made} = who.made;
+  since = time() - day;
+  if (since >= 0 && since < 86400 && made + n > who.most_in_day)
+    return "You have made as many things today as may be made in a day.";
+  endif
+endif
+return "";
+.
+
 // Does the core need it: is it older than the players' own things, or has #0 a name for it?
 @program $recycler:is_core this none this rxd
 {o} = args;

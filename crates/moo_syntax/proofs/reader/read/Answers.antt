@@ -9,7 +9,7 @@ use Rattle.moo_syntax_grammar.proofs.Admitted.{loose_admits}
 use Rattle.moo_syntax_grammar.proofs.Derived.{derived}
 use Rattle.moo_syntax.proofs.Steps.{admits_itself}
 use Rattle.moo_syntax.proofs.Passing.{program_passes}
-use Rattle.moo_syntax.proofs.Whole.{stop_of, refused_before, nothing_left}
+use Rattle.moo_syntax.proofs.Whole.{stop_of, refused_before, begins_before_others, nothing_left}
 use Rattle.moo_syntax.proofs.Exceeding.{exceed_by_lines, exceed_by_bracket}
 use Rattle.moo_syntax.proofs.reader.read.Goals as goal
 
@@ -23,7 +23,7 @@ returns-then-tokens-spots-clause-stopped c =
     let n = c.statements.new.tokens.at in
     let tree = tree_of c.in-Ok.found.items in
     let read = subst (λ v. Reads (grammar loose) block (grammar loose (statements [])) (words spots) tree (words (drop n v))) c.in-Ok.ensures.moves.spots ((rw c.new.ensures.items at c.in-Ok.ensures.read).reads loose (loose_admits (strict c.args.names))) in
-    record { none = refused_before loose n spots tree c.if-tokens-spots.true read; passes = program_passes loose read }
+    record { begins = begins_before_others n spots tree c.if-tokens-spots.true read; none = refused_before loose n spots tree c.if-tokens-spots.true read; passes = program_passes loose read }
 
 pub returns-then-not-fit_lines-clause-stopped : goal.returns-then-not-fit_lines-clause-stopped
 returns-then-not-fit_lines-clause-stopped c =

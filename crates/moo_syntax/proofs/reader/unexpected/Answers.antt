@@ -15,6 +15,7 @@ returns c =
       reading = c.requires.reading;
       at = c.args.at;
       line = c.line_at-line.ensures;
+      begins = stuck.begins;
       none = stuck.none;
       sound = sound_up_to c.args.at stuck.passes (words_left c.args.at spots) stuck.none.0 (sym c.is_at_bad.ensures ∙ c.if-is_at_bad.false);
     }

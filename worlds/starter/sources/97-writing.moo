@@ -1,0 +1,433 @@
+// Writing of several lines: a small editor of lines, letters, and notes.
+
+// {kind, object, name, lines, where the next line goes, taken as they are}
+@property $player.editing - wiz = {}
+@property $player.local_editing r wiz = 0
+
+@text $editor.help_lines
+What you type is added as a line. A line of one dot ends, and keeps what is written.
+  .l        shows the lines, .l 3 or .l 3 8 some of them
+  .i 3      further lines go before line 3; .i alone: to the end
+  .d 3      takes line 3 away, .d 3 8 several
+  .r 3 TEXT puts TEXT in the place of line 3
+  .s 3 OLD/NEW  changes OLD into NEW in line 3
+  .q        drops what is written; .h shows this
+  ..TEXT    a line that begins with a dot; a backslash alone: an empty line
+.
+
+// WHO begins to write: what is written goes to WHAT as KIND and NAME say.
+@program $editor:start this none this rxd wiz
+{who, kind, what, name, lines, ?raw = 0} = args;
+if (!(caller_perms() in {who, $keeper} || caller_perms().wizard))
+  raise(E_PERM);
+endif
+who.editing = {kind, what, name, lines, length(lines) + 1, raw};
+if (!raw)
+  n = length(lines);
+  who:tell("You are writing ", this:title(who.editing), n ? tostr(", which has ", n, n == 1 ? " line" | " lines") | "", ". A line of one dot ends; .h shows how to change lines, .q drops it.");
+endif
+.
+
+@program $editor:title this none this rxd
+{kind, what, name, @rest} = args[1];
+if (kind == "letter")
+  return "a letter to " + what.name;
+elseif (kind == "board")
+  return "a note for " + $string:the(what.name);
+endif
+return tostr(kind == "verb" ? "the verb " | "the text ", what, kind == "verb" ? ":" | ".", name);
+.
+
+// Sends the lines to a client that edits by itself; what it sends back begins with UPLOAD.
+@program $editor:send_local this none this rxd wiz
+{who, name, upload, lines} = args;
+if (caller_perms() != who && !caller_perms().wizard)
+  raise(E_PERM);
+endif
+notify(who, tostr("#$# edit name: ", name, " upload: ", upload));
+for l in (lines)
+  notify(who, l && l[1] == "." ? "." + l | l);
+endfor
+notify(who, ".");
+.
+
+// A line of somebody who writes; true where it is dealt with.
+@program $editor:line this none this rxd wiz
+if (caller != #0)
+  raise(E_PERM);
+endif
+{who, text} = args;
+{kind, what, name, lines, at, raw} = who.editing;
+if (text == ".")
+  this:finish(who);
+elseif (raw || text[1] != ".")
+  if (!raw && text in {"@quit", "quit"})
+    return 0;
+  endif
+  this:add(who, raw && index(text, "..") == 1 ? text[2..$] | (text == "\\" ? "" | text));
+elseif (text[1..2] == "..")
+  this:add(who, text[2..$]);
+else
+  this:change(who, text[2], $string:trim(text[3..$]));
+endif
+return 1;
+.
+
+@program $editor:add this none this rxd wiz
+if (caller != this)
+  raise(E_PERM);
+endif
+{who, text} = args;
+{kind, what, name, lines, at, raw} = who.editing;
+most = {2000, 60, 12, 200}[kind in {"verb", "letter", "board"} || 4];
+if (length(lines) >= most)
+  who:tell("That is as long as it may be: ", most, " lines.");
+elseif (kind != "verb" && length(text) > 1000)
+  who:tell("That line is too long: 1,000 characters at most.");
+else
+  who.editing[4] = listinsert(lines, text, at);
+  who.editing[5] = at + 1;
+endif
+.
+
+// The commands that begin with a dot.
+@program $editor:change this none this rxd wiz
+if (caller != this)
+  raise(E_PERM);
+endif
+{who, word, rest} = args;
+{kind, what, name, lines, at, raw} = who.editing;
+n = length(lines);
+words = $string:explode(rest);
+from = words ? toint(words[1]) | 0;
+to = length(words) > 1 && toint(words[2]) ? min(toint(words[2]), n) | from;
+good = from >= 1 && from <= n && to >= from;
+if (word == "h")
+  who:tell_lines(this.help_lines);
+elseif (word == "q")
+  who.editing = {};
+  who:tell("It is dropped.");
+elseif (word == "l")
+  if (!words)
+    {from, to} = {1, min(n, 200)};
+  endif
+  for i in [max(1, from)..min(n, to)]
+    who:tell(i == at ? ">" | " ", $string:right(i, 3), ": ", lines[i]);
+  endfor
+  who:tell("(", n, n == 1 ? " line" | " lines", at <= n ? tostr("; the next one goes before line ", at) | "", ")");
+elseif (word == "i")
+  who.editing[5] = good ? from | n + 1;
+  who:tell(good ? tostr("Before line ", from, ".") | "At the end.");
+elseif (!good)
+  who:tell("There is no such line. .l shows the lines, .h what can be typed.");
+elseif (word == "d")
+  who.editing[4] = {@lines[1..from - 1], @lines[to + 1..n]};
+  who.editing[5] = min(at, n - to + from);
+  who:tell(to == from ? tostr("Line ", from, " is gone.") | tostr("Lines ", from, " to ", to, " are gone."));
+elseif (word == "r" && length(words) > 1)
+  who.editing[4][from] = $string:trim(rest[length(words[1]) + 1..$]);
+  who:tell("Line ", from, " is: ", who.editing[4][from]);
+elseif (word == "s" && (i = index(rest, "/")) > length(words[1]) + 1)
+  old = $string:trim(rest[length(words[1]) + 1..i - 1]);
+  if (old && index(lines[from], old, 1))
+    who.editing[4][from] = strsub(lines[from], old, rest[i + 1..$], 1);
+    who:tell("Line ", from, " is: ", who.editing[4][from]);
+  else
+    who:tell("Line ", from, " has no ", $string:quoted(old), ".");
+  endif
+else
+  who:tell("That is no command of the editor. .h shows them.");
+endif
+.
+
+@program $editor:finish this none this rxd wiz
+if (caller != this)
+  raise(E_PERM);
+endif
+{who} = args;
+{kind, what, name, lines, at, raw} = who.editing;
+fault = "";
+try
+  if (!valid(what))
+    fault = "What it was for is gone.";
+  elseif (kind == "verb")
+    told = this:save_verb(who, what, name, lines);
+    fault = told ? told[1] | "";
+  elseif (kind == "letter")
+    fault = lines ? $post:send(who, what, lines) | "There is nothing in it.";
+  elseif (kind == "board")
+    fault = lines ? (what:add(lines) ? "" | "It isn't pinned.") | "There is nothing in it.";
+  else
+    this:save_text(who, what, name, lines);
+  endif
+except e (ANY)
+  fault = "That can't be done: " + e[2] + ".";
+endtry
+if (fault)
+  who:tell(fault, " (You are still writing: .q drops it.)");
+  who.editing[6] = 0;
+  return;
+endif
+who.editing = {};
+if (kind == "verb")
+  who:tell("Verb programmed.");
+elseif (kind == "text")
+  who:tell(what.name, ".", name, " has ", length(lines), length(lines) == 1 ? " line." | " lines.");
+endif
+.
+
+// What is kept is kept with the rights of who writes.
+@program $editor:save_verb this none this rxd wiz
+if (caller != this)
+  raise(E_PERM);
+endif
+{who, what, name, lines} = args;
+set_task_perms(who);
+return set_verb_code(what, name, lines);
+.
+
+@program $editor:save_text this none this rxd wiz
+if (caller != this)
+  raise(E_PERM);
+endif
+{who, what, name, lines} = args;
+set_task_perms(who);
+what.(name) = typeof(what.(name)) == STR && length(lines) < 2 ? (lines ? lines[1] | "") | lines;
+.
+
+// @edit THING, @edit THING.PROPERTY, @edit THING:VERB; @write THING.PROPERTY takes lines until a dot, as a client sends them
+@program $builder:"@edit @write" any any any rd wiz
+if (player != this)
+  return;
+endif
+set_task_perms(player);
+if (!argstr || (verb == "@write" && !index(argstr, ".")))
+  player:tell(verb == "@write" ? "For example: @write #12.description   (lines follow, and a dot)" | "For example: @edit whistle   or: @edit whistle.description   or: @edit whistle:blow");
+  return;
+elseif (index(argstr, ":"))
+  if (!player.programmer)
+    player:tell("You are not a programmer.");
+    return;
+  endif
+  p = $match:part(argstr, ":", player);
+  at = p ? this:verb_of(@p) | {};
+  if (!at)
+    player:tell("There is no such verb. To make one: @verb ", argstr, " this none none");
+    return;
+  endif
+  {o, v} = at;
+  lines = `verb_code(o, v) ! E_PERM => 0';
+  name = strsub($string:explode(verb_info(o, v)[3])[1], "*", "");
+  kind = "verb";
+else
+  p = index(argstr, ".") ? $match:part(argstr, ".", player) | {};
+  o = p ? p[1] | $match:object(argstr, player);
+  if (!p && (index(argstr, ".") || !$match:found(o, argstr, player)))
+    return;
+  endif
+  name = p ? p[2] | ($isa(o, $note) ? "text" | "description");
+  lines = `o.(name) ! ANY => 0';
+  lines = typeof(lines) == STR ? (lines ? {lines} | {}) | lines;
+  kind = "text";
+  if (name in {"name", "aliases"})
+    lines = 0;
+  endif
+  for l in (typeof(lines) == LIST ? lines | {})
+    lines = typeof(l) == STR ? lines | 0;
+  endfor
+endif
+if (typeof(lines) != LIST || (kind == "text" && !$controls(player, o)))
+  player:tell(typeof(lines) == LIST ? o.name + " isn't yours." | "That is no text that you may edit.");
+elseif (verb == "@write")
+  $editor:start(player, kind, o, name, {}, 1);
+elseif (player.local_editing)
+  $editor:send_local(player, tostr(o.name, kind == "verb" ? ":" | ".", name), tostr(kind == "verb" ? ".program " | "@write ", o, kind == "verb" ? ":" | ".", name), lines);
+else
+  $editor:start(player, kind, o, kind == "verb" ? v | name, lines);
+endif
+.
+
+// @local on: @edit sends the text to a client that edits by itself
+@program $builder:@local any any any rd wiz
+if (player != this)
+  return;
+elseif (argstr in {"on", "off"})
+  this.local_editing = argstr == "on";
+endif
+player:tell("@edit ", this.local_editing ? "sends the text to your client, which has to know #$# edit." | "opens the editor of this world.", " (@local on, @local off)");
+.
+
+// Letters. Each player who isn't a guest has a box of thirty.
+
+// {from, its name, when, lines, read}
+@property $player.letters - wiz = {}
+// {when the day began, how many letters were sent since}
+@property $player.sent - wiz = {0, 0}
+@property $post.most r wiz = 30
+@property $post.most_in_day r wiz = 50
+
+// Sends a letter of lines from WHO to WHOM; what is wrong, or "".
+@program $post:send this none this rxd wiz
+{who, whom, lines} = args;
+if (caller_perms() != who && !caller_perms().wizard)
+  raise(E_PERM);
+endif
+size = 0;
+for l in (lines)
+  size = size + length(l);
+endfor
+{day, n} = who.sent;
+since = time() - day;
+if (since < 0 || since >= 86400)
+  day = time();
+  n = 0;
+endif
+if (!$isa(who, $builder))
+  return "Guests can't send letters. Type help create.";
+elseif (!valid(whom) || !$isa(whom, $builder) || !is_player(whom))
+  return "Guests have no letter box.";
+elseif (length(lines) > 60 || size > 8000)
+  return "A letter has at most 60 lines and 8,000 characters.";
+elseif (length(whom.letters) >= this.most)
+  return whom.name + "'s letter box is full.";
+elseif (n >= this.most_in_day && !who.wizard)
+  return "You have sent as many letters today as may be sent in a day.";
+elseif (!who:may_speak(whom, "letters"))
+  return "It isn't sent.";
+endif
+who.sent = {day, n + 1};
+whom.letters = {@whom.letters, {who, who.name, time(), lines, 0}};
+who:tell("Your letter to ", whom.name, " is sent.");
+notify(whom, tostr("A letter from ", who.name, " has come. (@mail)"));
+return "";
+.
+
+// @send NAME TEXT; @send NAME alone opens the editor
+@program $builder:@send any any any rd wiz
+if (player != this)
+  return;
+elseif (!args)
+  player:tell("For example: @send ", player.name, " Come to tea.   or, for several lines: @send ", player.name);
+  return;
+endif
+o = $match:player(args[1]);
+if (!$match:found_player(o, args[1], player) || !player:may_speak(o, "letters"))
+  return;
+endif
+i = index(argstr, " ");
+text = i ? $string:trim(argstr[i..$]) | "";
+if (text)
+  fault = $post:send(player, o, {text});
+  if (fault)
+    player:tell(fault);
+  endif
+elseif (!$isa(o, $builder))
+  player:tell("Guests have no letter box.");
+else
+  $editor:start(player, "letter", o, "", {});
+endif
+.
+
+// @mail lists the letters, @mail N reads one, @mail new the next one that isn't read; @rmmail N; @answer N TEXT
+@program $builder:"@mail @rmmail @answer" any any any rd wiz
+if (player != this)
+  return;
+endif
+all = this.letters;
+n = args ? toint(args[1]) | 0;
+if (verb == "@mail" && args && args[1] == "new")
+  for i in [1..length(all)]
+    n = n || all[i][5] ? n | i;
+  endfor
+  if (!n)
+    player:tell("All your letters are read.");
+    return;
+  endif
+elseif (verb == "@mail" && !args)
+  for i in [1..length(all)]
+    l = all[i];
+    first = l[4] ? l[4][1] | "";
+    player:tell(l[5] ? "  " | "* ", $string:right(i, 2), "  ", $time:text(l[3]), "  ", $string:left(l[2], 16), "  ", length(first) > 30 ? first[1..30] + ".." | first);
+  endfor
+  player:tell(all ? "@mail N reads one, @answer N TEXT answers, @rmmail N throws it away; * isn't read." | "You have no letters.");
+  return;
+endif
+if (n < 1 || n > length(all))
+  player:tell(all ? tostr("You have the letters 1 to ", length(all), ". For example: ", verb, " 1") | "You have no letters.");
+elseif (verb == "@mail")
+  {from, name, when, lines, seen} = all[n];
+  player:tell("Letter ", n, ", from ", name, ", ", $time:text(when), ":");
+  shown = {};
+  for l in (lines)
+    shown = {@shown, @l ? $string:wrap("    " + l) | {""}};
+  endfor
+  player:tell_lines(shown);
+  this.letters[n][5] = 1;
+elseif (verb == "@rmmail")
+  this.letters = listdelete(all, n);
+  player:tell("The letter from ", all[n][2], " is thrown away.");
+else
+  o = all[n][1];
+  i = index(argstr, " ");
+  text = i ? $string:trim(argstr[i..$]) | "";
+  if (!valid(o) || !is_player(o))
+    player:tell(all[n][2], " is no more.");
+  elseif (!text)
+    $editor:start(player, "letter", o, "", {});
+  elseif (fault = $post:send(player, o, {text}))
+    player:tell(fault);
+  endif
+endif
+.
+
+// A note: a thing with lines to be read, and written by its owner, or by who holds it where open_to_all is set.
+
+;$note.f = 1;
+@property $note.text rc = {}
+@property $note.open_to_all rc = 0
+
+@program $note:look_self this none this rxd
+{who} = args;
+pass(who);
+who:tell(this.text ? "There is something written on it. (read it)" | "Nothing is written on it.");
+.
+
+@program $note:read this none none rd
+lines = $string:lines(this.text);
+player:tell_lines(lines ? lines | {"Nothing is written on it."});
+.
+
+@program $note:"write" any on this rd
+if (!(this.location in {player, player.location}))
+  player:tell("It isn't within reach.");
+elseif (!dobjstr)
+  player:tell("For example: write Milk and bread on ", this.name);
+else
+  this:append(dobjstr);
+endif
+.
+
+@program $note:"erase wipe" this none none rd
+if (this.location in {player, player.location})
+  this:append();
+else
+  player:tell("It isn't within reach.");
+endif
+.
+
+// Adds a line, or, without one, wipes all, for the player whose command runs. The text belongs to the note's owner.
+@program $note:append this none this rxd wiz
+if (caller != this)
+  raise(E_PERM);
+elseif (!($controls(player, this) || (this.open_to_all && this.location == player)))
+  player:tell("You may not write on it.");
+elseif (!args)
+  this.text = {};
+  player:tell("You wipe ", $string:the(this.name), " clean.");
+elseif (length(this.text) >= 200 || length(args[1]) > 1000)
+  player:tell("It is full.");
+else
+  this.text = {@typeof(this.text) == LIST ? this.text | {this.text}, args[1]};
+  player:tell("You write a line on ", $string:the(this.name), ".");
+endif
+.

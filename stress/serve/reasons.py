@@ -58,7 +58,7 @@ for words, given, out, printed, log, status in ROWS:
     shown, told = run.communicate(given if isinstance(given, bytes) else None, timeout=60)
     seen = (shown or b"").decode()
     lines = told.decode().splitlines()
-    fits = len(lines) == len(log) and all(re.fullmatch(r"\[(WARN|INFO)  moo\] " + (want if ".*" in want else re.escape(want)), line) for want, line in zip(log, lines))
+    fits = len(lines) == len(log) and all(re.fullmatch(r"\[(WARN|INFO)  moo(::\w+)?\] " + (want if ".*" in want else re.escape(want)), line) for want, line in zip(log, lines))
     right = run.returncode == status and fits and (re.fullmatch(printed, seen) if ".*" in printed else printed == seen)
     print("moo", *words, "<", given if isinstance(given, str) else "..", ">", out or "..", f"-> {run.returncode}", repr(seen), lines, "" if right else f"WANTED {status} {printed!r} {log}")
     if not right:

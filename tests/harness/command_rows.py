@@ -16,16 +16,18 @@ def play_expression(program, row):
 
 
 def play_command_line(program, row):
-    """Runs a command line in a folder that has the databases. TAKEN stands for a port that is in use, PORT for one that the system gave."""
+    """Runs a command line in a folder that has the databases. TAKEN stands for a port that is in use, PORT for one that the system gave. A last
+    word `2>..` says where standard error goes, as in the shell."""
     if not isinstance(row, Transcript) or not row.lines[0].startswith("> moo"):
         raise Broken("a command line begins with `> moo`")
     words = row.lines[0].split()[2:]
+    errors = words.pop() if words and words[-1].startswith("2>") else ""
     given = "".join(line[2:] + "\n" for line in row.lines[1:] if line.startswith("< "))
     wanted = "".join(line + "\n" for line in row.lines[1:] if not line.startswith("< "))
     with tempfile.TemporaryDirectory(dir=program.folder) as folder, socket.create_server(("127.0.0.1", 0)) as taken:
         for path in databases():
             shutil.copy(path, folder)
         port = str(taken.getsockname()[1])
-        status, printed = program.both([port if word == "TAKEN" else word for word in words], given.encode(), folder)
+        status, printed = program.both([port if word == "TAKEN" else bytes_of(word) for word in words], given.encode(), folder, errors)
     printed = re.sub(rb"(listening on \S+:)\d+", rb"\1PORT", printed.replace(b":" + port.encode(), b":TAKEN"))
     return [Outcome(row.place, row.lines[0][2:], Result(row.status, wanted.encode()), Result(status, printed))]

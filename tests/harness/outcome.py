@@ -44,18 +44,21 @@ class Program:
     def __init__(self, path, folder):
         self.path, self.folder = path, folder
 
-    def run(self, words, given=b"", folder=None):
-        """Runs the program with these words and this input. Returns its status, its output and its standard error."""
+    def run(self, words, given=b"", folder=None, errors=""):
+        """Runs the program with these words and this input. Returns its status, its output and its standard error, which the shell's words
+        `errors` lead elsewhere."""
+        words = [word if isinstance(word, bytes) else str(word) for word in words]
+        line = ["moo", *words] if not errors else ["sh", "-c", f'exec "$0" "$@" {errors}', self.path, *words]
         try:
-            done = subprocess.run(["moo", *map(str, words)], executable=self.path, input=given, capture_output=True,
+            done = subprocess.run(line, executable=None if errors else self.path, input=given, capture_output=True,
                                   timeout=PATIENCE, check=False, cwd=folder or self.folder)
         except subprocess.TimeoutExpired:
             return None, b"", b""
         return done.returncode, done.stdout, done.stderr
 
-    def both(self, words, given=b"", folder=None):
+    def both(self, words, given=b"", folder=None, errors=""):
         """Runs the program. The result has what it printed, and after it its standard error."""
-        status, printed, logged = self.run(words, given, folder)
+        status, printed, logged = self.run(words, given, folder, errors)
         return Result(status, printed + logged)
 
     def output(self, words, given=b"", folder=None):

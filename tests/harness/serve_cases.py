@@ -12,7 +12,7 @@ from outcome import Outcome, Result, Skipped
 from serving import DATA, FILE, Server, Unlike, reset, rest, same, sees, sees_last, starting
 
 LISTENS = "listening on 127.0.0.1:PORT\n"
-BEGUN = "[INFO  moo] listening on 127.0.0.1:PORT over programs.db\n"
+BEGUN = "[INFO  moo::serve] listening on 127.0.0.1:PORT over programs.db\n"
 GREETING = b"*** Connected ***\r\n"
 LOOKED = b"I couldn't understand that.\r\n"
 LAST = b"*** Shutting down ***\r\n"
@@ -35,20 +35,20 @@ def block(folder):
 # What the world runs as it begins, what else is there, the options; what is printed, what is logged, the status.
 PROGRAMS = [
     ('server_log("up");', {}, ["--rounds", "1"], LISTENS, BEGUN + "[INFO  moo] up\n", 0),
-    ("dump_database();", {}, ["--rounds", "5"], LISTENS, BEGUN + "[INFO  moo] checkpoint done: 453 bytes\n", 0),
+    ("dump_database();", {}, ["--rounds", "5"], LISTENS, BEGUN + "[INFO  moo::serve] checkpoint done: 453 bytes\n", 0),
     ("dump_database();", {"before": block}, ["--rounds", "1"], LISTENS,
-     BEGUN + "[WARN  moo] checkpoint failed: HERE/programs.db.new: Is a directory (os error 21)\n", 0),
-    ("shutdown();", {}, ["--rounds", "1000000000"], LISTENS, BEGUN + "[INFO  moo] checkpoint done: 448 bytes\n", 0),
+     BEGUN + "[WARN  moo::serve] checkpoint failed: HERE/programs.db.new: Is a directory (os error 21)\n", 0),
+    ("shutdown();", {}, ["--rounds", "1000000000"], LISTENS, BEGUN + "[INFO  moo::serve] checkpoint done: 448 bytes\n", 0),
     ("return 0;", {"is_taken": True}, ["--rounds", "1"], "refused: Device\n",
-     "[WARN  moo] 127.0.0.1:PORT: Address already in use (os error 98)\n", 3),
+     "[WARN  moo::serve] 127.0.0.1:PORT: Address already in use (os error 98)\n", 3),
     ("return 2.5;", {}, ["--rounds", "1"], "line 78: Program #0:1 line 1 BadToken\n",
-     "[WARN  moo] programs.db: line 78: Program #0:1 line 1 BadToken\n", 1),
+     "[WARN  moo::serve] programs.db: line 78: Program #0:1 line 1 BadToken\n", 1),
 ]
 
 # The database's text, or no file; what is printed, what is logged, the status.
 DATABASES = [
-    ("** LambdaMOO Database, Format Version 4 **\n4\n", "line 3: Truncated\n", "[WARN  moo] programs.db: line 3: Truncated\n", 1),
-    (None, "refused: Device\n", "[WARN  moo] programs.db: No such file or directory (os error 2)\n", 3),
+    ("** LambdaMOO Database, Format Version 4 **\n4\n", "line 3: Truncated\n", "[WARN  moo::serve] programs.db: line 3: Truncated\n", 1),
+    (None, "refused: Device\n", "[WARN  moo::serve] programs.db: No such file or directory (os error 2)\n", 3),
 ]
 
 
@@ -71,7 +71,7 @@ def a_client_looks_and_is_redirected(moo):
         sees_last(client, b"*** Redirecting connection to new port ***\r\n")
         other.sendall(b"look\r\n;shutdown();\r\n")
         sees_last(other, b"*** Redirecting old connection to this port ***\r\n" + LOOKED + LAST)
-        server.is_over(LISTENS, BEGUN + "[INFO  moo] checkpoint done: 446 bytes\n")
+        server.is_over(LISTENS, BEGUN + "[INFO  moo::serve] checkpoint done: 446 bytes\n")
 
 
 def output_waits_until_it_is_read(moo):
@@ -91,7 +91,7 @@ def one_who_never_reads_is_hung_up(moo, options, lines):
         server.wait("logged", r"\[INFO  moo\] told")
         logged = server.read("logged")
         same("logged", re.sub(r"up: \d{7,8} bytes", "up: MANY bytes", logged),
-             BEGUN + "[WARN  moo] connection 0 is hung up: MANY bytes wait for it\n[INFO  moo] told\n")
+             BEGUN + "[WARN  moo::serve] connection 0 is hung up: MANY bytes wait for it\n[INFO  moo] told\n")
         # What the system had taken comes, and then the end.
         waiting = int(re.search(r"up: (\d+) bytes", logged)[1])
         same("bytes", len(rest(client)) + waiting, len(GREETING) + lines * 65_538 + len(b"*** Disconnected ***\r\n"))
@@ -114,8 +114,8 @@ def the_next_one_under_a_number_starts_clean(moo):
         client = server.connect()
         client.sendall(b"\n;shutdown();\n")
         sees_last(client, GREETING + LAST)
-        told = ["#-2", "told", "left", "#-2", "checkpoint done: 761 bytes"]
-        server.is_over(LISTENS, BEGUN + "".join(f"[INFO  moo] {line}\n" for line in told))
+        told = "".join(f"[INFO  moo] {line}\n" for line in ["#-2", "told", "left", "#-2"])
+        server.is_over(LISTENS, BEGUN + told + "[INFO  moo::serve] checkpoint done: 761 bytes\n")
 
 
 def a_clock_that_is_set_back_is_not_shown(moo):
@@ -147,7 +147,7 @@ def a_shutdown_is_written_and_the_server_closes(moo):
         client = server.connect()
         client.sendall(b';#2.name = "A Hall"; shutdown();\n')
         sees_last(client, GREETING + LAST)
-        server.is_over(LISTENS, BEGUN + "[INFO  moo] checkpoint done: 438 bytes\n")
+        server.is_over(LISTENS, BEGUN + "[INFO  moo::serve] checkpoint done: 438 bytes\n")
         same("database", (server.folder / FILE).read_text(), starting("return 0;").replace("The First Room", "A Hall"))
 
 

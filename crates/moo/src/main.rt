@@ -1,8 +1,9 @@
 //! The program `moo`.
 #![tactic(auto)]
 
+use clap::Error;
 use clap::error::ErrorKind;
-use moo_cli_args::{Service, Work, read_words};
+use moo_cli_args::{Service, Work, not_utf8, read_words};
 use moo_cli_check::{run_check, run_check_all, run_copy};
 use moo_cli_expr::run_expr;
 use moo_cli_io::{Device, ExitReason, log_error, open};
@@ -28,23 +29,42 @@ fn main(rt: HostRuntime) -> ExitCode {
     }
 }
 
-// Does what the command line asks for, and answers the exit status.
+// Runs the command that the command line names, and returns the exit status.
 fn run(rt: &HostRuntime) -> io::Result<u8> {
-    let words: Vec<String> = env::args(rt)?.collect(rt.alloc())?;
-    match read_words(rt.alloc(), words.as_slice()) {
+    match env::args(rt) {
+        Ok(words) => {
+            let words: Vec<String> = words.collect(rt.alloc())?;
+            run_words(rt, words.as_slice())
+        }
+        Err(error) if error.kind() == io::ErrorKind::InvalidData => {
+            print_usage(rt, &not_utf8(rt.alloc())?)
+        }
+        Err(error) => Err(error),
+    }
+}
+
+fn run_words(rt: &HostRuntime, words: &[String]) -> io::Result<u8> {
+    match read_words(rt.alloc(), words) {
         Ok(Some(work)) => run_work(rt, work),
         Ok(None) => Ok(USAGE),
-        Err(error) if error.kind() == ErrorKind::OutOfMemory => {
-            Err(io::Error::from(io::ErrorKind::OutOfMemory))
-        }
-        Err(error) => {
-            if let Err(reason) = error.print(rt) {
-                log_error(rt, OUTPUT, &reason);
-                return Err(reason);
-            }
-            Ok(if error.use_stderr() { USAGE } else { 0 })
-        }
+        Err(error) => print_usage(rt, &error),
     }
+}
+
+// Prints help to standard output, or a usage fault to standard error. A usage fault has status 2 also if standard
+// error is closed or full.
+fn print_usage(rt: &HostRuntime, error: &Error) -> io::Result<u8> {
+    if error.kind() == ErrorKind::OutOfMemory {
+        return Err(io::Error::from(io::ErrorKind::OutOfMemory));
+    }
+    let printed = error.print(rt);
+    if error.use_stderr() {
+        return Ok(USAGE);
+    }
+    if let Err(reason) = &printed {
+        log_error(rt, OUTPUT, reason);
+    }
+    printed.map(|_| 0)
 }
 
 fn run_work(rt: &HostRuntime, work: Work) -> io::Result<u8> {

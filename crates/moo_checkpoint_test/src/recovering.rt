@@ -79,3 +79,21 @@ fn what_is_refused_stays_as_it_was(rt: HostRuntime) -> Result<(), Fail> {
     }
     Ok(())
 }
+
+#[test]
+fn a_start_leaves_each_image_and_the_spare(rt: HostRuntime) -> Result<(), Fail> {
+    let alloc = rt.alloc();
+    let mut disk = disk_with(alloc, SMALL)?;
+    // The names are not synced, so a crash may leave either text.
+    assert_eq!(rt; write(copy_of(alloc, LARGER)?, &mut disk, 4), Turn::More);
+    disk.create_spare()?;
+    disk.append(b"next")?;
+    let recovered = recovered_as(alloc, recover(alloc, &mut disk))?;
+    assert!(rt; recovered.as_slice() == LARGER.as_slice());
+    assert_eq!(rt; disk.image_count(), 2);
+    disk.rename()?;
+    assert!(rt; disk.main_text() == b"next".as_slice());
+    // The spare was not synced either, so a crash may also leave it empty.
+    assert_eq!(rt; disk.image_count(), 4);
+    Ok(())
+}

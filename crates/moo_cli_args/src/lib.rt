@@ -83,6 +83,11 @@ fn service_of<'a>(found: &ArgMatches<'a>, host: IpAddr) -> Option<Service<'a>> {
     })
 }
 
+/// Returns the usage fault of a command line with an argument that isn't UTF-8. Fails only if memory runs out.
+pub fn not_utf8(alloc: Global) -> Result<Error, AllocError> {
+    command(alloc)?.error(ErrorKind::InvalidValue, "an argument isn't UTF-8")
+}
+
 fn no_address(alloc: Global) -> Result<Error, AllocError> {
     let message = "the value of '--host <ADDRESS>' is no IP address";
     command(alloc)?.error(ErrorKind::ValueValidation, message)

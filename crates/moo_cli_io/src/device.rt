@@ -30,7 +30,7 @@ pub fn open<'a, R: Log + Files>(rt: &'a R, path: &'a str) -> io::Result<Device<'
 /// Logs why a file or a stream of this name has failed. Running out of memory is no such failure.
 pub fn log_error<L: Log>(rt: &L, name: &str, error: &io::Error) {
     if error.kind() != ErrorKind::OutOfMemory {
-        warn!(rt; target: "moo", "{name}: {error}");
+        warn!(rt; target: "moo::io", "{name}: {error}");
     }
 }
 

@@ -1,12 +1,13 @@
 -- Output that is handed out between two calls.
 use Rattle.std.proofs.Common.{◌≡◌, ◌≢◌, ℕ, suc, ◌+◌, ◌<◌, ◌≤◌, ⊎_elim, List, [], Option, refl, sym, ◌∙◌, ap, subst, arith}
 use Rattle.moo_dbtext_read.specs.Saved.{Saved}
-use Rattle.moo_server_core.specs.Application.{Layer}
+use Rattle.moo_server_core.specs.Application.{Layer, Output, silence, then_out}
 use Rattle.moo_disk.specs.Disk.{DiskView}
 use Rattle.moo_server_core.specs.declared.server_core.Open.{Open}
 use Rattle.moo_server_core.specs.declared.server_core.ServerCore.{ServerCore}
 use Rattle.moo_server_core.specs.Meaning.{State}
-use Rattle.moo_server_core.specs.Server.{Follows, OpenFollows, Same, waiting_of}
+use Rattle.moo_server_core.specs.Server.{Follows, Hands, OpenFollows, Same, waiting_of}
+use Rattle.moo_server_core.proofs.Out.{then_then}
 use Rattle.std.proofs.lemmas.Bool.{cases_lt}
 use Rattle.std.proofs.KnownBytes.{Appends-trans}
 use Rattle.std.specs.Io.KnownBytes.{Appends}
@@ -26,6 +27,15 @@ module _ {S Application : Type 0} (l : Layer S Application Saved) where
     under_way = λ h. second.under_way (first.under_way h);
   }
 
+  pub hands_none : (server : ServerCore S) → Hands l silence server server
+  hands_none server = record { same = same_self server; waiting = refl }
+
+  pub hands_join : (h h' : Output) (a b c : ServerCore S) → Hands l h a b → Hands l h' b c → Hands l (then_out h h') a c
+  hands_join h h' a b c first second = record {
+    same = same_join a b c first.same second.same;
+    waiting = first.waiting ∙ ap (λ (o : Output). then_out h o) second.waiting ∙ sym (then_then h h' (waiting_of l c));
+  }
+
   pub follows_same : {D : Type 0} (view : D → DiskView) (honest stands : D → Type 0) (one other : ServerCore S) (disk : D) → Same l one other
       → Follows l view honest stands one disk → Follows l view honest stands other disk
   follows_same view honest stands one other disk same follows = record {
@@ -36,17 +46,19 @@ module _ {S Application : Type 0} (l : Layer S Application Saved) where
   -- what was printed of a server so far: connections below a number
   pub record IsPrintedTo (first now : ServerCore S) (top : ℕ) : Type 0 where
     pub same : Same l first now
+    pub hands : (handed : Output) × Hands l handed first now
     pub nothing : (c : ℕ) → c < top → (waiting_of l now).sent c ≡ []
     pub others : (c : ℕ) → top ≤ c → (waiting_of l now).sent c ≡ (waiting_of l first).sent c
     pub log : (waiting_of l now).logged ≡ (waiting_of l first).logged
 
   pub none_printed : (first : ServerCore S) → IsPrintedTo first first 0
-  none_printed first = record { same = same_self first; nothing = λ c below. absurd (omega (arith, below)); others = λ c above. refl; log = refl }
+  none_printed first = record { same = same_self first; hands = (silence, hands_none first); nothing = λ c below. absurd (omega (arith, below)); others = λ c above. refl; log = refl }
 
-  pub one_printed : (first now next : ServerCore S) (c : ℕ) → IsPrintedTo first now c → Same l now next → (waiting_of l next).sent c ≡ []
+  pub one_printed : (first now next : ServerCore S) (c : ℕ) (h : Output) → IsPrintedTo first now c → Hands l h now next → (waiting_of l next).sent c ≡ []
       → ((k : ℕ) → k ≢ c → (waiting_of l next).sent k ≡ (waiting_of l now).sent k) → (waiting_of l next).logged ≡ (waiting_of l now).logged → IsPrintedTo first next (c + 1)
-  one_printed first now next c printed same nothing others log = record {
-    same = same_join first now next printed.same same;
+  one_printed first now next c h printed hands nothing others log = record {
+    same = same_join first now next printed.same hands.same;
+    hands = (then_out printed.hands.0 h, hands_join printed.hands.0 h first now next printed.hands.1 hands);
     nothing = λ k below. ⊎_elim (λ lt. others k (λ e. absurd (omega (arith, lt, e))) ∙ printed.nothing k lt)
         (λ ge. let is : k ≡ c = omega (arith, below, ge) in ap (λ n. (waiting_of l next).sent n) is ∙ nothing) (cases_lt k c);
     others = λ k above. others k (λ e. absurd (omega (arith, above, e))) ∙ printed.others k (omega (arith, above));
@@ -63,10 +75,11 @@ module _ {S Application : Type 0} (l : Layer S Application Saved) where
       (subst (λ (bs : List ℕ). Appends mid new (sent_lines c bs)) all behind))
 
   -- then the log is taken
-  pub hands_out : (old new : Script S) (mid : ServerCore S) → IsPrintedTo old.server mid old.top → Same l mid new.server → (waiting_of l new.server).sent ≡ (waiting_of l mid).sent
+  pub hands_out : (old new : Script S) (mid : ServerCore S) (h : Output) → IsPrintedTo old.server mid old.top → Hands l h mid new.server → (waiting_of l new.server).sent ≡ (waiting_of l mid).sent
       → (waiting_of l new.server).logged ≡ [] → new.disk ≡ old.disk → new.top ≡ old.top → HandsOut l old new
-  hands_out old new mid printed same sent logged disk top = record {
-    same = same_join old.server mid new.server printed.same same;
+  hands_out old new mid h printed hands sent logged disk top = record {
+    same = same_join old.server mid new.server printed.same hands.same;
+    hands = (then_out printed.hands.0 h, hands_join printed.hands.0 h old.server mid new.server printed.hands.1 hands);
     nothing = λ c below. ap (λ (f : ℕ → List ℕ). f c) sent ∙ printed.nothing c below;
     others = λ c above. ap (λ (f : ℕ → List ℕ). f c) sent ∙ printed.others c above;
     logged = logged;

@@ -1,9 +1,10 @@
+mod Courses
 pub mod Crashing
 pub mod Growing
 pub mod Handed
 pub mod Moments
 pub mod Played
-pub mod ServerCore
+pub mod Serving
 pub mod Steps
 pub mod Taken
 pub mod Forms

@@ -8,7 +8,8 @@ use Rattle.moo_server_core.specs.Courses.{is_closing}
 use Rattle.moo_server_core.specs.Traces.{Report}
 use Rattle.moo_server_core.specs.Seen.{Event, Open, Bytes, Hangup, Moment, Flush, is_flush, seen}
 use Rattle.moo_server_core.specs.Meaning.{Acts, Entry, Hears, Marks, Passes, Reports, Run, State, Steps, Takes, is_done, refusal_in}
-use Rattle.moo_server_core.specs.Server.{IsAlive, Runs, state_of}
+use Rattle.moo_server_core.specs.Server.{IsAlive, Runs, entries_of, state_of}
+use Rattle.moo_server_core.proofs.Running.{lived_of}
 use Rattle.moo_server_core.specs.declared.event.Course.{Course}
 use Rattle.moo_server_core.specs.declared.event.Course.TheVariants.{Running, Closing, Closed}
 use Rattle.moo_server_core.specs.declared.event.Event as given
@@ -77,5 +78,6 @@ module _ {Application Saved : Type 0} (m : Meaning Application Saved) where
 pub run_at : {S Application D : Type 0} (l : Layer S Application Saved) (view : D → DiskView) (honest : D → Type 0) (failures : D → ℕ) (before after : ServerCore S) (old new : D) (e : given.Event)
     → Runs l view honest failures before after old new (e ∷ []) (Ok 1) → IsAlive after → after.moment ≡ moment_at before.course (seen e) before.moment
 run_at l view honest failures before after old new e runs alive =
-    ap (λ s. s.moment) (runs.ran.lived.state alive)
-    ∙ one_at l.meaning runs.ran.entries (seen e) (state_of l before) runs.ran.lived.end runs.ran.events_are runs.ran.lived.run
+    let lived = lived_of l view honest before after old new (e ∷ []) 1 runs.ran in
+    ap (λ s. s.moment) (lived.state alive)
+    ∙ one_at l.meaning (entries_of runs.ran.taken) (seen e) (state_of l before) lived.end runs.ran.events_are lived.run

@@ -4,6 +4,8 @@ pub mod Script
 pub mod Told
 -- What all lines of a script do.
 pub mod Playing
+-- What lines do, as calls of the server.
+pub mod Course
 -- What private clauses alone cite.
 pub mod Works
 -- The forms of a script's lines.

@@ -7,13 +7,13 @@ use Rattle.moo_disk.specs.declared.fail_at.FailAt.{FailAt}
 use Rattle.moo_disk.specs.declared.memory.MemoryDisk.{MemoryDisk}
 use Rattle.moo_dbtext_record.specs.declared.fault.DbFault.{DbFault}
 use Rattle.moo_dbtext_record.specs.declared.fault.DbFaultKind.TheVariants as kind
-use Rattle.moo_dbtext_read.specs.Saved.{Saved, SpellsSaved, SpellsSavedWithin}
+use Rattle.moo_dbtext_read.specs.Saved.{Saved, SpellsSavedWithin}
 use Rattle.moo_dbtext_read.specs.Refusals.{Refuses as RefusesText}
 use Rattle.moo_checkpoint.specs.declared.open_fault.OpenFault.{OpenFault}
 use Rattle.moo_checkpoint.specs.declared.open_fault.OpenFault.TheVariants as opening_fault
-use Rattle.moo_server_core.specs.Application.{Layer}
+use Rattle.moo_server_core.specs.Application.{Layer, Output}
 use Rattle.moo_server_core.specs.Seen.{Event, Open, Bytes, Hangup, Moment, Flush, seen}
-use Rattle.moo_server_core.specs.Server.{Follows, IsAlive, Runs, Same, waiting_of}
+use Rattle.moo_server_core.specs.Server.{Follows, Hands, IsAlive, Runs, Same, waiting_of}
 use Rattle.moo_server_core.specs.Calls.{Opened}
 use Rattle.moo_server_core.specs.declared.event.Event as given
 use Rattle.moo_server_core.specs.declared.event.Cause.{Cause}
@@ -108,10 +108,10 @@ module _ {S Application : Type 0} (l : Layer S Application Saved) where
     pub run : IsRun event old new (Err fault)
     pub cause_is : cause ≡ fault.cause
 
-  -- a server was opened over a disk, at a moment
+  -- a server was opened over a disk, at a moment, from a saved world that main spells within the limits of database texts
   pub record Opens (disk : ScriptDisk) (at : ℕ) (new : Script S) : Type 0 where
     pub saved : Saved
-    pub spelled : SpellsSaved (disk_view disk).main_text saved
+    pub spelled : SpellsSavedWithin (disk_view disk).main_text saved
     pub opened : Opened l disk_view disk_honest new.server disk new.disk saved at
     pub top : new.top ≡ 0
 
@@ -164,6 +164,7 @@ module _ {S Application : Type 0} (l : Layer S Application Saved) where
   -- What waited for connections that were opened is handed out, and the log's lines are; nothing else is another.
   pub record HandsOut (old new : Script S) : Type 0 where
     pub same : Same l old.server new.server
+    pub hands : (handed : Output) × Hands l handed old.server new.server
     pub nothing : (c : ℕ) → c < old.top → (waiting_of l new.server).sent c ≡ []
     pub others : (c : ℕ) → old.top ≤ c → (waiting_of l new.server).sent c ≡ (waiting_of l old.server).sent c
     pub logged : (waiting_of l new.server).logged ≡ []

@@ -1,7 +1,8 @@
 //! What waits in a server is printed and logged.
 ghost use Rattle.std.specs.Prelude.{◌≡◌, ◌<◌, ◌≤◌, ◌++◌, ℕ, [], IfErr, OnErr, OnOk};
 ghost use Rattle.std.specs.Io.KnownBytes.{Appends};
-ghost use Rattle.moo_server_core.specs.Server.{Same, waiting_of};
+ghost use Rattle.moo_server_core.specs.Application.{Output};
+ghost use Rattle.moo_server_core.specs.Server.{Hands, Same, waiting_of};
 ghost use Rattle.moo_cli_io.specs.Refused.{IsEarned};
 ghost use Rattle.moo_cli_io.specs.Watching.{HasFailed};
 ghost use Rattle.moo_cli_script.specs.Script.{Fits, HandsOut, printed_below};
@@ -51,6 +52,7 @@ fn print_below<S: StartApplication, O: Write>(
 ) -> Result<(), ExitReason>
     requires { top ≤ 65536 }
     ensures same { Same S.layer server.old server.new }
+    ensures handed { OnOk result ((handed : Output) × Hands S.layer handed server.old server.new) }
     ensures text { OnOk result (Appends (O.contents output.old) (O.contents output.new) (printed_below top (waiting_of S.layer server.old).sent)) }
     ensures nothing { OnOk result ((c : ℕ) → c < top → (waiting_of S.layer server.new).sent c ≡ []) }
     ensures others { (c : ℕ) → top ≤ c → (waiting_of S.layer server.new).sent c ≡ (waiting_of S.layer server.old).sent c }

@@ -8,14 +8,15 @@ use Rattle.moo_server_core.specs.Application.{Layer, Output, silence, then_out}
 use Rattle.moo_server_core.specs.Meaning.{Entry, out_of}
 use Rattle.moo_server_core.specs.Seen.{seen as seen_event}
 use Rattle.moo_server_core.specs.Seen as seen
-use Rattle.moo_server_core.specs.Server.{Follows, Hands, OpenFollows, Ran, Runs, Same, waiting_of}
+use Rattle.moo_server_core.specs.Server.{Follows, Hands, OpenFollows, Ran, Runs, Same, entries_of, waiting_of}
 use Rattle.moo_server_core.specs.Calls.{Call, Calls, IsCallOf, Lent, One, Other}
 use Rattle.moo_server_core.specs.declared.event.Event.{Event}
 use Rattle.moo_server_core.specs.declared.event.Event.TheVariants as the
 use Rattle.moo_server_core.specs.declared.event.RunFault.{RunFault}
-use Rattle.moo_server_core.specs.declared.serving.Open.{Open}
+use Rattle.moo_server_core.specs.declared.server_core.Open.{Open}
 use Rattle.moo_server_core.specs.declared.server_core.ServerCore.{ServerCore}
 use Rattle.moo_server_core.proofs.Joining.{gains_none}
+use Rattle.moo_server_core.proofs.Running.{waits_of}
 use Rattle.moo_cli_serve.specs.Course.{AreSingle, Course, Given, hangs_up, sent_after, taken_in}
 
 -- ---- what is handed out
@@ -104,8 +105,8 @@ module _ {S Application : Type 0} (l : Layer S Application Saved) where
         → (ran : Ran l view honest before after old new (event ∷ []) done) → (honest old → honest new)
         → Course l view honest before old (take done (event ∷ [])) after new
     course_one before after old new event done ran still = record {
-      calls = record { handed = silence; before = before; old = One old; events = event ∷ []; done = done; entries = ran.entries; server = after; disk = One new } ∷ [];
-      entries = ran.entries;
+      calls = record { handed = silence; before = before; old = One old; events = event ∷ []; done = done; entries = entries_of ran.taken; server = after; disk = One new } ∷ [];
+      entries = entries_of ran.taken;
       last = after;
       handed = silence;
       chain = (
@@ -114,7 +115,7 @@ module _ {S Application : Type 0} (l : Layer S Application Saved) where
         record { ran = ran; entries = refl; honest_still = still },
         [],
         (refl, refl, refl),
-        sym (append-nil ran.entries),
+        sym (append-nil (entries_of ran.taken)),
       );
       single = (refl, tt);
       taken = sym (append-nil (take done (event ∷ [])));
@@ -259,10 +260,13 @@ module _ {S Application : Type 0} (l : Layer S Application Saved) where
     given_ran before mid after old new event done ran one still dropped left log = record {
       course = course_hands before mid after old new (take done (event ∷ [])) dropped.0 (course_one before mid old new event done ran still) dropped.1;
       sent = λ c.
-          left c ∙ ap (λ (w : Output). if hangs_up c (seen_event event) then [] else w.sent c) ran.waiting
-          ∙ sym (sent_one c ((waiting_of l before).sent c) (seen_event event) ran.entries (ran.events_are ∙ ap (λ (n : ℕ). map seen_event (take n (event ∷ []))) one));
-      logged = log ∙ ap (λ (w : Output). w.logged) ran.waiting;
+          left c ∙ ap (λ (w : Output). if hangs_up c (seen_event event) then [] else w.sent c) waits
+          ∙ sym (sent_one c ((waiting_of l before).sent c) (seen_event event) (entries_of ran.taken) (ran.events_are ∙ ap (λ (n : ℕ). map seen_event (take n (event ∷ []))) one));
+      logged = log ∙ ap (λ (w : Output). w.logged) waits;
     }
+      where
+        waits : waiting_of l mid ≡ then_out (waiting_of l before) (out_of (entries_of ran.taken))
+        waits = waits_of l view honest before mid old new (event ∷ []) done ran
 
     pub given_one : (failures : D → ℕ) (before mid after : ServerCore S) (old new : D) (event : Event) (events : List Event) (done : ℕ)
         → events ≡ event ∷ [] → done ≡ length events → (honest old → honest new)

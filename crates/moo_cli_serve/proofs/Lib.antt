@@ -1,4 +1,5 @@
 pub mod Coursing
+mod Finding
 pub mod Rounding
 pub mod Serviced
 pub mod Writing

@@ -78,11 +78,11 @@ module _ {S Application D : Type 0} (l : Layer S Application Saved) (view : D �
 
   module _ (failures : D → ℕ) where
     -- the same, said of a list that is equal
-    pub refused_of : (cause : Cause) (events others : List Event) (before after : inner.Serving S) (old new : D) → events ≡ others
+    pub refused_of : (cause : Cause) (events others : List Event) (before after : inner.ServerCore S) (old new : D) → events ≡ others
         → IsRefused l view honest failures cause events before old after new → IsRefused l view honest failures cause others before old after new
     refused_of cause events others before after old new same refused = subst (λ (es : List Event). IsRefused l view honest failures cause es before old after new) same refused
 
-    refused_hands : (cause : Cause) (events : List Event) (before mid after : inner.Serving S) (old new : D)
+    refused_hands : (cause : Cause) (events : List Event) (before mid after : inner.ServerCore S) (old new : D)
         → IsRefused l view honest failures cause events before old mid new → ((h : Output) × Hands l h mid after)
         → IsRefused l view honest failures cause events before old after new
     refused_hands cause events before mid after old new refused handed = record {
@@ -100,7 +100,7 @@ module _ {S Application D : Type 0} (l : Layer S Application Saved) (view : D �
       handed = (then_out refused.handed.0 handed.0, hands_join l refused.handed.0 handed.0 refused.left mid after refused.handed.1 handed.1);
     }
 
-    parted_hands : (cause : Cause) (most : ℕ) (first : List Event) (server mid after : inner.Serving S) (old new : D) (read : Slab Socket)
+    parted_hands : (cause : Cause) (most : ℕ) (first : List Event) (server mid after : inner.ServerCore S) (old new : D) (read : Slab Socket)
         → RefusesParted l view honest failures cause most first server old read mid new → ((h : Output) × Hands l h mid after)
         → RefusesParted l view honest failures cause most first server old read after new
     parted_hands cause most first server mid after old new read parted handed = record {
@@ -115,7 +115,7 @@ module _ {S Application D : Type 0} (l : Layer S Application Saved) (view : D �
       refused = refused_hands cause parted.parted parted.written mid after parted.between new parted.refused handed;
     }
 
-    either_hands : (cause : Cause) (first : List Event) (old : Serving S D) (read : Slab Socket) (mid after : inner.Serving S) (new : D)
+    either_hands : (cause : Cause) (first : List Event) (old : Serving S D) (read : Slab Socket) (mid after : inner.ServerCore S) (new : D)
         → IsRefused l view honest failures cause first old.server old.disk mid new ⊎ RefusesParted l view honest failures cause old.most_waiting first old.server old.disk read mid new
         → ((h : Output) × Hands l h mid after)
         → IsRefused l view honest failures cause first old.server old.disk after new ⊎ RefusesParted l view honest failures cause old.most_waiting first old.server old.disk read after new
@@ -131,7 +131,7 @@ module _ {S Application D : Type 0} (l : Layer S Application Saved) (view : D �
     outside_ends the.Memory old new outside = outside
 
     -- and one that has ended has done so also where some of what waits is then handed out.
-    pub ends_hands : (fault : ServeFault) (old mid : Serving S D) (after : inner.Serving S) → EndsFor l view honest failures fault old mid
+    pub ends_hands : (fault : ServeFault) (old mid : Serving S D) (after : inner.ServerCore S) → EndsFor l view honest failures fault old mid
         → ((h : Output) × Hands l h mid.server after) → EndsFor l view honest failures fault old (record mid { server = after })
     ends_hands (the.Open fault) old mid after ends handed = ends
     ends_hands (the.Sockets fault) old mid after ends handed = ends
@@ -152,9 +152,11 @@ module _ {S Application D : Type 0} (l : Layer S Application Saved) (view : D �
     serves_so most rounds disk start end (Err fault) begun course served = tt
 
     pub stops_so : {T : Type 0} (most rounds : ℕ) (disk : D) (start end : Serving S D) (r : Result T ServeFault) → Begun l view honest disk most start
+        → ((events : List Event) × Course l view honest start.server start.disk events end.server end.disk)
         → IfErr r (λ fault. BreaksOff l view honest failures rounds fault start end) → IfErr r (Fails l view honest failures disk most rounds)
-    stops_so most rounds disk start end (Ok x) begun breaks = tt
-    stops_so most rounds disk start end (Err fault) begun breaks = inr (record { start = start; end = end; begun = begun; breaks = inr breaks })
+    stops_so most rounds disk start end (Ok x) begun course breaks = tt
+    stops_so most rounds disk start end (Err fault) begun course breaks =
+        inr (record { start = start; end = end; begun = begun; breaks = inr breaks; course = course })
 
 -- the same over a file
 module _ {S Application F File Dir : Type 0} (l : Layer S Application Saved) where

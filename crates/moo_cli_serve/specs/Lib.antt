@@ -1,5 +1,6 @@
 -- What a program does that serves connections: a server over a disk in calls of one event each, round by round.
 pub mod Course
+pub mod Found
 pub mod Program
 pub mod Rounds
 pub mod Service

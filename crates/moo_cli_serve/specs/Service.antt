@@ -4,7 +4,7 @@ use Rattle.slab.specs.Slab.{Slab}
 use Rattle.moo_disk.specs.Disk.{DiskView, KeepsMain, KeepsSpare}
 use Rattle.moo_dbtext_record.specs.declared.fault.DbFault.{DbFault}
 use Rattle.moo_dbtext_record.specs.declared.fault.DbFaultKind.TheVariants as kind
-use Rattle.moo_dbtext_read.specs.Saved.{Saved, SpellsSaved, SpellsSavedWithin}
+use Rattle.moo_dbtext_read.specs.Saved.{Saved, SpellsSavedWithin}
 use Rattle.moo_dbtext_read.specs.Refusals.{Refuses as RefusesText}
 use Rattle.moo_checkpoint.specs.Recovering.{CountsFault}
 use Rattle.moo_checkpoint.specs.declared.open_fault.OpenFault.{OpenFault}
@@ -40,10 +40,10 @@ pub record Waits {S D : Type 0} (old new : Serving S D) : Type 0 where
   pub sockets : (c : ℕ) → held new.sockets.sockets c ≡ held old.sockets.sockets c
 
 module _ {S Application D : Type 0} (l : Layer S Application Saved) (view : D → DiskView) (honest : D → Type 0) where
-  -- A server was begun from what a disk holds, at a moment: from a saved world that main spells. Nothing was written.
-  pub record IsBegunFrom (disk : D) (moment : ℕ) (server : inner.Serving S) (left : D) : Type 0 where
+  -- A server was begun from what a disk holds, at a moment: from a saved world that main spells within the limits of database texts. Nothing was written.
+  pub record IsBegunFrom (disk : D) (moment : ℕ) (server : inner.ServerCore S) (left : D) : Type 0 where
     pub saved : Saved
-    pub spelled : honest disk → SpellsSaved (view disk).main_text saved
+    pub spelled : honest disk → SpellsSavedWithin (view disk).main_text saved
     pub opened : Opened l view honest server disk left saved moment
     pub spare : honest disk → KeepsSpare (view disk) (view left)
 
@@ -55,7 +55,7 @@ module _ {S Application D : Type 0} (l : Layer S Application Saved) (view : D �
 
   -- a round was made
   pub record Turns (old new : Serving S D) : Type 0 where
-    pub turned : inner.Serving S
+    pub turned : inner.ServerCore S
     pub logs : Logs l turned new.server
     pub rounds : Rounds l view honest old.most_waiting old.moment new.moment old.server turned old.disk new.disk old.sockets.sockets new.sockets.sockets
     pub most_is : new.most_waiting ≡ old.most_waiting
@@ -102,32 +102,32 @@ module _ {S Application D : Type 0} (l : Layer S Application Saved) (view : D �
   -- There are no rounds: no server was begun, or there are no sockets for the one that was.
   abbrev pub NotStarted : D → ServeFault → Type 0
   NotStarted disk (the.Open fault) = (left : D) × NotBegun view honest failures disk left fault
-  NotStarted disk (the.Sockets fault) = (moment : ℕ) × (server : inner.Serving S) × (left : D) × IsBegunFrom l view honest disk moment server left
+  NotStarted disk (the.Sockets fault) = (moment : ℕ) × (server : inner.ServerCore S) × (left : D) × IsBegunFrom l view honest disk moment server left
   NotStarted disk fault = ⊥
 
   -- A server was given events of a list, in calls of one each, up to one that it refused in such a call for this cause; then some of what
   -- waits was handed out.
-  pub record IsRefused (cause : Cause) (events : List Event) (before : inner.Serving S) (old : D) (after : inner.Serving S) (new : D) : Type 0 where
+  pub record IsRefused (cause : Cause) (events : List Event) (before : inner.ServerCore S) (old : D) (after : inner.ServerCore S) (new : D) : Type 0 where
     pub taken : List Event
     pub event : Event
     pub rest : List Event
     pub all : events ≡ taken ++ event ∷ rest
-    pub mid : inner.Serving S
+    pub mid : inner.ServerCore S
     pub between : D
     pub gives : Given l view honest before old taken mid between
     pub fault : RunFault
-    pub left : inner.Serving S
+    pub left : inner.ServerCore S
     pub runs : Runs l view honest failures mid left between new (event ∷ []) (Err fault)
     pub cause_is : fault.cause ≡ cause
     pub handed : (handed : Output) × Hands l handed left after
 
   -- A round came to its writes, and a hang-up that came of them was refused for this cause.
-  pub record RefusesParted (cause : Cause) (most : ℕ) (first : List Event) (server : inner.Serving S) (old : D) (read : Slab Socket) (after : inner.Serving S) (new : D) : Type 0 where
-    pub given : inner.Serving S
+  pub record RefusesParted (cause : Cause) (most : ℕ) (first : List Event) (server : inner.ServerCore S) (old : D) (read : Slab Socket) (after : inner.ServerCore S) (new : D) : Type 0 where
+    pub given : inner.ServerCore S
     pub between : D
     pub gives : Given l view honest server old first given between
     pub parted : List Event
-    pub written : inner.Serving S
+    pub written : inner.ServerCore S
     pub left : Slab Socket
     pub writes : Writes l most given written read left parted
     pub handed : (handed : Output) × Hands l handed given written
@@ -135,7 +135,7 @@ module _ {S Application D : Type 0} (l : Layer S Application Saved) (view : D �
 
   -- A round was begun, and broke off at an event that the server refused for this cause: one of those that are given first, or a hang-up
   -- that came of the writes.
-  pub record RefusesRound (cause : Cause) (old : Serving S D) (moment : ℕ) (after : inner.Serving S) (new : D) : Type 0 where
+  pub record RefusesRound (cause : Cause) (old : Serving S D) (moment : ℕ) (after : inner.ServerCore S) (new : D) : Type 0 where
     pub first : List Event
     pub read : Slab Socket
     pub begins : Begins old.sockets.sockets read old.moment moment first
@@ -161,6 +161,7 @@ module _ {S Application D : Type 0} (l : Layer S Application Saved) (view : D �
     pub end : Serving S D
     pub begun : Begun l view honest disk most start
     pub breaks : (IsOutside fault × (end ≡ start)) ⊎ BreaksOff rounds fault start end
+    pub course : (events : List Event) × Course l view honest start.server start.disk events end.server end.disk
 
   abbrev pub Fails : D → ℕ → ℕ → ServeFault → Type 0
   Fails disk most rounds fault = NotStarted disk fault ⊎ Stops disk most rounds fault

@@ -70,7 +70,7 @@ fn is_parted(most: usize, is_leaving: bool, waiting: Option<usize>) -> bool
 fn tell_waiting<L: Log>(rt: &L, c: u16, most: usize, waiting: Option<usize>) {
     if let Some(waiting) = waiting {
         if waiting > most {
-            warn!(rt; target: "moo", "connection {c} is hung up: {waiting} bytes wait for it");
+            warn!(rt; target: "moo::serve", "connection {c} is hung up: {waiting} bytes wait for it");
         }
     }
 }

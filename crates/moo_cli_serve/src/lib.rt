@@ -5,6 +5,7 @@
 mod coming;
 mod fault;
 mod giving;
+pub mod laws;
 mod leaving;
 mod program;
 mod serving;

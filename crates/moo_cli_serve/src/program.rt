@@ -93,7 +93,7 @@ pub fn serve_disk<S: StartApplication, D: Disk + Watched + Drop, R: Net + Clock 
         served.most_waiting,
     )?;
     let address = serving.address()?;
-    info!(rt; target: "moo", "listening on {address} over {}", served.db);
+    info!(rt; target: "moo::serve", "listening on {address} over {}", served.db);
     tell_address(alloc, output, address)?;
     serving.serve(rt, served.rounds)
 }
@@ -105,14 +105,14 @@ fn no_disk<R: Log>(rt: &R, served: Served<'_>, error: io::Error) -> ServeFault
     if error.kind() == ErrorKind::OutOfMemory {
         return ServeFault::Memory;
     }
-    warn!(rt; target: "moo", "{}: {error}", served.db);
+    warn!(rt; target: "moo::serve", "{}: {error}", served.db);
     ServeFault::Open(OpenFault::Device)
 }
 
 // Where no spare can be made beside the file, each checkpoint will fail.
 fn tell_spare<R: Log, F: Files + Drop>(rt: &R, disk: &FileDisk<F>) {
     if let Err(error) = disk.try_spare() {
-        warn!(rt; target: "moo", "no checkpoint can be made: {}: {error}", disk.spare());
+        warn!(rt; target: "moo::serve", "no checkpoint can be made: {}: {error}", disk.spare());
     }
 }
 
@@ -134,17 +134,17 @@ fn tell_address<O: Write>(
 fn tell_reason<R: Log>(rt: &R, served: Served<'_>, fault: &ServeFault) {
     match fault {
         ServeFault::Sockets(SocketsFault::Device(error)) => {
-            warn!(rt; target: "moo", "{}:{}: {error}", served.host, served.port);
+            warn!(rt; target: "moo::serve", "{}:{}: {error}", served.host, served.port);
         }
         ServeFault::Output(error) => tell_output(rt, error),
         // A disk's is told where it was met.
         ServeFault::Open(OpenFault::Device) => {}
-        other => warn!(rt; target: "moo", "{}: {other}", served.db),
+        other => warn!(rt; target: "moo::serve", "{}: {other}", served.db),
     }
 }
 
 fn tell_output<R: Log>(rt: &R, error: &io::Error) {
-    warn!(rt; target: "moo", "standard output: {error}");
+    warn!(rt; target: "moo::serve", "standard output: {error}");
 }
 
 // The output is told why it ends. Where it fails only now, the log tells that too.

@@ -227,16 +227,16 @@ fn tell_checkpoint<D: Watched, L: Log>(rt: &L, disk: &D, calls: u64) {
         return;
     }
     if let News::Written(bytes) = disk.news() {
-        info!(rt; target: "moo", "checkpoint done: {bytes} bytes");
+        info!(rt; target: "moo::serve", "checkpoint done: {bytes} bytes");
     }
     if let News::Failed(file, error) = disk.news() {
-        warn!(rt; target: "moo", "checkpoint failed: {file}: {error}");
+        warn!(rt; target: "moo::serve", "checkpoint failed: {file}: {error}");
     }
 }
 
 // Tells why the disk failed, if it did.
 fn tell_failure<D: Watched, L: Log>(rt: &L, disk: &D) {
     if let News::Failed(file, error) = disk.news() {
-        warn!(rt; target: "moo", "{file}: {error}");
+        warn!(rt; target: "moo::serve", "{file}: {error}");
     }
 }

@@ -50,7 +50,7 @@ impl Sockets {
         self.is_busy = true;
         self.is_told = false;
         let Ok(c) = u16::try_from(self.sockets.vacant_key()) else {
-            warn!(rt; target: "moo", "a connection is refused: all numbers are taken");
+            warn!(rt; target: "moo::serve", "a connection is refused: all numbers are taken");
             return Ok(None);
         };
         self.keep(c, stream)
@@ -62,7 +62,7 @@ impl Sockets {
     {
         if self.may_accept && !self.is_told {
             self.is_told = true;
-            warn!(rt; target: "moo", "no connection can be accepted: {error}");
+            warn!(rt; target: "moo::serve", "no connection can be accepted: {error}");
         }
     }
 

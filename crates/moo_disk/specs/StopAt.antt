@@ -29,11 +29,11 @@ left_of stopping = stopping.left
 abbrev pub place_of : StopAt → Place
 place_of stopping = stopping.place
 
--- the calls that it has refused
+-- the calls that it has refused, and in which the wrapped disk didn't fail
 abbrev pub refused_of : StopAt → ℕ
 refused_of stopping = stopping.refused
 
--- how often the device has failed
+-- in how many calls the device has failed
 abbrev pub failures_of : StopAt → ℕ
 failures_of stopping = memory_failures stopping.disk + stopping.refused
 

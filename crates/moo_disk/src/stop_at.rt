@@ -23,7 +23,7 @@ pub struct StopAt {
     /// The number of calls up to and including the one that it stops at, or 0 once it has stopped.
     left: u64,
     place: Place,
-    /// The number of refused calls.
+    /// The number of refused calls in which the wrapped disk didn't fail.
     refused: u64,
 }
 
@@ -152,7 +152,7 @@ impl Disk for StopAt {
         match self.count() {
             Call::Passes => self.disk.append(bytes),
             Call::CutShort => {
-                drop(self.disk.append(first_half(bytes)));
+                self.disk.append(first_half(bytes))?;
                 Err(self.refuse())
             }
             Call::Refused => Err(self.refuse()),
@@ -197,7 +197,7 @@ impl Disk for StopAt {
         match self.count() {
             Call::Passes => self.disk.rename(),
             Call::CutShort => {
-                drop(self.disk.stop_in_rename());
+                self.disk.stop_in_rename()?;
                 Err(self.refuse())
             }
             Call::Refused => Err(self.refuse()),

@@ -1,2 +1,3 @@
+mod HandedOn
 mod Players
 mod Worlds

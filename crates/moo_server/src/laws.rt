@@ -1,9 +1,9 @@
 //! What holds of a server over a disk, whatever comes and wherever it stops.
-ghost use Rattle.std.specs.Prelude.{ℕ, List, []};
+ghost use Rattle.std.specs.Prelude.{◌≡◌, ℕ, List, []};
 ghost use Rattle.moo_dbtext_read.specs.Saved.{Saved, SpellsSavedWithin};
 ghost use Rattle.moo_server_core.specs.Meaning.{Entry};
 ghost use Rattle.moo_server_core.specs.Server.{state_of};
-ghost use Rattle.moo_server_core.specs.Calls.{Call, Calls, Lent, One, Opened, StartsAgain, lent_view};
+ghost use Rattle.moo_server_core.specs.Calls.{Call, Calls, Lent, One, Opened, StartsAgain, Stopped, lent_view};
 ghost use Rattle.moo_server_core.specs.declared.server_core.ServerCore.{ServerCore};
 ghost use Rattle.moo_server.specs.Live.{live_layer};
 ghost use Rattle.moo_server.specs.declared.moo_application.MooApplication.{MooApplication};
@@ -13,23 +13,17 @@ use moo_disk::Disk;
 
 /// For every list of connections' bytes, hang-ups, moments and flush turns, in whatever calls they come, and a stop before or
 /// within any disk call, starting again reads exactly the object world that the meaning gives after some prefix of the
-/// events, one that holds every event before the last checkpoint reported done began, or, where none was, the world that
-/// was read at the start.
+/// events. This prefix holds every event up to a mark whose checkpoint was reported done in a call that has returned. If none
+/// was, starting again may read the world that was read at the start.
 ///
 /// Main then spells that world as a database text within the limits, so that `recover` and `Server::open` answer it, or that
 /// the device failed, or that memory was wanting.
 pub fn starting_again_reads_a_prefix<D: Disk, E: Disk, F: Disk>()
-    ensures { (start server end : ServerCore MooApplication) (first opened : D) (disk last : Lent D E)
-        (before after : List (Call MooApplication (Lent D E))) (entries later : List (Entry Saved)) (saved : Saved) (moment : ℕ)
-        → D.honest first → Opened live_layer D.view D.honest start first opened saved moment
-        → ((c : List ℕ) → (D.view first).may_leave c → SpellsSavedWithin c saved)
-        → Calls live_layer D.view D.honest E.view E.honest start (One opened) before server disk entries
-        → Calls live_layer D.view D.honest E.view E.honest server disk after end last later
-        → (found : F) → F.honest found
-        → (lent_view D.view E.view last).left_since (lent_view D.view E.view disk).clock (F.view found).main_text
-        → StartsAgain live_layer F.view F.honest (state_of live_layer start) saved entries later found }
+    ensures { (stopped : Stopped live_layer D.view D.honest E.view E.honest) (found : F)
+        → F.honest found → (F.view found).main_text ≡ stopped.left
+        → StartsAgain live_layer F.view F.honest (state_of live_layer stopped.start) stopped.saved stopped.entries stopped.later found }
 {
-    moo_server_core::laws::starting_again_reads_a_prefix::<MooApplication, D, E, F>();
+    moo_server_core::laws::a_stopped_server_starts_again::<MooApplication, D, E, F>();
 }
 
 /// The same of a stop at any moment since the start began, inside the start too: what was read at the start, or the world after a
@@ -51,3 +45,12 @@ pub fn starting_again_reads_a_prefix_since_the_start<D: Disk, E: Disk, F: Disk>(
         F,
     >();
 }
+
+pub use crate::disk_laws::{a_failing_disk_is_handed_on, a_stopping_disk_is_handed_on};
+pub use moo_server_core::laws::{
+    a_failing_disk_goes_on, a_refused_start_loses_nothing, a_report_comes,
+    a_report_done_is_durable, a_start_reads_a_prefix, a_start_reads_a_prefix_since_the_start,
+    a_stop_at_any_moment, a_stop_since_the_start, a_stopping_disk_goes_on,
+    all_output_is_handed_out, calls_are_one_life, lives_begin_from_marks, one_run,
+    output_may_be_taken,
+};

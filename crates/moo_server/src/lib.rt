@@ -2,6 +2,7 @@
 #![tactic(auto)]
 
 mod connected;
+mod disk_laws;
 mod happening;
 pub mod laws;
 mod lives;
@@ -11,9 +12,9 @@ pub use lives::run_lives;
 pub use moo_application::MooApplication;
 pub use moo_checkpoint::OpenFault;
 pub use moo_disk::CrashDisk;
-use moo_server_core::ServerCore;
 pub use moo_server_core::{
-    Cause, Event, Life, LifeBegin, LifeStop, LivesCause, LivesFault, Phase, RunFault,
+    Application, Cause, Event, Input, Life, LifeBegin, LifeStop, LivesCause, LivesFault, Phase,
+    Requests, RunFault, ServerCore, StartApplication,
 };
 
 /// A server over a world with its connections. The disk is lent to each run.

@@ -3,25 +3,25 @@ use Rattle.std.proofs.Common.{◌≡◌, ◌⊎◌, inl, inr, ⊎_elim, ℕ, Lis
 use Rattle.moo_disk.specs.Disk.{DiskView, Gains, KeepsMain, NoText}
 use Rattle.moo_checkpoint.specs.Checkpoint.{text_of}
 use Rattle.moo_dbtext_read.specs.Saved.{Saved, SpellsSavedWithin}
-use Rattle.moo_server_core.specs.Application.{Layer, Output, silence, then_out}
+use Rattle.moo_server_core.specs.Application.{Layer, Output, then_out}
 use Rattle.moo_server_core.specs.Traces.{Done, Trace}
-use Rattle.moo_server_core.specs.Crash.{IsOneOf, texts_of_marks, last_of, since_done, NoneDone, Survives}
+use Rattle.moo_server_core.specs.Crash.{IsOneOf, texts_of_marks, last_of, since_done, Survives}
 use Rattle.moo_server_core.specs.Meaning.{Entry, State, out_of}
 use Rattle.moo_server_core.specs.declared.server_core.Open as declared
 use Rattle.moo_server_core.specs.declared.server_core.ServerCore.{ServerCore}
 use Rattle.moo_server_core.specs.Server.{Hands, IsAlive, Lived, on_its_way, state_of, text_of_open, traces_under, waiting_of}
-use Rattle.moo_server_core.specs.Calls.{Call, Calls, HandsOn, IsCallOf, IsKept, IsRun, LeavesMarked, Lent, One, Other, StartsAgain, handed_in, lent_honest, lent_view, place_done}
+use Rattle.moo_server_core.specs.Calls.{Call, Calls, HandsOn, IsCallOf, IsKept, LeavesMarked, Lent, One, Other, StartsAgain, handed_in, lent_honest, lent_view}
 use Rattle.moo_server_core.proofs.Joining.{Texts, gains_join, gains_less, one_of_left, one_of_right, one_of_either, one_of_last}
 use Rattle.moo_server_core.proofs.Marked.{mark_at, mark_is_prefix}
 use Rattle.moo_server_core.proofs.Out.{then_silence, then_then}
-use Rattle.moo_server_core.proofs.Running.{lived_join, lived_none, lived_same}
+use Rattle.moo_server_core.proofs.Running.{done_of_one, lived_join, lived_none, lived_of, lived_same, waits_of}
 
 -- then the disk is handed on
 survives_step : {D : Type 0} (view : D → DiskView) (first mid new : D) (texts way : Texts) (ts : List Trace)
     → Gains NoText (view mid) (view new) → Survives view first mid texts way ts → Survives view first new texts way ts
 survives_step view first mid new texts way ts step survives = record {
-  gains = gains_join survives.gains (gains_less (λ c none. absurd none) step);
-  left = λ earlier c left. ⊎_elim (λ was. survives.left earlier c was) (λ none. absurd none) (step.now c left);
+  always = gains_join survives.always (gains_less (λ c none. absurd none) step);
+  in_the_end = λ c left. ⊎_elim (λ was. survives.in_the_end c was) (λ none. absurd none) (step.now c left);
   latest = survives.latest;
 }
 
@@ -58,7 +58,7 @@ module _ {S Application : Type 0} (l : Layer S Application Saved) where
     run = lived.run;
     state = lived.state;
     spelled = lived.spelled;
-    survives = λ h. let survives = lived.survives h in record { gains = survives.gains; left = survives.left; latest = survives.latest };
+    survives = λ h. let survives = lived.survives h in record { always = survives.always; in_the_end = survives.in_the_end; latest = survives.latest };
     in_time = lived.in_time;
     turns = lived.turns;
     rests = lived.rests;
@@ -139,7 +139,7 @@ module _ {S Application : Type 0} (l : Layer S Application Saved) where
     way : (o : Option declared.Open) (first disk : X) (ts : List Trace) → Survives view first disk [] (text_of_open o) ts → (c : List ℕ) → IsOneOf (text_of_open o) c → IsOneOf (since_done [] ts) c
     way None first disk ts survives c one = absurd one
     way (Some o) first disk ts survives c one =
-        one_of_last (since_done [] ts) c (subst (λ (xs : Texts). IsOneOf xs c) (sym (survives.latest [] (text_of o.checkpoint) refl)) one)
+        one_of_last (since_done [] ts) c (subst (λ (xs : Texts). IsOneOf xs c) (sym (survives.latest (text_of o.checkpoint) refl)) one)
 
     from_none : (start end : ServerCore S) (opened disk : X) (es : List (Entry Saved)) → start.writing ≡ None → honest opened
         → Lived l view honest start end opened disk es → Survives view opened disk [] (on_its_way end) (traces_under l.meaning es)
@@ -154,10 +154,10 @@ module _ {S Application : Type 0} (l : Layer S Application Saved) where
         → (c : List ℕ) → (view last).left_since (view disk).clock c → LeavesMarked l first.may_leave es es' c
     any_moment start server end first opened disk last before after es es' none kept h only_now chain chain' c left =
         ⊎_elim
-        (λ was. ⊎_elim (λ nothing. inl (nothing.0, at_first c nothing.1)) (λ one. inr (one_of_left (since_done [] ts) (texts_of_marks ts') c one)) (so_far.left [] c (only_now h' c was)))
+        (λ was. ⊎_elim (λ nothing. inl (nothing.0, at_first c nothing.1)) (λ one. inr (one_of_left (since_done [] ts) (texts_of_marks ts') c one)) (so_far.in_the_end c (only_now h' c was)))
         (λ one. ⊎_elim (λ on_way. inr (one_of_left (since_done [] ts) (texts_of_marks ts') c (way server.writing opened disk ts so_far c on_way)))
         (λ mark. inr (one_of_right (since_done [] ts) (texts_of_marks ts') c mark)) (one_of_either (on_its_way server) (texts_of_marks ts') c one))
-        (from_there.gains.since (view disk).clock c (omega arith) left)
+        (from_there.always.since (view disk).clock c (omega arith) left)
       where
         ts : List Trace
         ts = traces_under l.meaning es
@@ -185,7 +185,7 @@ module _ {S Application : Type 0} (l : Layer S Application Saved) where
         → (c : List ℕ) → (view last).left_since first.clock c → first.may_leave c ⊎ IsOneOf (texts_of_marks (traces_under l.meaning es)) c
     since_open start end first opened last calls es none kept h only_now chain c left =
         ⊎_elim (λ was. ⊎_elim (λ first_one. inl (only_now c first_one)) (λ nothing. absurd nothing) (kept.crash.since first.clock c (omega arith) was)) (λ one. inr one)
-        (lived.gains.since first.clock c kept.crash.later left)
+        (lived.always.since first.clock c kept.crash.later left)
       where
         lived : Survives view opened last [] (on_its_way end) (traces_under l.meaning es)
         lived = from_none start end opened last es none h (chain_lived calls start end opened last es chain)
@@ -202,7 +202,7 @@ module _ {S Application : Type 0} (l : Layer S Application Saved) where
         (λ nothing. record { saved = saved; spelled = spells c nothing.1; which = inl (nothing.0, refl) })
         (λ one.
         let lived = chain_join before after start server end opened disk last es es' chain chain' in
-        let found = mark_is_prefix l (state_of l start) lived.end (es ++ es') c (place_done (traces_under l.meaning es)) lived.run lived.spelled (mark_at l es es' c one) in
+        let found = mark_is_prefix l (state_of l start) lived.end es (es ++ es') c lived.run lived.spelled (mark_at l es es' c one) in
         record { saved = found.0; spelled = found.1; which = inr found.2 })
         (any_moment start server end first opened disk last before after es es' none keeps h only_now chain chain' c left)
 
@@ -218,7 +218,7 @@ module _ {S Application : Type 0} (l : Layer S Application Saved) where
         (λ first_one. record { saved = saved; spelled = spells c first_one; which = inl (tt, refl) })
         (λ one.
         let lived = chain_lived calls start end opened last es chain in
-        let found = mark_is_prefix l (state_of l start) lived.end es c 0 lived.run lived.spelled (mark_at l [] es c one) in
+        let found = mark_is_prefix l (state_of l start) lived.end [] es c lived.run lived.spelled (mark_at l [] es c one) in
         record { saved = found.0; spelled = found.1; which = inr found.2 })
         (since_open start end first opened last calls es none keeps h only_now chain c left)
 
@@ -243,7 +243,7 @@ module _ {S Application : Type 0} (l : Layer S Application Saved) where
 
         newest : (o : Option declared.Open) → Survives view opened disk [] (text_of_open o) ts → IsOneOf (text_of_open o) c → last_of (since_done [] ts) ≡ c ∷ []
         newest None survives one = absurd one
-        newest (Some o) survives (inl same_text) = survives.latest [] (text_of o.checkpoint) refl ∙ ap (λ (t : List ℕ). t ∷ []) (sym same_text)
+        newest (Some o) survives (inl same_text) = survives.latest (text_of o.checkpoint) refl ∙ ap (λ (t : List ℕ). t ∷ []) (sym same_text)
         newest (Some o) survives (inr nothing) = absurd nothing
 
   module _ {D E : Type 0} (view : D → DiskView) (honest : D → Type 0) (view' : E → DiskView) (honest' : E → Type 0) where
@@ -254,19 +254,25 @@ module _ {S Application : Type 0} (l : Layer S Application Saved) where
     went_of : (call : LentCall) (old new : Lent D E) → IsCallOf l view honest view' honest' call old new
         → Went (lent_view view view') (lent_honest honest honest') (record call { old = old; disk = new })
     went_of call (One old) (One new) run =
-        let lived = subst (λ (es : List (Entry Saved)). Lived l view honest call.before call.server old new es) run.entries run.ran.lived in
+        let lived = subst (λ (es : List (Entry Saved)). Lived l view honest call.before call.server old new es) run.entries
+        (lived_of l view honest call.before call.server old new call.events call.done run.ran) in
         record {
           lived = lived_under (lent_view view view') (lent_honest honest honest') One call.before call.server old new call.entries lived;
-          waiting = run.ran.waiting ∙ ap (λ (es : List (Entry Saved)). then_out (waiting_of l call.before) (out_of es)) run.entries;
-          durable = λ alive h entry single is_done c left. run.ran.durable alive h entry (run.entries ∙ single) is_done c left;
+          waiting = waits_of l view honest call.before call.server old new call.events call.done run.ran
+              ∙ ap (λ (es : List (Entry Saved)). then_out (waiting_of l call.before) (out_of es)) run.entries;
+          durable = λ alive h entry single is_done c left.
+              done_of_one l view honest call.before call.server old new call.events call.done run.ran alive h entry (run.entries ∙ single) is_done c left;
           honest_still = run.honest_still;
         }
     went_of call (Other old) (Other new) run =
-        let lived = subst (λ (es : List (Entry Saved)). Lived l view' honest' call.before call.server old new es) run.entries run.ran.lived in
+        let lived = subst (λ (es : List (Entry Saved)). Lived l view' honest' call.before call.server old new es) run.entries
+        (lived_of l view' honest' call.before call.server old new call.events call.done run.ran) in
         record {
           lived = lived_under (lent_view view view') (lent_honest honest honest') Other call.before call.server old new call.entries lived;
-          waiting = run.ran.waiting ∙ ap (λ (es : List (Entry Saved)). then_out (waiting_of l call.before) (out_of es)) run.entries;
-          durable = λ alive h entry single is_done c left. run.ran.durable alive h entry (run.entries ∙ single) is_done c left;
+          waiting = waits_of l view' honest' call.before call.server old new call.events call.done run.ran
+              ∙ ap (λ (es : List (Entry Saved)). then_out (waiting_of l call.before) (out_of es)) run.entries;
+          durable = λ alive h entry single is_done c left.
+              done_of_one l view' honest' call.before call.server old new call.events call.done run.ran alive h entry (run.entries ∙ single) is_done c left;
           honest_still = run.honest_still;
         }
     went_of call (One old) (Other new) run = absurd run

@@ -1,14 +1,13 @@
 -- The report of a checkpoint comes in time.
-use Rattle.std.proofs.Common.{◌≡◌, ◌≢◌, ◌⊎◌, inl, inr, ⊎_elim, ℕ, ◌+◌, ◌-◌, ◌/◌, ◌<◌, ◌≤◌, List, [], ◌∷◌, ◌++◌, length, Option, Some, None, Bool, true, false, refl, sym, ◌∙◌, ap, subst, arith}
+use Rattle.std.proofs.Common.{◌≡◌, ◌≢◌, inl, inr, ℕ, ◌+◌, ◌/◌, ◌<◌, ◌≤◌, List, [], ◌∷◌, ◌++◌, length, Option, Some, None, Bool, true, false, refl, ◌∙◌, ap, subst, arith}
 use Rattle.std.specs.Prelude.{MatchBool, ◌&&◌, ◌||◌, not, is_none, nat_le}
 use Rattle.std.specs.Option.{option_map}
-use Rattle.moo_checkpoint.specs.Checkpoint.{pieces}
 use Rattle.moo_server_core.specs.Traces.{Report, Trace}
 use Rattle.moo_server_core.specs.Turns.{IsInTime, HasReport, flush_count, flush_takes, flushes, turns_after, turns_for, turns_left_after, turns_marked, turns_unmarked}
 use Rattle.moo_server_core.specs.Courses.{is_closing, is_closed}
 use Rattle.moo_server_core.specs.Seen.{Event, Open, Bytes, Hangup, Moment, Flush}
 use Rattle.moo_server_core.specs.Application.{Layer, Meaning, Output}
-use Rattle.moo_server_core.specs.Meaning.{State, Entry, Acts, Reports, Marks, Passes, Steps, Takes, Run, is_due, is_passed_over, trace_of, traces_of}
+use Rattle.moo_server_core.specs.Meaning.{State, Entry, Acts, Reports, Marks, Passes, Steps, Takes, Run, is_passed_over, trace_of, traces_of}
 use Rattle.moo_disk.specs.Disk.{DiskView}
 use Rattle.moo_server_core.specs.declared.server_core.ServerCore.{ServerCore}
 use Rattle.moo_server_core.specs.Server.{Lived, state_of, traces_under, turns_of}
@@ -30,7 +29,7 @@ second_and false false c is = is
 
 pub in_time_behind : (left : ℕ) (es es' : List Trace) → IsInTime left (es ++ es') → IsInTime (turns_left_after left es) es'
 in_time_behind left [] es' in_time = in_time
-in_time_behind left (e ∷ es) es' in_time = in_time_behind (turns_after left e) es es' in_time.1
+in_time_behind left (e ∷ es) es' in_time = in_time_behind (turns_after left e) es es' in_time.2
 
 pub turns_behind : (left : ℕ) (es : List Trace) (e : Trace) (text : List ℕ) → e.mark ≡ Some text → turns_left_after left (es ++ e ∷ []) ≡ turns_for text
 turns_behind left [] e text is = ap (λ (m : Option (List ℕ)). turns_marked m (turns_unmarked left e.flush e.report)) is
@@ -83,7 +82,7 @@ module _ {Application Saved : Type 0} (m : Meaning Application Saved) where
       let unmarked : option_map m.text_of e.mark ≡ None = ap (option_map m.text_of) still.0 in
       let count : turns_after left trace ≡ flush_takes trace.flush left =
       ap (λ (t : Option (List ℕ)). turns_marked t (turns_unmarked left trace.flush e.report)) unmarked ∙ ap (λ (r : Option Report). turns_unmarked left trace.flush r) same in
-      inr (again (flush_takes trace.flush left) still.1 (subst (λ (k : ℕ). IsInTime k (traces_of m.text_of es)) count in_time.1) turn.0 turn.1)
+      inr (again (flush_takes trace.flush left) still.1 (subst (λ (k : ℕ). IsInTime k (traces_of m.text_of es)) count in_time.2) turn.0 turn.1)
 
   comes : (es : List (Entry Saved)) (state end : State Application) (left : ℕ) (last : Bool) → Run m state es end → state.writing ≡ Some last
       → IsInTime left (traces_of m.text_of es) → 0 < left → left ≤ flushes (traces_of m.text_of es) → HasReport (traces_of m.text_of es)

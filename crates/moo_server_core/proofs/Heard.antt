@@ -1,7 +1,6 @@
 -- What came of a happening to the sessions.
-use Rattle.std.proofs.Common.{◌≡◌, ℕ, Option, Some, Result, Ok, Err, IfErr, Bool, true, false, refl, sym, ◌∙◌, ap, subst}
+use Rattle.std.proofs.Common.{◌≡◌, Result, Ok, Err, IfErr, Bool, true, false, refl, sym, ◌∙◌, ap}
 use Rattle.std.specs.Prelude.{◌||◌, if◌then◌else◌}
-use Rattle.moo_server_core.specs.declared.event.Course.{Course}
 use Rattle.moo_server_core.specs.declared.event.Course.TheVariants.{Closing, Closed}
 use Rattle.moo_server_core.specs.declared.application.Requests.{Requests}
 use Rattle.moo_server_core.specs.declared.server_core.ServerCore.{ServerCore}

@@ -1,10 +1,9 @@
 -- Events that a running server takes: bytes for a connection that is leaving, and openings of a number that none has.
-use Rattle.std.proofs.Common.{◌≡◌, ℕ, Option, Some, None, Bool, true, false, refl, sym, ◌∙◌, ap, subst}
+use Rattle.std.proofs.Common.{◌≡◌, Some, None, Bool, true, false, refl, sym, ◌∙◌, ap, subst}
 use Rattle.std.specs.Prelude.{◌&&◌, not, if◌then◌else◌}
 use Rattle.moo_server_core.specs.Application.{Meaning}
 use Rattle.moo_server_core.specs.Courses.{is_closing}
-use Rattle.moo_server_core.specs.Seen.{Event, Open, Bytes, Hangup, Moment, Flush, is_flush, seen}
-use Rattle.moo_server_core.specs.declared.event.Cause.{Cause}
+use Rattle.moo_server_core.specs.Seen.{Event, Open, Bytes, Hangup, Moment, Flush, seen}
 use Rattle.moo_server_core.specs.declared.event.Cause.TheVariants.{ConnectionInUse}
 use Rattle.moo_server_core.specs.declared.event.Course.{Course}
 use Rattle.moo_server_core.specs.declared.event.Course.TheVariants.{Running, Closing, Closed}

@@ -1,5 +1,5 @@
 -- What a crash may leave, over events one after another.
-use Rattle.std.proofs.Common.{◌≡◌, ◌≢◌, ◌⊎◌, inl, inr, ⊎_elim, ℕ, ◌≤◌, List, [], ◌∷◌, ◌++◌, Option, Some, None, Bool, refl, sym, ◌∙◌, ap, subst, arith, append_assoc}
+use Rattle.std.proofs.Common.{◌≡◌, ◌≢◌, ◌⊎◌, inl, inr, ⊎_elim, ℕ, List, [], ◌∷◌, ◌++◌, Option, Some, None, Bool, refl, sym, ◌∙◌, ap, subst, arith, append_assoc}
 use Rattle.std.proofs.lemmas.List.{append-nil}
 use Rattle.moo_disk.specs.Disk.{DiskView, Gains}
 use Rattle.moo_server_core.specs.Traces.{Report, Done, Failed, Trace}
@@ -101,9 +101,54 @@ gains_join first second = record {
 pub gains_none : {P : List ℕ → Type 0} (disk : DiskView) → Gains P disk disk
 gains_none disk = record { later = omega arith; now = λ c left. inl left; since = λ t c le left. inl left; remembers = λ t c le left. left }
 
+-- ---- whatever texts came before
+
+last_front : (earlier texts : Texts) → (front : Texts) × (last_of (earlier ++ texts) ≡ front ++ last_of texts)
+last_front earlier [] = (last_of earlier, ap last_of (append-nil earlier) ∙ sym (append-nil (last_of earlier)))
+last_front [] (x ∷ texts) = ([], refl)
+last_front (y ∷ []) (x ∷ texts) = ([], refl)
+last_front (y ∷ z ∷ earlier) (x ∷ texts) = last_front (z ∷ earlier) (x ∷ texts)
+
+report_front : (report : Option Report) (earlier texts : Texts) → (front : Texts) × (after_report report (earlier ++ texts) ≡ front ++ after_report report texts)
+report_front None earlier texts = (earlier, refl)
+report_front (Some Done) earlier texts = last_front earlier texts
+report_front (Some Failed) earlier texts = (earlier, refl)
+
+front_of : (earlier texts : Texts) (es : List Trace) → (front : Texts) × (since_done (earlier ++ texts) es ≡ front ++ since_done texts es)
+front_of earlier texts [] = (earlier, refl)
+front_of earlier texts (e ∷ es) =
+    let first = report_front e.report earlier texts in
+    let rest = front_of first.0 (after_report e.report texts ++ only_text e.mark) es in (
+      rest.0,
+      ap (λ (l : Texts). since_done (l ++ only_text e.mark) es) first.1
+          ∙ ap (λ (l : Texts). since_done l es) (append_assoc first.0 (after_report e.report texts) (only_text e.mark)) ∙ rest.1,
+    )
+
+-- `Survives`, whatever texts came before those
+pub record SurvivesAfter {D : Type 0} (view : D → DiskView) (old new : D) (texts after : Texts) (traces : List Trace) : Type 0 where
+  pub gains : Gains (IsOneOf (texts ++ texts_of_marks traces)) (view old) (view new)
+  pub left : (earlier : Texts) (c : List ℕ) → (view new).may_leave c
+      → (NoneDone traces × (view old).may_leave c) ⊎ IsOneOf (since_done (earlier ++ texts) traces) c
+  pub latest : (earlier : Texts) (text : List ℕ) → after ≡ text ∷ [] → last_of (since_done (earlier ++ texts) traces) ≡ text ∷ []
+
+shown : {D : Type 0} (view : D → DiskView) (old new : D) (texts after : Texts) (es : List Trace) → SurvivesAfter view old new texts after es → Survives view old new texts after es
+shown view old new texts after es so = record { always = so.gains; in_the_end = λ c left. so.left [] c left; latest = λ text is. so.latest [] text is }
+
+pub over : {D : Type 0} (view : D → DiskView) (old new : D) (texts after : Texts) (es : List Trace) → Survives view old new texts after es → SurvivesAfter view old new texts after es
+over view old new texts after es survives = record {
+  gains = survives.always;
+  left = λ earlier c left.
+      let front = front_of earlier texts es in
+      ⊎_elim (λ was. inl was) (λ one. inr (subst (λ (l : Texts). IsOneOf l c) (sym front.1) (one_of_right front.0 (since_done texts es) c one))) (survives.in_the_end c left);
+  latest = λ earlier text is.
+      let front = front_of earlier texts es in
+      let split = last_split (since_done texts es) text (survives.latest text is) in
+      ap last_of (front.1 ∙ ap (λ (l : Texts). front.0 ++ l) split.1 ∙ sym (append_assoc front.0 split.0 (text ∷ []))) ∙ last_of-push (front.0 ++ split.0) text;
+}
+
 module _ {D : Type 0} (view : D → DiskView) where
   -- the texts before and after the events, where the text that is on its way between them is the last of those so far
-  split : (first mid : D) (texts between : Texts) (es : List Trace) → Survives view first mid texts between es → IsOneOrNone between
+  split : (first mid : D) (texts between : Texts) (es : List Trace) → SurvivesAfter view first mid texts between es → IsOneOrNone between
       → (earlier : Texts) → (front : Texts) × (since_done (earlier ++ texts) es ≡ front ++ between)
   split first mid texts between es survives (inl none) earlier =
       (since_done (earlier ++ texts) es, sym (append-nil (since_done (earlier ++ texts) es)) ∙ ap (λ (l : Texts). since_done (earlier ++ texts) es ++ l) (sym none))
@@ -112,9 +157,9 @@ module _ {D : Type 0} (view : D → DiskView) where
       (parts.0, parts.1 ∙ ap (λ (l : Texts). parts.0 ++ l) (sym one.1))
 
   -- events, and then events
-  pub survives_join : (first mid last : D) (texts between after : Texts) (es es' : List Trace) → IsOneOrNone between
-      → Survives view first mid texts between es → Survives view mid last between after es' → Survives view first last texts after (es ++ es')
-  survives_join first mid last texts between after es es' one_or_none survives survives' = record {
+  join : (first mid last : D) (texts between after : Texts) (es es' : List Trace) → IsOneOrNone between
+      → SurvivesAfter view first mid texts between es → SurvivesAfter view mid last between after es' → SurvivesAfter view first last texts after (es ++ es')
+  join first mid last texts between after es es' one_or_none survives survives' = record {
     gains = gains_join (gains_less so_far survives.gains) (gains_less from_there survives'.gains);
     left = ends;
     latest = λ earlier text is.
@@ -153,18 +198,18 @@ module _ {D : Type 0} (view : D → DiskView) where
 
   -- no event
   pub survives_none : (disk : D) (texts : Texts) → Survives view disk disk texts texts []
-  survives_none disk texts = record {
+  survives_none disk texts = shown view disk disk texts texts [] (record {
     gains = gains_none (view disk);
     left = λ earlier c left. inl (tt, left);
     latest = λ earlier text is. ap last_of (ap (λ (l : Texts). earlier ++ l) is) ∙ last_of-push earlier text;
-  }
+  })
 
   -- one event: first its report, then its mark
   one' : (old new : D) (texts told after : Texts) (flush : Bool) (report : Option Report) (mark : Option (List ℕ)) → IsOneOrNone texts
       → Gains (IsOneOf texts) (view old) (view new) → (report ≡ Some Done → (c : List ℕ) → (view new).may_leave c → IsOneOf texts c)
       → (report ≡ None → told ≡ texts) → (report ≢ None → told ≡ []) → (mark ≡ None → after ≡ told)
       → ((saved : List ℕ) → mark ≡ Some saved → after ≡ saved ∷ [])
-      → Survives view old new texts after (record { flush = flush; report = report; mark = mark } ∷ [])
+      → SurvivesAfter view old new texts after (record { flush = flush; report = report; mark = mark } ∷ [])
   one' old new texts told after flush report mark one_or_none gains done unreported reported unmarked marked = record {
     gains = gains_less (λ c one. one_of_left texts _ c one) gains;
     left = λ earlier c left. ends report done earlier c left;
@@ -200,4 +245,11 @@ module _ {D : Type 0} (view : D → DiskView) where
       → ((saved : List ℕ) → e.mark ≡ Some saved → after ≡ saved ∷ [])
       → Survives view old new texts after (e ∷ [])
   survives_one old new texts told after e one_or_none gains done unreported reported unmarked marked =
-      one' old new texts told after e.flush e.report e.mark one_or_none gains done unreported reported unmarked marked
+      shown view old new texts after (e ∷ [])
+      (one' old new texts told after e.flush e.report e.mark one_or_none gains done unreported reported unmarked marked)
+
+  pub survives_join : (first mid last : D) (texts between after : Texts) (es es' : List Trace) → IsOneOrNone between
+      → Survives view first mid texts between es → Survives view mid last between after es' → Survives view first last texts after (es ++ es')
+  survives_join first mid last texts between after es es' one_or_none survives survives' =
+      shown view first last texts after (es ++ es')
+      (join first mid last texts between after es es' one_or_none (over view first mid texts between es survives) (over view mid last between after es' survives'))

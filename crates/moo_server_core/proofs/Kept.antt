@@ -7,10 +7,10 @@ use Rattle.moo_server_core.specs.Application.{Layer}
 use Rattle.moo_server_core.specs.Traces.{Trace}
 use Rattle.moo_server_core.specs.Crash.{Survives, since_done}
 use Rattle.moo_server_core.specs.Meaning.{Entry}
-use Rattle.moo_server_core.specs.Server.{Lived, on_its_way, state_of, text_of_open, traces_under}
-use Rattle.moo_server_core.specs.Calls.{place_done}
+use Rattle.moo_server_core.specs.Server.{Lived, done_of, on_its_way, state_of, text_of_open, traces_under}
 use Rattle.moo_server_core.proofs.Joining.{Texts, one_of_left}
-use Rattle.moo_server_core.proofs.Marked.{IsMarkAt, mark_at, mark_is_prefix}
+use Rattle.moo_server_core.proofs.Running.{lived_of}
+use Rattle.moo_server_core.proofs.Marked.{IsMarkAt, mark_at, mark_is_prefix, place_done}
 use Rattle.moo_server_core.specs.declared.life.LifeStop.{LifeStop}
 use Rattle.moo_server_core.specs.declared.life.LifeStop.TheVariants.{Crash, ServerOnly}
 use Rattle.moo_server_core.specs.Lives.{IsLife, IsStopped, LifeRun, Lives}
@@ -36,15 +36,16 @@ module _ {S Application D : Type 0} (l : Layer S Application Saved) (view : D �
       → (ReportsNone l run × (view run.old).may_leave c) ⊎ ((saved : Saved) × l.meaning.Spells c saved × IsMarked l run saved)
   left_by run h is c left =
       ⊎_elim (λ was. inl (was.0, at_first was.1))
-      (λ one. inr (mark_is_prefix l (state_of l run.start) lived.end run.entries c (place_done traces) lived.run lived.spelled
+      (λ one. inr (mark_is_prefix l (state_of l run.start) lived.end run.entries run.entries c lived.run lived.spelled
       (subst (λ (es : List (Entry Saved)). IsMarkAt l es c (place_done traces)) (append-nil run.entries) (mark_at l run.entries [] c (one_of_left (since_done [] traces) [] c one)))))
-      (survives.left [] c left)
+      (survives.in_the_end c left)
     where
       traces : List Trace
       traces = traces_under l.meaning run.entries
 
       lived : Lived l view honest run.start run.end run.opened run.new run.entries
-      lived = subst (λ (es : List (Entry Saved)). Lived l view honest run.start run.end run.opened run.new es) is.entries is.runs.ran.lived
+      lived = subst (λ (es : List (Entry Saved)). Lived l view honest run.start run.end run.opened run.new es) is.entries
+          (lived_of l view honest run.start run.end run.opened run.new run.events (done_of run.result) is.runs.ran)
 
       at_first : (view run.opened).may_leave c → (view run.old).may_leave c
       at_first left' = ⊎_elim (λ was. was) (λ none. absurd none) ((is.opened.main h).crash.now c left')
@@ -99,13 +100,15 @@ module _ {S Application D : Type 0} (l : Layer S Application Saved) (view : D �
       → BeginFromKept l earlier runs
   begin_from_kept reads earlier [] disk last texts left behind all = tt
   begin_from_kept reads [] (run ∷ runs) disk last texts left behind all =
-      begin_from_kept reads (run ∷ []) runs all.7 last all.5 left
-      (behind_more [] run all.7 (subst (λ (d : D). IsBehind [] d) (sym all.0) behind) all.3 all.4 all.2 all.8) all.9
+      let one = all.2 in
+      begin_from_kept reads (run ∷ []) runs all.1 last all.0 left
+      (behind_more [] run all.1 (subst (λ (d : D). IsBehind [] d) (sym one.begins_over) behind) one.honest_then one.lived one.begins_from one.ends) all.3
   begin_from_kept reads (before ∷ earlier) (run ∷ runs) disk last texts left behind all =
-      let behind' = subst (λ (d : D). IsBehind (before ∷ earlier) d) (sym all.0) behind in
-      let found = behind'.1 (view run.old).main_text (reads run.old all.3) in
-      let is = all.4 in
-      let same : found.0 ≡ run.saved = is.opened.only all.3 found.0 found.1 in (
+      let one = all.2 in
+      let behind' = subst (λ (d : D). IsBehind (before ∷ earlier) d) (sym one.begins_over) behind in
+      let found = behind'.1 (view run.old).main_text (reads run.old one.honest_then) in
+      let same : found.0 ≡ run.saved = one.lived.opened.only one.honest_then found.0 found.1 in (
         subst (λ (s : Saved). IsKeptIn l (before ∷ earlier) s) same found.2,
-        begin_from_kept reads (run ∷ before ∷ earlier) runs all.7 last all.5 left (behind_more (before ∷ earlier) run all.7 behind' all.3 all.4 all.2 all.8) all.9,
+        begin_from_kept reads (run ∷ before ∷ earlier) runs all.1 last all.0 left
+            (behind_more (before ∷ earlier) run all.1 behind' one.honest_then one.lived one.begins_from one.ends) all.3,
       )

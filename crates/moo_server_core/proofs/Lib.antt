@@ -9,5 +9,5 @@ pub mod Joining
 pub mod Marked
 mod Out
 mod Reported
-mod Running
+pub mod Running
 mod Taken

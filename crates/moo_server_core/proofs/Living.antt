@@ -1,5 +1,5 @@
 -- Lives, one after another.
-use Rattle.std.proofs.Common.{◌≡◌, ◌⊎◌, ◌↔◌, ◌<◌, ◌≤◌, IsOk, inl, inr, ⊎_elim, ℕ, List, [], ◌∷◌, ◌++◌, length, Option, Some, None, Result, Ok, Err, refl, sym, ◌∙◌, ap, subst, arith}
+use Rattle.std.proofs.Common.{◌≡◌, ◌↔◌, ◌<◌, ◌≤◌, IsOk, inl, inr, ⊎_elim, ℕ, List, [], ◌∷◌, ◌++◌, length, Option, Some, None, Result, Ok, Err, refl, sym, ◌∙◌, ap, subst}
 use Rattle.std.specs.Prelude.{IfErr, IfOk, slice_get}
 use Rattle.std.proofs.lemmas.Bool.{cases_lt}
 use Rattle.std.proofs.lemmas.List.{append-nil}
@@ -13,8 +13,9 @@ use Rattle.moo_server_core.specs.Meaning.{Entry, trace_of}
 use Rattle.moo_server_core.specs.declared.event.Event as given
 use Rattle.moo_server_core.specs.declared.event.RunFault.{RunFault}
 use Rattle.moo_server_core.specs.declared.server_core.ServerCore.{ServerCore}
-use Rattle.moo_server_core.specs.Server.{IsAlive, Lived, MarkSpells, MarksSpell, on_its_way, text_of_open, traces_under}
-use Rattle.moo_server_core.proofs.Joining.{Texts, keeps_all, no_others, one_of_either}
+use Rattle.moo_server_core.specs.Server.{IsAlive, Lived, MarkSpells, MarksSpell, done_of, on_its_way, text_of_open, traces_under}
+use Rattle.moo_server_core.proofs.Joining.{Texts, keeps_all, no_others, one_of_either, over}
+use Rattle.moo_server_core.proofs.Running.{lived_of}
 use Rattle.moo_server_core.specs.declared.life.Life.{Life}
 use Rattle.moo_server_core.specs.declared.life.LifeBegin.{LifeBegin}
 use Rattle.moo_server_core.specs.declared.life.LifeStop.{LifeStop}
@@ -65,19 +66,17 @@ module _ {S Application : Type 0} (l : Layer S Application Saved) where
         → IsLeft run.stop (since_done left (traces_under l.meaning run.entries)) after → IsStopped view honest images run.stop run.new new
         → Lives l view honest failures images disk texts (runs ++ run ∷ []) after new
     lives_push disk texts left after [] run last new same old_is one spells h is goes stopped =
-        subst (λ (ts : Texts). Lives l view honest failures images disk ts (run ∷ []) after new) same.0
-        (old_is ∙ same.1, one, spells, h, is, after, goes, new, stopped, (refl, refl))
+        subst (λ (ts : Texts). Lives l view honest failures images disk ts (run ∷ []) after new) same.0 (
+          after,
+          new,
+          record { begins_over = old_is ∙ same.1; honest_then = h; reads = one; begins_from = spells; lived = is; leaves = goes; ends = stopped },
+          (refl, refl),
+        )
     lives_push disk texts left after (r ∷ runs) run last new all old_is one spells h is goes stopped = (
       all.0,
       all.1,
       all.2,
-      all.3,
-      all.4,
-      all.5,
-      all.6,
-      all.7,
-      all.8,
-      lives_push all.7 all.5 left after runs run last new all.9 old_is one spells h is goes stopped,
+      lives_push all.1 all.0 left after runs run last new all.3 old_is one spells h is goes stopped,
     )
 
     -- the events of a life, from the texts before it on
@@ -85,7 +84,8 @@ module _ {S Application : Type 0} (l : Layer S Application Saved) where
     traces_in run = traces_under l.meaning run.entries
 
     lived_in : (run : LifeRun S D) → IsLife l view honest failures run → Lived l view honest run.start run.end run.opened run.new run.entries
-    lived_in run is = subst (λ (es : List (Entry Saved)). Lived l view honest run.start run.end run.opened run.new es) is.entries is.runs.ran.lived
+    lived_in run is = subst (λ (es : List (Entry Saved)). Lived l view honest run.start run.end run.opened run.new es) is.entries
+        (lived_of l view honest run.start run.end run.opened run.new run.events (done_of run.result) is.runs.ran)
 
     -- what a crash leaves behind a life
     after_life : (run : LifeRun S D) (texts : Texts) → honest run.old → IsLife l view honest failures run → ((c : List ℕ) → (view run.old).may_leave c → IsOneOf texts c)
@@ -93,7 +93,7 @@ module _ {S Application : Type 0} (l : Layer S Application Saved) where
     after_life run texts h is within c left =
         ⊎_elim (λ was. keeps_all texts traces c was.0 (within c (at_first was.1)))
         (λ one. subst (λ (ts : Texts). IsOneOf (since_done ts traces) c) (append-nil texts) one)
-        (survives.left texts c left)
+        ((over view run.opened run.new [] (on_its_way run.end) traces survives).left texts c left)
       where
         traces : List Trace
         traces = traces_under l.meaning run.entries

@@ -1,17 +1,94 @@
 -- Where marks stand among events, and the worlds that they mark.
-use Rattle.std.proofs.Common.{◌≡◌, ◌≢◌, ◌⊎◌, inl, inr, ⊎_elim, ℕ, ◌+◌, ◌≤◌, List, [], ◌∷◌, ◌++◌, length, Option, Some, None, Bool, true, false, refl, sym, ◌∙◌, ap, subst, arith, append_assoc}
+use Rattle.std.proofs.Common.{◌≡◌, ◌≢◌, inl, inr, ⊎_elim, ℕ, ◌+◌, ◌≤◌, List, [], ◌∷◌, ◌++◌, length, Option, Some, None, Bool, true, false, refl, sym, ◌∙◌, ap, subst, arith, append_assoc}
 use Rattle.std.specs.Prelude.{MatchBool}
 use Rattle.std.specs.Option.{option_map}
 use Rattle.moo_server_core.specs.Traces.{Report, Done, Failed, Trace}
-use Rattle.moo_server_core.specs.Crash.{IsOneOf, only_text, texts_of_marks, last_of, after_report, since_done, NoneDone, Survives}
+use Rattle.moo_server_core.specs.Crash.{IsDoneNext, IsOneOf, only_text, texts_of_marks, last_of, after_report, since_done}
 use Rattle.moo_server_core.specs.Application.{Layer}
 use Rattle.moo_server_core.specs.Meaning.{State, Entry, Marks, Passes, Steps, Takes, Run, is_passed_over, trace_of}
 use Rattle.moo_dbtext_read.specs.Saved.{Saved}
-use Rattle.moo_server_core.specs.declared.server_core.ServerCore.{ServerCore}
 use Rattle.moo_server_core.specs.Server.{MarkSpells, MarksSpell, traces_under}
-use Rattle.moo_server_core.specs.Calls.{IsPrefix, place_done, place_from, place_marked, place_reported}
+use Rattle.moo_server_core.specs.Calls.{IsPrefix}
 use Rattle.moo_server_core.proofs.Joining.{Texts, one_of_either, last_of-push}
-use Rattle.moo_server_core.proofs.Running.{run_join}
+use Rattle.moo_server_core.proofs.Running.{traces-append}
+
+-- ---- the event that a text's mark stands in, counted from 1, and 0 for the start
+
+-- the place of the last mark so far
+abbrev pub place_marked : Option (List ℕ) → ℕ → ℕ → ℕ
+place_marked None here at = at
+place_marked (Some text) here at = here
+
+-- the place of the mark of the last report done so far
+abbrev pub place_reported : Option Report → ℕ → ℕ → ℕ
+place_reported None at done = done
+place_reported (Some Done) at done = at
+place_reported (Some report) at done = done
+
+-- the place of the mark of the last report done, behind so many events, the last mark of which stands at that place
+abbrev pub place_from : ℕ → ℕ → ℕ → List Trace → ℕ
+place_from count at done [] = done
+place_from count at done (trace ∷ traces) =
+    place_from (count + 1) (place_marked trace.mark (count + 1) at) (place_reported trace.report at done) traces
+
+-- the place of the mark of the last report done, 0 for none
+abbrev pub place_done : List Trace → ℕ
+place_done traces = place_from 0 0 0 traces
+
+mark_rises : (mark : Option (List ℕ)) (count at : ℕ) → at ≤ count → (at ≤ place_marked mark (count + 1) at) × (place_marked mark (count + 1) at ≤ count + 1)
+mark_rises None count at le = (omega arith, omega (arith, le))
+mark_rises (Some text) count at le = (omega (arith, le), omega arith)
+
+mark_here : (mark : Option (List ℕ)) (here at : ℕ) → mark ≢ None → place_marked mark here at ≡ here
+mark_here None here at some = absurd (some refl)
+mark_here (Some text) here at some = refl
+
+report_rises : (report : Option Report) (at done : ℕ) → done ≤ at → (done ≤ place_reported report at done) × (place_reported report at done ≤ at)
+report_rises None at done le = (omega arith, le)
+report_rises (Some Done) at done le = (le, omega arith)
+report_rises (Some Failed) at done le = (omega arith, le)
+
+-- no later event sets it back
+place_rises : (ts : List Trace) (count at done : ℕ) → done ≤ at → at ≤ count → done ≤ place_from count at done ts
+place_rises [] count at done le within = omega arith
+place_rises (t ∷ ts) count at done le within =
+    let m = mark_rises t.mark count at within in
+    let r = report_rises t.report at done le in
+    let rest = place_rises ts (count + 1) (place_marked t.mark (count + 1) at) (place_reported t.report at done) (omega (arith, r.1, m.0)) m.1 in
+    omega (arith, r.0, rest)
+
+-- if the next report says done, it is the last mark's place or a later one
+done_counts : (ts : List Trace) (count at done : ℕ) → done ≤ at → at ≤ count → IsDoneNext ts → at ≤ place_from count at done ts
+done_counts [] count at done le within next = absurd next
+done_counts (t ∷ ts) count at done le within next =
+    ⊎_elim
+    (λ is.
+    let same : place_reported t.report at done ≡ at = ap (λ (r : Option Report). place_reported r at done) is in
+    let rest = place_rises ts (count + 1) (place_marked t.mark (count + 1) at) (place_reported t.report at done) (omega (arith, same, m.0)) m.1 in
+    omega (arith, same, rest))
+    (λ later.
+    let same : place_reported t.report at done ≡ done = ap (λ (r : Option Report). place_reported r at done) later.0 in
+    let rest = done_counts ts (count + 1) (place_marked t.mark (count + 1) at) (place_reported t.report at done) (omega (arith, same, le, m.0)) m.1 later.1 in
+    omega (arith, m.0, rest))
+    next
+  where
+    m : (at ≤ place_marked t.mark (count + 1) at) × (place_marked t.mark (count + 1) at ≤ count + 1)
+    m = mark_rises t.mark count at within
+
+-- the place of a mark whose next report says done
+place_at : (front ts : List Trace) (e : Trace) (count at done : ℕ) → done ≤ at → at ≤ count → e.mark ≢ None → IsDoneNext ts
+    → count + length front + 1 ≤ place_from count at done (front ++ e ∷ ts)
+place_at [] ts e count at done le within some next =
+    let m = mark_rises e.mark count at within in
+    let r = report_rises e.report at done le in
+    let here = mark_here e.mark (count + 1) at some in
+    let rest = done_counts ts (count + 1) (place_marked e.mark (count + 1) at) (place_reported e.report at done) (omega (arith, r.1, m.0)) m.1 next in
+    omega (arith, here, rest)
+place_at (f ∷ front) ts e count at done le within some next =
+    let m = mark_rises f.mark count at within in
+    let r = report_rises f.report at done le in
+    let rest = place_at front ts e (count + 1) (place_marked f.mark (count + 1) at) (place_reported f.report at done) (omega (arith, r.1, m.0)) m.1 some next in
+    omega (arith, rest)
 
 -- ---- where a mark stands
 
@@ -182,15 +259,33 @@ module _ {S Application : Type 0} (l : Layer S Application Saved) where
   spelled_at [] e rest saved all is = subst (λ (m : Option Saved). MarkSpells l.meaning m) is all.0
   spelled_at (f ∷ es) e rest saved all is = spelled_at es e rest saved all.1 is
 
+  traces_length : (xs : List (Entry Saved)) → length (traces_under l.meaning xs) ≡ length xs
+  traces_length [] = refl
+  traces_length (x ∷ xs) = let rest = traces_length xs in omega (arith, rest)
+
+  mapped : (mark : Option Saved) → mark ≢ None → option_map l.meaning.text_of mark ≢ None
+  mapped None some is = some refl
+  mapped (Some saved) some is = cc
+
   -- a mark is the world after a prefix
-  pub mark_is_prefix : (start end : State Application) (entries : List (Entry Saved)) (c : List ℕ) (n : ℕ) → Run l.meaning start entries end → MarksSpell l.meaning entries → IsMarkAt entries c n
-      → (saved : Saved) × l.meaning.Spells c saved × IsPrefix l start n entries saved
-  mark_is_prefix start end entries c n run spelled at = of_mark at.last.mark refl
+  pub mark_is_prefix : (start end : State Application) (returned entries : List (Entry Saved)) (c : List ℕ) → Run l.meaning start entries end → MarksSpell l.meaning entries
+      → IsMarkAt entries c (place_done (traces_under l.meaning returned))
+      → (saved : Saved) × l.meaning.Spells c saved × IsPrefix l start returned entries saved
+  mark_is_prefix start end returned entries c run spelled at = of_mark at.last.mark refl
     where
+      -- the mark isn't before one whose next report in `returned` says done
+      holds : (front behind : List (Entry Saved)) (e : Entry Saved) → returned ≡ front ++ e ∷ behind → e.mark ≢ None → IsDoneNext (traces_under l.meaning behind)
+          → length front ≤ length at.prefix
+      holds front behind e is some next =
+          let place = place_at (traces_under l.meaning front) (traces_under l.meaning behind) (trace_of l.meaning.text_of e) 0 0 0 (omega arith) (omega arith) (mapped e.mark some) next in
+          let same : place_done (traces_under l.meaning returned) ≡ place_done (traces_under l.meaning front ++ trace_of l.meaning.text_of e ∷ traces_under l.meaning behind) =
+          ap (λ (es : List (Entry Saved)). place_done (traces_under l.meaning es)) is ∙ ap place_done (traces-append l front (e ∷ behind)) in
+          omega (arith, place, same, at.enough, traces_length front)
+
       parts : (mid : State Application) × Run l.meaning start (at.prefix ++ at.last ∷ []) mid × Run l.meaning mid at.rest end
       parts = run_split (at.prefix ++ at.last ∷ []) at.rest start end (subst (λ (es : List (Entry Saved)). Run l.meaning start es end) at.all_is run)
 
-      of_mark : (mark : Option Saved) → at.last.mark ≡ mark → (saved : Saved) × l.meaning.Spells c saved × IsPrefix l start n entries saved
+      of_mark : (mark : Option Saved) → at.last.mark ≡ mark → (saved : Saved) × l.meaning.Spells c saved × IsPrefix l start returned entries saved
       of_mark None is = let none : option_map l.meaning.text_of at.last.mark ≡ None = ap (option_map l.meaning.text_of) is in absurd (cc (none, at.marked))
       of_mark (Some saved) is =
           let text : Some (l.meaning.text_of saved) ≡ Some c = sym (ap (option_map l.meaning.text_of) is) ∙ at.marked in
@@ -207,6 +302,6 @@ module _ {S Application : Type 0} (l : Layer S Application Saved) where
               marked = is;
               run = parts.1;
               world = takes_mark' (is_passed_over l.meaning taken.0 at.last.event) taken.0 parts.0 at.last saved taken.1.takes is;
-              enough = at.enough;
+              enough = holds;
             },
           )

@@ -1,18 +1,18 @@
 -- The report of a checkpoint.
-use Rattle.std.proofs.Common.{◌≡◌, ◌≢◌, ◌↔◌, ℕ, List, Option, Some, None, Result, Ok, Err, OnOk, Bool, refl, sym, ◌∙◌, ap, subst, inl}
+use Rattle.std.proofs.Common.{◌≡◌, ◌↔◌, ℕ, List, Option, Some, None, Result, Ok, Err, OnOk, Bool, refl, sym, ◌∙◌, ap, subst, inl}
 use Rattle.std.specs.Prelude.{if◌then◌else◌}
 use Rattle.moo_disk.specs.Disk.{DiskView, LeavesOnly}
-use Rattle.moo_checkpoint.specs.Checkpoint.{text_of}
+use Rattle.moo_checkpoint.specs.Checkpoint.{text_of, turns_left}
 use Rattle.moo_checkpoint.proofs.TurnLemmas.{continues_within, fresh_continues}
 use Rattle.moo_server_core.specs.declared.event.Course.TheVariants.{Closed}
 use Rattle.moo_server_core.specs.declared.server_core.Open.{Open}
 use Rattle.moo_server_core.specs.declared.server_core.ServerCore.{ServerCore}
-use Rattle.moo_server_core.specs.Traces.{Report, Done, Failed}
+use Rattle.moo_server_core.specs.Traces.{Report, Done}
 use Rattle.moo_server_core.specs.Crash.{IsOneOf}
 use Rattle.moo_server_core.specs.Turns.{CountsReport}
 use Rattle.moo_server_core.specs.Application.{Finishes, Layer, Meaning, Output, then_out}
 use Rattle.moo_server_core.specs.Meaning.{Hears, State, is_done}
-use Rattle.moo_server_core.specs.Server.{OpenFollows, Opens, Turns, is_last_of, state_of, text_of_open, under_way_of}
+use Rattle.moo_server_core.specs.Server.{OpenFollows, Opens, Turns, is_last_of, state_of, text_of_open, turns_of, under_way_of}
 
 pub on_ok_map : {T E P Q : Type 0} (result : Result T E) → (P → Q) → OnOk result P → OnOk result Q
 on_ok_map (Ok x) f p = f p
@@ -39,12 +39,12 @@ module _ {S Application Saved : Type 0} (l : Layer S Application Saved) {D : Typ
   -- a turn that ended the checkpoint, and what `checkpoint_finished` did
   pub turns : (before after : ServerCore S) (taken : Option Open) (o : Open) (old new : D) (report : Report)
       → before.writing ≡ Some o → taken ≡ None → after.writing ≡ taken
-      → (report ≡ Done → honest old → LeavesOnly (text_of o.checkpoint) (view new)) → CountsReport (Some report) (failures old) (failures new)
+      → (report ≡ Done → honest old → LeavesOnly (text_of o.checkpoint) (view new)) → (report ≡ Done → turns_left o.checkpoint ≡ 1) → CountsReport (Some report) (failures old) (failures new)
       → ((out : Output) × (mid : State Application) × Hears l.meaning (Finishes (is_done report)) (state_of l (record before { writing = taken })) out mid
       × (state_of l after ≡ record mid { course = if o.is_last then Closed else mid.course }) × (under_way_of l after ≡ then_out (under_way_of l before) out))
       → (r : Option Report) × (out : Output) × Turns l.meaning view honest failures (state_of l before) (state_of l after) before.writing after.writing old new r out
       × (under_way_of l after ≡ then_out (under_way_of l before) out)
-  turns before after taken o old new report was none left done counts h = (
+  turns before after taken o old new report was none left done last counts h = (
     Some report,
     h.0,
     record {
@@ -53,6 +53,7 @@ module _ {S Application Saved : Type 0} (l : Layer S Application Saved) {D : Typ
       one_less = λ is. absurd (cc);
       reported = λ _. left ∙ none;
       done = λ is h' c left'. subst (λ (texts : List (List ℕ)). IsOneOf texts c) (sym (ap text_of_open was)) (inl (done (some_is is) h' c left'));
+      last = λ is. ap turns_of was ∙ last (some_is is);
       counts = counts;
     },
     h.4,

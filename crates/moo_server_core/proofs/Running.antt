@@ -1,37 +1,31 @@
 -- A run, event by event.
-use Rattle.std.proofs.Common.{◌≡◌, ◌≢◌, ◌⊎◌, inl, inr, ⊎_elim, ℕ, ◌+◌, ◌<◌, ◌≤◌, List, [], ◌∷◌, ◌++◌, length, get_or, take, map, Option, Some, None, Result, Ok, Err, Bool, true, false, refl, sym, ◌∙◌, ap, subst, arith}
-use Rattle.std.specs.Prelude.{slice_get, nat_lt, if◌then◌else◌}
+use Rattle.std.proofs.Common.{◌≡◌, ◌≢◌, ◌⊎◌, inl, inr, ⊎_elim, ℕ, ◌+◌, ◌<◌, ◌≤◌, List, [], ◌∷◌, ◌++◌, length, get_or, take, map, Option, Some, Ok, Err, Bool, true, false, refl, sym, ◌∙◌, ap, subst, arith}
+use Rattle.std.specs.Prelude.{slice_get}
 use Rattle.std.proofs.lemmas.List.{append-nil, map-append, map_more, take_all}
 use Rattle.std.proofs.lemmas.Option.{slice_get-get_or}
-use Rattle.moo_disk.specs.Disk.{DiskView, Gains, HasRisen}
-use Rattle.moo_checkpoint.specs.Checkpoint.{text_of}
-use Rattle.moo_server_core.specs.Traces.{Report, Done, Failed, Trace}
+use Rattle.moo_disk.specs.Disk.{DiskView, Gains}
+use Rattle.moo_server_core.specs.Traces.{Done, Trace}
 use Rattle.moo_server_core.specs.Crash.{IsOneOf, Survives}
-use Rattle.moo_server_core.specs.Turns.{CountsReport, Fails, IsInTime, turns_after, turns_left_after}
-use Rattle.moo_server_core.specs.Seen.{Event, seen}
-use Rattle.moo_server_core.specs.Seen as see
-use Rattle.moo_server_core.specs.Application.{Layer, Meaning, Output, silence, then_out}
-use Rattle.moo_server_core.specs.Meaning.{State, Entry, Takes, Run, MayWant, out_of, refusal, refusal_in, trace_of, traces_of}
+use Rattle.moo_server_core.specs.Turns.{CountsReport, FailsAtMostOnce, IsInTime, turns_after, turns_left_after}
+use Rattle.moo_server_core.specs.Seen.{Event, Flush, seen}
+use Rattle.moo_server_core.specs.Application.{Layer, Output, then_out}
+use Rattle.moo_server_core.specs.Meaning.{State, Entry, Run, MayWant, out_of, refusal, trace_of}
 use Rattle.moo_server_core.specs.declared.event.Event as given
 use Rattle.moo_server_core.specs.declared.event.Cause.{Cause}
 use Rattle.moo_server_core.specs.declared.event.Cause.TheVariants.{NoSuchConnection, ConnectionInUse, ClockBack, Memory}
 use Rattle.moo_server_core.specs.declared.event.Cause.TheVariants.{Halted as halted_cause, Closed as closed_cause}
-use Rattle.moo_server_core.specs.declared.event.Course.{Course}
-use Rattle.moo_server_core.specs.declared.event.Course.TheVariants.{Running, Closing, Closed}
-use Rattle.moo_server_core.specs.declared.server_core.Open as declared
 use Rattle.moo_server_core.specs.declared.server_core.ServerCore.{ServerCore}
-use Rattle.moo_server_core.specs.declared.event.RunFault.{RunFault}
-use Rattle.moo_server_core.specs.Server.{Does, Failing, HasCause, IsAlive, Lived, MarksSpell, Ran, Refuses, Runs, Same, on_its_way, state_of, text_of_open, traces_under, turns_of, waiting_of}
-use Rattle.moo_server_core.proofs.Joining.{Texts, survives_none, survives_join, gains_none, gains_less, one_of_left, one_of_right, one_of_last}
+use Rattle.moo_server_core.specs.Server.{Does, DoesTo, EachDoes, FailsAsReported, Halts, HasCause, IsAlive, Lived, MarksSpell, Ran, Runs, Same, TakenEvent, entries_of, is_refused, on_its_way, state_of, text_of_open, traces_under, turns_of, waiting_of, wants_memory, was_halted}
+use Rattle.moo_server_core.proofs.Joining.{Texts, survives_none, survives_join, gains_less, one_of_left}
 use Rattle.moo_server_core.proofs.Taken.{one_or_none}
 use Rattle.moo_server_core.proofs.Out.{then_silence, then_then}
 
 -- a turn in an event that halts the server
 pub survives_halt : {D : Type 0} (view : D → DiskView) (old new : D) (texts : Texts) → Gains (IsOneOf texts) (view old) (view new) → Survives view old new texts [] []
 survives_halt view old new texts gains = record {
-  gains = gains_less (λ c one. one_of_left texts [] c one) gains;
-  left = λ earlier c left. ⊎_elim (λ was. inl (tt, was)) (λ one. inr (one_of_right earlier texts c one)) (gains.now c left);
-  latest = λ earlier text is. absurd (cc);
+  always = gains_less (λ c one. one_of_left texts [] c one) gains;
+  in_the_end = λ c left. ⊎_elim (λ was. inl (tt, was)) (λ one. inr one) (gains.now c left);
+  latest = λ text is. absurd (cc);
 }
 
 pub true_or_false : (b : Bool) → (b ≡ true) ⊎ (b ≡ false)
@@ -44,31 +38,11 @@ not_both b is isnt = cc
 
 in_time-append : (left : ℕ) (es es' : List Trace) → IsInTime left es → IsInTime (turns_left_after left es) es' → IsInTime left (es ++ es')
 in_time-append left [] es' in_time next = next
-in_time-append left (f ∷ es) es' in_time next = (in_time.0, in_time-append (turns_after left f) es es' in_time.1 next)
+in_time-append left (f ∷ es) es' in_time next = (in_time.0, in_time.1, in_time-append (turns_after left f) es es' in_time.2 next)
 
 turns-append : (left : ℕ) (es es' : List Trace) → turns_left_after left (es ++ es') ≡ turns_left_after (turns_left_after left es) es'
 turns-append left [] es' = refl
 turns-append left (f ∷ es) es' = turns-append (turns_after left f) es es'
-
-pub fails-append : (before mid now : ℕ) (es es' : List Trace) → Fails before es mid → Fails mid es' now → Fails before (es ++ es') now
-fails-append before mid now [] es' fails fails' = subst (λ (n : ℕ). Fails n es' now) fails fails'
-fails-append before mid now (f ∷ es) es' fails fails' = (fails.0, fails.1, fails-append fails.0 mid now es es' fails.2 fails')
-
-one_more : {A : Type 0} (es : List A) (e entry : A) → es ++ e ∷ [] ≡ entry ∷ [] → (es ≡ []) × (e ≡ entry)
-one_more [] e entry is = (refl, cc)
-one_more (f ∷ []) e entry is = absurd (cc)
-one_more (f ∷ g ∷ es) e entry is = absurd (cc)
-
-out-append : {Saved : Type 0} (es : List (Entry Saved)) (e : Entry Saved) → out_of (es ++ e ∷ []) ≡ then_out (out_of es) e.out
-out-append [] e = then_silence e.out
-out-append (f ∷ es) e = ap (λ (o : Output). then_out f.out o) (out-append es e) ∙ sym (then_then f.out (out_of es) e.out)
-
--- where no event was taken, the text on its way is that of before
-same_way : {D : Type 0} (view : D → DiskView) (first mid : D) (texts : Texts) (o : Option declared.Open) → Survives view first mid texts (text_of_open o) []
-    → (c : List ℕ) → IsOneOf (text_of_open o) c → IsOneOf texts c
-same_way view first mid texts None survives c one = absurd one
-same_way view first mid texts (Some o) survives c one =
-    one_of_last texts c (subst (λ (l : Texts). IsOneOf l c) (sym (survives.latest [] (text_of o.checkpoint) refl)) one)
 
 module _ {S Application Saved : Type 0} (l : Layer S Application Saved) where
   marks-append : (es es' : List (Entry Saved)) → MarksSpell l.meaning es → MarksSpell l.meaning es' → MarksSpell l.meaning (es ++ es')
@@ -153,175 +127,177 @@ module _ {S Application Saved : Type 0} (l : Layer S Application Saved) where
       rests = λ was. let rests = lived.rests was in (rests.0, same.halted ∙ rests.1);
     }
 
-    -- what is known of an event that was taken
-    abbrev pub Took : (D → ℕ) → ServerCore S → ServerCore S → D → D → Event → Type 0
-    Took failures mid after between new event = (entry : Entry Saved) × (entry.event ≡ event)
-        × Does l.meaning view honest failures (state_of l mid) (state_of l after) mid.writing after.writing between new entry
-        × (waiting_of l after ≡ then_out (waiting_of l mid) entry.out) × IsAlive after
-
-    lived_one : (failures : D → ℕ) (mid after : ServerCore S) (between new : D) (entry : Entry Saved) → IsAlive mid
-        → Does l.meaning view honest failures (state_of l mid) (state_of l after) mid.writing after.writing between new entry
-        → Lived l view honest mid after between new (entry ∷ [])
-    lived_one failures mid after between new entry alive does = record {
-      end = state_of l after;
-      run = (state_of l after, does.takes, refl);
-      state = λ _. refl;
-      spelled = (does.spelled, tt);
-      survives = does.survives;
-      in_time = does.in_time;
-      turns = λ _. does.turns;
-      rests = λ halted. absurd (not_both mid.halted halted alive);
-    }
+    -- one event
+    lived_one : (before : ServerCore S) (old : D) (one : TakenEvent S Saved D) → DoesTo l view honest before old one
+        → Lived l view honest before one.server old one.disk (one.entry ∷ [])
+    lived_one before old one does_to =
+        let does = does_to.does in
+        record {
+          end = state_of l one.server;
+          run = (state_of l one.server, does.takes, refl);
+          state = λ _. refl;
+          spelled = (does.spelled, tt);
+          survives = does.survives;
+          in_time = does.in_time;
+          turns = λ _. does.turns;
+          rests = λ halted. absurd (not_both before.halted halted does_to.alive_before);
+        }
 
     -- an event that halts the server
-    lived_halt : (before mid after : ServerCore S) (old between new : D) (es : List (Entry Saved)) → IsAlive mid → after.halted ≡ true → (honest old → honest between)
-        → (honest between → Survives view between new (on_its_way mid) (on_its_way after) [])
-        → Lived l view honest before mid old between es → Lived l view honest before after old new es
-    lived_halt before mid after old between new es alive halted keeps survives lived = record {
+    lived_halt : (before mid after : ServerCore S) (old between new : D) (es : List (Entry Saved)) → (honest old → honest between)
+        → Halts l view honest mid after between new → Lived l view honest before mid old between es → Lived l view honest before after old new es
+    lived_halt before mid after old between new es keeps halts lived = record {
       end = lived.end;
       run = lived.run;
-      state = λ alive'. absurd (not_both after.halted halted alive');
+      state = λ alive. absurd (not_both after.halted halts.halted alive);
       spelled = lived.spelled;
       survives = λ h. subst (λ (ts : List Trace). Survives view old new (on_its_way before) (on_its_way after) ts) (append-nil (traces_under l.meaning es))
           (survives_join view old between new (on_its_way before) (on_its_way mid) (on_its_way after) (traces_under l.meaning es) [] (one_or_none mid.writing)
-          (lived.survives h) (survives (keeps h)));
+          (lived.survives h) (halts.survives (keeps h)));
       in_time = lived.in_time;
-      turns = λ alive'. absurd (not_both after.halted halted alive');
-      rests = λ was. absurd (not_both mid.halted ((lived.rests was).1) alive);
+      turns = λ alive. absurd (not_both after.halted halts.halted alive);
+      rests = λ was. absurd (not_both mid.halted ((lived.rests was).1) halts.alive_before);
     }
 
-    pub ran_none : (server : ServerCore S) (disk : D) (events : List given.Event) → Ran l view honest server server disk disk events 0
-    ran_none server disk events = record {
-      entries = [];
-      events_are = refl;
-      lived = lived_none server disk;
-      waiting = sym (then_silence (waiting_of l server));
-      durable = λ alive h entry is. absurd (cc);
-    }
+    -- ---- events, one after another
+
+    honest_each : (taken : List (TakenEvent S Saved D)) (before after : ServerCore S) (old new : D) → EachDoes l view honest before old taken after new → honest old → honest new
+    honest_each [] before after old new each h = subst honest (sym each.1) h
+    honest_each (one ∷ taken) before after old new each h = honest_each taken one.server after one.disk new each.1 (each.0.honest_still h)
+
+    lived_each : (taken : List (TakenEvent S Saved D)) (before after : ServerCore S) (old new : D) → EachDoes l view honest before old taken after new
+        → Lived l view honest before after old new (entries_of taken)
+    lived_each [] before after old new each =
+        subst (λ (s : ServerCore S). Lived l view honest before s old new []) (sym each.0)
+        (subst (λ (d : D). Lived l view honest before before old d []) (sym each.1) (lived_none before old))
+    lived_each (one ∷ taken) before after old new each =
+        lived_join before one.server after old one.disk new (one.entry ∷ []) (entries_of taken) each.0.honest_still
+        (lived_one before old one each.0) (lived_each taken one.server after one.disk new each.1)
+
+    waits_each : (taken : List (TakenEvent S Saved D)) (before after : ServerCore S) (old new : D) → EachDoes l view honest before old taken after new
+        → waiting_of l after ≡ then_out (waiting_of l before) (out_of (entries_of taken))
+    waits_each [] before after old new each = ap (λ (s : ServerCore S). waiting_of l s) each.0 ∙ sym (then_silence (waiting_of l before))
+    waits_each (one ∷ taken) before after old new each =
+        waits_each taken one.server after one.disk new each.1 ∙ ap (λ (o : Output). then_out o (out_of (entries_of taken))) each.0.waiting
+        ∙ then_then (waiting_of l before) one.entry.out (out_of (entries_of taken))
+
+    done_each : (taken : List (TakenEvent S Saved D)) (before after : ServerCore S) (old new : D) → EachDoes l view honest before old taken after new → honest old
+        → (entry : Entry Saved) → entries_of taken ≡ entry ∷ [] → entry.report ≡ Some Done
+        → (c : List ℕ) → (view new).may_leave c → IsOneOf (on_its_way before) c
+    done_each [] before after old new each h entry is done_is c left = absurd (cc)
+    done_each (one ∷ []) before after old new each h entry is done_is c left =
+        let same : one.entry ≡ entry = cc in
+        each.0.does.done h (ap (λ (e : Entry Saved). e.report) same ∙ done_is) c (subst (λ (d : D). (view d).may_leave c) each.1.1 left)
+    done_each (one ∷ other ∷ taken) before after old new each h entry is done_is c left = absurd (cc)
+
+    -- ---- a run
+
+    -- a run's events are one life
+    pub lived_of : (before after : ServerCore S) (old new : D) (events : List given.Event) (done : ℕ) → (ran : Ran l view honest before after old new events done)
+        → Lived l view honest before after old new (entries_of ran.taken)
+    lived_of before after old new events done ran =
+        ⊎_elim
+        (λ same. subst (λ (s : ServerCore S). Lived l view honest before s old new (entries_of ran.taken)) (sym same.0)
+        (subst (λ (d : D). Lived l view honest before ran.reached old d (entries_of ran.taken)) (sym same.1) so_far))
+        (λ halts. lived_halt before ran.reached after old ran.disk new (entries_of ran.taken)
+        (honest_each ran.taken before ran.reached old ran.disk ran.each) halts so_far)
+        ran.ends
+      where
+        so_far : Lived l view honest before ran.reached old ran.disk (entries_of ran.taken)
+        so_far = lived_each ran.taken before ran.reached old ran.disk ran.each
+
+    -- what its events sent waits
+    pub waits_of : (before after : ServerCore S) (old new : D) (events : List given.Event) (done : ℕ) → (ran : Ran l view honest before after old new events done)
+        → waiting_of l after ≡ then_out (waiting_of l before) (out_of (entries_of ran.taken))
+    waits_of before after old new events done ran =
+        ⊎_elim (λ same. ap (λ (s : ServerCore S). waiting_of l s) same.0) (λ halts. halts.waiting) ran.ends
+        ∙ waits_each ran.taken before ran.reached old ran.disk ran.each
+
+    -- after a report done in a run of one event, a crash leaves that checkpoint's text alone
+    pub done_of_one : (before after : ServerCore S) (old new : D) (events : List given.Event) (done : ℕ) → (ran : Ran l view honest before after old new events done)
+        → IsAlive after → honest old → (entry : Entry Saved) → entries_of ran.taken ≡ entry ∷ [] → entry.report ≡ Some Done
+        → (c : List ℕ) → (view new).may_leave c → IsOneOf (on_its_way before) c
+    done_of_one before after old new events done ran alive h entry is done_is c left =
+        ⊎_elim
+        (λ same. done_each ran.taken before ran.reached old ran.disk ran.each h entry is done_is c (subst (λ (d : D). (view d).may_leave c) same.1 left))
+        (λ halts. absurd (not_both after.halted halts.halted alive))
+        ran.ends
 
     -- one event more
-    pub ran_more : (failures : D → ℕ) (before mid after : ServerCore S) (old between new : D) (events : List given.Event) (done : ℕ) (d : given.Event) → done < length events → d ≡ get_or events done d
-        → (honest old → honest between) → IsAlive mid → Ran l view honest before mid old between events done
-        → Took failures mid after between new (seen d) → Ran l view honest before after old new events (done + 1)
-    ran_more failures before mid after old between new events done d lt event_is keeps alive ran took =
-        let entry = took.0 in
-        let does = took.2 in
-        record {
-          entries = ran.entries ++ entry ∷ [];
-          events_are = map-append (λ (e : Entry Saved). e.event) ran.entries (entry ∷ []) ∙ (λ i. ran.events_are i ++ (took.1 ∙ ap seen event_is) i ∷ []) ∙ sym (map_more seen events done d lt);
-          lived = lived_join before mid after old between new ran.entries (entry ∷ []) keeps ran.lived (lived_one failures mid after between new entry alive does);
-          waiting = took.3 ∙ ap (λ (o : Output). then_out o entry.out) ran.waiting ∙ then_then (waiting_of l before) (out_of ran.entries) entry.out
-              ∙ ap (λ (o : Output). then_out (waiting_of l before) o) (sym (out-append ran.entries entry));
-          durable = λ _ h single is done_is c left.
-              let parts = one_more ran.entries entry single is in
-              let none = subst (λ (es : List (Entry Saved)). Survives view old between (on_its_way before) (on_its_way mid) (traces_under l.meaning es)) parts.0 (ran.lived.survives h) in
-              same_way view old between (on_its_way before) mid.writing none c (does.done (keeps h) (ap (λ (e : Entry Saved). e.report) parts.1 ∙ done_is) c left);
-        }
-
-    -- all of them
-    pub ran_all : (before after : ServerCore S) (old new : D) (events : List given.Event) (done : ℕ) → length events ≤ done
-        → Ran l view honest before after old new events done → Ran l view honest before after old new events (length events)
-    ran_all before after old new events done le ran = record {
-      entries = ran.entries;
-      events_are = ran.events_are ∙ ap (map seen) (take_all done events le ∙ sym (take_all (length events) events (omega arith)));
-      lived = ran.lived;
-      waiting = ran.waiting;
-      durable = ran.durable;
-    }
-
-    ran_halts : (before mid after : ServerCore S) (old between new : D) (events : List given.Event) (done : ℕ)
-        → (honest old → honest between) → IsAlive mid → after.halted ≡ true → waiting_of l after ≡ waiting_of l mid
-        → (honest between → Survives view between new (on_its_way mid) (on_its_way after) [])
-        → Ran l view honest before mid old between events done → Ran l view honest before after old new events done
-    ran_halts before mid after old between new events done keeps alive halted waits survives ran = record {
-      entries = ran.entries;
-      events_are = ran.events_are;
-      lived = lived_halt before mid after old between new ran.entries alive halted keeps survives ran.lived;
-      waiting = waits ∙ ran.waiting;
-      durable = λ alive'. absurd (not_both after.halted halted alive');
-    }
-
-    -- the counts of a run that goes on
-    abbrev pub Counted : (D → ℕ) → D → D → List (Entry Saved) → Type 0
-    Counted failures old new entries = Fails (failures old) (traces_under l.meaning entries) (failures new)
-
-    pub counted_more : (failures : D → ℕ) (old between new : D) (es : List (Entry Saved)) (entry : Entry Saved)
-        → Counted failures old between es → CountsReport entry.report (failures between) (failures new) → Counted failures old new (es ++ entry ∷ [])
-    counted_more failures old between new es entry counted counts =
-        subst (λ (ts : List Trace). Fails (failures old) ts (failures new)) (sym (traces-append es (entry ∷ [])))
-        (fails-append (failures old) (failures between) (failures new) (traces_under l.meaning es) (traces_under l.meaning (entry ∷ [])) counted
-        (failures new, counts, refl))
-
-    pub failing_all : (failures : D → ℕ) (old new : D) (es : List (Entry Saved)) (Alive : Type 0) → Counted failures old new es
-        → Failing (failures old) (traces_under l.meaning es) (failures new) Alive
-    failing_all failures old new es Alive counted = record { reported = failures new; fails = counted; all = λ _. refl; no_fewer = omega arith }
-
-    failing_halts : (failures : D → ℕ) (old between new : D) (es : List (Entry Saved)) (halted : Bool) → halted ≡ true → failures between ≤ failures new
-        → Counted failures old between es → Failing (failures old) (traces_under l.meaning es) (failures new) (halted ≡ false)
-    failing_halts failures old between new es halted is no_fewer counted =
-        record { reported = failures between; fails = counted; all = λ alive. absurd (not_both halted is alive); no_fewer = no_fewer }
-
-    -- a run so far, with its counts
-    abbrev pub RanSo : (D → ℕ) → ServerCore S → ServerCore S → D → D → List given.Event → ℕ → Type 0
-    RanSo failures before after old new events done =
-        (ran : Ran l view honest before after old new events done) × Counted failures old new ran.entries
-
-    pub so_none : (failures : D → ℕ) (server : ServerCore S) (disk : D) (events : List given.Event) → RanSo failures server server disk disk events 0
-    unfolding ran_none
-    so_none failures server disk events = (ran_none server disk events, refl)
-
-    pub so_more : (failures : D → ℕ) (before mid after : ServerCore S) (old between new : D) (events : List given.Event) (done : ℕ) (d : given.Event) → done < length events → d ≡ get_or events done d
-        → (honest old → honest between) → IsAlive mid → RanSo failures before mid old between events done
-        → Took failures mid after between new (seen d) → RanSo failures before after old new events (done + 1)
-    unfolding ran_more
-    so_more failures before mid after old between new events done d lt event_is keeps alive so took = (
-      ran_more failures before mid after old between new events done d lt event_is keeps alive so.0 took,
-      counted_more failures old between new so.0.entries took.0 so.1 took.2.counts,
+    each_more : (taken : List (TakenEvent S Saved D)) (before mid : ServerCore S) (old between : D) (one : TakenEvent S Saved D) → EachDoes l view honest before old taken mid between
+        → DoesTo l view honest mid between one → EachDoes l view honest before old (taken ++ one ∷ []) one.server one.disk
+    each_more [] before mid old between one each does = (
+      subst (λ (s : ServerCore S). DoesTo l view honest s old one) each.0 (subst (λ (d : D). DoesTo l view honest mid d one) each.1 does),
+      (refl, refl),
     )
+    each_more (first ∷ taken) before mid old between one each does = (each.0, each_more taken first.server mid first.disk between one each.1 does)
+
+    fails_more : (failures : D → ℕ) (taken : List (TakenEvent S Saved D)) (before mid : ServerCore S) (old between : D) (one : TakenEvent S Saved D) → EachDoes l view honest before old taken mid between
+        → FailsAsReported failures old taken → CountsReport one.entry.report (failures between) (failures one.disk) → FailsAsReported failures old (taken ++ one ∷ [])
+    fails_more failures [] before mid old between one each fails counts =
+        (subst (λ (d : D). CountsReport one.entry.report (failures d) (failures one.disk)) each.1 counts, tt)
+    fails_more failures (first ∷ taken) before mid old between one each fails counts =
+        (fails.0, fails_more failures taken first.server mid first.disk between one each.1 fails.1 counts)
+
+    -- a run so far
+    pub record Goes (failures : D → ℕ) (before after : ServerCore S) (old new : D) (events : List given.Event) (done : ℕ) : Type 0 where
+      pub taken : List (TakenEvent S Saved D)
+      pub events_are : map (λ entry. entry.event) (entries_of taken) ≡ map seen (take done events)
+      pub each : EachDoes l view honest before old taken after new
+      pub fails : FailsAsReported failures old taken
+
+    -- what is known of an event that was taken
+    abbrev pub Took : (D → ℕ) → ServerCore S → ServerCore S → D → D → Event → Type 0
+    Took failures mid after between new event = (entry : Entry Saved) × (entry.event ≡ event)
+        × Does l.meaning view honest (state_of l mid) (state_of l after) mid.writing after.writing between new entry
+        × CountsReport entry.report (failures between) (failures new)
+        × (waiting_of l after ≡ then_out (waiting_of l mid) entry.out) × IsAlive after
+
+    pub goes_none : (failures : D → ℕ) (server : ServerCore S) (disk : D) (events : List given.Event) → Goes failures server server disk disk events 0
+    goes_none failures server disk events = record { taken = []; events_are = refl; each = (refl, refl); fails = tt }
+
+    pub goes_more : (failures : D → ℕ) (before mid after : ServerCore S) (old between new : D) (events : List given.Event) (done : ℕ) (d : given.Event) → done < length events → d ≡ get_or events done d
+        → IsAlive mid → (seen d ≢ Flush → new ≡ between) → (honest between → honest new) → Goes failures before mid old between events done
+        → Took failures mid after between new (seen d) → Goes failures before after old new events (done + 1)
+    goes_more failures before mid after old between new events done d lt event_is alive still keeps goes took =
+        let one : TakenEvent S Saved D = record { entry = took.0; server = after; disk = new } in
+        record {
+          taken = goes.taken ++ one ∷ [];
+          events_are = ap (map (λ (e : Entry Saved). e.event)) (map-append (λ (t : TakenEvent S Saved D). t.entry) goes.taken (one ∷ []))
+              ∙ map-append (λ (e : Entry Saved). e.event) (entries_of goes.taken) (one.entry ∷ []) ∙ (λ i. goes.events_are i ++ (took.1 ∙ ap seen event_is) i ∷ []) ∙ sym (map_more seen events done d lt);
+          each = each_more goes.taken before mid old between one goes.each
+              (record { alive_before = alive; alive_after = took.5; does = took.2; waiting = took.4; still = λ other. still (λ flush. other (took.1 ∙ flush)); honest_still = keeps });
+          fails = fails_more failures goes.taken before mid old between one goes.each goes.fails took.3;
+        }
 
     -- all events were taken
     pub runs_all : (failures : D → ℕ) (before after : ServerCore S) (old new : D) (events : List given.Event) (done : ℕ) → length events ≤ done
-        → RanSo failures before after old new events done → Runs l view honest failures before after old new events (Ok (length events))
-    unfolding ran_all
-    runs_all failures before after old new events done le so = record {
-      ran = ran_all before after old new events done le so.0;
-      fails = failing_all failures old new so.0.entries (IsAlive after) so.1;
+        → Goes failures before after old new events done → Runs l view honest failures before after old new events (Ok (length events))
+    runs_all failures before after old new events done le goes = record {
+      ran = record {
+        taken = goes.taken;
+        events_are = goes.events_are ∙ ap (map seen) (take_all done events le ∙ sym (take_all (length events) events (omega arith)));
+        reached = after;
+        disk = new;
+        each = goes.each;
+        ends = inl (refl, refl);
+      };
+      fails = goes.fails;
+      at_most_once = inl refl;
+      still = λ event is other. refl;
       refused = tt;
     }
 
     -- a halted server takes none
     pub runs_halted : (failures : D → ℕ) (server : ServerCore S) (disk : D) (events : List given.Event) → server.halted ≡ true
         → Runs l view honest failures server server disk disk events (Err (record { done = 0; cause = halted_cause }))
-    unfolding ran_none
     runs_halted failures server disk events halted = record {
-      ran = ran_none server disk events;
-      fails = failing_all failures disk disk [] (IsAlive server) refl;
-      refused = halted;
+      ran = record { taken = []; events_are = refl; reached = server; disk = disk; each = (refl, refl); ends = inl (refl, refl) };
+      fails = tt;
+      at_most_once = inl refl;
+      still = λ event is other. refl;
+      refused = was_halted (slice_get events 0) halted;
     }
-
-  if_not : (b : Bool) (x y z : Option Cause) → x ≢ z → y ≢ z → (if b then x else y) ≢ z
-  if_not true x y z one other is = one is
-  if_not false x y z one other is = other is
-
-  -- no event is refused for being halted
-  pub refusal_not_halted : (course : Course) (now : ℕ) (sessions : Application) (event : Event) → refusal_in l.meaning course now sessions event ≢ Some halted_cause
-  refusal_not_halted Closed now sessions event is = cc
-  refusal_not_halted Closing now sessions event is = cc
-  refusal_not_halted Running now sessions (see.Open c) is = if_not (l.meaning.is_open sessions c) (Some ConnectionInUse) None (Some halted_cause) (λ e. cc) (λ e. cc) is
-  refusal_not_halted Running now sessions (see.Bytes c piece) is = if_not (l.meaning.is_open sessions c) None (Some NoSuchConnection) (Some halted_cause) (λ e. cc) (λ e. cc) is
-  refusal_not_halted Running now sessions (see.Hangup c) is = if_not (l.meaning.is_open sessions c) None (Some NoSuchConnection) (Some halted_cause) (λ e. cc) (λ e. cc) is
-  refusal_not_halted Running now sessions (see.Moment moment) is = if_not (nat_lt moment now) (Some ClockBack) None (Some halted_cause) (λ e. cc) (λ e. cc) is
-  refusal_not_halted Running now sessions see.Flush is = cc
-
-  -- nor for want of memory
-  pub refusal_not_memory : (course : Course) (now : ℕ) (sessions : Application) (event : Event) → refusal_in l.meaning course now sessions event ≢ Some Memory
-  refusal_not_memory Closed now sessions event is = cc
-  refusal_not_memory Closing now sessions event is = cc
-  refusal_not_memory Running now sessions (see.Open c) is = if_not (l.meaning.is_open sessions c) (Some ConnectionInUse) None (Some Memory) (λ e. cc) (λ e. cc) is
-  refusal_not_memory Running now sessions (see.Bytes c piece) is = if_not (l.meaning.is_open sessions c) None (Some NoSuchConnection) (Some Memory) (λ e. cc) (λ e. cc) is
-  refusal_not_memory Running now sessions (see.Hangup c) is = if_not (l.meaning.is_open sessions c) None (Some NoSuchConnection) (Some Memory) (λ e. cc) (λ e. cc) is
-  refusal_not_memory Running now sessions (see.Moment moment) is = if_not (nat_lt moment now) (Some ClockBack) None (Some Memory) (λ e. cc) (λ e. cc) is
-  refusal_not_memory Running now sessions see.Flush is = cc
 
   module _ {D : Type 0} (view : D → DiskView) (honest : D → Type 0) (failures : D → ℕ) (before mid after : ServerCore S) (old between new : D) (events : List given.Event) (done : ℕ) (d : given.Event) where
     -- a run that ends before its last event
@@ -330,36 +306,29 @@ module _ {S Application Saved : Type 0} (l : Layer S Application Saved) where
 
     -- a refused event leaves the run as it was, and a halt all that a crash may leave
     pub run_stops : (cause : Cause) → done < length events → d ≡ get_or events done d → IsAlive before → IsAlive mid
-        → (honest old → honest between) → failures between ≤ failures new
+        → FailsAtMostOnce (failures between) (failures new) → (seen d ≢ Flush → new ≡ between)
         → (cause ≡ Memory → (after.halted ≡ true) × (waiting_of l after ≡ waiting_of l mid)
         × (honest between → Survives view between new (on_its_way mid) (on_its_way after) []))
         → (cause ≡ Memory → MayWant l.meaning (state_of l mid) (seen d))
         → (cause ≢ Memory → (refusal l.meaning (state_of l mid) (seen d) ≡ Some cause) × (after ≡ mid) × (new ≡ between))
-        → RanSo view honest failures before mid old between events done → Ends cause
-    unfolding ran_halts lived_halt
-    run_stops cause lt event_is began alive keeps no_fewer memory wanting other so = by_cause cause memory wanting other
+        → Goes view honest failures before mid old between events done → Ends cause
+    run_stops cause lt event_is began alive at_most_once still memory wanting other goes = by_cause cause memory wanting other
       where
-        ran : Ran l view honest before mid old between events done
-        ran = so.0
-
         next : slice_get events done ≡ Some d
         next = slice_get-get_or events done d lt ∙ ap Some (sym event_is)
 
-        end_is : state_of l mid ≡ ran.lived.end
-        end_is = ran.lived.state alive
+        ended : (cause : Cause) → ((after ≡ mid) × (new ≡ between)) ⊎ Halts l view honest mid after between new → HasCause l before mid after (Some d) cause → Ends cause
+        ended cause ends has = record {
+          ran = record { taken = goes.taken; events_are = goes.events_are; reached = mid; disk = between; each = goes.each; ends = ends };
+          fails = goes.fails;
+          at_most_once = at_most_once;
+          still = λ event is other'. still (λ flush. other' (ap seen (let same : event ≡ d = cc (next, is) in same) ∙ flush));
+          refused = subst (λ (e : Option given.Event). HasCause l before mid after e cause) (sym next) has;
+        }
 
-        at_next : (cause : Cause) (now : ServerCore S) → HasCause l cause ran.lived.end before now (Some d) → HasCause l cause ran.lived.end before now (slice_get events done)
-        at_next cause now has = subst (HasCause l cause ran.lived.end before now) (sym next) has
-
-        same : (cause : Cause) → HasCause l cause ran.lived.end before mid (Some d) → after ≡ mid → new ≡ between → Ends cause
-        same cause has after_is new_is =
-            subst (λ (s : ServerCore S). Runs l view honest failures before s old new events (Err (record { done = done; cause = cause }))) (sym after_is)
-            (subst (λ (n : D). Runs l view honest failures before mid old n events (Err (record { done = done; cause = cause }))) (sym new_is)
-            (record { ran = ran; fails = failing_all view honest failures old between so.0.entries (IsAlive mid) so.1; refused = at_next cause mid has }))
-
-        refused : (cause : Cause) → refusal l.meaning (state_of l mid) (seen d) ≡ Some cause
-            → IsAlive before × IsAlive mid × (refusal l.meaning ran.lived.end (seen d) ≡ Some cause)
-        refused cause is = (began, alive, subst (λ (s : State Application). refusal l.meaning s (seen d) ≡ Some cause) end_is is)
+        refused : (cause : Cause) → (refusal l.meaning (state_of l mid) (seen d) ≡ Some cause) × (after ≡ mid) × (new ≡ between) → Ends cause
+        refused cause facts =
+            ended cause (inl (facts.1, facts.2)) (is_refused d cause began (ap (λ (s : ServerCore S). s.halted) facts.1 ∙ alive) facts.0)
 
         by_cause : (cause : Cause) → (cause ≡ Memory → (after.halted ≡ true) × (waiting_of l after ≡ waiting_of l mid)
             × (honest between → Survives view between new (on_its_way mid) (on_its_way after) []))
@@ -368,14 +337,10 @@ module _ {S Application Saved : Type 0} (l : Layer S Application Saved) where
             → Ends cause
         by_cause Memory memory wanting other =
             let facts = memory refl in
-            let wants = subst (λ (s : State Application). MayWant l.meaning s (seen d)) end_is (wanting refl) in
-            record {
-              ran = ran_halts view honest before mid after old between new events done keeps alive facts.0 facts.1 facts.2 ran;
-              fails = failing_halts view honest failures old between new so.0.entries after.halted facts.0 no_fewer so.1;
-              refused = at_next Memory after (began, facts.0, wants);
-            }
-        by_cause halted_cause memory wanting other = absurd (refusal_not_halted mid.course mid.moment (l.state mid.sessions) (seen d) (other (λ is. cc)).0)
-        by_cause NoSuchConnection memory wanting other = let facts = other (λ is. cc) in same NoSuchConnection (refused NoSuchConnection facts.0) facts.1 facts.2
-        by_cause ConnectionInUse memory wanting other = let facts = other (λ is. cc) in same ConnectionInUse (refused ConnectionInUse facts.0) facts.1 facts.2
-        by_cause ClockBack memory wanting other = let facts = other (λ is. cc) in same ClockBack (refused ClockBack facts.0) facts.1 facts.2
-        by_cause closed_cause memory wanting other = let facts = other (λ is. cc) in same closed_cause (refused closed_cause facts.0) facts.1 facts.2
+            ended Memory (inr (record { alive_before = alive; halted = facts.0; waiting = facts.1; survives = facts.2 }))
+            (wants_memory d began facts.0 (wanting refl))
+        by_cause halted_cause memory wanting other = refused halted_cause (other (λ is. cc))
+        by_cause NoSuchConnection memory wanting other = refused NoSuchConnection (other (λ is. cc))
+        by_cause ConnectionInUse memory wanting other = refused ConnectionInUse (other (λ is. cc))
+        by_cause ClockBack memory wanting other = refused ClockBack (other (λ is. cc))
+        by_cause closed_cause memory wanting other = refused closed_cause (other (λ is. cc))

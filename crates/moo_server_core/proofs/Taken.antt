@@ -1,12 +1,12 @@
 -- One event, from its parts: its own effect or a turn of the open checkpoint, and then a mark.
-use Rattle.std.proofs.Common.{◌≡◌, ◌≢◌, inl, inr, ℕ, ◌-◌, ◌≤◌, List, [], ◌∷◌, Option, Some, None, Bool, true, false, refl, sym, ◌∙◌, ap, subst, arith}
+use Rattle.std.proofs.Common.{◌≡◌, ◌≢◌, inl, inr, ℕ, List, [], ◌∷◌, Option, Some, None, Bool, true, false, refl, sym, ◌∙◌, ap, subst}
 use Rattle.std.specs.Prelude.{MatchBool, ◌&&◌, not}
 use Rattle.std.specs.Option.{option_map}
 use Rattle.moo_disk.specs.Disk.{DiskView, Gains}
 use Rattle.moo_checkpoint.specs.Checkpoint.{text_of}
-use Rattle.moo_server_core.specs.Traces.{Report, Done, Failed, Trace}
-use Rattle.moo_server_core.specs.Crash.{IsOneOf, Survives}
-use Rattle.moo_server_core.specs.Turns.{CountsReport, flush_takes, turns_unmarked, turns_marked}
+use Rattle.moo_server_core.specs.Traces.{Report, Done}
+use Rattle.moo_server_core.specs.Crash.{IsOneOf}
+use Rattle.moo_server_core.specs.Turns.{flush_takes, turns_unmarked, turns_marked}
 use Rattle.moo_server_core.specs.Courses.{is_closing}
 use Rattle.moo_server_core.specs.Seen.{Event, Open, Bytes, Hangup, Moment, Flush, is_flush}
 use Rattle.moo_server_core.specs.Application.{Meaning, Output, silence, then_out}
@@ -41,6 +41,7 @@ unmarked_turns (Some report) flush left mid one_less closed = closed (λ is. cc)
 pub record Counted (was mid : Option declared.Open) (flush : Bool) (report : Option Report) : Type 0 where
   pub one_less : report ≡ None → turns_of mid ≡ flush_takes flush (turns_of was)
   pub not_last : report ≡ None → flush ≡ true → turns_of was ≢ 1
+  pub last : report ≡ Some Done → turns_of was ≡ 1
   pub closed : report ≢ None → turns_of mid ≡ 0
 
 module _ {Application Saved : Type 0} (m : Meaning Application Saved) where
@@ -59,7 +60,7 @@ module _ {Application Saved : Type 0} (m : Meaning Application Saved) where
   opens_turns None old new opens = ap turns_of opens
   opens_turns (Some saved) old new opens = ap turns_of opens.1 ∙ opens.4
 
-  module _ {D : Type 0} (view : D → DiskView) (honest : D → Type 0) (failures : D → ℕ) where
+  module _ {D : Type 0} (view : D → DiskView) (honest : D → Type 0) where
     -- an event from its parts
     pub taken : (before reported after : State Application) (was mid is : Option declared.Open) (old new : D) (entry : Entry Saved)
         → Takes m before entry after
@@ -67,17 +68,15 @@ module _ {Application Saved : Type 0} (m : Meaning Application Saved) where
         → (honest old → Gains (IsOneOf (text_of_open was)) (view old) (view new))
         → (entry.report ≡ Some Done → honest old → (c : List ℕ) → (view new).may_leave c → IsOneOf (text_of_open was) c)
         → (entry.report ≡ None → text_of_open mid ≡ text_of_open was) → (entry.report ≢ None → text_of_open mid ≡ [])
-        → CountsReport entry.report (failures old) (failures new)
         → Counted was mid (is_flush entry.event) entry.report
-        → Does m view honest failures before after was is old new entry
-    taken before reported after was mid is old new entry takes opens spelled gains done unreported reported_none counts counted = record {
+        → Does m view honest before after was is old new entry
+    taken before reported after was mid is old new entry takes opens spelled gains done unreported reported_none counted = record {
       takes = takes;
       spelled = spelled;
       survives = λ h. survives_one view old new (text_of_open was) (text_of_open mid) (text_of_open is) (trace_of m.text_of entry)
           (one_or_none was) (gains h) (λ done_is. done done_is h) unreported reported_none (opens_none entry.mark mid is opens) (opens_some entry.mark mid is opens);
       done = λ h done_is. done done_is h;
-      counts = counts;
-      in_time = ((λ one flush none. counted.not_last none flush one), tt);
+      in_time = ((λ one flush none. counted.not_last none flush one), counted.last, tt);
       turns = opens_turns entry.mark mid is opens
           ∙ ap (turns_marked (option_map m.text_of entry.mark))
           (unmarked_turns entry.report (is_flush entry.event) (turns_of was) (turns_of mid) counted.one_less counted.closed);
@@ -94,40 +93,41 @@ module _ {Application Saved : Type 0} (m : Meaning Application Saved) where
     }
 
     -- a `Flush`
-    pub flushed : (before mid_state after : State Application) (was mid is : Option declared.Open) (old new : D) (report : Option Report) (mark : Option Saved) (finished started : Output)
+    pub flushed : (failures : D → ℕ) (before mid_state after : State Application) (was mid is : Option declared.Open) (old new : D) (report : Option Report) (mark : Option Saved) (finished started : Output)
         → refusal m before Flush ≡ None → is_passed_over m before Flush ≡ false
         → Turns m view honest failures before mid_state was mid old new report finished
         → Marks m mark mid_state started after → Opens m mark mid is → MarkSpells m mark
         → (honest old → Gains (IsOneOf (text_of_open was)) (view old) (view new))
-        → Does m view honest failures before after was is old new (record { event = Flush; report = report; mark = mark; out = then_out finished started })
-    flushed before mid_state after was mid is old new report mark finished started accepted counts turns marks opens spelled gains =
+        → Does m view honest before after was is old new (record { event = Flush; report = report; mark = mark; out = then_out finished started })
+    flushed failures before mid_state after was mid is old new report mark finished started accepted counts turns marks opens spelled gains =
         let entry : Entry Saved = record { event = Flush; report = report; mark = mark; out = then_out finished started } in
         taken before mid_state after was mid is old new entry
         (takes_steps before before mid_state after entry silence finished started accepted counts (refl, refl) turns.reports marks refl)
-        opens spelled gains turns.done turns.unreported (λ some. ap text_of_open (turns.reported some)) turns.counts
-        (record { one_less = λ none. (turns.one_less none).0; not_last = λ none flush. (turns.one_less none).1; closed = λ some. ap turns_of (turns.reported some) })
+        opens spelled gains turns.done turns.unreported (λ some. ap text_of_open (turns.reported some))
+        (record { one_less = λ none. (turns.one_less none).0; not_last = λ none flush. (turns.one_less none).1; last = turns.last; closed = λ some. ap turns_of (turns.reported some) })
 
     -- another event
     pub acted : (before mid_state after : State Application) (was mid is : Option declared.Open) (old : D) (event : Event) (mark : Option Saved) (own started : Output)
         → is_flush event ≡ false → refusal m before event ≡ None → is_passed_over m before event ≡ false
         → Acts m event before own mid_state → mid ≡ was
         → Marks m mark mid_state started after → Opens m mark mid is → MarkSpells m mark
-        → Does m view honest failures before after was is old old (record { event = event; report = None; mark = mark; out = then_out own started })
+        → Does m view honest before after was is old old (record { event = event; report = None; mark = mark; out = then_out own started })
     acted before mid_state after was mid is old event mark own started other accepted counts acts same marks opens spelled =
         let entry : Entry Saved = record { event = event; report = None; mark = mark; out = then_out own started } in
         taken before mid_state after was mid is old old entry
         (takes_steps before mid_state mid_state after entry own silence started accepted counts acts (refl, refl) marks refl)
-        opens spelled (λ h. gains_none (view old)) (λ is_done. absurd (cc)) (λ _. ap text_of_open same) (λ some. absurd (some refl)) refl
+        opens spelled (λ h. gains_none (view old)) (λ is_done. absurd (cc)) (λ _. ap text_of_open same) (λ some. absurd (some refl))
         (record {
           one_less = λ _. ap turns_of same ∙ sym (not_flush (is_flush event) (turns_of was) other);
           not_last = λ _ flush. absurd (cc);
+          last = λ is_done. absurd (cc);
           closed = λ some. absurd (some refl);
         })
 
     -- an event that the closing server passes over
     pub passed_over : (state : State Application) (was : Option declared.Open) (disk : D) (event : Event) → is_closing state.course ≡ true → is_flush event ≡ false
         → refusal m state event ≡ None
-        → Does m view honest failures state state was was disk disk (record { event = event; report = None; mark = None; out = silence })
+        → Does m view honest state state was was disk disk (record { event = event; report = None; mark = None; out = silence })
     passed_over state was disk event closing other accepted =
         let entry : Entry Saved = record { event = event; report = None; mark = None; out = silence } in
         let passed : is_passed_over m state event ≡ true = ap (λ (b : Bool). b && not (is_flush event)) closing ∙ ap not other in
@@ -137,15 +137,10 @@ module _ {Application Saved : Type 0} (m : Meaning Application Saved) where
           takes = subst (λ (b : Bool). MatchBool b (Passes m state entry state) (Steps m state entry state)) (sym passed)
               (record { same = refl; report = refl; mark = refl; out = refl });
         })
-        refl tt (λ h. gains_none (view disk)) (λ is_done. absurd (cc)) (λ _. refl) (λ some. absurd (some refl)) refl
+        refl tt (λ h. gains_none (view disk)) (λ is_done. absurd (cc)) (λ _. refl) (λ some. absurd (some refl))
         (record {
           one_less = λ _. sym (not_flush (is_flush event) (turns_of was) other);
           not_last = λ _ flush. absurd (cc);
+          last = λ is_done. absurd (cc);
           closed = λ some. absurd (some refl);
         })
-
-    -- the same state, told otherwise
-    pub does_keep : (before mid after : State Application) (was is : Option declared.Open) (old new : D) (entry : Entry Saved) → after ≡ mid
-        → Does m view honest failures before mid was is old new entry → Does m view honest failures before after was is old new entry
-    does_keep before mid after was is old new entry same does =
-        subst (λ (s : State Application). Does m view honest failures before s was is old new entry) (sym same) does

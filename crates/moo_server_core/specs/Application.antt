@@ -61,7 +61,7 @@ pub record Meaning (Application Saved : Type 0) : Type 1 where
   -- bytes spell a saved world, within the limits
   pub Spells : List ℕ → Saved → Type 0
 
--- bytes for a connection that is leaving: nobody is there to read them
+-- bytes for a connection that is leaving, which are dropped
 abbrev pub is_dropped : {Application Saved : Type 0} → Meaning Application Saved → Application → Input → Bool
 is_dropped m state (Receives c piece) = m.is_leaving state c
 is_dropped m state happening = false
@@ -104,7 +104,7 @@ pub record HandsOutLog {S Application Saved : Type 0} (l : Layer S Application S
   pub state : l.state new ≡ l.state old
   pub under_way : l.under_way old ≡ silence → l.under_way new ≡ silence
 
--- Application were started from a saved world, and this was asked for.
+-- An application started from a saved world, and this was asked for.
 pub record Started {S Application Saved : Type 0} (l : Layer S Application Saved) (saved : Saved) (moment : ℕ) (new : S) (asked : Requests) : Type 0 where
   pub told : Told
   pub starts : l.meaning.starts saved moment told (l.state new)

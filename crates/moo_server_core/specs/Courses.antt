@@ -1,4 +1,4 @@
--- How far a server has come.
+-- The phases of a server.
 use Rattle.std.specs.Prelude.{Bool, true, false}
 use Rattle.moo_server_core.specs.declared.event.Course.{Course}
 use Rattle.moo_server_core.specs.declared.event.Course.TheVariants.{Running, Closing, Closed}
@@ -13,7 +13,7 @@ abbrev pub is_closed : Course → Bool
 is_closed Closed = true
 is_closed course = false
 
--- where a server stands, halted or not
+-- the phase of a server, halted or not
 abbrev pub phase_of : Bool → Course → Phase
 phase_of true course = phase.Halted
 phase_of false Running = phase.Running

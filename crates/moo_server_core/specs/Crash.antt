@@ -18,19 +18,19 @@ abbrev pub texts_of_marks : List Trace → List (List ℕ)
 texts_of_marks [] = []
 texts_of_marks (trace ∷ traces) = only_text trace.mark ++ texts_of_marks traces
 
--- the last one alone
+-- only the last one
 abbrev pub last_of : {A : Type 0} → List A → List A
 last_of [] = []
 last_of (x ∷ []) = x ∷ []
 last_of (x ∷ y ∷ xs) = last_of (y ∷ xs)
 
--- after a report done, the mark before it is the earliest that counts
+-- after a report done, the texts before that of the last mark no longer count
 abbrev pub after_report : Option Report → List (List ℕ) → List (List ℕ)
 after_report None texts = texts
 after_report (Some Done) texts = last_of texts
 after_report (Some report) texts = texts
 
--- the texts of the marks from that of the last report done on; where none is done, those before too
+-- the text of the mark of the last report done, and those of the later marks; if no report is done, also those before
 abbrev pub since_done : List (List ℕ) → List Trace → List (List ℕ)
 since_done texts [] = texts
 since_done texts (trace ∷ traces) = since_done (after_report trace.report texts ++ only_text trace.mark) traces
@@ -40,13 +40,17 @@ abbrev pub NoneDone : List Trace → Type 0
 NoneDone [] = Unit {0}
 NoneDone (trace ∷ traces) = (trace.report ≢ Some Done) × NoneDone traces
 
--- Events carry a disk from old to new. `texts` and `after` have the text that is on its way before them and after them,
--- if there is one, and `earlier` are the texts of the marks before.
+-- the next report says done
+abbrev pub IsDoneNext : List Trace → Type 0
+IsDoneNext [] = ⊥
+IsDoneNext (trace ∷ traces) = (trace.report ≡ Some Done) ⊎ ((trace.report ≡ None) × IsDoneNext traces)
+
+-- What a crash may leave of a disk that events carried from old to new. The text of the open checkpoint, if there is one, is in `texts`
+-- before them and in `after` afterwards.
 pub record Survives {D : Type 0} (view : D → DiskView) (old new : D) (texts after : List (List ℕ)) (traces : List Trace) : Type 0 where
-  -- at each moment a crash leaves what it left before, the text that was on its way, or that of a mark
-  pub gains : Gains (IsOneOf (texts ++ texts_of_marks traces)) (view old) (view new)
-  -- in the end none from before the mark of the last report done
-  pub left : (earlier : List (List ℕ)) (c : List ℕ) → (view new).may_leave c
-      → (NoneDone traces × (view old).may_leave c) ⊎ IsOneOf (since_done (earlier ++ texts) traces) c
-  -- the text that is on its way then is that of the last mark
-  pub latest : (earlier : List (List ℕ)) (text : List ℕ) → after ≡ text ∷ [] → last_of (since_done (earlier ++ texts) traces) ≡ text ∷ []
+  -- at each moment a crash leaves what it left before, the open checkpoint's text, or that of a mark
+  pub always : Gains (IsOneOf (texts ++ texts_of_marks traces)) (view old) (view new)
+  -- in the end it leaves none from before the mark of the last report done
+  pub in_the_end : (c : List ℕ) → (view new).may_leave c → (NoneDone traces × (view old).may_leave c) ⊎ IsOneOf (since_done texts traces) c
+  -- the open checkpoint then writes the text of the last mark
+  pub latest : (text : List ℕ) → after ≡ text ∷ [] → last_of (since_done texts traces) ≡ text ∷ []

@@ -1,6 +1,7 @@
--- Lives of a server over one disk, each ended by a crash, or by an end of the server alone.
-use Rattle.std.specs.Prelude.{◌≡◌, ◌≢◌, ◌⊎◌, ◌<◌, ◌≤◌, ℕ, List, [], ◌∷◌, length, map, take, slice_get, All, Some, Result, Ok, Err}
-use Rattle.moo_disk.specs.Disk.{DiskView, HasRisen, IsLeftBy}
+-- Lives of a server over one disk. Each ends by a crash, or by an end of the server alone.
+use Rattle.std.specs.Prelude.{◌≡◌, ◌≢◌, ◌⊎◌, ◌<◌, ◌≤◌, ℕ, List, [], ◌∷◌, length, take, slice_get, All, Some, Result, Ok, Err}
+use Rattle.moo_disk.specs.Disk.{DiskView, IsLeftBy, KeepsMain}
+use Rattle.moo_checkpoint.specs.Recovering.{CountsFault}
 use Rattle.moo_checkpoint.specs.declared.open_fault.OpenFault.{OpenFault}
 use Rattle.moo_checkpoint.specs.declared.open_fault.OpenFault.TheVariants.{Device, Memory as no_memory}
 use Rattle.moo_dbtext_read.specs.Saved.{Saved}
@@ -11,7 +12,7 @@ use Rattle.moo_server_core.specs.Meaning.{Entry}
 use Rattle.moo_server_core.specs.declared.event.Event as given
 use Rattle.moo_server_core.specs.declared.event.RunFault.{RunFault}
 use Rattle.moo_server_core.specs.declared.server_core.ServerCore.{ServerCore}
-use Rattle.moo_server_core.specs.Server.{Follows, IsAlive, Runs, done_of, traces_under}
+use Rattle.moo_server_core.specs.Server.{Follows, IsAlive, Runs, done_of, entries_of, traces_under}
 use Rattle.moo_server_core.specs.Calls.{Opened}
 use Rattle.moo_server_core.specs.declared.life.Life.{Life}
 use Rattle.moo_server_core.specs.declared.life.LifeBegin.{LifeBegin}
@@ -37,32 +38,32 @@ pub record LifeRun (S D : Type 0) : Type 0 where
   pub opened : D
   pub new : D
 
--- what may be under main after a life's end, of these texts
+-- which of these texts may be under main after the end of a life
 abbrev pub IsLeft : LifeStop → List (List ℕ) → List (List ℕ) → Type 0
 IsLeft ServerOnly texts left = left ≡ texts
 IsLeft (Crash i) texts left = (c : List ℕ) × IsOneOf texts c × (left ≡ c ∷ [])
 
--- what a crash left of an honest disk: the text of that number, alone
+-- what a crash left of an honest disk: only the text of that number
 pub record IsCrashed {D : Type 0} (view : D → DiskView) (honest : D → Type 0) (images : D → List (List ℕ)) (i : ℕ) (end new : D) : Type 0 where
   pub left : IsLeftBy (view end) (view new)
   pub image : slice_get (images end) i ≡ Some (view new).main_text
   pub honest_still : honest new
 
--- the disk behind a life's end
+-- the disk after the end of a life
 abbrev pub IsStopped : {D : Type 0} → (D → DiskView) → (D → Type 0) → (D → List (List ℕ)) → LifeStop → D → D → Type 0
 IsStopped view honest images (Crash i) end new = honest end → IsCrashed view honest images i end new
 IsStopped view honest images ServerOnly end new = new ≡ end
 
--- a crash leaves no text of the number that is asked for
+-- the crash leaves no text of that number
 abbrev pub HasNoImage : {D : Type 0} → (D → List (List ℕ)) → LifeStop → D → Type 0
 HasNoImage images (Crash i) end = length (images end) ≤ i
 HasNoImage images ServerOnly end = ⊥
 
--- the device, or want of memory
+-- the device failed, or memory ran out
 abbrev pub IsSound : OpenFault → Type 0
 IsSound fault = (fault ≡ Device) ⊎ (fault ≡ no_memory)
 
--- where nothing kept it from it, it ran all its events
+-- a run without a fault took all its events
 abbrev pub RanAll : {S : Type 0} → Result ℕ RunFault → List given.Event → ServerCore S → Type 0
 RanAll (Ok n) events end = (n ≡ length events) × IsAlive end
 RanAll (Err fault) events end = Unit {0}
@@ -75,7 +76,7 @@ module _ {S Application : Type 0} (l : Layer S Application Saved) where
     pub text_is : text ≡ l.meaning.text_of saved
     pub follows : Follows l view honest stands server new
 
-  -- what is answered of a life
+  -- what is returned of a life
   pub record IsTold {D : Type 0} (life : Life) (run : LifeRun S D) (begin : LifeBegin) : Type 0 where
     pub moment : run.moment ≡ life.moment
     pub events : run.events ≡ life.events.items
@@ -89,19 +90,19 @@ module _ {S Application : Type 0} (l : Layer S Application Saved) where
   AreTold lives runs begins = ⊥
 
   module _ {D : Type 0} (view : D → DiskView) (honest : D → Type 0) (failures : D → ℕ) where
-    -- It began by an `open`, in which the device didn't fail, and what it did is a run's.
+    -- It began by an `open` in which the device didn't fail, and then ran its events.
     pub record IsLife (life : LifeRun S D) : Type 0 where
       pub main : life.main ≡ (view life.old).main_text
       pub opened : Opened l view honest life.start life.old life.opened life.saved life.moment
       pub open_counts : failures life.opened ≡ failures life.old
       pub runs : Runs l view honest failures life.start life.end life.opened life.new life.events life.result
-      pub entries : runs.ran.entries ≡ life.entries
+      pub entries : entries_of runs.ran.taken ≡ life.entries
       pub all : RanAll life.result life.events life.end
       -- without a `Flush` the disk is as the start left it
       pub still : All (λ event. seen event ≢ Flush) life.events → life.new ≡ life.opened
       pub honest_still : honest life.old → honest life.new
 
-    -- what a life was, and what is answered of it
+    -- what a life was, and what is returned of it
     pub record HasLived (life : Life) (old new : D) (begin : LifeBegin) : Type 0 where
       pub run : LifeRun S D
       pub old_is : run.old ≡ old
@@ -109,11 +110,15 @@ module _ {S Application : Type 0} (l : Layer S Application Saved) where
       pub is : IsLife run
       pub told : IsTold life run begin
 
-    -- A life that didn't begin: where main spells a saved world within the limits, the device failed, or memory was wanting.
+    -- A life that didn't begin, since no server was opened. Nothing was written. The device is reported if it failed, and where main
+    -- spells a saved world within the limits, either it failed or memory ran out.
+    pub record NotBegun (old new : D) (fault : OpenFault) : Type 0 where
+      pub sound : honest old → (s : Saved) → l.meaning.Spells (view old).main_text s → IsSound fault
+      pub device : CountsFault (honest old) (failures old) (failures new) fault
+      pub main : honest old → KeepsMain (view old) (view new)
+
     abbrev pub IsMet : D → D → LivesCause → Type 0
-    IsMet old new (not_open fault) =
-        honest old → (s : Saved) → l.meaning.Spells (view old).main_text s
-        → ((fault ≡ Device) × HasRisen (failures old) (failures new)) ⊎ (fault ≡ no_memory)
+    IsMet old new (not_open fault) = NotBegun old new fault
     IsMet old new cause = ⊥
 
     module _ (images : D → List (List ℕ)) where
@@ -123,17 +128,26 @@ module _ {S Application : Type 0} (l : Layer S Application Saved) where
       EndsBefore life old NoSuchImage = (new : D) × (begin : LifeBegin) × HasLived life old new begin × HasNoImage images life.stop new
       EndsBefore life old Memory = ⊥
 
+      -- One life, over the disk that the one before it left. One of `texts` is under main before it, and one of `after` afterwards.
+      pub record LivesOnce (disk : D) (texts : List (List ℕ)) (life : LifeRun S D) (after : List (List ℕ)) (next : D) : Type 0 where
+        pub begins_over : life.old ≡ disk
+        pub honest_then : honest life.old
+        pub reads : IsOneOf texts life.main
+        -- it begins from the world that main spells within the limits
+        pub begins_from : l.meaning.Spells life.main life.saved
+        pub lived : IsLife life
+        -- The texts of the mark of its last report done and of later ones may be left, and those before too if none was done. A crash
+        -- leaves one of them, and that alone.
+        pub leaves : IsLeft life.stop (since_done texts (traces_under l.meaning life.entries)) after
+        pub ends : IsStopped view honest images life.stop life.new next
+
       -- Lives, the first of which begins over this disk, where one of these texts is under main; the texts and the disk that they leave.
-      -- From each life on count the texts of the mark of its last report done and of later ones, or, where none was done, also those
-      -- before. A crash leaves one of them, and that alone. Each life begins from the world that main spells within the limits.
       abbrev pub Lives : D → List (List ℕ) → List (LifeRun S D) → List (List ℕ) → D → Type 0
       Lives disk texts [] left last = (left ≡ texts) × (last ≡ disk)
       Lives disk texts (life ∷ lives) left last =
-          (life.old ≡ disk) × IsOneOf texts life.main × l.meaning.Spells life.main life.saved × honest life.old × IsLife life
-          × (after : List (List ℕ)) × IsLeft life.stop (since_done texts (traces_under l.meaning life.entries)) after
-          × (next : D) × IsStopped view honest images life.stop life.new next × Lives next after lives left last
+          (after : List (List ℕ)) × (next : D) × LivesOnce disk texts life after next × Lives next after lives left last
 
-      -- lives up to some place, and the disk behind them
+      -- lives up to some place, and the disk after them
       pub record SoFar (lives : List Life) (begins : List LifeBegin) (first disk : D) : Type 0 where
         pub runs : List (LifeRun S D)
         pub left : List (List ℕ)
@@ -147,12 +161,12 @@ module _ {S Application : Type 0} (l : Layer S Application Saved) where
       abbrev pub LivesSoFar : List Life → List LifeBegin → D → Type 0
       LivesSoFar lives begins first = (disk : D) × SoFar lives begins first disk
 
-      -- what the next life met, if it is there
+      -- what the next life met, if there is one
       abbrev pub NextMeets : List Life → ℕ → LivesCause → D → Type 0
       NextMeets lives place Memory disk = Unit {0}
       NextMeets lives place cause disk = (life : Life) × (slice_get lives place ≡ Some life) × EndsBefore life disk cause
 
-      -- the lives before that of the fault's place, and what that one met
+      -- the lives before the one that the fault names, and what that one met
       pub record EndsAt (lives : List Life) (first : D) (fault : LivesFault) : Type 0 where
         pub place : fault.life < length lives
         pub begins : List LifeBegin

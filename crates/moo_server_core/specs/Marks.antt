@@ -4,12 +4,12 @@ use Rattle.moo_dbtext_read.specs.Saved.{Saved}
 use Rattle.moo_server_core.specs.Application.{Layer}
 use Rattle.moo_server_core.specs.Crash.{NoneDone}
 use Rattle.moo_server_core.specs.Server.{state_of, traces_under}
-use Rattle.moo_server_core.specs.Calls.{IsPrefix, place_done}
+use Rattle.moo_server_core.specs.Calls.{IsPrefix}
 use Rattle.moo_server_core.specs.Lives.{LifeRun}
 use Rattle.moo_server_core.specs.declared.life.LifeStop.{LifeStop}
 use Rattle.moo_server_core.specs.declared.life.LifeStop.TheVariants.{Crash, ServerOnly}
 
--- what was kept before a life, by the end of the one before it: behind a crash what the life began from, and else all that was kept
+-- What was kept before a life, by the end of the one before it: after a crash only what the life began from, and else all that was kept.
 abbrev pub KeptBehind : LifeStop → Type 0 → Type 0 → Type 0
 KeptBehind (Crash i) began kept = began
 KeptBehind ServerOnly began kept = kept
@@ -19,12 +19,12 @@ module _ {S Application D : Type 0} (l : Layer S Application Saved) where
   abbrev pub ReportsNone : LifeRun S D → Type 0
   ReportsNone life = NoneDone (traces_under l.meaning life.entries)
 
-  -- the world at a mark of a life: that of the last report done, or a later one
+  -- the world at a mark of a life: the mark of its last report done, or a later one
   abbrev pub IsMarked : LifeRun S D → Saved → Type 0
-  IsMarked life saved = IsPrefix l (state_of l life.start) (place_done (traces_under l.meaning life.entries)) life.entries saved
+  IsMarked life saved = IsPrefix l (state_of l life.start) life.entries life.entries saved
 
-  -- A world that lives keep, the last of them first: one at such a mark of the last life, or, where none of its checkpoints was
-  -- reported done, one that was kept before it.
+  -- A world that lives keep, the last of them first. It is the world at such a mark of the last life. If none of its checkpoints was
+  -- reported done, it may also be one that was kept before it.
   abbrev pub IsKeptIn : List (LifeRun S D) → Saved → Type 0
   IsKeptIn [] saved = ⊥
   IsKeptIn (life ∷ []) saved = IsMarked life saved ⊎ (ReportsNone life × (saved ≡ life.saved))

@@ -1,6 +1,6 @@
--- What a list of events does, over any layer of sessions. In which `Flush` a checkpoint's report stands, and whether it says
--- done or failed, is free here.
-use Rattle.std.specs.Prelude.{◌≡◌, ℕ, ◌+◌, nat_lt, nat_le, List, [], ◌∷◌, ◌++◌, map, Option, Some, None, is_none, Bool, true, false, if◌then◌else◌, ◌&&◌, ◌||◌, not, MatchBool}
+-- What a list of events does, over any application. In which `Flush` a checkpoint is reported, and whether it is done or failed, is
+-- free here.
+use Rattle.std.specs.Prelude.{◌≡◌, ℕ, ◌+◌, nat_lt, nat_le, List, [], ◌∷◌, map, Option, Some, None, is_none, Bool, true, false, if◌then◌else◌, ◌&&◌, ◌||◌, not, MatchBool}
 use Rattle.std.specs.Option.{option_map}
 use Rattle.moo_server_core.specs.Traces.{Report, Done, Failed, Trace}
 use Rattle.moo_server_core.specs.Courses.{is_closing, is_closed}
@@ -21,10 +21,10 @@ pub record State (Application : Type 0) : Type 0 where
   -- one is asked for
   pub asked : Bool
   pub course : Course
-  -- where a checkpoint is open, whether it began at or after the first shutdown
+  -- if a checkpoint is open, whether it began at or after the first shutdown
   pub writing : Option Bool
 
--- an event, the report that stands in it, the saved world that it marks, and what goes out
+-- an event, its report, the saved world that it marks, and its output
 pub record Entry (Saved : Type 0) : Type 0 where
   pub event : Event
   pub report : Option Report
@@ -42,12 +42,12 @@ trace_of text_of entry = record { flush = is_flush entry.event; report = entry.r
 abbrev pub traces_of : {Saved : Type 0} → (Saved → List ℕ) → List (Entry Saved) → List Trace
 traces_of text_of entries = map (trace_of text_of) entries
 
--- what goes out in all of them
+-- the output of all of them
 abbrev pub out_of : {Saved : Type 0} → List (Entry Saved) → Output
 out_of [] = silence
 out_of (entry ∷ entries) = then_out entry.out (out_of entries)
 
--- what came of a happening to the sessions: a request stands, and a shutdown makes the server close
+-- the state after an input to the application: a request is noted, and a shutdown makes the server close
 abbrev pub heard : {Application : Type 0} → State Application → Told → Application → State Application
 heard old told sessions = record old {
   sessions = sessions;
@@ -55,7 +55,7 @@ heard old told sessions = record old {
   course = if told.shuts then Closing else old.course;
 }
 
--- the state behind the hooks of a start
+-- the state after the hooks of a start
 abbrev pub begun_at : {Application : Type 0} → ℕ → Bool → Course → ℕ → Application → State Application
 begun_at moment asked course interval sessions = record {
   sessions = sessions;
@@ -67,7 +67,7 @@ begun_at moment asked course interval sessions = record {
 }
 
 module _ {Application Saved : Type 0} (m : Meaning Application Saved) where
-  -- what keeps an event from being taken
+  -- the reason why an event is refused, if it is
   abbrev pub refusal_in : Course → ℕ → Application → Event → Option Cause
   refusal_in Closed now sessions event = Some closed_cause
   refusal_in Closing now sessions event = None
@@ -80,12 +80,12 @@ module _ {Application Saved : Type 0} (m : Meaning Application Saved) where
   abbrev pub refusal : State Application → Event → Option Cause
   refusal state event = refusal_in state.course state.moment state.sessions event
 
-  -- a connection is opened under a number that none has
+  -- a connection opens under a number that no connection has
   abbrev pub FindsFree : State Application → Event → Type 0
   FindsFree state (Open c) = m.is_open state.sessions c ≡ false
   FindsFree state event = Unit {0}
 
-  -- something happens to the sessions
+  -- the application is given an input
   abbrev pub Hears : Input → State Application → Output → State Application → Type 0
   Hears happening old out new =
       (told : Told) × (sessions : Application) × m.happens happening old.moment old.sessions told sessions
@@ -99,8 +99,8 @@ module _ {Application Saved : Type 0} (m : Meaning Application Saved) where
   Acts (Moment moment) old out new = (out ≡ silence) × (new ≡ record old { moment = moment })
   Acts Flush old out new = (out ≡ silence) × (new ≡ old)
 
-  -- A report closes the open checkpoint and runs `checkpoint_finished`. Where the checkpoint began at or after the first shutdown,
-  -- the server is closed.
+  -- A report closes the open checkpoint and runs `checkpoint_finished`. If the checkpoint began at or after the first shutdown, the
+  -- server is closed.
   abbrev pub Reports : Event → Option Report → State Application → Output → State Application → Type 0
   Reports event None old out new = (out ≡ silence) × (new ≡ old)
   Reports event (Some report) old out new =
@@ -108,7 +108,7 @@ module _ {Application Saved : Type 0} (m : Meaning Application Saved) where
       × (mid : State Application) × Hears (Finishes (is_done report)) (record old { writing = None }) out mid
       × (new ≡ record mid { course = if last then Closed else mid.course })
 
-  -- a checkpoint begins
+  -- a checkpoint is due
   abbrev pub is_due : State Application → Bool
   is_due state = not (is_closed state.course) && is_none state.writing && (state.asked || nat_le state.due state.moment)
 
@@ -117,7 +117,7 @@ module _ {Application Saved : Type 0} (m : Meaning Application Saved) where
   is_for_leaving state (Bytes c piece) = m.is_leaving state.sessions c
   is_for_leaving state event = false
 
-  -- such bytes, while no checkpoint is due: nothing comes of them, and they take no memory
+  -- such bytes while no checkpoint is due: they have no effect and need no memory
   abbrev pub is_idle : State Application → Event → Bool
   is_idle state event = is_for_leaving state event && not (is_due state)
 
@@ -145,18 +145,18 @@ module _ {Application Saved : Type 0} (m : Meaning Application Saved) where
   abbrev pub is_passed_over : State Application → Event → Bool
   is_passed_over state event = is_closing state.course && not (is_flush event)
 
-  -- nothing comes of an event
+  -- an event has no effect
   pub record Passes (old : State Application) (entry : Entry Saved) (new : State Application) : Type 0 where
     pub same : new ≡ old
     pub report : entry.report ≡ None
     pub mark : entry.mark ≡ None
     pub out : entry.out ≡ silence
 
-  -- an event that may want memory: it is neither refused nor passed over, and it isn't for a connection that is leaving
+  -- an event that may need memory: it is neither refused nor passed over, and it isn't for a connection that is leaving
   abbrev pub MayWant : State Application → Event → Type 0
   MayWant state event = (refusal state event ≡ None) × (is_passed_over state event ≡ false) × (is_idle state event ≡ false)
 
-  -- what one event does, where it is taken
+  -- what one event does that is taken
   pub record Takes (old : State Application) (entry : Entry Saved) (new : State Application) : Type 0 where
     pub accepted : refusal old entry.event ≡ None
     pub takes : MatchBool (is_passed_over old entry.event) (Passes old entry new) (Steps old entry new)

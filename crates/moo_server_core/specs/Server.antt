@@ -1,14 +1,14 @@
--- What a server is seen as, and what a run does to it and to its disk.
-use Rattle.std.specs.Prelude.{◌≡◌, ◌≢◌, ◌≤◌, ◌-◌, ℕ, List, [], ◌∷◌, take, map, slice_get, Result, Ok, Err, IfErr, Option, Some, None, Bool, true, false, eqb, if◌then◌else◌}
+-- The state of a server, and what a run does to it and to its disk.
+use Rattle.std.specs.Prelude.{◌≡◌, ◌≢◌, ◌⊎◌, ◌-◌, ℕ, List, [], ◌∷◌, take, map, slice_get, Result, Ok, Err, IfErr, Option, Some, None, Bool, true, false, eqb, if◌then◌else◌}
 use Rattle.std.specs.Option.{option_map}
-use Rattle.moo_disk.specs.Disk.{DiskView, HasRisen}
+use Rattle.moo_disk.specs.Disk.{DiskView}
 use Rattle.moo_checkpoint.specs.Checkpoint.{Continues, IsFresh, text_of, turns_left}
-use Rattle.moo_server_core.specs.Traces.{Report, Done, Failed, Trace}
+use Rattle.moo_server_core.specs.Traces.{Report, Done, Trace}
 use Rattle.moo_server_core.specs.Crash.{IsOneOf, Survives}
-use Rattle.moo_server_core.specs.Turns.{CountsReport, Fails, IsInTime, turns_after, turns_left_after, turns_for}
-use Rattle.moo_server_core.specs.Seen.{Event, Flush, seen}
+use Rattle.moo_server_core.specs.Turns.{CountsReport, FailsAtMostOnce, IsInTime, turns_after, turns_left_after, turns_for}
+use Rattle.moo_server_core.specs.Seen.{Flush, seen}
 use Rattle.moo_server_core.specs.Application.{Layer, Meaning, Output, silence, then_out}
-use Rattle.moo_server_core.specs.Meaning.{State, Entry, Reports, Marks, Takes, Run, MayWant, refusal, out_of, trace_of, traces_of}
+use Rattle.moo_server_core.specs.Meaning.{State, Entry, Reports, Takes, Run, MayWant, refusal, trace_of, traces_of}
 use Rattle.moo_server_core.specs.declared.event.Event as given
 use Rattle.moo_server_core.specs.declared.event.Cause.{Cause}
 use Rattle.moo_server_core.specs.declared.event.Cause.TheVariants.{Memory, Halted as halted_cause}
@@ -28,7 +28,7 @@ abbrev pub text_of_open : Option Open → List (List ℕ)
 text_of_open None = []
 text_of_open (Some o) = text_of o.checkpoint ∷ []
 
--- the turns that it still takes, 0 where none is open
+-- the turns that it still takes, 0 if none is open
 abbrev pub turns_of : Option Open → ℕ
 turns_of None = 0
 turns_of (Some o) = turns_left o.checkpoint
@@ -46,14 +46,22 @@ abbrev pub done_of : Result ℕ RunFault → ℕ
 done_of (Ok done) = done
 done_of (Err fault) = fault.done
 
--- The count of failures rose in the reports failed, and perhaps once more in an event that halted the server.
-pub record Failing (before : ℕ) (traces : List Trace) (now : ℕ) (Alive : Type 0) : Type 0 where
-  pub reported : ℕ
-  pub fails : Fails before traces reported
-  pub all : Alive → now ≡ reported
-  pub no_fewer : reported ≤ now
+-- an event that a run took, with the server and the disk as it left them
+pub record TakenEvent (S Saved D : Type 0) : Type 0 where
+  pub entry : Entry Saved
+  pub server : ServerCore S
+  pub disk : D
 
--- bytes for one number, and lines for the log, alone
+abbrev pub entries_of : {S Saved D : Type 0} → List (TakenEvent S Saved D) → List (Entry Saved)
+entries_of taken = map (λ one. one.entry) taken
+
+-- From such a disk on, the device failed in each event that reports a checkpoint as failed, and in no other.
+abbrev pub FailsAsReported : {S Saved D : Type 0} → (D → ℕ) → D → List (TakenEvent S Saved D) → Type 0
+FailsAsReported failures disk [] = Unit {0}
+FailsAsReported failures disk (one ∷ taken) =
+    CountsReport one.entry.report (failures disk) (failures one.disk) × FailsAsReported failures one.disk taken
+
+-- output of bytes for one number alone, and of lines for the log alone
 abbrev pub sent_alone : ℕ → List ℕ → Output
 sent_alone c bytes = record { sent = λ k. if eqb k c then bytes else []; logged = [] }
 
@@ -81,23 +89,25 @@ module _ {Application Saved : Type 0} (m : Meaning Application Saved) where
   MarksSpell [] = Unit {0}
   MarksSpell (entry ∷ entries) = MarkSpells entry.mark × MarksSpell entries
 
-  -- What a turn of the open checkpoint does, where its report is this.
+  -- What a turn of the open checkpoint does, with this report.
   pub record Turns {D : Type 0} (view : D → DiskView) (honest : D → Type 0) (failures : D → ℕ) (before after : State Application) (was is : Option Open) (old new : D) (report : Option Report) (out : Output) : Type 0 where
     pub reports : Reports m Flush report before out after
     pub unreported : report ≡ None → text_of_open is ≡ text_of_open was
     pub one_less : report ≡ None → (turns_of is ≡ turns_of was - 1) × (turns_of was ≢ 1)
     pub reported : report ≢ None → is ≡ None
     pub done : report ≡ Some Done → honest old → (c : List ℕ) → (view new).may_leave c → IsOneOf (text_of_open was) c
+    pub last : report ≡ Some Done → turns_of was ≡ 1
     pub counts : CountsReport report (failures old) (failures new)
 
   -- What one event does to the state, the open checkpoint and the disk. It is taken as this entry.
-  pub record Does {D : Type 0} (view : D → DiskView) (honest : D → Type 0) (failures : D → ℕ) (before after : State Application) (was is : Option Open) (old new : D) (entry : Entry Saved) : Type 0 where
+  pub record Does {D : Type 0} (view : D → DiskView) (honest : D → Type 0) (before after : State Application) (was is : Option Open) (old new : D) (entry : Entry Saved) : Type 0 where
     pub takes : Takes m before entry after
     pub spelled : MarkSpells entry.mark
+    -- what a crash may leave, after the event and at any moment within it
     pub survives : honest old → Survives view old new (text_of_open was) (text_of_open is) (trace_of m.text_of entry ∷ [])
     -- a report done leaves the checkpoint's text alone
     pub done : honest old → entry.report ≡ Some Done → (c : List ℕ) → (view new).may_leave c → IsOneOf (text_of_open was) c
-    pub counts : CountsReport entry.report (failures old) (failures new)
+    -- the report of a checkpoint comes in its last turn, or in an earlier one in which the device failed
     pub in_time : IsInTime (turns_of was) (trace_of m.text_of entry ∷ [])
     pub turns : turns_of is ≡ turns_after (turns_of was) (trace_of m.text_of entry)
 
@@ -112,20 +122,20 @@ module _ {S Application Saved : Type 0} (l : Layer S Application Saved) where
     writing = is_last_of server.writing;
   }
 
-  -- what was sent and wasn't taken yet
+  -- the output that waits to be taken
   abbrev pub waiting_of : ServerCore S → Output
   waiting_of server = l.waiting server.sessions
 
-  -- what goes out of the event that is being taken
+  -- the output of the event that is being taken
   abbrev pub under_way_of : ServerCore S → Output
   under_way_of server = l.under_way server.sessions
 
-  -- No event is being taken, and the disk is as the last call left it, perhaps with a wrapper put round it since.
+  -- No event is being taken, and the disk is as the last call left it, perhaps in a wrapper now.
   pub record Follows {D : Type 0} (view : D → DiskView) (honest : D → Type 0) (stands : D → Type 0) (server : ServerCore S) (disk : D) : Type 0 where
     pub still : under_way_of server ≡ silence
     pub continues : OpenFollows view honest stands server.writing disk
 
-  -- Events were taken, one after another, however many calls they came in: what they did, and what a crash may leave.
+  -- What events did, one after another, in however many calls they came, and what a crash may leave.
   pub record Lived {D : Type 0} (view : D → DiskView) (honest : D → Type 0) (before after : ServerCore S) (old new : D) (entries : List (Entry Saved)) : Type 0 where
     pub end : State Application
     pub run : Run l.meaning (state_of before) entries end
@@ -134,49 +144,77 @@ module _ {S Application Saved : Type 0} (l : Layer S Application Saved) where
     pub spelled : MarksSpell l.meaning entries
     -- what a crash may leave, at the end and at any moment since the start
     pub survives : honest old → Survives view old new (on_its_way before) (on_its_way after) (traces_under l.meaning entries)
-    -- the report of a checkpoint comes by its last turn
+    -- the report of a checkpoint comes in its last turn, or in an earlier one in which the device failed
     pub in_time : IsInTime (turns_of before.writing) (traces_under l.meaning entries)
     pub turns : IsAlive after → turns_of after.writing ≡ turns_left_after (turns_of before.writing) (traces_under l.meaning entries)
     -- a halted server does nothing
     pub rests : before.halted ≡ true → (entries ≡ []) × (after.halted ≡ true)
 
-  -- A run took the first `done` events.
-  pub record Ran {D : Type 0} (view : D → DiskView) (honest : D → Type 0) (before after : ServerCore S) (old new : D) (events : List given.Event) (done : ℕ) : Type 0 where
-    -- the events that were taken, their reports and marks, and what went out
-    pub entries : List (Entry Saved)
-    pub events_are : map (λ entry. entry.event) entries ≡ map seen (take done events)
-    pub lived : Lived view honest before after old new entries
-    -- what they sent waits, behind what waited before, and nothing else does
-    pub waiting : waiting_of after ≡ then_out (waiting_of before) (out_of entries)
-    -- after a report done in a run of one event, a crash leaves that checkpoint's text alone
-    pub durable : IsAlive after → honest old → (entry : Entry Saved) → entries ≡ entry ∷ [] → entry.report ≡ Some Done
-        → (c : List ℕ) → (view new).may_leave c → IsOneOf (on_its_way before) c
+  module _ {D : Type 0} (view : D → DiskView) (honest : D → Type 0) where
+    -- What one event did to a server and its disk.
+    pub record DoesTo (before : ServerCore S) (old : D) (one : TakenEvent S Saved D) : Type 0 where
+      pub alive_before : IsAlive before
+      pub alive_after : IsAlive one.server
+      pub does : Does l.meaning view honest (state_of before) (state_of one.server) before.writing one.server.writing old one.disk one.entry
+      -- what it sent waits, after what waited before, and nothing else does
+      pub waiting : waiting_of one.server ≡ then_out (waiting_of before) one.entry.out
+      -- only a `Flush` makes a call of the disk
+      pub still : one.entry.event ≢ Flush → one.disk ≡ old
+      pub honest_still : honest old → honest one.disk
 
-  -- nothing but what waits is another
+    -- Each of these events did so, one after another: they lead from a server and its disk to another state of both.
+    abbrev pub EachDoes : ServerCore S → D → List (TakenEvent S Saved D) → ServerCore S → D → Type 0
+    EachDoes before old [] after new = (after ≡ before) × (new ≡ old)
+    EachDoes before old (one ∷ taken) after new = DoesTo before old one × EachDoes one.server one.disk taken after new
+
+    -- An event halted the server. Nothing of what it sent waits, and its turn may have changed the disk.
+    pub record Halts (before after : ServerCore S) (old new : D) : Type 0 where
+      pub alive_before : IsAlive before
+      pub halted : after.halted ≡ true
+      pub waiting : waiting_of after ≡ waiting_of before
+      pub survives : honest old → Survives view old new (on_its_way before) (on_its_way after) []
+
+    -- A run took the first `done` events.
+    pub record Ran (before after : ServerCore S) (old new : D) (events : List given.Event) (done : ℕ) : Type 0 where
+      -- the events that were taken, with their reports and marks, what went out, and what the server and the disk then were
+      pub taken : List (TakenEvent S Saved D)
+      pub events_are : map (λ entry. entry.event) (entries_of taken) ≡ map seen (take done events)
+      -- the server and the disk as the last of them left them
+      pub reached : ServerCore S
+      pub disk : D
+      pub each : EachDoes before old taken reached disk
+      -- nothing else was done, or a further event halted the server
+      pub ends : ((after ≡ reached) × (new ≡ disk)) ⊎ Halts reached after disk new
+
+  -- nothing but the output that waits differs
   pub record Same (one other : ServerCore S) : Type 0 where
     pub state : state_of other ≡ state_of one
     pub writing : other.writing ≡ one.writing
     pub halted : other.halted ≡ one.halted
     pub under_way : under_way_of one ≡ silence → under_way_of other ≡ silence
 
-  -- So much of what waits was handed out, and nothing else happened.
+  -- So much of the output that waits was handed out, and nothing else changed.
   pub record Hands (handed : Output) (one other : ServerCore S) : Type 0 where
     pub same : Same one other
     pub waiting : waiting_of one ≡ then_out handed (waiting_of other)
 
-  -- The cause of a refusal, in the state behind the events that were taken, at the event that comes next.
-  abbrev pub HasCause : Cause → State Application → ServerCore S → ServerCore S → Option given.Event → Type 0
-  HasCause halted_cause end before after event = before.halted ≡ true
-  HasCause cause end before after None = ⊥
-  HasCause Memory end before after (Some event) =
-      IsAlive before × (after.halted ≡ true) × MayWant l.meaning end (seen event)
-  HasCause cause end before after (Some event) = IsAlive before × IsAlive after × (refusal l.meaning end (seen event) ≡ Some cause)
+  -- The cause for which a run ended, over the server as the events that were taken left it, and the event after those.
+  pub data HasCause (before reached after : ServerCore S) : Option given.Event → Cause → Type 0 where
+    -- the server was halted before the run
+    was_halted : (next : Option given.Event) → before.halted ≡ true → HasCause before reached after next halted_cause
+    -- memory ran out at an event that may need some, and the server is halted
+    wants_memory : (event : given.Event) → IsAlive before → after.halted ≡ true → MayWant l.meaning (state_of reached) (seen event)
+        → HasCause before reached after (Some event) Memory
+    -- the event is refused, and the server isn't halted
+    is_refused : (event : given.Event) (cause : Cause) → IsAlive before → IsAlive after → refusal l.meaning (state_of reached) (seen event) ≡ Some cause
+        → HasCause before reached after (Some event) cause
 
-  abbrev pub Refuses : State Application → ServerCore S → ServerCore S → List given.Event → RunFault → Type 0
-  Refuses end before after events fault = HasCause fault.cause end before after (slice_get events fault.done)
-
-  -- A run answers this: it took so many events, the device failed in the turns whose reports are failed, and this is why it ended.
+  -- A run returns this result: it took so many events, the device failed in those that report a failure, and this is why it ended.
   pub record Runs {D : Type 0} (view : D → DiskView) (honest : D → Type 0) (failures : D → ℕ) (before after : ServerCore S) (old new : D) (events : List given.Event) (result : Result ℕ RunFault) : Type 0 where
     pub ran : Ran view honest before after old new events (done_of result)
-    pub fails : Failing (failures old) (traces_under l.meaning ran.entries) (failures new) (IsAlive after)
-    pub refused : IfErr result (λ fault. Refuses ran.lived.end before after events fault)
+    pub fails : FailsAsReported failures old ran.taken
+    -- in an event that halted the server the device may have failed once more
+    pub at_most_once : FailsAtMostOnce (failures ran.disk) (failures new)
+    -- the event after those that were taken makes a call of the disk only if it is a `Flush`
+    pub still : (event : given.Event) → slice_get events (done_of result) ≡ Some event → seen event ≢ Flush → new ≡ ran.disk
+    pub refused : IfErr result (λ fault. HasCause before ran.reached after (slice_get events fault.done) fault.cause)

@@ -1,5 +1,5 @@
--- The turns that an open checkpoint still takes, its report, and the device's failures.
-use Rattle.std.specs.Prelude.{◌≡◌, ◌≢◌, ◌⊎◌, ℕ, ◌+◌, ◌-◌, ◌≤◌, List, [], ◌∷◌, length, Option, Some, None, Bool, true, false}
+-- The turns that an open checkpoint still takes, its report, and the failures of the device.
+use Rattle.std.specs.Prelude.{◌≡◌, ◌≢◌, ◌⊎◌, ℕ, ◌+◌, ◌-◌, List, [], ◌∷◌, length, Option, Some, None, Bool, true, false}
 use Rattle.moo_disk.specs.Disk.{HasRisen}
 use Rattle.moo_checkpoint.specs.Checkpoint.{pieces}
 use Rattle.moo_server_core.specs.Traces.{Report, Done, Failed, Trace}
@@ -29,21 +29,21 @@ abbrev pub turns_left_after : ℕ → List Trace → ℕ
 turns_left_after left [] = left
 turns_left_after left (trace ∷ traces) = turns_left_after (turns_after left trace) traces
 
--- With so many turns left, the `Flush` that takes the last one has the report.
+-- With so many turns left, the `Flush` that takes the last one has the report, and no other event reports a checkpoint done.
 abbrev pub IsInTime : ℕ → List Trace → Type 0
 IsInTime left [] = Unit {0}
-IsInTime left (trace ∷ traces) = (left ≡ 1 → trace.flush ≡ true → trace.report ≢ None) × IsInTime (turns_after left trace) traces
+IsInTime left (trace ∷ traces) =
+    (left ≡ 1 → trace.flush ≡ true → trace.report ≢ None) × (trace.report ≡ Some Done → left ≡ 1) × IsInTime (turns_after left trace) traces
 
--- The device failed in the turn whose report this is, if that is failed, and else it didn't.
+-- The device failed in an event with this report if it is a failure, and not otherwise.
 abbrev pub CountsReport : Option Report → ℕ → ℕ → Type 0
 CountsReport None before now = now ≡ before
 CountsReport (Some Done) before now = now ≡ before
 CountsReport (Some Failed) before now = HasRisen before now
 
--- The count of the device's failures rises in each event whose report is failed, and in no other.
-abbrev pub Fails : ℕ → List Trace → ℕ → Type 0
-Fails before [] now = now ≡ before
-Fails before (trace ∷ traces) now = (mid : ℕ) × CountsReport trace.report before mid × Fails mid traces now
+-- The device failed at most once.
+abbrev pub FailsAtMostOnce : ℕ → ℕ → Type 0
+FailsAtMostOnce before now = (now ≡ before) ⊎ HasRisen before now
 
 -- there is a report
 abbrev pub HasReport : List Trace → Type 0

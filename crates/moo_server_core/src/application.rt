@@ -1,4 +1,4 @@
-//! The interface of sessions: the world, its connections, and the output that waits to be sent.
+//! The interface of an application: the world, its connections, and the output that waits to be sent.
 ghost use Rattle.std.specs.Prelude.{◌≡◌, false, true, IfOk, Ok};
 ghost use Rattle.moo_dbtext_read.specs.Saved.{Saved};
 ghost use Rattle.moo_server_core.specs.Application.{HandsOut, HandsOutLog, Happens, IsApt, Layer, is_dropped, seen_happening, silence, then_out};
@@ -6,7 +6,7 @@ ghost use Rattle.moo_server_core.specs.Application.{HandsOut, HandsOutLog, Happe
 use moo_value::MooStr;
 use std::alloc::AllocError;
 
-/// An event of the sessions, apart from the passing of time.
+/// Is an input of the application. Time passes in the moment of each input.
 #[derive(Clone, Copy)]
 pub enum Input<'a> {
     /// A connection opens under a number that no connection has.
@@ -21,7 +21,7 @@ pub enum Input<'a> {
     Finishes(bool),
 }
 
-/// The requests of tasks to the server.
+/// Holds the requests of tasks to the server.
 #[derive(Clone, Copy, Debug, PartialEq, Eq)]
 pub struct Requests {
     /// Whether a task asked for a checkpoint.
@@ -30,10 +30,10 @@ pub struct Requests {
     pub shutdown: bool,
 }
 
-/// A world with its connections. The output of an event is under way until the event is kept; from then on it waits
+/// Is a world with its connections. The output of an event is under way until the event is kept; from then on it waits
 /// to be taken.
 pub trait Application: Drop {
-    /// The states of the sessions in the semantics.
+    /// The states of the application in the semantics.
     ghost State: { Type 0 };
 
     ghost layer: { Layer Self State Saved };

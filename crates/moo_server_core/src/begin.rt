@@ -1,4 +1,4 @@
-//! A life's beginning: a server, and the text of the world that it starts from.
+//! The start of a life: a server, and the text of the world that it begins from.
 ghost use Rattle.std.specs.Prelude.{◌≡◌, ◌↔◌, IfOk, IfErr};
 ghost use Rattle.moo_disk.specs.Disk.{KeepsMain};
 ghost use Rattle.moo_dbtext_read.specs.Saved.{Saved};
@@ -11,7 +11,7 @@ use moo_dbtext::write_db;
 use moo_disk::Disk;
 use std::alloc::Global;
 
-/// A server that starts from what a disk's main text spells, and the canonical text of that world. Nothing is written.
+/// Opens a server over a disk. Returns it and the canonical text of the world that it begins from. Writes nothing.
 pub(crate) fn open<S: StartApplication, D: Disk>(
     alloc: Global,
     disk: &mut D,

@@ -1,20 +1,20 @@
-//! What comes to a server, what keeps it from being taken, and where the server stands.
+//! The events of a server, why it refuses one, and its phases.
 ghost use Rattle.std.specs.Prelude.{◌≡◌};
 ghost use Rattle.moo_server_core.specs.Courses.{is_closed, is_closing};
 ghost use Rattle.moo_server_core.specs.Seen.{is_flush, seen};
 
-/// What comes to a server.
+/// Is an event that a server is given.
 #[derive(Drop)]
 pub enum Event {
-    /// A connection is opened under this number.
+    /// A connection opens under this number.
     Open(u16),
-    /// Bytes have come on a connection.
+    /// Bytes arrive on a connection.
     Bytes(u16, Vec<u8>),
-    /// A connection has hung up.
+    /// A connection hangs up.
     Hangup(u16),
-    /// It is this moment, in seconds.
+    /// The clock shows this moment, in seconds.
     Moment(u32),
-    /// The open checkpoint, if there is one, is given a turn.
+    /// The open checkpoint, if there is one, takes a turn.
     Flush,
 }
 
@@ -26,19 +26,19 @@ impl Event {
     }
 }
 
-/// Where a server stands.
+/// Is the phase of a server.
 #[derive(Clone, Copy, Debug, PartialEq, Eq)]
 pub enum Phase {
     Running,
-    /// A shutdown was asked for: its last checkpoint has yet to be reported.
+    /// A task asked for a shutdown, and the last checkpoint isn't reported yet.
     Closing,
-    /// The last checkpoint was reported.
+    /// The last checkpoint is reported.
     Closed,
-    /// Memory was wanting: nothing is done any more.
+    /// Memory ran out. The server takes no event any more.
     Halted,
 }
 
-/// How far a server has come that isn't halted.
+/// Is the phase of a server, apart from whether it is halted.
 #[derive(Clone, Copy, Debug, PartialEq, Eq)]
 pub(crate) enum Course {
     Running,
@@ -46,24 +46,24 @@ pub(crate) enum Course {
     Closed,
 }
 
-/// Why a run ends before the end of its events.
+/// Is the reason why a run ends before the end of its events.
 #[derive(Clone, Copy, Debug, PartialEq, Eq)]
 pub enum Cause {
-    /// The connection that an event names isn't open.
+    /// The connection that the event names isn't open.
     NoSuchConnection,
-    /// A connection of this number is open.
+    /// A connection of this number is already open.
     ConnectionInUse,
     /// The moment is before the last one.
     ClockBack,
-    /// Memory was wanting: the server is halted.
+    /// Memory ran out, and the server is halted.
     Memory,
-    /// It was halted before.
+    /// The server was halted before the run.
     Halted,
-    /// It is closed.
+    /// The server is closed.
     Closed,
 }
 
-/// A run that ended after `done` events.
+/// Is the fault of a run that took `done` events, and not the event after them.
 #[derive(Clone, Copy, Debug, PartialEq, Eq)]
 pub struct RunFault {
     pub done: usize,

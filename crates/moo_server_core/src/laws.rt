@@ -1,5 +1,5 @@
-//! What holds of every list of calls, over the definitions alone. The disk of each call is one of a type, or of another,
-//! as one that has it within and makes a call fail.
+//! Laws of every list of calls. The disk of each call has one of two types. The second may be a wrapper of the first,
+//! such as one that makes a call fail.
 ghost use Rattle.std.specs.Prelude.{◌≡◌, ◌⊎◌, ◌↔◌, ◌++◌, ◌+◌, ◌/◌, ◌≤◌, ◌∷◌, [], length, Some, ℕ, List};
 ghost use Rattle.moo_disk.specs.Disk.{KeepsMain};
 ghost use Rattle.moo_disk.specs.FailAt.{inner_of};
@@ -11,31 +11,31 @@ ghost use Rattle.moo_server_core.specs.Crash.{IsOneOf, last_of, since_done, text
 ghost use Rattle.moo_server_core.specs.Turns.{HasReport, flushes};
 ghost use Rattle.moo_server_core.specs.Meaning.{Entry, out_of};
 ghost use Rattle.moo_server_core.specs.Server.{Follows, IsAlive, Lived, Same, state_of, traces_under, waiting_of};
-ghost use Rattle.moo_server_core.specs.Calls.{Call, Calls, IsKept, LeavesMarked, Lent, One, Opened, StartsAgain, handed_in, lent_honest, lent_view};
+ghost use Rattle.moo_server_core.specs.Calls.{Call, Calls, IsKept, LeavesMarked, Lent, One, Opened, StartsAgain, Stopped, handed_in, lent_honest, lent_view};
 ghost use Rattle.moo_server_core.specs.declared.server_core.ServerCore.{ServerCore};
 
 use crate::{Application, StartApplication};
 use moo_disk::{Disk, FailAt};
 
-/// Calls one after another do what all their events do, however the events are dealt to calls: the state, the
-/// marks, what a crash may leave, and the turns in which reports come.
+/// Shows that calls do what their events do, one after another, however the events are divided among the calls. This
+/// holds of the state, the marks, what a crash may leave, and the turns in which reports come.
 pub fn calls_are_one_life<S: Application, D: Disk, E: Disk>()
     ensures { (before after : ServerCore S) (old new : Lent D E) (calls : List (Call S (Lent D E))) (entries : List (Entry Saved))
         → Calls S.layer D.view D.honest E.view E.honest before old calls after new entries
         → Lived S.layer (lent_view D.view E.view) (lent_honest D.honest E.honest) before after old new entries }
 {}
 
-/// What waited before some calls and what their events told is what was handed out before each of them and what waits
-/// after them, for each number and for the log.
+/// Shows that no output is lost. What waited before the calls, followed by what their events sent, is what was handed
+/// out before each of them, followed by what waits after them. This holds for each number and for the log.
 pub fn all_output_is_handed_out<S: Application, D: Disk, E: Disk>()
     ensures { (before after : ServerCore S) (old new : Lent D E) (calls : List (Call S (Lent D E))) (entries : List (Entry Saved))
         → Calls S.layer D.view D.honest E.view E.honest before old calls after new entries
         → then_out (waiting_of S.layer before) (out_of entries) ≡ then_out (handed_in calls) (waiting_of S.layer after) }
 {}
 
-/// A stop at any moment since some calls, inside a call too: what it leaves under main is the text of the mark of
-/// the last report done among those calls, or of a later mark, or, where none was done, what a crash left before
-/// the start. So with no call before, it holds of every moment since the start ended.
+/// Shows what a stop leaves under main, at any moment after some calls, also within a call. It is the text of the mark
+/// of the last report done among those calls, or of a later mark. If no report was done, it may also be what a crash
+/// left before the start. With no call before, this holds of every moment after the start.
 pub fn a_stop_at_any_moment<S: Application, D: Disk, E: Disk>()
     ensures { (start server end : ServerCore S) (first opened : D) (disk last : Lent D E) (before after : List (Call S (Lent D E)))
         (entries later : List (Entry Saved)) (saved : Saved) (moment : ℕ)
@@ -46,7 +46,7 @@ pub fn a_stop_at_any_moment<S: Application, D: Disk, E: Disk>()
         → LeavesMarked S.layer (D.view first).may_leave entries later c }
 {}
 
-/// The same since the start began: what a crash left before it, or the text of a mark.
+/// Shows what a stop leaves at any moment since the start began: what a crash left before it, or the text of a mark.
 pub fn a_stop_since_the_start<S: Application, D: Disk, E: Disk>()
     ensures { (start end : ServerCore S) (first opened : D) (last : Lent D E) (calls : List (Call S (Lent D E)))
         (entries : List (Entry Saved)) (saved : Saved) (moment : ℕ)
@@ -56,13 +56,14 @@ pub fn a_stop_since_the_start<S: Application, D: Disk, E: Disk>()
         → (D.view first).may_leave c ⊎ IsOneOf (texts_of_marks (traces_under S.layer.meaning entries)) c }
 {}
 
-/// A start that only read the disk, as each does that is refused: a stop since it began leaves what a crash left before.
+/// Shows that a stop during a start that only read the disk leaves what a crash left before. Each refused start only
+/// reads.
 pub fn a_refused_start_loses_nothing<D: Disk>()
     ensures { (first last : D) → D.honest first → KeepsMain (D.view first) (D.view last)
         → (c : List ℕ) → (D.view last).left_since (D.view first).clock c → (D.view first).may_leave c }
 {}
 
-/// After a report done in a call of one event, a crash leaves the text of the last mark before it alone.
+/// Shows that after a report done in a call of one event a crash leaves only the text of the last mark before it.
 pub fn a_report_done_is_durable<S: Application, D: Disk, E: Disk>()
     ensures { (start server end : ServerCore S) (first opened : D) (disk last : Lent D E) (before : List (Call S (Lent D E)))
         (call : Call S (Lent D E)) (entries later : List (Entry Saved)) (saved : Saved) (moment : ℕ)
@@ -74,7 +75,7 @@ pub fn a_report_done_is_durable<S: Application, D: Disk, E: Disk>()
         → last_of (since_done [] (traces_under S.layer.meaning entries)) ≡ c ∷ [] }
 {}
 
-/// Behind a mark of a text of n bytes, n / 65,536 + 6 events `Flush` that were taken have its report.
+/// Shows that after a mark whose text has n bytes, one of the next n / 65,536 + 6 events `Flush` has a report.
 pub fn a_report_comes<S: Application, D: Disk, E: Disk>()
     ensures { (before after : ServerCore S) (old new : Lent D E) (calls : List (Call S (Lent D E)))
         (entries front rest : List (Entry Saved)) (e : Entry Saved) (saved : Saved)
@@ -84,9 +85,9 @@ pub fn a_report_comes<S: Application, D: Disk, E: Disk>()
         → HasReport (traces_under S.layer.meaning rest) }
 {}
 
-/// Whatever the events were, and wherever they stopped, inside a call of the disk too: what is left under main spells
-/// the world after a prefix of the events that ends with a mark, one that holds every event before the last checkpoint
-/// began whose report done a call has returned; or, where none was done, the world that the server began from.
+/// Shows that what a stop leaves under main, also within a call of the disk, spells the world after a prefix of the
+/// events that ends with a mark. The prefix holds every event up to a mark whose checkpoint was reported done in a call
+/// that has returned. If none was, the text may spell the world that the server began from.
 pub fn a_start_reads_a_prefix<S: Application, D: Disk, E: Disk>()
     ensures { (start server end : ServerCore S) (first opened : D) (disk last : Lent D E) (before after : List (Call S (Lent D E)))
         (entries later : List (Entry Saved)) (saved : Saved) (moment : ℕ)
@@ -98,7 +99,8 @@ pub fn a_start_reads_a_prefix<S: Application, D: Disk, E: Disk>()
         → IsKept S.layer (state_of S.layer start) saved entries later c }
 {}
 
-/// The same of every moment since the start began, inside the start too.
+/// Shows what a stop leaves at any moment since the start began, also within the start. It spells the world after a
+/// prefix of the events that ends with a mark, or the world that the server began from.
 pub fn a_start_reads_a_prefix_since_the_start<S: Application, D: Disk, E: Disk>()
     ensures { (start end : ServerCore S) (first opened : D) (last : Lent D E) (calls : List (Call S (Lent D E)))
         (entries : List (Entry Saved)) (saved : Saved) (moment : ℕ)
@@ -109,10 +111,9 @@ pub fn a_start_reads_a_prefix_since_the_start<S: Application, D: Disk, E: Disk>(
         → IsKept S.layer (state_of S.layer start) saved [] entries c }
 {}
 
-/// Starting again, wherever the events stopped, reads the world after a prefix of the events that ends with a mark, one that
-/// holds every event before the last checkpoint reported done began, or, where none was, the world that the server began
-/// from: main spells it as a database text within the limits, and a server that is opened over that disk, of whatever
-/// type, begins from it.
+/// Shows which world a start after a stop reads, over a disk of any type whose main text the stop may have left:
+/// the world after a prefix of the events, as `a_start_reads_a_prefix` has it. Main spells it as a database text within
+/// the limits, and a server that is opened over that disk begins from it.
 pub fn starting_again_reads_a_prefix<S: StartApplication, D: Disk, E: Disk, F: Disk>()
     ensures { (start server end : ServerCore S) (first opened : D) (disk last : Lent D E) (before after : List (Call S (Lent D E)))
         (entries later : List (Entry Saved)) (saved : Saved) (moment : ℕ)
@@ -125,7 +126,17 @@ pub fn starting_again_reads_a_prefix<S: StartApplication, D: Disk, E: Disk, F: D
         → StartsAgain S.layer F.view F.honest (state_of S.layer start) saved entries later found }
 {}
 
-/// The same of a stop at any moment since the start began, inside the start too.
+/// Shows which world a start after a stop reads: the world after a prefix of the events that ends with a mark. The prefix
+/// holds every event up to a mark whose checkpoint was reported done in a call that has returned. If none was, the start
+/// may read the world that the stopped server began from. Main spells that world as a database text within the limits,
+/// and a server that is opened over that disk, of any type, begins from it.
+pub fn a_stopped_server_starts_again<S: StartApplication, D: Disk, E: Disk, F: Disk>()
+    ensures { (stopped : Stopped S.layer D.view D.honest E.view E.honest) (found : F)
+        → F.honest found → (F.view found).main_text ≡ stopped.left
+        → StartsAgain S.layer F.view F.honest (state_of S.layer stopped.start) stopped.saved stopped.entries stopped.later found }
+{}
+
+/// Shows which world a start reads after a stop at any moment since the start before it began, also within that start.
 pub fn starting_again_reads_a_prefix_since_the_start<
     S: StartApplication,
     D: Disk,
@@ -142,13 +153,13 @@ pub fn starting_again_reads_a_prefix_since_the_start<
         → StartsAgain S.layer F.view F.honest (state_of S.layer start) saved [] entries found }
 {}
 
-/// Where what waits is taken between two calls, the server goes on with its disk.
+/// Shows that a server whose output was taken between two calls goes on with its disk.
 pub fn output_may_be_taken<S: Application, D: Disk>()
     ensures { (one other : ServerCore S) (disk : D) → Same S.layer one other
         → Follows S.layer D.view D.honest D.stands one disk → Follows S.layer D.view D.honest D.stands other disk }
 {}
 
-/// Between two calls the disk may be made to fail, and such a disk may be changed for the one within.
+/// Shows that between two calls a disk may be wrapped in one that makes a call fail, and be taken out of it.
 pub fn a_failing_disk_goes_on<S: Application, D: Disk>()
     ensures { (server : ServerCore S) (disk : FailAt D)
         → Follows S.layer D.view D.honest D.stands server (inner_of disk)

@@ -1,5 +1,5 @@
-//! A server over a disk and any layer of sessions: events, checkpoints, and what a crash may leave.
-//! A room behind `moo_server`.
+//! A server over a disk and any application: events, checkpoints, and what a crash may leave.
+//! An internal crate of `moo_server`.
 #![tactic(auto)]
 
 mod application;

@@ -1,20 +1,20 @@
-//! What is asked of a life, and what is told of it.
+//! The lives of a server: what each is given, and what is returned of it.
 ghost use Rattle.std.specs.Prelude.{◌≡◌};
 ghost use Rattle.moo_server_core.specs.Server.{done_of};
 
 use crate::{Event, RunFault};
 use moo_checkpoint::OpenFault;
 
-/// How a life ends.
+/// Is the way in which a life ends.
 #[derive(Clone, Copy, Debug, PartialEq, Eq)]
 pub enum LifeStop {
-    /// By a crash, which leaves the text of this number, from 0.
+    /// A crash, which leaves the text of this number, from 0.
     Crash(usize),
-    /// The server ends, and the disk is as it stands.
+    /// The server ends, and the disk stays as it is.
     ServerOnly,
 }
 
-/// A server's life: it starts at a moment, in seconds, and is given these events.
+/// Is the life of a server. It starts at a moment, in seconds, and is given these events.
 #[derive(Drop)]
 pub struct Life {
     pub moment: u32,
@@ -22,34 +22,34 @@ pub struct Life {
     pub stop: LifeStop,
 }
 
-/// What is told of a life.
+/// Is what is returned of a life.
 #[derive(Drop)]
 pub struct LifeBegin {
     /// The canonical text of the world that it began from.
     pub text: Vec<u8>,
-    /// How many of its events ran.
+    /// The number of its events that the server took.
     pub done: usize,
 }
 
-/// Why lives end before their end.
+/// Is the reason why a life can't begin or end.
 #[derive(Clone, Copy, Debug, PartialEq, Eq)]
 pub enum LivesCause {
-    /// A server found no world to start from.
+    /// The server found no world to start from.
     Open(OpenFault),
-    /// A crash leaves no text of that number.
+    /// The crash leaves no text of that number.
     NoSuchImage,
-    /// Memory was wanting.
+    /// Memory ran out.
     Memory,
 }
 
-/// The life that met it, from 0, and what it met.
+/// Names the life at which the lives ended, from 0, and the reason.
 #[derive(Clone, Copy, Debug, PartialEq, Eq)]
 pub struct LivesFault {
     pub life: usize,
     pub cause: LivesCause,
 }
 
-/// How many events a run took.
+/// Returns the number of events that a run took.
 pub(crate) fn done_in(answer: Result<usize, RunFault>) -> usize
     ensures { result ≡ done_of answer }
 {

@@ -1,4 +1,4 @@
-//! What is certain of a run, and of lives one after another.
+//! Laws of one run, and of lives one after another.
 ghost use Rattle.std.specs.Prelude.{◌↔◌, ℕ, List, []};
 ghost use Rattle.moo_disk.specs.Disk.{LeavesOnly};
 ghost use Rattle.moo_disk.specs.StopAt.{inner_of};
@@ -12,17 +12,18 @@ ghost use Rattle.moo_server_core.specs.Marks.{BeginFromKept};
 use crate::Application;
 use moo_disk::{CrashDisk, Disk, MemoryDisk, StopAt};
 
-/// Where a happening and a start come to one thing alone, the saved world, the moment, the events and their reports make a
-/// run: what goes out, which worlds are marked, and the state behind it.
+/// Shows that a run has one result, if each input and each start has one. The saved world, the moment, the events and
+/// their reports then determine the output, the worlds that are marked, and the state after the run.
 #[tactic(none)]
 pub fn one_run<S: Application>()
     ensures { HaveOneResult S.layer.meaning S.layer.meaning → OneRun S.layer.meaning S.layer.meaning }
 {}
 
-/// Of lives over an honest disk whose first crash leaves its main text alone, each behind the first begins from the world at a mark of
-/// an earlier life, or from that which an earlier life began from, and never from one before the mark of the last report done of any
-/// earlier life. Behind a crash that ended a life which began behind a crash, or was the first, it begins from a mark of that
-/// life, or, where none of its checkpoints was reported done, from the world that it began from.
+/// Shows from which worlds lives begin, over an honest disk whose first crash leaves only its main text. Each life after
+/// the first begins from the world at a mark of an earlier life, or from one that an earlier life began from. It never
+/// begins from one before the mark of the last report done of any earlier life. Suppose that a crash ended the life
+/// before it, and that this one was the first or began after a crash. Then the new life begins from a mark of that life,
+/// or, if none of its checkpoints was reported done, from the world that it began from.
 #[tactic(none)]
 pub fn lives_begin_from_marks<S: Application, D: CrashDisk>()
     ensures { (first last : D) (runs : List (LifeRun S D)) (texts left : List (List ℕ))
@@ -31,7 +32,7 @@ pub fn lives_begin_from_marks<S: Application, D: CrashDisk>()
         → BeginFromKept S.layer [] runs }
 {}
 
-/// Between two calls a disk in memory may be made to stop, and such a disk may be changed for the one within.
+/// Shows that between two calls a disk in memory may be wrapped in one that stops, and be taken out of it.
 #[tactic(none)]
 pub fn a_stopping_disk_goes_on<S: Application>()
     ensures { (server : ServerCore S) (disk : StopAt)

@@ -10,7 +10,7 @@ use crate::{Life, LifeBegin, LifeStop, LivesCause, LivesFault, StartApplication}
 use moo_disk::{CrashDisk, Disk};
 use std::alloc::Global;
 
-/// One life, up to its end.
+/// Runs one life up to its end.
 fn live<S: StartApplication, D: Disk>(
     alloc: Global,
     disk: &mut D,
@@ -29,7 +29,7 @@ fn live<S: StartApplication, D: Disk>(
     }
 }
 
-/// One life with its end: the disk that is left, and what is told.
+/// Runs one life with its end. Returns the disk that is left, and what is returned of the life.
 fn live_and_stop<S: StartApplication, D: CrashDisk + Drop>(
     alloc: Global,
     disk: D,
@@ -63,19 +63,19 @@ fn stop<D: CrashDisk + Drop>(
     }
 }
 
-/// Lives one after another, each over what the last one left.
+/// Runs lives one after another, each over the disk that the one before it left.
 ///
-/// Where one can't begin or end, nothing is told of those before it.
+/// If one can't begin or end, the fault names it, and nothing is returned of those before it.
 pub fn run_lives<S: StartApplication, D: CrashDisk + Drop>(
     alloc: Global,
     disk: D,
     lives: &[Life],
 ) -> Result<Vec<LifeBegin>, LivesFault>
-    // Where the disk is honest and a crash leaves its main text alone, which spells a saved world within the limits: the lives, and what
-    // is told of them.
+    // Suppose that the disk is honest, that a crash leaves only its main text, and that this spells a saved world within
+    // the limits. Then these lives were lived, and this is returned of them.
     ensures lives { D.honest disk → (s : Saved) → S.layer.meaning.Spells (D.view disk).main_text s → LeavesOnly (D.view disk).main_text (D.view disk)
         → IfOk result (λ begins. LivesSoFar S.layer D.view D.honest D.failures D.images lives.now begins.items disk) }
-    // Else the lives before that of the told place, and what that one met: only want of memory ends lives without a reason of theirs.
+    // At a fault the lives before that of its place were lived, and that one met what the fault says.
     ensures fault { D.honest disk → (s : Saved) → S.layer.meaning.Spells (D.view disk).main_text s → LeavesOnly (D.view disk).main_text (D.view disk)
         → IfErr result (λ fault. EndsAt S.layer D.view D.honest D.failures D.images lives.now disk fault) }
 {

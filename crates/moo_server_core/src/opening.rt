@@ -1,10 +1,10 @@
-//! A server's start: the saved world that a disk holds, and the hooks of the start.
+//! The start of a server: from the saved world that a disk holds, with the hooks of the start.
 ghost use Rattle.std.specs.Prelude.{◌≡◌, ◌≢◌, ◌↔◌, IfOk, IfErr, None};
 ghost use Rattle.moo_dbtext_record.specs.declared.fault.DbFault.{DbFault};
 ghost use Rattle.moo_dbtext_record.specs.declared.fault.DbFaultKind.TheVariants as kind;
 ghost use Rattle.moo_disk.specs.Disk.{KeepsMain, KeepsSpare};
 ghost use Rattle.moo_dbtext_read.specs.Saved as saving;
-ghost use Rattle.moo_dbtext_read.specs.Saved.{saved_of, SpellsSaved, SpellsSavedWithin};
+ghost use Rattle.moo_dbtext_read.specs.Saved.{saved_of, SpellsSavedWithin};
 ghost use Rattle.moo_server_core.specs.Application.{silence};
 ghost use Rattle.moo_server_core.specs.Meaning.{Begins};
 ghost use Rattle.moo_dbtext_read.specs.Refusals.{Refuses as RefusesText};
@@ -20,23 +20,23 @@ use std::alloc::{AllocError, Global};
 impl<S: StartApplication> ServerCore<S> {
     ghost use Rattle.moo_server_core.specs.Server.{Follows, IsAlive, state_of, under_way_of, waiting_of};
 
-    /// A server that starts from what a disk's main text spells. Nothing is written.
+    /// Opens a server that starts from the world that a disk's main text spells. `moment` is in seconds. Writes nothing.
     pub fn open<D: Disk>(
         alloc: Global,
         disk: &mut D,
         moment: u32,
     ) -> Result<ServerCore<S>, OpenFault>
-        // It begins from a saved world that main spells: from the one that it spells within the limits, where it does.
-        ensures opened { IfOk result (λ server. (s : saving.Saved) × (D.honest disk.old → SpellsSaved (D.view disk.old).main_text s)
+        // It begins from a saved world that main spells within the limits of database texts.
+        ensures opened { IfOk result (λ server. (s : saving.Saved) × (D.honest disk.old → SpellsSavedWithin (D.view disk.old).main_text s)
             × Opened S.layer D.view D.honest server disk.old disk.new s moment) }
         ensures follows { IfOk result (λ server. Follows S.layer D.view D.honest D.stands server disk.new) }
-        // Where the text is refused, this is what is told of it; want of memory is told by itself.
+        // If the text is refused, the fault says why. Running out of memory is a fault of its own.
         ensures refused { D.honest disk.old → IfErr result (λ e. (f : DbFault) → e ≡ OpenFault.Db f
             → RefusesText (D.view disk.old).main_text f × (f.kind ≢ kind.Memory)) }
-        // What spells a saved world within the limits is refused for the device or for memory alone.
+        // A text that spells a saved world within the limits is refused only if the device fails or memory runs out.
         ensures accepted { D.honest disk.old → (s : saving.Saved) → SpellsSavedWithin (D.view disk.old).main_text s
             → IfErr result (λ e. (f : DbFault) → e ≢ OpenFault.Db f) }
-        // The device is told where it failed in this call, and nowhere else.
+        // The fault is the device's exactly if the device failed in this call.
         ensures device { CountsDevice (D.honest disk.old) (D.failures disk.old) (D.failures disk.new) result }
         // Nothing is written.
         ensures main { D.honest disk.old → KeepsMain (D.view disk.old) (D.view disk.new) }
@@ -49,7 +49,8 @@ impl<S: StartApplication> ServerCore<S> {
         Ok(server)
     }
 
-    /// A server that starts from a saved world, with the hooks of the start.
+    /// Starts a server from a saved world, with the hooks of the start. `moment` is in seconds. Fails only if memory
+    /// runs out.
     pub fn start(alloc: Global, saved: Saved, moment: u32) -> Result<ServerCore<S>, AllocError>
         ensures begins { IfOk result (λ server. Begins S.layer.meaning (saved_of saved) moment (waiting_of S.layer server) (state_of S.layer server)) }
         ensures alive { IfOk result (λ server. IsAlive server) }

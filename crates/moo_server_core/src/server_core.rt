@@ -1,4 +1,4 @@
-//! The server: its sessions, and the checkpoint that is open.
+//! The server: its application, and the checkpoint that is open.
 ghost use Rattle.std.specs.Prelude.{All, ℕ, [], Err, ◌≡◌, ◌≢◌, ◌↔◌, ◌||◌, None, false, true, length, IfOk, if◌then◌else◌};
 ghost use Rattle.moo_dbtext_read.specs.Saved.{Saved};
 ghost use Rattle.moo_server_core.specs.Application.{silence, then_out};
@@ -15,18 +15,18 @@ use moo_value::MooStr;
 #[derive(Drop)]
 pub(crate) struct Open {
     pub(crate) checkpoint: Checkpoint,
-    /// It began at or after the first shutdown.
+    /// Whether it began at or after the first shutdown.
     pub(crate) is_last: bool,
 }
 
-/// A server over a layer of sessions. The disk is lent to each run.
+/// Is a server over an application. The disk is lent to each run.
 #[derive(Drop)]
 pub struct ServerCore<S: Application> {
     pub(crate) sessions: S,
     pub(crate) moment: u32,
-    /// The next checkpoint is due at this moment.
+    /// The moment at which the next checkpoint is due, in seconds.
     pub(crate) due: u64,
-    /// A checkpoint is asked for.
+    /// Whether a task asked for a checkpoint that hasn't begun yet.
     pub(crate) asked: bool,
     pub(crate) course: Course,
     pub(crate) halted: bool,
@@ -36,7 +36,7 @@ pub struct ServerCore<S: Application> {
 impl<S: Application> ServerCore<S> {
     ghost use Rattle.moo_server_core.specs.Server.{IsAlive, Follows, Hands, Runs, Same, logged_alone, sent_alone, state_of, under_way_of, waiting_of};
 
-    /// A server over sessions that have just been started at a moment, in hooks that asked for so much.
+    /// Returns a server over an application that has just started at a moment, and whose hooks made these requests.
     pub(crate) fn over(sessions: S, asked: Requests, moment: u32) -> ServerCore<S>
         ensures state { state_of S.layer result ≡ begun_at moment (asked.checkpoint || asked.shutdown) (if asked.shutdown then Course.Closing else Course.Running)
             (S.layer.meaning.interval (S.layer.state sessions)) (S.layer.state sessions) }
@@ -69,7 +69,7 @@ impl<S: Application> ServerCore<S> {
         Course::Running
     }
 
-    /// Where the server stands.
+    /// Returns the phase of the server.
     pub fn phase(&self) -> Phase
         ensures { result ≡ phase_of self.now.halted self.now.course }
     {
@@ -83,7 +83,7 @@ impl<S: Application> ServerCore<S> {
         }
     }
 
-    /// Whether a connection is open, and leaving; no, once the server is halted.
+    /// Returns whether a connection is open and leaving. It returns false once the server is halted.
     pub fn is_leaving(&self, c: u16) -> bool
         ensures { result ≡ (if self.now.halted then false else S.layer.meaning.is_leaving (state_of S.layer self.now).sessions c) }
     {
@@ -93,7 +93,7 @@ impl<S: Application> ServerCore<S> {
         self.sessions.is_leaving(c)
     }
 
-    /// All that waits for a connection's number, moved out. It takes no memory.
+    /// Removes and returns the bytes that wait for a connection's number. Needs no memory.
     pub fn take_output(&mut self, c: u16) -> Vec<u8>
         ensures all { result.items ≡ (waiting_of S.layer self.old).sent c }
         ensures nothing { (waiting_of S.layer self.new).sent c ≡ [] }
@@ -104,7 +104,7 @@ impl<S: Application> ServerCore<S> {
         self.sessions.take_output(c)
     }
 
-    /// All lines that wait for the log, moved out. It takes no memory.
+    /// Removes and returns the lines that wait for the log. Needs no memory.
     pub fn take_log(&mut self) -> Vec<MooStr>
         ensures all { result.items ≡ (waiting_of S.layer self.old).logged }
         ensures nothing { (waiting_of S.layer self.new).logged ≡ [] }
@@ -114,24 +114,24 @@ impl<S: Application> ServerCore<S> {
         self.sessions.take_log()
     }
 
-    /// Takes the events in order, and answers how many there are.
+    /// Takes the events in order, and returns their number.
     ///
-    /// The disk is the one of the server's last call, perhaps with a wrapper put round it. A refused event changes
-    /// nothing, and what comes behind it isn't looked at; want of memory halts the server.
+    /// The disk must be the one that the last call left, or that disk in a wrapper. A refused event changes nothing and
+    /// ends the run. If memory runs out, the server halts.
     pub fn run<D: Disk>(&mut self, disk: &mut D, events: &[Event]) -> Result<usize, RunFault>
         requires { Follows S.layer D.view D.honest D.stands self.old disk.old }
 
         // All are taken, and the server goes on.
         ensures all { IfOk result (λ n. (n ≡ length events.now) × IsAlive self.new) }
 
-        // What the events do that are taken, what a crash may leave, and why the event behind them isn't taken.
+        // What each event did that was taken, what a crash may leave, and why the event after them wasn't taken.
         ensures ran { Runs S.layer D.view D.honest D.failures self.old self.new disk.old disk.new events.now result }
 
         // A halted server does nothing.
         ensures halted { self.old.halted ≡ true
             → (result ≡ Err (record { done = 0; cause = Cause.Halted })) × (self.new ≡ self.old) × (disk.new ≡ disk.old) }
 
-        // The disk is met in a `Flush` alone.
+        // Only a `Flush` makes a call of the disk.
         ensures still { All (λ event. seen event ≢ Flush) events.now → disk.new ≡ disk.old }
         ensures follows { Follows S.layer D.view D.honest D.stands self.new disk.new }
         ensures honest { D.honest disk.old ↔ D.honest disk.new }

@@ -1,4 +1,4 @@
-//! Application that start from a saved world.
+//! Applications that start from a saved world.
 ghost use Rattle.std.specs.Prelude.{◌≡◌, ◌↔◌, ℕ, List, IfOk};
 ghost use Rattle.moo_dbtext_read.specs.Saved as saving;
 ghost use Rattle.moo_dbtext_read.specs.Saved.{saved_of, SpellsSavedWithin};
@@ -9,7 +9,7 @@ use crate::{Application, Requests};
 use moo_dbtext_read::Saved;
 use std::alloc::{AllocError, Global};
 
-/// Application that start from a saved world and are saved as database texts.
+/// Is an application that starts from a saved world and is saved as a database text.
 pub trait StartApplication: Application {
     /// Starts from a saved world, and runs the hooks of the start. `moment` is in seconds. Fails only if memory runs
     /// out.

@@ -1,9 +1,10 @@
 //! What a server does in one event.
-ghost use Rattle.std.specs.Prelude.{ℕ, ◌≡◌, ◌≢◌, ◌↔◌, ◌≤◌, ◌||◌, None, false, true, OnOk, IfErr, Err, IsOk, Some, [], if◌then◌else◌};
+ghost use Rattle.std.specs.Prelude.{ℕ, ◌≡◌, ◌≢◌, ◌↔◌, ◌||◌, None, false, true, OnOk, IfErr, Err, IsOk, Some, [], if◌then◌else◌};
 ghost use Rattle.moo_disk.specs.Disk.{Gains};
 ghost use Rattle.moo_dbtext_read.specs.Saved.{Saved};
 ghost use Rattle.moo_server_core.specs.Application.{Finishes, IsApt, Output, is_dropped, seen_happening, then_out};
 ghost use Rattle.moo_server_core.specs.Crash.{IsOneOf, Survives};
+ghost use Rattle.moo_server_core.specs.Turns.{CountsReport, FailsAtMostOnce};
 ghost use Rattle.moo_server_core.specs.Seen.{Flush, seen};
 ghost use Rattle.moo_server_core.specs.Meaning.{State, Acts, Entry, FindsFree, Hears, Marks, is_due, MayWant, is_for_leaving, is_passed_over, refusal, refusal_in};
 
@@ -17,7 +18,7 @@ use std::alloc::AllocError;
 impl<S: Application> ServerCore<S> {
     ghost use Rattle.moo_server_core.specs.Server.{IsAlive, Does, Follows, OpenFollows, Opens, MarkSpells, Turns, on_its_way, state_of, under_way_of, waiting_of};
 
-    // Something happens to the sessions.
+    // Gives the application an input, and notes the requests that result.
     fn apply(&mut self, happening: Input) -> Result<(), AllocError>
         requires { IsApt S.layer.meaning (S.layer.state self.old.sessions) (seen_happening happening) }
         ensures hears { OnOk result ((out : Output)
@@ -34,7 +35,7 @@ impl<S: Application> ServerCore<S> {
         Ok(())
     }
 
-    // A request stands until a checkpoint begins, and a shutdown makes the server close.
+    // Notes requests. A checkpoint stays requested until it begins, and a shutdown makes the server close.
     fn note_requests(&mut self, asked: Requests)
         ensures asked { self.new.asked ≡ (asked.checkpoint || (asked.shutdown || self.old.asked)) }
         ensures course { self.new.course ≡ (if asked.shutdown then Course.Closing else self.old.course) }
@@ -52,7 +53,7 @@ impl<S: Application> ServerCore<S> {
         }
     }
 
-    // The event's own effect.
+    // Applies the event's own effect.
     fn act(&mut self, event: &Event) -> Result<(), AllocError>
         requires { FindsFree S.layer.meaning (state_of S.layer self.old) (seen event.now) }
         ensures acts { OnOk result ((out : Output)
@@ -85,7 +86,7 @@ impl<S: Application> ServerCore<S> {
         self.asked || self.due <= u64::from(self.moment)
     }
 
-    // Begins a checkpoint where one is due.
+    // Begins a checkpoint if one is due.
     fn begin_due_checkpoint(&mut self) -> Result<(), AllocError>
         ensures marks { OnOk result ((mark : _) × (out : Output)
             × Marks S.layer.meaning mark (state_of S.layer self.old) out (state_of S.layer self.new)
@@ -109,7 +110,7 @@ impl<S: Application> ServerCore<S> {
         Ok(())
     }
 
-    // Reports that the open checkpoint has ended, which closes the server where it was the last.
+    // Reports that the open checkpoint has ended. If it was the last, the server is closed.
     fn report(&mut self, is_last: bool, done: bool) -> Result<(), AllocError>
         ensures reports { OnOk result ((out : Output) × (mid : State S.State)
             × Hears S.layer.meaning (Finishes done) (state_of S.layer self.old) out mid
@@ -137,7 +138,7 @@ impl<S: Application> ServerCore<S> {
         ensures halted { self.new.halted ≡ self.old.halted }
         ensures follows { OnOk result (OpenFollows D.view D.honest D.stands self.new.writing disk.new) }
         ensures gains { D.honest disk.old → Gains (IsOneOf (on_its_way self.old)) (D.view disk.old) (D.view disk.new) }
-        ensures no_fewer { D.failures disk.old ≤ D.failures disk.new }
+        ensures at_most_once { FailsAtMostOnce (D.failures disk.old) (D.failures disk.new) }
         ensures honest { D.honest disk.old ↔ D.honest disk.new }
     {
         let Some(mut open) = self.writing.take() else {
@@ -153,7 +154,7 @@ impl<S: Application> ServerCore<S> {
         }
     }
 
-    // What keeps an event from being taken.
+    // Returns the reason why an event is refused, if it is.
     fn refusal(&self, event: &Event) -> Option<Cause>
         ensures { result ≡ refusal S.layer.meaning (state_of S.layer self.now) (seen event.now) }
     {
@@ -195,20 +196,21 @@ impl<S: Application> ServerCore<S> {
         Some(Cause::NoSuchConnection)
     }
 
-    // An event that isn't refused.
+    // Takes an event that isn't refused.
     fn try_take<D: Disk>(&mut self, disk: &mut D, event: &Event) -> Result<(), AllocError>
         requires follows { Follows S.layer D.view D.honest D.stands self.old disk.old }
         requires accepted { refusal S.layer.meaning (state_of S.layer self.old) (seen event.now) ≡ None }
         requires counts { is_passed_over S.layer.meaning (state_of S.layer self.old) (seen event.now) ≡ false }
         ensures takes { OnOk result ((entry : Entry Saved) × (entry.event ≡ seen event.now)
-            × Does S.layer.meaning D.view D.honest D.failures (state_of S.layer self.old) (state_of S.layer self.new)
+            × Does S.layer.meaning D.view D.honest (state_of S.layer self.old) (state_of S.layer self.new)
             self.old.writing self.new.writing disk.old disk.new entry
+            × CountsReport entry.report (D.failures disk.old) (D.failures disk.new)
             × (under_way_of S.layer self.new ≡ entry.out)) }
         ensures waiting { waiting_of S.layer self.new ≡ waiting_of S.layer self.old }
         ensures halted { self.new.halted ≡ self.old.halted }
         ensures follows { OnOk result (OpenFollows D.view D.honest D.stands self.new.writing disk.new) }
         ensures gains { D.honest disk.old → Gains (IsOneOf (on_its_way self.old)) (D.view disk.old) (D.view disk.new) }
-        ensures no_fewer { D.failures disk.old ≤ D.failures disk.new }
+        ensures at_most_once { FailsAtMostOnce (D.failures disk.old) (D.failures disk.new) }
         ensures still { seen event.now ≢ Flush → disk.new ≡ disk.old }
         ensures honest { D.honest disk.old ↔ D.honest disk.new }
         ensures memory { IfErr result (λ _. MayWant S.layer.meaning (state_of S.layer self.old) (seen event.now)) }
@@ -221,13 +223,14 @@ impl<S: Application> ServerCore<S> {
         self.begin_due_checkpoint()
     }
 
-    // One event. A want of memory halts the server; another refusal changes nothing.
+    // Takes one event. If memory runs out, the server halts. A refused event changes nothing.
     pub(crate) fn take<D: Disk>(&mut self, disk: &mut D, event: &Event) -> Result<(), Cause>
         requires follows { Follows S.layer D.view D.honest D.stands self.old disk.old }
         requires alive { IsAlive self.old }
         ensures takes { OnOk result ((entry : Entry Saved) × (entry.event ≡ seen event.now)
-            × Does S.layer.meaning D.view D.honest D.failures (state_of S.layer self.old) (state_of S.layer self.new)
+            × Does S.layer.meaning D.view D.honest (state_of S.layer self.old) (state_of S.layer self.new)
             self.old.writing self.new.writing disk.old disk.new entry
+            × CountsReport entry.report (D.failures disk.old) (D.failures disk.new)
             × (waiting_of S.layer self.new ≡ then_out (waiting_of S.layer self.old) entry.out)
             × IsAlive self.new) }
         ensures memory { result ≡ Err Cause.Memory → (self.new.halted ≡ true)
@@ -237,7 +240,7 @@ impl<S: Application> ServerCore<S> {
         ensures refused { IfErr result (λ cause. cause ≢ Cause.Memory
             → (refusal S.layer.meaning (state_of S.layer self.old) (seen event.now) ≡ Some cause) × (self.new ≡ self.old) × (disk.new ≡ disk.old)) }
         ensures follows { Follows S.layer D.view D.honest D.stands self.new disk.new }
-        ensures no_fewer { D.failures disk.old ≤ D.failures disk.new }
+        ensures at_most_once { FailsAtMostOnce (D.failures disk.old) (D.failures disk.new) }
         ensures still { seen event.now ≢ Flush → disk.new ≡ disk.old }
         ensures honest { D.honest disk.old ↔ D.honest disk.new }
     {

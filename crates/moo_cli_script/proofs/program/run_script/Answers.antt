@@ -1,4 +1,4 @@
-use Rattle.moo_cli_script.proofs.ServerCore.{shows}
+use Rattle.moo_cli_script.proofs.Serving.{shows}
 use Rattle.moo_cli_script.proofs.program.run_script.Goals as goal
 
 pub returns : goal.returns

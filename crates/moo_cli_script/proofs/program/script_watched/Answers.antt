@@ -1,5 +1,5 @@
 use Rattle.std.proofs.Common.{inl, inr}
-use Rattle.moo_cli_script.proofs.ServerCore.{gives_up}
+use Rattle.moo_cli_script.proofs.Serving.{gives_up}
 use Rattle.moo_cli_script.proofs.program.script_watched.Goals as goal
 
 pub returns-in-Ok : goal.returns-in-Ok

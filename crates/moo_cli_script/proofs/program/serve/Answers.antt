@@ -1,7 +1,7 @@
 use Rattle.std.proofs.lemmas.Result.{IfOk-weaker}
 use Rattle.std.proofs.KnownBytes.{Appends-nil}
 use Rattle.moo_cli_script.proofs.Growing.{any_err, err_weaker, grown_more, grown_silent, not_grown}
-use Rattle.moo_cli_script.proofs.ServerCore.{held, not_served, nothing_printed, served}
+use Rattle.moo_cli_script.proofs.Serving.{held, not_served, nothing_printed, served}
 use Rattle.moo_cli_script.proofs.program.serve.Goals as goal
 
 pub returns-in_ok-hand_out-in-Ok-clause-answered : goal.returns-in_ok-hand_out-in-Ok-clause-answered

@@ -1,5 +1,6 @@
-use Rattle.std.proofs.Common.{inl, inr, refl}
+use Rattle.std.proofs.Common.{[], inl, inr, refl}
 use Rattle.std.proofs.lemmas.Result.{err_from_is_err_and}
+use Rattle.moo_cli_serve.proofs.Coursing.{course_none}
 use Rattle.moo_cli_serve.proofs.Serviced.{serves_so, stops_so}
 use Rattle.moo_cli_serve.proofs.program.serve_disk.Goals as goal
 
@@ -15,6 +16,7 @@ returns-in_err-address-clause-ended g c =
       end = s;
       begun = c.in_ok-serving.ensures.begun;
       breaks = inl (c.in_err-address.ensures, refl);
+      course = ([], course_none g.S.Application.layer g.D.Disk.view g.D.Disk.honest s.server s.disk);
     }))
 
 pub returns-in_err-tell_address-clause-ended : goal.returns-in_err-tell_address-clause-ended
@@ -25,6 +27,7 @@ returns-in_err-tell_address-clause-ended g c =
       end = s;
       begun = c.in_ok-serving.ensures.begun;
       breaks = inl (c.in_err-tell_address.ensures, refl);
+      course = ([], course_none g.S.Application.layer g.D.Disk.view g.D.Disk.honest s.server s.disk);
     }))
 
 pub returns-clause-served : goal.returns-clause-served
@@ -34,4 +37,5 @@ returns-clause-served g c =
 
 pub returns-clause-ended : goal.returns-clause-ended
 returns-clause-ended g c =
-    stops_so g.S.Application.layer g.D.Disk.view g.D.Disk.honest g.D.Disk.failures _ _ _ c.in_ok-serving.serving c.serve.new.self c.serve.result c.in_ok-serving.ensures.begun c.serve.ensures.ended
+    stops_so g.S.Application.layer g.D.Disk.view g.D.Disk.honest g.D.Disk.failures _ _ _ c.in_ok-serving.serving c.serve.new.self c.serve.result c.in_ok-serving.ensures.begun c.serve.ensures.course
+    c.serve.ensures.ended

@@ -20,17 +20,17 @@ returns-then-are_too_many c =
     λ name named. raises_reply c.raised-then-are_too_many.result (plainly Arguments) c.args.world.now (CallsPlain Faults name c.args.values c.args.world.now c.args.caller) c.raised-then-are_too_many.ensures
     (refused (named ∙ c.in-Some.is) (refused_for_number (is_valid c.args.world.now) (row c.in-Some.found) c.args.values (c.are_too_many.ensures c.if-are_too_many.true)))
 
-pub returns-in-Tostr : goal.returns-in-ToText
+pub returns-in-Tostr : goal.returns-in-Tostr
 returns-in-Tostr c =
     λ name named. settles c.settled.result c.joined_text.result (to_text c.args.values) c.args.world.now (CallsPlain Faults name c.args.values c.args.world.now c.args.caller) c.settled.ensures c.joined_text.ensures
     (calls_text name c.args.values c.args.world.now c.args.caller (named ∙ c.in-Some.is ∙ ap Some c.in-Tostr.is))
 
-pub returns-in-Min : goal.returns-in-Minimum
+pub returns-in-Min : goal.returns-in-Min
 returns-in-Min c =
     λ name named. settles c.settled-in-Min.result c.extreme_number.result (extreme_from Least None c.args.values) c.args.world.now (CallsPlain Faults name c.args.values c.args.world.now c.args.caller) c.settled-in-Min.ensures c.extreme_number.ensures
     (calls_least name c.args.values c.args.world.now c.args.caller (named ∙ c.in-Some.is ∙ ap Some c.in-Min.is))
 
-pub returns-in-Max : goal.returns-in-Maximum
+pub returns-in-Max : goal.returns-in-Max
 returns-in-Max c =
     λ name named. settles c.settled-in-Max.result c.extreme_number-in-Max.result (extreme_from Greatest None c.args.values) c.args.world.now (CallsPlain Faults name c.args.values c.args.world.now c.args.caller) c.settled-in-Max.ensures c.extreme_number-in-Max.ensures
     (calls_greatest name c.args.values c.args.world.now c.args.caller (named ∙ c.in-Some.is ∙ ap Some c.in-Max.is))

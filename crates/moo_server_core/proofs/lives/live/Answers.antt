@@ -1,8 +1,8 @@
-use Rattle.std.proofs.Common.{◌≡◌, ◌≢◌, List, refl, sym, subst}
+use Rattle.std.proofs.Common.{◌≢◌, List, refl, sym, subst}
 use Rattle.std.specs.Prelude.{All}
 use Rattle.moo_server_core.specs.Seen.{Flush, seen}
 use Rattle.moo_server_core.specs.declared.event.Event as given
-use Rattle.moo_server_core.specs.Server.{Runs}
+use Rattle.moo_server_core.specs.Server.{Runs, entries_of}
 use Rattle.moo_server_core.proofs.Living.{ran_all}
 use Rattle.moo_server_core.proofs.lives.live.Goals as goal
 
@@ -21,7 +21,7 @@ returns-in-Ok-clause-lived g c =
         events = events;
         stop = c.args.life.now.stop;
         result = c.run.result;
-        entries = runs.ran.entries;
+        entries = entries_of runs.ran.taken;
         start = c.in-Ok.server;
         end = c.run.new.self;
         old = c.args.disk.now;
@@ -42,3 +42,6 @@ returns-in-Ok-clause-lived g c =
       };
       told = record { moment = refl; events = refl; stop = refl; text = o.text_is; done = c.done_in-done.ensures };
     }
+
+pub returns-in-Err-clause-met : goal.returns-in-Err-clause-met
+returns-in-Err-clause-met g c = record { sound = c.in-Err.ensures.accepted; device = c.in-Err.ensures.device; main = c.open.ensures.main }

@@ -1,4 +1,4 @@
-use Rattle.std.proofs.Common.{◌≡◌, refl, sym, subst}
+use Rattle.std.proofs.Common.{refl, sym, subst}
 use Rattle.moo_server_core.specs.declared.life.LifeStop.{LifeStop}
 use Rattle.moo_server_core.specs.Lives.{HasNoImage, IsStopped}
 use Rattle.moo_server_core.proofs.Living.{no_image}

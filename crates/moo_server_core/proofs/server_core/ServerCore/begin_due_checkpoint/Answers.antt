@@ -1,4 +1,4 @@
-use Rattle.std.proofs.Common.{◌≡◌, ◌+◌, ℕ, List, length, Option, Some, false, true, refl, sym, ◌∙◌, ap, rules}
+use Rattle.std.proofs.Common.{◌≡◌, ◌+◌, ℕ, List, length, Some, false, true, refl, ◌∙◌, ap, rules}
 use Rattle.moo_checkpoint.specs.Checkpoint.{pieces}
 use Rattle.moo_server_core.specs.Meaning.{is_due}
 use Rattle.moo_server_core.specs.Server.{state_of}

@@ -1,4 +1,4 @@
-use Rattle.std.proofs.Common.{◌≡◌, Some}
+use Rattle.std.proofs.Common.{◌≡◌, Some, inl, inr}
 use Rattle.moo_server_core.specs.Traces.{Done, Failed}
 use Rattle.moo_server_core.proofs.Reported.{on_ok_map, turns}
 use Rattle.moo_server_core.proofs.server_core.ServerCore.flush.Goals as goal
@@ -8,7 +8,7 @@ returns-in-Done-clause-turns g c =
     let was : c.args.self.now.writing ≡ Some c.in-Some.open = cc in
     on_ok_map c.report.result
     (turns g.S.Application.layer g.D.Disk.view g.D.Disk.honest g.D.Disk.failures c.args.self.now c.report.new.self c.take.new.self c.in-Some.open c.args.disk.now c.turn.new.disk Done
-    was c.take.ensures.after c.report.ensures.writing (λ _ h. c.turn.ensures.done c.in-Done.is h) (c.turn.ensures.not_failed (λ is. absurd (cc (is, c.in-Done.is)))))
+    was c.take.ensures.after c.report.ensures.writing (λ _ h. c.turn.ensures.done c.in-Done.is h) (λ _. c.turn.ensures.last c.in-Done.is) (c.turn.ensures.not_failed (λ is. absurd (cc (is, c.in-Done.is)))))
     c.report.ensures.reports
 
 pub returns-in-Failed-clause-turns : goal.returns-in-Failed-clause-turns
@@ -16,5 +16,14 @@ returns-in-Failed-clause-turns g c =
     let was : c.args.self.now.writing ≡ Some c.in-Some.open = cc in
     on_ok_map c.report-in-Failed.result
     (turns g.S.Application.layer g.D.Disk.view g.D.Disk.honest g.D.Disk.failures c.args.self.now c.report-in-Failed.new.self c.take.new.self c.in-Some.open c.args.disk.now c.turn.new.disk Failed
-    was c.take.ensures.after c.report-in-Failed.ensures.writing (λ is. absurd (cc)) (c.turn.ensures.failed c.in-Failed.is))
+    was c.take.ensures.after c.report-in-Failed.ensures.writing (λ is. absurd (cc)) (λ is. absurd (cc)) (c.turn.ensures.failed c.in-Failed.is))
     c.report-in-Failed.ensures.reports
+
+pub returns-in-More-clause-at_most_once : goal.returns-in-More-clause-at_most_once
+returns-in-More-clause-at_most_once g c = inl (c.turn.ensures.not_failed (λ is. absurd (cc (is, c.in-More.is))))
+
+pub returns-in-Done-clause-at_most_once : goal.returns-in-Done-clause-at_most_once
+returns-in-Done-clause-at_most_once g c = inl (c.turn.ensures.not_failed (λ is. absurd (cc (is, c.in-Done.is))))
+
+pub returns-in-Failed-clause-at_most_once : goal.returns-in-Failed-clause-at_most_once
+returns-in-Failed-clause-at_most_once g c = inr (c.turn.ensures.failed c.in-Failed.is)

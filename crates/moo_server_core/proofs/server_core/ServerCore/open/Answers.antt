@@ -27,7 +27,7 @@ returns-in_err-saved-clause-accepted g c = λ honest s spells.
 pub returns-clause-opened : goal.returns-clause-opened
 returns-clause-opened g c = (
   saved_of c.in_ok-saved.saved,
-  (λ honest. c.in_ok-saved.ensures.found honest),
+  (λ honest. c.in_ok-saved.ensures.sizes honest),
   record {
     alive = c.in_ok-server.ensures.alive;
     no_checkpoint = c.in_ok-server.ensures.no_checkpoint;

@@ -1,6 +1,6 @@
-use Rattle.std.proofs.Common.{◌≡◌, ◌≢◌, Err, refl, sym, ◌∙◌, ap}
+use Rattle.std.proofs.Common.{Err, refl, sym, ◌∙◌, ap}
 use Rattle.moo_server_core.specs.Seen.{seen}
-use Rattle.moo_server_core.proofs.Running.{run_stops, runs_all, runs_halted, so_more, so_none}
+use Rattle.moo_server_core.proofs.Running.{goes_more, goes_none, run_stops, runs_all, runs_halted}
 use Rattle.moo_server_core.proofs.server_core.ServerCore.run.Goals as goal
 
 pub returns-then-self-clause-ran : goal.returns-then-self-clause-ran
@@ -9,7 +9,7 @@ returns-then-self-clause-ran g c =
 
 pub loop-done-init : goal.loop-done-init
 loop-done-init g c = record {
-  ran = so_none g.S.Application.layer g.D.Disk.view g.D.Disk.honest g.D.Disk.failures c.args.self.now c.args.disk.now c.args.events.now;
+  goes = goes_none g.S.Application.layer g.D.Disk.view g.D.Disk.honest g.D.Disk.failures c.args.self.now c.args.disk.now c.args.events.now;
   follows = c.requires;
   alive = (cc);
   still = λ _. refl;
@@ -22,10 +22,10 @@ loop-done-preserved g c =
     let facts = c.in_default.ensures in
     let lt = c.loop-done-test.true in
     record {
-      ran = so_more g.S.Application.layer g.D.Disk.view g.D.Disk.honest g.D.Disk.failures c.args.self.now c.loop-done.self c.take.new.self c.args.disk.now c.loop-done.disk c.take.new.disk c.args.events.now c.loop-done.done
-          c.index-events-done.result lt c.index-events-done.is inv.honest.0 inv.alive inv.ran facts.takes;
+      goes = goes_more g.S.Application.layer g.D.Disk.view g.D.Disk.honest g.D.Disk.failures c.args.self.now c.loop-done.self c.take.new.self c.args.disk.now c.loop-done.disk c.take.new.disk c.args.events.now c.loop-done.done
+          c.index-events-done.result lt c.index-events-done.is inv.alive facts.still facts.honest.0 inv.goes facts.takes;
       follows = facts.follows;
-      alive = facts.takes.4;
+      alive = facts.takes.5;
       still = λ all. facts.still (λ flush. all c.loop-done.done c.index-events-done.result lt (ap seen (sym c.index-events-done.is) ∙ flush)) ∙ inv.still all;
       honest = ((λ h. facts.honest.0 (inv.honest.0 h)), (λ h. inv.honest.1 (facts.honest.1 h)));
     }
@@ -40,8 +40,8 @@ pub returns-in-Err-clause-ran : goal.returns-in-Err-clause-ran
 returns-in-Err-clause-ran g c =
     let inv = c.loop-done.invariant in
     run_stops g.S.Application.layer g.D.Disk.view g.D.Disk.honest g.D.Disk.failures c.args.self.now c.loop-done.self c.take.new.self c.args.disk.now c.loop-done.disk c.take.new.disk c.args.events.now c.loop-done.done
-    c.index-events-done.result c.in-Err.cause c.loop-done-test.true c.index-events-done.is (cc) inv.alive inv.honest.0 c.take.ensures.no_fewer
-    (λ is. c.in-Err.ensures.memory (ap Err is)) (λ is. c.in-Err.ensures.wanting (ap Err is)) c.in-Err.ensures.refused inv.ran
+    c.index-events-done.result c.in-Err.cause c.loop-done-test.true c.index-events-done.is (cc) inv.alive c.take.ensures.at_most_once c.take.ensures.still
+    (λ is. c.in-Err.ensures.memory (ap Err is)) (λ is. c.in-Err.ensures.wanting (ap Err is)) c.in-Err.ensures.refused inv.goes
 
 pub returns-clause-halted : goal.returns-clause-halted
 returns-clause-halted g c = λ halted. absurd (cc)
@@ -49,4 +49,4 @@ returns-clause-halted g c = λ halted. absurd (cc)
 pub returns-clause-ran : goal.returns-clause-ran
 returns-clause-ran g c =
     runs_all g.S.Application.layer g.D.Disk.view g.D.Disk.honest g.D.Disk.failures c.args.self.now c.loop-done.self c.args.disk.now c.loop-done.disk c.args.events.now c.loop-done.done
-    c.loop-done-test.false c.loop-done.invariant.ran
+    c.loop-done-test.false c.loop-done.invariant.goes

@@ -1,4 +1,4 @@
-use Rattle.std.proofs.Common.{◌≡◌, ◌∙◌}
+use Rattle.std.proofs.Common.{◌∙◌}
 use Rattle.std.specs.Prelude.{◌||◌, if◌then◌else◌}
 use Rattle.moo_server_core.specs.declared.event.Course.TheVariants.{Closing, Running}
 use Rattle.moo_server_core.specs.Meaning.{begun_at}

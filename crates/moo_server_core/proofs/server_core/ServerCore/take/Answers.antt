@@ -1,11 +1,10 @@
-use Rattle.std.proofs.Common.{◌≡◌, None, true, false, refl, sym, ◌∙◌, ap}
-use Rattle.moo_server_core.specs.Seen.{is_flush, seen}
+use Rattle.std.proofs.Common.{None, refl, sym, ◌∙◌}
+use Rattle.moo_server_core.specs.Seen.{seen}
 use Rattle.moo_server_core.specs.Application.{silence}
 use Rattle.moo_server_core.specs.Server.{on_its_way, state_of, waiting_of}
 use Rattle.moo_server_core.proofs.Out.{then_silence}
-use Rattle.moo_server_core.proofs.Reported.{on_ok_map}
 use Rattle.moo_server_core.proofs.Running.{survives_halt}
-use Rattle.moo_server_core.proofs.Taken.{does_keep, passed_over}
+use Rattle.moo_server_core.proofs.Taken.{passed_over}
 use Rattle.moo_server_core.proofs.server_core.ServerCore.take.Goals as goal
 
 pub returns-then-not-is_flush-clause-takes : goal.returns-then-not-is_flush-clause-takes
@@ -13,7 +12,8 @@ returns-then-not-is_flush-clause-takes g c =
     let l = g.S.Application.layer in (
       record { event = seen c.args.event.now; report = None; mark = None; out = silence },
       refl,
-      passed_over l.meaning g.D.Disk.view g.D.Disk.honest g.D.Disk.failures (state_of l c.args.self.now) c.args.self.now.writing c.args.disk.now (seen c.args.event.now) (cc) (cc) (cc),
+      passed_over l.meaning g.D.Disk.view g.D.Disk.honest (state_of l c.args.self.now) c.args.self.now.writing c.args.disk.now (seen c.args.event.now) (cc) (cc) (cc),
+      refl,
       sym (then_silence (waiting_of l c.args.self.now)),
       c.requires.alive,
     )

@@ -1,4 +1,4 @@
-use Rattle.std.proofs.Common.{refl, ap}
+use Rattle.std.proofs.Common.{refl}
 use Rattle.moo_server_core.specs.Server.{state_of}
 use Rattle.moo_server_core.proofs.Out.{sent_out}
 use Rattle.moo_server_core.proofs.server_core.ServerCore.take_output.Goals as goal

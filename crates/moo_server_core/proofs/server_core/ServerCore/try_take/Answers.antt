@@ -1,4 +1,4 @@
-use Rattle.std.proofs.Common.{◌≡◌, Option, None, true, false, refl, sym, ◌∙◌, ap, subst}
+use Rattle.std.proofs.Common.{◌≡◌, Option, None, false, refl, sym, ◌∙◌, ap, subst}
 use Rattle.moo_server_core.specs.Seen.{Event, Flush, is_flush, seen}
 use Rattle.moo_server_core.specs.Application.{Output, then_out}
 use Rattle.moo_server_core.specs.Meaning.{is_passed_over, refusal}
@@ -25,6 +25,7 @@ returns-then-is_flush-clause-takes g c =
           (subst (λ (event : Event). refusal l.meaning before event ≡ None) flush c.requires.accepted)
           (subst (λ (event : Event). is_passed_over l.meaning before event ≡ false) flush c.requires.counts)
           turns.2 marks.2 marks.3 marks.4 c.flush.ensures.gains,
+      turns.2.counts,
       marks.5 ∙ ap (λ (out : Output). then_out out marks.1) (turns.3 ∙ ap (λ (out : Output). then_out out turns.1) c.requires.follows.still),
     ))
     c.begin_due_checkpoint.ensures.marks
@@ -46,9 +47,10 @@ returns-clause-takes g c =
     (λ marks. (
       record { event = event; report = None; mark = marks.0; out = then_out acts.0 marks.1 },
       refl,
-      acted l.meaning g.D.Disk.view g.D.Disk.honest g.D.Disk.failures before (state_of l c.act.new.self) (state_of l c.begin_due_checkpoint-2.new.self)
+      acted l.meaning g.D.Disk.view g.D.Disk.honest before (state_of l c.act.new.self) (state_of l c.begin_due_checkpoint-2.new.self)
           c.args.self.now.writing c.act.new.self.writing c.begin_due_checkpoint-2.new.self.writing c.args.disk.now event marks.0 acts.0 marks.1 other
           c.requires.accepted c.requires.counts acts.1 c.act.ensures.writing marks.2 marks.3 marks.4,
+      refl,
       marks.5 ∙ ap (λ (out : Output). then_out out marks.1) (acts.2 ∙ ap (λ (out : Output). then_out out acts.0) c.requires.follows.still),
     ))
     c.begin_due_checkpoint-2.ensures.marks

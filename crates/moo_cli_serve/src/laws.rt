@@ -1,0 +1,28 @@
+//! Laws on what is found after a server over a disk was stopped.
+ghost use Rattle.std.specs.Prelude.{◌≡◌, ℕ, List};
+ghost use Rattle.moo_dbtext_read.specs.Saved.{SpellsSavedWithin};
+ghost use Rattle.moo_cli_serve.specs.Found.{FindsAgain, IsStopped, ended_at, served_to};
+ghost use Rattle.moo_cli_serve.specs.Service.{Serves, Stops};
+ghost use Rattle.moo_cli_serve.specs.declared.fault.ServeFault.{ServeFault};
+
+use moo_disk::Disk;
+use moo_server_core::StartApplication;
+
+/// A disk that is left at any moment of what `serve_disk` did over it is found again with the world after a prefix of the
+/// events, whether the server served to its end, or ended before. The disk is honest at first, and every text that a crash may
+/// leave then spells the world that the server read.
+pub fn a_served_world_is_found_again<S: StartApplication, D: Disk, F: Disk>()
+    ensures served { (first : D) (most rounds : ℕ) (serves : Serves S.layer D.view D.honest first most rounds) (text : List ℕ)
+        (stopped : IsStopped S.layer D.view D.honest first serves.start.server serves.start.disk serves.course.0 serves.end.server serves.end.disk serves.course.1 text)
+        → D.honest first → ((c : List ℕ) → (D.view first).may_leave c → SpellsSavedWithin c serves.begun.from.saved)
+        → (found : F) → F.honest found → (F.view found).main_text ≡ text
+        → FindsAgain S.layer D.view D.honest F.view F.honest (served_to S.layer D.view D.honest serves stopped) found }
+    ensures ended { (first : D) (most rounds : ℕ) (fault : ServeFault) (stops : Stops S.layer D.view D.honest D.failures first most rounds fault) (text : List ℕ)
+        (stopped : IsStopped S.layer D.view D.honest first stops.start.server stops.start.disk stops.course.0 stops.end.server stops.end.disk stops.course.1 text)
+        → D.honest first → ((c : List ℕ) → (D.view first).may_leave c → SpellsSavedWithin c stops.begun.from.saved)
+        → (found : F) → F.honest found → (F.view found).main_text ≡ text
+        → FindsAgain S.layer D.view D.honest F.view F.honest (ended_at S.layer D.view D.honest stops stopped) found }
+{
+    moo_server_core::laws::starting_again_reads_a_prefix::<S, D, D, F>();
+    moo_server_core::laws::starting_again_reads_a_prefix_since_the_start::<S, D, D, F>();
+}

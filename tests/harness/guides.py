@@ -84,7 +84,9 @@ def play_steps(program, steps):
     script = [f"open {MARK}", "open 1", f"line {MARK} -"]
     for step in steps:
         script += [*step.script, f"line {MARK} -"]
-    text = "\n".join(script[:-1]).replace("connect wizard PASSWORD", f"connect wizard {first_password(program)}")
+    text = "\n".join(script[:-1])
+    if "connect wizard PASSWORD" in text:
+        text = text.replace("connect wizard PASSWORD", f"connect wizard {first_password(program)}")
     printed = program.output(["script", WORLD], text.encode() + b"\n")
     answers = [[]]
     for line in printed.printed.decode().split("\n")[:-1]:

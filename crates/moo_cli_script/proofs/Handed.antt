@@ -7,12 +7,18 @@ use Rattle.moo_server_core.specs.declared.server_core.Open.{Open}
 use Rattle.moo_server_core.specs.declared.server_core.ServerCore.{ServerCore}
 use Rattle.moo_server_core.specs.Meaning.{State}
 use Rattle.moo_server_core.specs.Server.{Follows, Hands, OpenFollows, Same, waiting_of}
+use Rattle.std.specs.Prelude.{Result, Ok, Err, OnOk}
 use Rattle.std.proofs.lemmas.Bool.{cases_lt}
 use Rattle.std.proofs.KnownBytes.{Appends-trans}
 use Rattle.std.specs.Io.KnownBytes.{Appends}
 use Rattle.moo_cli_script.specs.Printed.{sent_lines}
 use Rattle.moo_cli_script.specs.declared.script.Script.{Script}
 use Rattle.moo_cli_script.specs.Script.{Fits, HandsOut, ScriptDisk, disk_honest, disk_stands, disk_view, printed_below}
+
+-- what holds in any case holds if there is no error
+pub on_ok_anyway : {T E P : Type 0} (result : Result T E) → P → OnOk result P
+on_ok_anyway (Ok x) p = p
+on_ok_anyway (Err e) p = tt
 
 out_assoc : (a b c : Output) → then_out (then_out a b) c ≡ then_out a (then_out b c)
 out_assoc a b c = λ i. record {

@@ -183,7 +183,8 @@ def an_installed_program_needs_no_repository(folder):
     place = folder.top.parent / "place"
     yield folder.run("install", str(place)), 0, ""
     shutil.rmtree(folder.top)
-    yield folder.run("serve", "a.db", command=place / "moo"), 0, "released serve a.db\n"
+    yield folder.run("serve", "a.db", command=place / "moo"), 0, "released serve a.db --rounds 18446744073709551615\n"
+    yield folder.run("serve", "a.db", "--rounds", "3", command=place / "moo"), 0, "released serve a.db --rounds 3\n"
 
 
 CASES = [

@@ -38,6 +38,10 @@ if (!names)
   player:tell("A name is wanted.");
   return;
 endif
+if ($isa(o, $exit) && valid(from = `o.source ! ANY => #-1') && (n = `from:taken_name(names, o) ! ANY => ""'))
+  player:tell("There is an exit ", $string:quoted(n), " in ", from.name, " already.");
+  return;
+endif
 // only a wizard sets a player's name; so the verb is a wizard's, behind the questions above
 o.name = names[1];
 if (!is_player(o))
@@ -216,6 +220,8 @@ endif
 fault = $recycler:fault(player, length(ways) + fresh);
 fault = fault || !ways ? fault | here:exit_fault(player);
 fault = fault || length(ways) < 2 || fresh ? fault | room:exit_fault(player);
+fault = fault || !ways || !(n = here:taken_name(ways[1], #-1)) ? fault | tostr("There is an exit ", $string:quoted(n), " here already.");
+fault = fault || length(ways) < 2 || fresh || !(n = room:taken_name(ways[2], #-1)) ? fault | tostr("There is an exit ", $string:quoted(n), " there already.");
 if (fault)
   player:tell(fault);
   return;

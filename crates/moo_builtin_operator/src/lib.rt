@@ -1,4 +1,4 @@
-//! The operators of the language over values. An internal crate of `moo_eval`.
+//! The operators of the language over values. An internal crate of `moo_builtin`.
 #![tactic(auto)]
 
 mod arithmetic;

@@ -13,5 +13,6 @@ mod writing;
 pub use moo_dbtext_read::{
     DbFault, DbFaultKind, DbReader, ProgramFault, ProgramFaultKind, Saved, read_db,
 };
+pub use moo_dbtext_restore::Link;
 pub use world::write_world;
 pub use writing::{write_db, write_world_and_connected, written_and_read};

@@ -40,14 +40,14 @@ fn meet_line(
     requires { IsLine line.now }
     ensures { OnOk result (MeetsNext moment number line.now live.old live.new) }
 {
-    if is_gone(&live.session, number) {
+    if is_absent(&live.session, number) {
         return Ok(());
     }
     type_line(alloc, live, moment, number, line)?;
     run_hooks(alloc, live, moment)
 }
 
-fn is_gone(session: &Session, number: u16) -> bool
+fn is_absent(session: &Session, number: u16) -> bool
     ensures { result ≡ is_none (client_here number session.now.connections) }
 {
     session.connections().client_here(number).is_none()

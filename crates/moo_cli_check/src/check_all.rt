@@ -40,13 +40,13 @@ pub fn check_all_watched<I: Read, O: Write>(
 ) -> u8
     ensures { IsAnswered (I.remaining input.old) (O.contents output.old) (O.contents output.new) result ⊎ HasGivenUp (O.contents output.old) (O.contents output.new) watch.new result }
 {
-    match checked(alloc, input, output, watch) {
+    match surveyed(alloc, input, output, watch) {
         Ok(status) => status,
         Err(refusal) => refusal.told_watched(output, watch),
     }
 }
 
-fn checked<I: Read, O: Write>(
+fn surveyed<I: Read, O: Write>(
     alloc: Global,
     input: &mut I,
     output: &mut O,

@@ -7,7 +7,7 @@ use Rattle.moo_cli_check.specs.Answers.{LacksMemory}
 use Rattle.moo_cli_check.specs.Shown.{IsAnswered, survey_text}
 use Rattle.moo_cli_check.specs.declared.readers.Answer.TheVariants as answer
 use Rattle.moo_cli_check.proofs.Answered.{saved_shown, other_told, surveyed_told}
-use Rattle.moo_cli_check.proofs.check_all.checked.Goals as goal
+use Rattle.moo_cli_check.proofs.check_all.surveyed.Goals as goal
 
 pub returns-in-Ok-clause-answered : goal.returns-in-Ok-clause-answered
 returns-in-Ok-clause-answered g c =

@@ -23,7 +23,7 @@ use Rattle.moo_session_connection.specs.declared.client.Client.{Client}
 use Rattle.moo_session_task.specs.Frames.{nobody as no_player, server_frame}
 use Rattle.moo_session_task.specs.Hooks.{HooksRun, none_waits, first_runs, hook_name, player_of_hook}
 use Rattle.moo_session_task.specs.Leaving.{parted, disconnected_from}
-use Rattle.moo_session_task.specs.Notices.{all_met, met}
+use Rattle.moo_session_task.specs.Notices.{all_applied, applied}
 use Rattle.moo_session_task.specs.Sending.{sent, told, all_told, sent_to}
 use Rattle.moo_session_task.specs.Session.{Session, in_connections, with_hooks}
 use Rattle.moo_session_task.specs.State.{in_session}
@@ -87,19 +87,19 @@ disconnected_keeps P q who None line s h = h
 disconnected_keeps P q who (Some c) line s h =
     parted_keeps P q (player_on c) (in_connections (left_by who) (sent_to (Some c) line s)) (left_keeps P q (is_known_as who) (client_known_as who s.connections) s.connections h)
 
-met_keeps : (P : List Client → Type 0) (q : IsCarried P) (x : Notice) (s : Session) → Carries P s → Carries P (met x s)
-met_keeps P q (notice.Notify who line) s h = sent_to_keeps P q (client_known_as who s.connections) line s h
-met_keeps P q (notice.BootPlayer who) s h = disconnected_keeps P q who (client_known_as who s.connections) (codes "*** Disconnected ***") s h
-met_keeps P q (notice.SetPlayerFlag o true) s h = h
-met_keeps P q (notice.SetPlayerFlag o false) s h = disconnected_keeps P q o (client_known_as o s.connections) (codes "*** Disconnected ***") s h
-met_keeps P q (notice.Recycle o) s h = disconnected_keeps P q o (client_known_as o s.connections) (codes "*** Recycled ***") s h
-met_keeps P q notice.DumpDatabase s h = h
-met_keeps P q (notice.Shutdown why) s h = q.none
-met_keeps P q (notice.ServerLog line) s h = h
+applied_keeps : (P : List Client → Type 0) (q : IsCarried P) (x : Notice) (s : Session) → Carries P s → Carries P (applied x s)
+applied_keeps P q (notice.Notify who line) s h = sent_to_keeps P q (client_known_as who s.connections) line s h
+applied_keeps P q (notice.BootPlayer who) s h = disconnected_keeps P q who (client_known_as who s.connections) (codes "*** Disconnected ***") s h
+applied_keeps P q (notice.SetPlayerFlag o true) s h = h
+applied_keeps P q (notice.SetPlayerFlag o false) s h = disconnected_keeps P q o (client_known_as o s.connections) (codes "*** Disconnected ***") s h
+applied_keeps P q (notice.Recycle o) s h = disconnected_keeps P q o (client_known_as o s.connections) (codes "*** Recycled ***") s h
+applied_keeps P q notice.DumpDatabase s h = h
+applied_keeps P q (notice.Shutdown why) s h = q.none
+applied_keeps P q (notice.ServerLog line) s h = h
 
-all_met_keeps : (P : List Client → Type 0) (q : IsCarried P) (xs : List Notice) (s : Session) → Carries P s → Carries P (all_met xs s)
-all_met_keeps P q [] s h = h
-all_met_keeps P q (x ∷ xs) s h = all_met_keeps P q xs (met x s) (met_keeps P q x s h)
+all_applied_keeps : (P : List Client → Type 0) (q : IsCarried P) (xs : List Notice) (s : Session) → Carries P s → Carries P (all_applied xs s)
+all_applied_keeps P q [] s h = h
+all_applied_keeps P q (x ∷ xs) s h = all_applied_keeps P q xs (applied x s) (applied_keeps P q x s h)
 
 all_told_keeps : (P : List Client → Type 0) (q : IsCarried P) (who : ℤ) (ls : List (List ℕ)) (s : Session) → Carries P s → Carries P (all_told who ls s)
 all_told_keeps P q who [] s h = h
@@ -111,7 +111,7 @@ sent_keeps P q m line s h = sent_to_keeps P q (client_here m s.connections) line
 -- tasks and hooks
 task_keeps : (T : Telling) (P : List Client → Type 0) (q : IsCarried P) (moment : ℕ) (start : Frame) (s s' : WorldState) (v : Option Tree) → RunsTask T moment start s v s' → Carries P s.session → Carries P s'.session
 task_keeps T P q moment start s s' v d h =
-    let kept : Carries P (all_told start.player (account_of d.end) (all_met d.notices s.session)) = all_told_keeps P q start.player (account_of d.end) (all_met d.notices s.session) (all_met_keeps P q d.notices s.session h) in
+    let kept : Carries P (all_told start.player (account_of d.end) (all_applied d.notices s.session)) = all_told_keeps P q start.player (account_of d.end) (all_applied d.notices s.session) (all_applied_keeps P q d.notices s.session h) in
     subst (λ (x : WorldState). Carries P x.session) d.leaves kept
 
 pub call_keeps : (T : Telling) (P : List Client → Type 0) (q : IsCarried P) (moment : ℕ) (name : List ℕ) (player : ℤ) (args : List Tree) (argstr : List ℕ) (s s' : WorldState) (v : Option Tree) →

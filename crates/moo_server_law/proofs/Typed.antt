@@ -23,7 +23,7 @@ use Rattle.moo_session_connection.specs.Changes.{joined, freed, HasHeard}
 use Rattle.moo_session_task.specs.declared.world_state.WorldState.{WorldState}
 use Rattle.moo_session_task.specs.Session.{Session, in_connections, with_hooks}
 use Rattle.moo_session_task.specs.State.{in_session}
-use Rattle.moo_session_task.specs.Notices.{all_met}
+use Rattle.moo_session_task.specs.Notices.{all_applied}
 use Rattle.moo_session_task.specs.Sending.{sent, told, all_told}
 use Rattle.moo_session_task.specs.WordList.{strings_of}
 use Rattle.moo_session_task.specs.Frames.{nobody as no_player, server_frame}

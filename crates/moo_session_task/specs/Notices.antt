@@ -12,17 +12,17 @@ asked_for s = record s { asked = true }
 abbrev pub logged : List ℕ → Session → Session
 logged line s = record s { log = s.log ++ line ∷ [] }
 
-abbrev pub met : Notice → Session → Session
-met (notice.Notify who line) s = told who line s
-met (notice.BootPlayer who) s = disconnected who (codes "*** Disconnected ***") s
-met (notice.SetPlayerFlag o true) s = s
-met (notice.SetPlayerFlag o false) s = disconnected o (codes "*** Disconnected ***") s
-met (notice.Recycle o) s = disconnected o (codes "*** Recycled ***") s
-met notice.DumpDatabase s = asked_for s
-met (notice.Shutdown why) s = shut_down why s
-met (notice.ServerLog line) s = logged line s
+abbrev pub applied : Notice → Session → Session
+applied (notice.Notify who line) s = told who line s
+applied (notice.BootPlayer who) s = disconnected who (codes "*** Disconnected ***") s
+applied (notice.SetPlayerFlag o true) s = s
+applied (notice.SetPlayerFlag o false) s = disconnected o (codes "*** Disconnected ***") s
+applied (notice.Recycle o) s = disconnected o (codes "*** Recycled ***") s
+applied notice.DumpDatabase s = asked_for s
+applied (notice.Shutdown why) s = shut_down why s
+applied (notice.ServerLog line) s = logged line s
 
 -- one after another, in their order
-abbrev pub all_met : List Notice → Session → Session
-all_met [] s = s
-all_met (n ∷ ns) s = all_met ns (met n s)
+abbrev pub all_applied : List Notice → Session → Session
+all_applied [] s = s
+all_applied (n ∷ ns) s = all_applied ns (applied n s)

@@ -14,7 +14,7 @@ use moo_eval_frame::{Frame, Notice, Surroundings, TaskEnv};
 use moo_value::Value;
 use std::alloc::{AllocError, Global};
 
-/// Runs a task that begins with this frame at this moment, in seconds, meets what it asked for, and tells its player how
+/// Runs a task that begins with this frame at this moment, in seconds, applies what it asked for, and reports to its player how
 /// it ended where it has no value. Answers the value. `Err` where memory is wanting.
 pub fn run(
     alloc: Global,
@@ -26,7 +26,7 @@ pub fn run(
 {
     let player = start.player;
     let (ended, notices) = run_alone(alloc, live, moment, start);
-    live.session.meet_all(&notices)?;
+    live.session.apply_notices(&notices)?;
     tell_end(&mut live.session, player, ended)
 }
 

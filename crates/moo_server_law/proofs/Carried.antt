@@ -24,7 +24,7 @@ use Rattle.moo_session_task.specs.Frames.{nobody as no_player, server_frame}
 use Rattle.moo_session_task.specs.Hooks.{HooksRun, none_waits, first_runs, hook_name, player_of_hook}
 use Rattle.moo_session_task.specs.Leaving.{parted, disconnected_from}
 use Rattle.moo_session_task.specs.Notices.{all_applied, applied}
-use Rattle.moo_session_task.specs.Sending.{sent, told, all_told, sent_to}
+use Rattle.moo_session_task.specs.Sending.{sent, notified, all_notified, sent_to}
 use Rattle.moo_session_task.specs.Session.{Session, in_connections, with_hooks}
 use Rattle.moo_session_task.specs.State.{in_session}
 use Rattle.moo_session_task.specs.Tasks.{RunsTask, CallsServerVerb, is_missing, runs as verb_runs, account_of}
@@ -101,9 +101,9 @@ all_applied_keeps : (P : List Client → Type 0) (q : IsCarried P) (xs : List No
 all_applied_keeps P q [] s h = h
 all_applied_keeps P q (x ∷ xs) s h = all_applied_keeps P q xs (applied x s) (applied_keeps P q x s h)
 
-all_told_keeps : (P : List Client → Type 0) (q : IsCarried P) (who : ℤ) (ls : List (List ℕ)) (s : Session) → Carries P s → Carries P (all_told who ls s)
-all_told_keeps P q who [] s h = h
-all_told_keeps P q who (line ∷ ls) s h = all_told_keeps P q who ls (told who line s) (sent_to_keeps P q (client_known_as who s.connections) line s h)
+all_notified_keeps : (P : List Client → Type 0) (q : IsCarried P) (who : ℤ) (ls : List (List ℕ)) (s : Session) → Carries P s → Carries P (all_notified who ls s)
+all_notified_keeps P q who [] s h = h
+all_notified_keeps P q who (line ∷ ls) s h = all_notified_keeps P q who ls (notified who line s) (sent_to_keeps P q (client_known_as who s.connections) line s h)
 
 sent_keeps : (P : List Client → Type 0) (q : IsCarried P) (m : ℕ) (line : List ℕ) (s : Session) → Carries P s → Carries P (sent m line s)
 sent_keeps P q m line s h = sent_to_keeps P q (client_here m s.connections) line s h
@@ -111,7 +111,7 @@ sent_keeps P q m line s h = sent_to_keeps P q (client_here m s.connections) line
 -- tasks and hooks
 task_keeps : (T : Telling) (P : List Client → Type 0) (q : IsCarried P) (moment : ℕ) (start : Frame) (s s' : WorldState) (v : Option Tree) → RunsTask T moment start s v s' → Carries P s.session → Carries P s'.session
 task_keeps T P q moment start s s' v d h =
-    let kept : Carries P (all_told start.player (account_of d.end) (all_applied d.notices s.session)) = all_told_keeps P q start.player (account_of d.end) (all_applied d.notices s.session) (all_applied_keeps P q d.notices s.session h) in
+    let kept : Carries P (all_notified start.player (account_of d.end) (all_applied d.notices s.session)) = all_notified_keeps P q start.player (account_of d.end) (all_applied d.notices s.session) (all_applied_keeps P q d.notices s.session h) in
     subst (λ (x : WorldState). Carries P x.session) d.leaves kept
 
 pub call_keeps : (T : Telling) (P : List Client → Type 0) (q : IsCarried P) (moment : ℕ) (name : List ℕ) (player : ℤ) (args : List Tree) (argstr : List ℕ) (s s' : WorldState) (v : Option Tree) →
@@ -132,7 +132,7 @@ welcomed_keeps P q m player moment false s h = played_keeps P q m player moment 
 redirected_keeps : (P : List Client → Type 0) (q : IsCarried P) (m : ℕ) (player : ℤ) (moment : ℕ) (s : Session) → Carries P s → Carries P (redirected m player moment s)
 redirected_keeps P q m player moment s h =
     let first : Session = sent m (codes "*** Redirecting old connection to this port ***") s in
-    let second : Session = told player (codes "*** Redirecting connection to new port ***") first in
+    let second : Session = notified player (codes "*** Redirecting connection to new port ***") first in
     let kept : Carries P second = sent_to_keeps P q (client_known_as player first.connections) (codes "*** Redirecting connection to new port ***") first (sent_keeps P q m (codes "*** Redirecting old connection to this port ***") s h) in
     played_keeps P q m player moment second.connections kept
 

@@ -12,7 +12,7 @@ use Rattle.moo_session_connection.specs.Connections.{client_known_as, no_connect
 use Rattle.moo_session_task.specs.declared.world_state.WorldState.{WorldState}
 use Rattle.moo_session_task.specs.Leaving.{disconnected, disconnected_from}
 use Rattle.moo_session_task.specs.Notices.{all_applied, applied}
-use Rattle.moo_session_task.specs.Sending.{all_told, sent_to, told}
+use Rattle.moo_session_task.specs.Sending.{all_notified, sent_to, notified}
 use Rattle.moo_session_task.specs.Session.{Session, caused, no_session}
 use Rattle.moo_session_task.specs.State.{state}
 use Rattle.moo_session_task.specs.Tasks.{CallsServerVerb, is_missing, runs, account_of}
@@ -45,16 +45,16 @@ all_applied_empty : (xs : List Notice) (s : Session) → IsEmpty s → IsEmpty (
 all_applied_empty [] s e = e
 all_applied_empty (x ∷ xs) s e = all_applied_empty xs (applied x s) (applied_empty x s e)
 
-all_told_empty : (who : ℤ) (lines : List (List ℕ)) (s : Session) → IsEmpty s → IsEmpty (all_told who lines s)
-all_told_empty who [] s e = e
-all_told_empty who (line ∷ lines) s e = all_told_empty who lines (told who line s) (sent_empty (client_known_as who s.connections) line s e)
+all_notified_empty : (who : ℤ) (lines : List (List ℕ)) (s : Session) → IsEmpty s → IsEmpty (all_notified who lines s)
+all_notified_empty who [] s e = e
+all_notified_empty who (line ∷ lines) s e = all_notified_empty who lines (notified who line s) (sent_empty (client_known_as who s.connections) line s e)
 
 call_empty : (T : Telling) (moment : ℕ) (name : List ℕ) (player : ℤ) (args : List Tree) (argstr : List ℕ) {s s' : WorldState} {v : Option Tree}
     → CallsServerVerb T moment name player args argstr s v s' → IsEmpty s.session → IsEmpty s'.session
 call_empty T moment name player args argstr (is_missing missing) e = e
 call_empty T moment name player args argstr {s = s} (runs found task) e =
     subst (λ (l : WorldState). IsEmpty l.session) task.leaves
-    (all_told_empty _ (account_of task.end) (all_applied task.notices s.session) (all_applied_empty task.notices s.session e))
+    (all_notified_empty _ (account_of task.end) (all_applied task.notices s.session) (all_applied_empty task.notices s.session e))
 
 hooks_empty : (T : Telling) (moment : ℕ) {s s' : WorldState} → HooksRun T moment s s' → IsEmpty s.session → IsEmpty s'.session
 hooks_empty T moment (none_waits none) e = e

@@ -24,7 +24,7 @@ use Rattle.moo_session_task.specs.declared.world_state.WorldState.{WorldState}
 use Rattle.moo_session_task.specs.Session.{Session, in_connections, with_hooks}
 use Rattle.moo_session_task.specs.State.{in_session}
 use Rattle.moo_session_task.specs.Notices.{all_applied}
-use Rattle.moo_session_task.specs.Sending.{sent, told, all_told}
+use Rattle.moo_session_task.specs.Sending.{sent, notified, all_notified}
 use Rattle.moo_session_task.specs.WordList.{strings_of}
 use Rattle.moo_session_task.specs.Frames.{nobody as no_player, server_frame}
 use Rattle.moo_session_task.specs.Tasks.{RunsTask, CallsServerVerb, is_missing, runs as verb_runs, account_of}

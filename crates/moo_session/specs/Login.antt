@@ -13,7 +13,7 @@ use Rattle.moo_session_task.specs.declared.hook.Hook.{Hook}
 use Rattle.moo_session_task.specs.declared.hook.Hook.TheVariants.{Created, Connected, Reconnected}
 use Rattle.moo_session_task.specs.declared.world_state.WorldState.{WorldState}
 use Rattle.moo_session_task.specs.Session.{Session, in_connections, caused}
-use Rattle.moo_session_task.specs.Sending.{sent, told}
+use Rattle.moo_session_task.specs.Sending.{sent, notified}
 use Rattle.moo_session_task.specs.State.{in_session}
 use Rattle.moo_session_task.specs.WordList.{strings_of}
 use Rattle.moo_session_task.specs.Tasks.{CallsServerVerb}
@@ -35,7 +35,7 @@ object_in None = None
 abbrev pub redirected : ℕ → ℤ → ℕ → Session → Session
 redirected n player moment s =
     caused (Reconnected player) (in_connections (played n player moment)
-    (told player (codes "*** Redirecting connection to new port ***") (sent n (codes "*** Redirecting old connection to this port ***") s)))
+    (notified player (codes "*** Redirecting connection to new port ***") (sent n (codes "*** Redirecting old connection to this port ***") s)))
 
 abbrev pub greeting : (is_new : Bool) → List ℕ
 greeting is_new = if is_new then codes "*** Created ***" else codes "*** Connected ***"

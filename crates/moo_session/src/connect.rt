@@ -26,7 +26,7 @@ fn redirect(session: &mut Session, number: u16, player: i32, moment: u32) -> Res
     ensures { OnOk result (session.new ≡ redirected number player moment session.old) }
 {
     session.send(number, b"*** Redirecting old connection to this port ***")?;
-    session.tell(player, b"*** Redirecting connection to new port ***")?;
+    session.notify(player, b"*** Redirecting connection to new port ***")?;
     session.play(number, player, moment)?;
     session.cause(Hook::Reconnected(player))
 }

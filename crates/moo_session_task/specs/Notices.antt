@@ -3,7 +3,7 @@ use Rattle.std.specs.Prelude.{ℕ, List, [], ◌∷◌, ◌++◌, true, false, c
 use Rattle.moo_eval_frame.specs.declared.notice.Notice.{Notice}
 use Rattle.moo_eval_frame.specs.declared.notice.Notice.TheVariants as notice
 use Rattle.moo_session_task.specs.Session.{Session}
-use Rattle.moo_session_task.specs.Sending.{told}
+use Rattle.moo_session_task.specs.Sending.{notified}
 use Rattle.moo_session_task.specs.Leaving.{disconnected, shut_down}
 
 abbrev pub asked_for : Session → Session
@@ -13,7 +13,7 @@ abbrev pub logged : List ℕ → Session → Session
 logged line s = record s { log = s.log ++ line ∷ [] }
 
 abbrev pub applied : Notice → Session → Session
-applied (notice.Notify who line) s = told who line s
+applied (notice.Notify who line) s = notified who line s
 applied (notice.BootPlayer who) s = disconnected who (codes "*** Disconnected ***") s
 applied (notice.SetPlayerFlag o true) s = s
 applied (notice.SetPlayerFlag o false) s = disconnected o (codes "*** Disconnected ***") s

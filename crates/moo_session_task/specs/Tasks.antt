@@ -10,7 +10,7 @@ use Rattle.moo_eval_semantics.specs.Task.{End, value, uncaught, out_of_ticks, Ta
 use Rattle.moo_session_connection.specs.Connections.{around}
 use Rattle.moo_session_task.specs.declared.world_state.WorldState.{WorldState}
 use Rattle.moo_session_task.specs.State.{state}
-use Rattle.moo_session_task.specs.Sending.{all_told}
+use Rattle.moo_session_task.specs.Sending.{all_notified}
 use Rattle.moo_session_task.specs.Notices.{all_applied}
 use Rattle.moo_session_task.specs.Frames.{server_frame, server_verb}
 
@@ -34,7 +34,7 @@ pub record RunsTask (T : Telling) (moment : ℕ) (start : Frame) (s : WorldState
   pub notices : List Notice
   pub ends : TaskEnds T (around moment s.session.connections) start s.world end after notices
   pub gives : value_of end ≡ v
-  pub leaves : state after (all_told start.player (account_of end) (all_applied notices s.session)) ≡ s'
+  pub leaves : state after (all_notified start.player (account_of end) (all_applied notices s.session)) ≡ s'
 
 -- A verb of #0 is called, where there is one by this name that can be executed.
 pub data CallsServerVerb (T : Telling) (moment : ℕ) (name : List ℕ) (player : ℤ) (args : List Tree) (argstr : List ℕ) (s : WorldState) : Option Tree → WorldState → Type 0 where

@@ -21,7 +21,7 @@ impl Session {
         ensures { OnOk result (self.new ≡ applied notice.now self.old) }
     {
         match notice {
-            Notice::Notify(who, line) => self.tell(*who, line.as_bytes()),
+            Notice::Notify(who, line) => self.notify(*who, line.as_bytes()),
             Notice::BootPlayer(who) => self.disconnect(*who, b"*** Disconnected ***"),
             Notice::SetPlayerFlag(_, true) => Ok(()),
             Notice::SetPlayerFlag(o, false) => self.disconnect(*o, b"*** Disconnected ***"),

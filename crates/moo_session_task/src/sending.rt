@@ -1,7 +1,7 @@
 //! Lines for connections.
 ghost use Rattle.std.specs.Prelude.{◌≡◌, ◌++◌, ◌∷◌, [], OnOk};
 ghost use Rattle.moo_eval_frame.specs.Traceback.{texts};
-ghost use Rattle.moo_session_task.specs.Sending.{sent, told, all_told};
+ghost use Rattle.moo_session_task.specs.Sending.{sent, notified, all_notified};
 
 use crate::session::Session;
 use moo_session_connection::Sent;
@@ -23,8 +23,8 @@ impl Session {
     }
 
     /// Sends a line to who goes by this number, if anybody does. `Err` where memory is wanting.
-    pub fn tell(&mut self, who: i32, line: &[u8]) -> Result<(), AllocError>
-        ensures { OnOk result (self.new ≡ told who line.now self.old) }
+    pub fn notify(&mut self, who: i32, line: &[u8]) -> Result<(), AllocError>
+        ensures { OnOk result (self.new ≡ notified who line.now self.old) }
     {
         match self.connections.client_known_as(who) {
             Some(client) => {
@@ -36,11 +36,11 @@ impl Session {
     }
 
     /// Sends several lines, in order, to who goes by this number, if anybody does.
-    pub fn tell_all(&mut self, who: i32, lines: &[Vec<u8>]) -> Result<(), AllocError>
-        ensures { OnOk result (self.new ≡ all_told who (texts lines.now) self.old) }
+    pub fn notify_all(&mut self, who: i32, lines: &[Vec<u8>]) -> Result<(), AllocError>
+        ensures { OnOk result (self.new ≡ all_notified who (texts lines.now) self.old) }
     {
         for line in lines {
-            self.tell(who, line)?;
+            self.notify(who, line)?;
         }
         Ok(())
     }

@@ -4,7 +4,7 @@ ghost use Rattle.moo_builtin.specs.Telling.{Faults};
 ghost use Rattle.moo_eval_semantics.specs.Task.{TaskEnds};
 ghost use Rattle.moo_eval.specs.Ends.{IfEnded};
 ghost use Rattle.moo_session_connection.specs.Connections.{around};
-ghost use Rattle.moo_session_task.specs.Sending.{all_told};
+ghost use Rattle.moo_session_task.specs.Sending.{all_notified};
 ghost use Rattle.moo_session_task.specs.Tasks.{RunsTask, value_of, account_of};
 ghost use Rattle.moo_session_task.specs.Seen.{seen_answer, EndIs};
 
@@ -53,12 +53,12 @@ fn run_alone(
 
 // Tells the player of a task how it ended, where it has no value. Answers the value.
 fn tell_end(session: &mut Session, player: i32, ended: Ended) -> Result<Option<Value>, AllocError>
-    ensures { IfOk result (λ v. EndIs ended (λ end. (value_of end ≡ seen_answer v) × (session.new ≡ all_told player (account_of end) session.old))) }
+    ensures { IfOk result (λ v. EndIs ended (λ end. (value_of end ≡ seen_answer v) × (session.new ≡ all_notified player (account_of end) session.old))) }
 {
     match ended {
         Ended::Value(value) => Ok(Some(value)),
         Ended::Uncaught(lines) | Ended::OutOfTicks(lines) => {
-            session.tell_all(player, &lines)?;
+            session.notify_all(player, &lines)?;
             Ok(None)
         }
         Ended::Memory => Err(AllocError),

@@ -54,7 +54,7 @@ pub record IsCrashed (i : ℕ) (old new : ScriptDisk) : Type 0 where
   pub spare : (disk_view new).spare ≡ None
   pub call : left_of new ≡ 0
 
--- Why there is no server over a disk: where the text is refused, this is what is told of it, and it spells no saved world within the
+-- Why there is no server over a disk: if the text is refused, this is the fault that is reported, and it spells no saved world within the
 -- limits.
 pub record NotOpened (disk : ScriptDisk) (fault : OpenFault) : Type 0 where
   pub text : (f : DbFault) → fault ≡ opening_fault.Db f → RefusesText (disk_view disk).main_text f × (f.kind ≢ kind.Memory)
@@ -171,7 +171,7 @@ module _ {S Application : Type 0} (l : Layer S Application Saved) where
     pub disk : new.disk ≡ old.disk
     pub top : new.top ≡ old.top
 
-  -- the main text, where it is to be shown
+  -- the main text, if it is to be shown
   abbrev pub shown_of : Step → Script S → List ℕ
   shown_of showing script = (disk_view script.disk).main_text
   shown_of step script = []

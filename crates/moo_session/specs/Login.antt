@@ -55,7 +55,7 @@ connected n player moment is_new s =
 abbrev pub highest_in : World → ℤ
 highest_in w = highest (length w.objects)
 
--- Whom an answer connects: a valid object with the player flag, where the connection isn't leaving.
+-- Whom an answer connects: a valid object with the player flag, if the connection isn't leaving.
 abbrev pub admitted : WorldState → ℕ → Option Tree → Option ℤ
 admitted s n answer =
     option_map_or (λ o. if is_player s.world o && is_some (client_here n s.session.connections) then Some o else None) (object_in answer) None
@@ -64,8 +64,8 @@ abbrev pub let_in : ℕ → ℕ → ℤ → Option ℤ → Session → Session
 let_in n moment before None s = s
 let_in n moment before (Some player) s = connected n player moment (int_lt before player) s
 
--- `do_login_command` is called with these words and this line; its task ends before anybody is connected. Who is let in is new where
--- the number is above the highest before the call.
+-- `do_login_command` is called with these words and this line; its task ends before anybody is connected. A player is new if the
+-- number is above the highest before the call.
 pub record LogsIn (T : Telling) (moment : ℕ) (n : ℕ) (words : List (List ℕ)) (line : List ℕ) (s s' : WorldState) : Type 0 where
   pub answer : Option Tree
   pub asked : WorldState

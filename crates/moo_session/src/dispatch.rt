@@ -53,7 +53,7 @@ fn send_unless_empty(session: &mut Session, number: u16, line: &MooStr) -> Resul
     }
 }
 
-// What comes after `do_command`, which gave this answer.
+// Runs what comes after `do_command`, which gave this answer.
 fn follow(
     alloc: Global,
     live: &mut WorldState,
@@ -83,7 +83,7 @@ fn is_true_answer(answer: &Option<Value>) -> bool
     }
 }
 
-// The verb that a command means runs, or a line tells that there is none.
+// Runs the verb that a command means, or sends a line that there is none.
 fn run_verb(
     alloc: Global,
     live: &mut WorldState,

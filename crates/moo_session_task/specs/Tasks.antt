@@ -14,20 +14,20 @@ use Rattle.moo_session_task.specs.Sending.{all_notified}
 use Rattle.moo_session_task.specs.Notices.{all_applied}
 use Rattle.moo_session_task.specs.Frames.{server_frame, server_verb}
 
--- the value of a task, where it has one
+-- the value of a task, if it has one
 abbrev pub value_of : End → Option Tree
 value_of (value v) = Some v
 value_of (uncaught lines) = None
 value_of (out_of_ticks lines) = None
 
--- the lines that tell of a task without a value
+-- the lines of the end of a task that has no value
 abbrev pub account_of : End → List (List ℕ)
 account_of (value v) = []
 account_of (uncaught lines) = lines
 account_of (out_of_ticks lines) = lines
 
 -- A task that begins with this frame, at this moment: what it changed in the world stays, then what it asked for is applied in order,
--- then the lines that tell of its end go to its player.
+-- then the lines of its end go to its player.
 pub record RunsTask (T : Telling) (moment : ℕ) (start : Frame) (s : WorldState) (v : Option Tree) (s' : WorldState) : Type 0 where
   pub end : End
   pub after : World
@@ -36,7 +36,7 @@ pub record RunsTask (T : Telling) (moment : ℕ) (start : Frame) (s : WorldState
   pub gives : value_of end ≡ v
   pub leaves : state after (all_notified start.player (account_of end) (all_applied notices s.session)) ≡ s'
 
--- A verb of #0 is called, where there is one by this name that can be executed.
+-- A verb of #0 is called, if there is one with this name that can be executed.
 pub data CallsServerVerb (T : Telling) (moment : ℕ) (name : List ℕ) (player : ℤ) (args : List Tree) (argstr : List ℕ) (s : WorldState) : Option Tree → WorldState → Type 0 where
   is_missing : server_verb s.world name ≡ None → CallsServerVerb T moment name player args argstr s None s
   runs : {found : ℤ × Verb} {v : Option Tree} {s' : WorldState} → server_verb s.world name ≡ Some found →

@@ -1,4 +1,4 @@
-//! What becomes of what a task asked for.
+//! Applies the effects that a task requested.
 ghost use Rattle.std.specs.Prelude.{◌≡◌, OnOk};
 ghost use Rattle.moo_session_task.specs.Notices.{applied, all_applied};
 
@@ -7,7 +7,7 @@ use moo_eval_frame::Notice;
 use std::alloc::AllocError;
 
 impl Session {
-    /// Meets what a task asked for, in its order.
+    /// Applies what a task asked for, in its order.
     pub fn apply_notices(&mut self, notices: &[Notice]) -> Result<(), AllocError>
         ensures { OnOk result (self.new ≡ all_applied notices.now self.old) }
     {

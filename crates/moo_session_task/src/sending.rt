@@ -8,8 +8,8 @@ use moo_session_connection::Sent;
 use std::alloc::AllocError;
 
 impl Session {
-    /// Sends a line, without its end, to the connection of this number, where it is open and not leaving. `Err` where
-    /// memory is wanting.
+    /// Sends a line, without its end, to the connection of this number, if it is open and not leaving. Fails only if
+    /// memory runs out.
     pub fn send(&mut self, number: u16, line: &[u8]) -> Result<(), AllocError>
         ensures { OnOk result (self.new ≡ sent number line.now self.old) }
     {
@@ -22,7 +22,7 @@ impl Session {
         }
     }
 
-    /// Sends a line to who goes by this number, if anybody does. `Err` where memory is wanting.
+    /// Sends a line to the connection that goes by this number, if there is one. Fails only if memory runs out.
     pub fn notify(&mut self, who: i32, line: &[u8]) -> Result<(), AllocError>
         ensures { OnOk result (self.new ≡ notified who line.now self.old) }
     {
@@ -35,7 +35,7 @@ impl Session {
         }
     }
 
-    /// Sends several lines, in order, to who goes by this number, if anybody does.
+    /// Sends several lines, in order, to the connection that goes by this number, if there is one.
     pub fn notify_all(&mut self, who: i32, lines: &[Vec<u8>]) -> Result<(), AllocError>
         ensures { OnOk result (self.new ≡ all_notified who (texts lines.now) self.old) }
     {

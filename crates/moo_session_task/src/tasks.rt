@@ -14,8 +14,8 @@ use moo_eval_frame::{Frame, Notice, Surroundings, TaskEnv};
 use moo_value::Value;
 use std::alloc::{AllocError, Global};
 
-/// Runs a task that begins with this frame at this moment, in seconds, applies what it asked for, and reports to its player how
-/// it ended where it has no value. Answers the value. `Err` where memory is wanting.
+/// Runs a task that begins with this frame at this moment, in seconds, and applies what it asked for. Sends its player
+/// the lines of its end if it has no value, else returns the value. Fails only if memory runs out.
 pub fn run(
     alloc: Global,
     live: &mut WorldState,
@@ -30,7 +30,7 @@ pub fn run(
     tell_end(&mut live.session, player, ended)
 }
 
-// Runs the task over the row of the connections as they are, and answers what it asked for.
+// Runs the task over the connections as they are, and returns what it asked for.
 fn run_alone(
     alloc: Global,
     live: &mut WorldState,
@@ -51,7 +51,7 @@ fn run_alone(
     (ended, env.notices)
 }
 
-// Tells the player of a task how it ended, where it has no value. Answers the value.
+// Sends the player of a task the lines of its end if it has no value. Returns the value.
 fn tell_end(session: &mut Session, player: i32, ended: Ended) -> Result<Option<Value>, AllocError>
     ensures { IfOk result (λ v. EndIs ended (λ end. (value_of end ≡ seen_answer v) × (session.new ≡ all_notified player (account_of end) session.old))) }
 {

@@ -1,5 +1,5 @@
 -- What an opening, bytes and a hang-up do, and the calls that the server itself makes.
-use Rattle.std.specs.Prelude.{◌≡◌, ℕ, ℤ, pos, negsuc, Bool, List, [], ◌∷◌, codes, Option, Some, None, if◌then◌else◌}
+use Rattle.std.specs.Prelude.{◌≡◌, ℕ, ℤ, pos, Bool, List, [], ◌∷◌, codes, Option, Some, None, if◌then◌else◌}
 use Rattle.std.specs.Option.{option_and_then}
 use Rattle.moo_value.specs.Tree.{Tree, integer}
 use Rattle.moo_world_table.specs.World.{World}

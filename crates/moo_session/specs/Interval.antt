@@ -1,5 +1,5 @@
 -- How long it is from one checkpoint to the next.
-use Rattle.std.specs.Prelude.{ℕ, nat_le, pos, negsuc, List, codes, Option, Some, None, if◌then◌else◌}
+use Rattle.std.specs.Prelude.{ℕ, nat_le, pos, negsuc, codes, Option, Some, None, if◌then◌else◌}
 use Rattle.std.specs.Option.{option_and_then}
 use Rattle.moo_value.specs.Compare.{folded}
 use Rattle.moo_value.specs.Tree.{Tree, integer, object, error, string, list}

@@ -8,10 +8,10 @@ use Rattle.moo_eval_frame.specs.Surroundings.{own_number}
 use Rattle.moo_eval_frame.specs.declared.frame.Frame.{Frame}
 use Rattle.moo_eval_frame.specs.declared.notice.Notice.TheVariants as notice
 use Rattle.moo_eval_frame.specs.declared.notice.Notice.{Notice}
-use Rattle.moo_session.specs.Dispatch.{RunsVerb, runs, nothing_runs, Follows, is_done, goes_on, Commanded, sent_unless_empty}
+use Rattle.moo_session.specs.Dispatch.{RunsVerb, runs, nothing_runs, FollowsDoCommand, is_done, goes_on, Commanded, sent_unless_empty}
 use Rattle.moo_session.specs.DotProgram.{begun_by, begun_at_colon, begun_for_place, gathering_for, ready_line, told_usage, is_colon, may_write, EndsProgramming, no_verb, denied, faulty, parsed, programmed_unless, Gathers, keeps, ends}
 use Rattle.moo_session.specs.Events as event
-use Rattle.moo_session.specs.Events.{Opens, Hears, HangsUp, CallsOwnHook, hung_up, parted_from_client, player_at, with_connections}
+use Rattle.moo_session.specs.Events.{OpensConnection, Hears, HangsUp, CallsOwnHook, hung_up, parted_from_client, player_at, with_connections}
 use Rattle.moo_session.specs.Frames.{command_frame}
 use Rattle.moo_session.specs.Input.{PlayerTypes, no_word, prefix, suffix, program, command, Types, logs_in, gathers, plays, MeetsLines, no_line_more, dropped, one_line_more}
 use Rattle.moo_session.specs.Login.{LogsIn, let_in, admitted, highest_in, redirected, welcomed}
@@ -200,7 +200,7 @@ verb_keeps : (T : Telling) (P : List Client → Type 0) (q : IsCarried P) (m : �
 verb_keeps T P q m moment player c {s = s} (runs {this = this} {found = found} {v = v} {s' = t} e d) h = task_keeps T P q moment (command_frame found this player c) s t v d h
 verb_keeps T P q m moment player c {s = s} (nothing_runs e) h = sent_keeps P q m (codes "I couldn't understand that.") s.session h
 
-following_keeps : (T : Telling) (P : List Client → Type 0) (q : IsCarried P) (m : ℕ) (moment : ℕ) (player : ℤ) (line : List ℕ) (answer : Option Tree) {s s' : WorldState} → Follows T moment m player line answer s s' → Carries P s.session → Carries P s'.session
+following_keeps : (T : Telling) (P : List Client → Type 0) (q : IsCarried P) (m : ℕ) (moment : ℕ) (player : ℤ) (line : List ℕ) (answer : Option Tree) {s s' : WorldState} → FollowsDoCommand T moment m player line answer s s' → Carries P s.session → Carries P s'.session
 following_keeps T P q m moment player line answer (is_done e) h = h
 following_keeps T P q m moment player line answer (goes_on {c = c} e d v) h = verb_keeps T P q m moment player c v h
 

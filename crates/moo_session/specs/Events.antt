@@ -18,7 +18,7 @@ use Rattle.moo_session.specs.Login.{LogsIn}
 use Rattle.moo_session.specs.Input.{MeetsLines}
 
 -- An opening joins a connection of this number and calls `do_login_command` without words; then the hooks run.
-pub record Opens (T : Telling) (moment : ℕ) (n : ℕ) (s s' : WorldState) : Type 0 where
+pub record OpensConnection (T : Telling) (moment : ℕ) (n : ℕ) (s s' : WorldState) : Type 0 where
   pub greeted : WorldState
   pub logs_in : LogsIn T moment n [] [] (in_session (in_connections (joined n moment)) s) greeted
   pub hooks : HooksRun T moment greeted s'

@@ -2,7 +2,7 @@
 ghost use Rattle.std.specs.Prelude.{◌≡◌, OnOk, IfSome, IsSome};
 ghost use Rattle.moo_builtin.specs.Telling.{Faults};
 ghost use Rattle.moo_command.specs.Seen.{command_of};
-ghost use Rattle.moo_session.specs.Dispatch.{Commanded, Follows, RunsVerb, is_true_answer, sent_unless_empty};
+ghost use Rattle.moo_session.specs.Dispatch.{Commanded, FollowsDoCommand, RunsVerb, is_true_answer, sent_unless_empty};
 ghost use Rattle.moo_session_connection.specs.Connections.{client_here};
 ghost use Rattle.moo_session_line.specs.Rest.{IsLine};
 ghost use Rattle.moo_session_task.specs.Seen.{seen_answer};
@@ -64,7 +64,7 @@ fn follow(
     answer: &Option<Value>,
 ) -> Result<(), AllocError>
     requires { IsLine line.now }
-    ensures { OnOk result (Follows Faults moment number player line.now (seen_answer answer.now) live.old live.new) }
+    ensures { OnOk result (FollowsDoCommand Faults moment number player line.now (seen_answer answer.now) live.old live.new) }
 {
     if is_true_answer(answer) {
         return Ok(());

@@ -2,7 +2,7 @@
 ghost use Rattle.std.specs.Prelude.{◌≡◌, OnOk, IsOk, None, false};
 ghost use Rattle.moo_builtin.specs.Telling.{Faults};
 ghost use Rattle.moo_session_connection.specs.Connections.{client_here, is_open};
-ghost use Rattle.moo_session.specs.Events.{Opens, Hears, HangsUp, hung_up, player_at};
+ghost use Rattle.moo_session.specs.Events.{OpensConnection, Hears, HangsUp, hung_up, player_at};
 
 use crate::{log_in, meet_lines};
 use moo_session_task::{Hook, Session, WorldState, run_hooks};
@@ -17,7 +17,7 @@ pub fn open(
     number: u16,
 ) -> Result<(), AllocError>
     requires { is_open number live.old.session.connections ≡ false }
-    ensures { OnOk result (Opens Faults moment number live.old live.new) }
+    ensures { OnOk result (OpensConnection Faults moment number live.old live.new) }
 {
     live.session.join(number, moment)?;
     let line = MooStr::empty(alloc)?;

@@ -18,7 +18,7 @@ use Rattle.moo_cli_script.specs.Lines.{lines_of}
 use Rattle.moo_cli_script.specs.declared.script.Script.{Script}
 use Rattle.moo_cli_script.specs.declared.telling.Stop.{Stop}
 use Rattle.moo_cli_script.specs.declared.telling.Stop.TheVariants as stopping
-use Rattle.moo_cli_script.specs.Script.{Does, HandsOut, IsRefused, NotOpened, Opens, ScriptDisk, disk_view, printed_below, shown_of}
+use Rattle.moo_cli_script.specs.Script.{Does, HandsOut, IsRefused, NotOpened, OpensServer, ScriptDisk, disk_view, printed_below, shown_of}
 use Rattle.moo_cli_script.specs.Told.{opening_line, opening_status, stop_line, stop_status}
 
 -- The program gave up with this status. If a device is reported, a call of one has returned an error, or the most reads of an input were
@@ -85,7 +85,7 @@ module _ {S Application : Type 0} (l : Layer S Application Saved) where
     pub disk : ScriptDisk
     pub holds : Holds database disk
     pub opened : Script S
-    pub opens : Opens l disk 0 opened
+    pub opens : OpensServer l disk 0 opened
     pub start : Script S
     pub hands : HandsOut l opened start
     pub plays : Plays start lines text status

@@ -1,6 +1,6 @@
 -- The steps of the program are those of the meaning.
 use Rattle.std.proofs.Common.{◌≡◌, ℕ, ◌+◌, ◌≤◌, ℤ, Bool, true, false, cond, List, [], ◌∷◌, ◌++◌, length, Option, Some, None, Bor, refl, sym, ◌∙◌, ap, subst, arith}
-use Rattle.std.specs.Prelude.{Result, Ok, Err, OnOk, IfSome, codes, ◌==◌, is_some}
+use Rattle.std.specs.Prelude.{Result, Ok, Err, OnOk, IsSomeAnd, codes, ◌==◌, is_some}
 use Rattle.std.specs.Option.{option_map_or, option_copied}
 use Rattle.std.specs.declared.alloc.AllocError.{AllocError}
 use Rattle.moo_value.specs.Tree.{Tree}
@@ -104,8 +104,8 @@ commanded (Ok v) moment n client player words line s p asked done q answer e cal
 commanded (Err short) moment n client player words line s p asked done q answer e call follows f = tt
 
 -- of the connection that was found
-pub of_client : (r : Result (Unit {0}) AllocError) (o : Option Client) (client : Client) (P : Client → Type 0) → o ≡ Some client → OnOk r (P client) → OnOk r (IfSome o P)
-of_client (Ok v) o client P e h = subst (λ (x : Option Client). IfSome x P) (sym e) h
+pub of_client : (r : Result (Unit {0}) AllocError) (o : Option Client) (client : Client) (P : Client → Type 0) → o ≡ Some client → OnOk r (P client) → OnOk r (IsSomeAnd o P)
+of_client (Ok v) o client P e h = subst (λ (x : Option Client). IsSomeAnd x P) (sym e) h
 of_client (Err short) o client P e h = tt
 
 -- what is found where a reference leads

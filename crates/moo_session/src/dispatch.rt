@@ -1,5 +1,5 @@
 //! A player's command, with what goes before and after it.
-ghost use Rattle.std.specs.Prelude.{◌≡◌, OnOk, IfSome, IsSome};
+ghost use Rattle.std.specs.Prelude.{◌≡◌, OnOk, IsSomeAnd, IsSome};
 ghost use Rattle.moo_builtin.specs.Telling.{Faults};
 ghost use Rattle.moo_command.specs.Seen.{command_of};
 ghost use Rattle.moo_session.specs.Dispatch.{Commanded, FollowsDoCommand, RunsVerb, is_true_answer, sent_unless_empty};
@@ -30,7 +30,7 @@ pub fn command(
     requires words { FitsAList words.items }
     requires line { IsLine line.now }
     requires here { IsSome (client_here number live.old.session.connections) }
-    ensures { OnOk result (IfSome (client_here number live.old.session.connections) (λ client. Commanded Faults moment number client player words.items line.now live.old live.new)) }
+    ensures { OnOk result (IsSomeAnd (client_here number live.old.session.connections) (λ client. Commanded Faults moment number client player words.items line.now live.old live.new)) }
 {
     let client = live.session.connections().client_here(number).unwrap();
     let prefix = client.prefix.try_clone()?;

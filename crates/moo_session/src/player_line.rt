@@ -1,5 +1,5 @@
 //! A player's line.
-ghost use Rattle.std.specs.Prelude.{◌≡◌, ◌∷◌, ◌++◌, [], OnOk, IfOk, IfSome, IsSome};
+ghost use Rattle.std.specs.Prelude.{◌≡◌, ◌∷◌, ◌++◌, [], OnOk, IfOk, IsSomeAnd, IsSome};
 ghost use Rattle.moo_builtin.specs.Telling.{Faults};
 ghost use Rattle.moo_session_connection.specs.Connections.{client_here};
 ghost use Rattle.moo_session_line.specs.Rest.{IsLine};
@@ -38,7 +38,7 @@ pub(crate) fn player_types(
 ) -> Result<(), AllocError>
     requires line { IsLine line.now }
     requires here { IsSome (client_here number live.old.session.connections) }
-    ensures { OnOk result (IfSome (client_here number live.old.session.connections) (λ client. PlayerTypes Faults moment number client player line.now live.old live.new)) }
+    ensures { OnOk result (IsSomeAnd (client_here number live.old.session.connections) (λ client. PlayerTypes Faults moment number client player line.now live.old live.new)) }
 {
     let Some(typed) = read_typed(alloc, line)? else {
         return Ok(());
@@ -98,7 +98,7 @@ fn run_command(
     requires typed { IsTyped line.now typed.verb typed.rest typed.args.items }
     requires line { IsLine line.now }
     requires here { IsSome (client_here number live.old.session.connections) }
-    ensures { OnOk result (IfSome (client_here number live.old.session.connections) (λ client. Commanded Faults moment number client player (typed.verb ∷ typed.args.items) line.now live.old live.new)) }
+    ensures { OnOk result (IsSomeAnd (client_here number live.old.session.connections) (λ client. Commanded Faults moment number client player (typed.verb ∷ typed.args.items) line.now live.old live.new)) }
 {
     words_are_light();
     let words = all_words(alloc, typed)?;

@@ -5,4 +5,5 @@ pub mod Program
 pub mod Rounds
 pub mod Service
 pub mod Status
+pub mod Strangers
 pub mod Writing

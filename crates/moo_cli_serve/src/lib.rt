@@ -9,7 +9,9 @@ pub mod laws;
 mod leaving;
 mod program;
 mod serving;
+mod strangers;
 
 pub use fault::ServeFault;
 pub use program::{Served, run_serve};
 pub use serving::{Round, Serving};
+pub use strangers::LoginLimits;

@@ -10,6 +10,7 @@ use crate::coming::{come, now};
 use crate::fault::ServeFault;
 use crate::giving::{give, give_if_open};
 use crate::leaving::{log_lines, write_all};
+use crate::strangers::{LoginLimits, Strangers};
 use log::{Log, info, warn};
 use moo_cli_file_disk::{News, Watched};
 use moo_cli_sockets::Sockets;
@@ -44,6 +45,7 @@ pub struct Serving<S: StartApplication, D: Disk> {
     moment: u32,
     /// The number of waiting bytes past which a connection is hung up.
     most_waiting: usize,
+    strangers: Strangers,
 }
 
 impl<S: StartApplication, D: Disk + Watched> Serving<S, D> {
@@ -56,6 +58,7 @@ impl<S: StartApplication, D: Disk + Watched> Serving<S, D> {
         host: IpAddr,
         port: u16,
         most_waiting: usize,
+        login: LoginLimits,
     ) -> Result<Serving<S, D>, ServeFault>
     where
         D: Drop,
@@ -74,6 +77,7 @@ impl<S: StartApplication, D: Disk + Watched> Serving<S, D> {
             disk,
             moment,
             most_waiting,
+            strangers: Strangers::new(login),
         })
     }
 
@@ -169,12 +173,18 @@ impl<S: StartApplication, D: Disk + Watched> Serving<S, D> {
             &mut self.server,
             &mut self.sockets,
             self.most_waiting,
+            &mut self.strangers,
         )?;
         give_if_open(&mut self.server, &mut self.disk, &parted)?;
         Ok(())
     }
 
-    fn is_closed(&self) -> bool
+    /// Returns whether the server is closed, and its last checkpoint didn't fail.
+    pub fn is_saved(&self) -> bool {
+        self.is_closed() && !matches!(self.disk.news(), News::Failed(_, _))
+    }
+
+    pub(crate) fn is_closed(&self) -> bool
         ensures { IsTrue result ↔ IsClosed self.now.server }
     {
         matches!(self.server.phase(), Phase::Closed)

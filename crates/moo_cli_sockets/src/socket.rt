@@ -2,6 +2,7 @@
 ghost use Rattle.std.specs.Prelude.{◌≡◌, ◌≤◌, ◌++◌, [], length, drop, IfOk, OnOk, OnErr};
 ghost use Rattle.moo_cli_sockets.specs.Waiting.{IsCame, waits_of};
 
+use crate::age::Age;
 use crate::waiting::Waiting;
 use mio::net::TcpStream;
 use std::alloc::{AllocError, Global};
@@ -27,11 +28,12 @@ pub struct Socket {
     waiting: Waiting,
     may_read: bool,
     may_write: bool,
+    age: Age,
 }
 
 impl Socket {
     /// Returns a socket that was just accepted.
-    pub fn new(alloc: Global, stream: TcpStream) -> Socket
+    pub fn new(alloc: Global, stream: TcpStream, age: Age) -> Socket
         ensures { waits_of result ≡ [] }
     {
         Socket {
@@ -39,7 +41,13 @@ impl Socket {
             waiting: Waiting::new(alloc),
             may_read: true,
             may_write: true,
+            age,
         }
+    }
+
+    /// Returns when it was accepted.
+    pub fn age(&self) -> Age {
+        self.age
     }
 
     /// Records that the system reports the socket as ready.

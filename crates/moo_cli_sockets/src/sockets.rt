@@ -3,6 +3,7 @@ ghost use Rattle.std.specs.Prelude.{◌≡◌, ◌≤◌, ◌↔◌, ℕ, IfOk, 
 ghost use Rattle.moo_cli_sockets.specs.Coming.{Closes, held};
 
 use crate::Socket;
+use crate::descriptors::most_descriptors;
 use crate::fault::SocketsFault;
 use mio::net::TcpListener;
 use mio::{Events, Interest, Poll, Token};
@@ -28,6 +29,14 @@ pub struct Sockets {
     pub(crate) may_accept: bool,
     /// Whether the log already says that no connection can be accepted.
     pub(crate) is_told: bool,
+    /// The descriptors of the process from which on no connection is accepted.
+    pub(crate) most_descriptors: u64,
+    /// Whether the last connection that was accepted took one of the last descriptors, and none was closed since.
+    pub(crate) is_full: bool,
+    /// The second from which on the log may say so again.
+    pub(crate) full_told: u64,
+    /// The number of connections that were accepted.
+    pub(crate) arrivals: u64,
     pub(crate) sockets: Slab<Socket>,
     /// Whether a connection, bytes or an end came, or bytes were written, since `rest`.
     pub(crate) is_busy: bool,
@@ -56,6 +65,10 @@ impl Sockets {
             listener,
             may_accept: true,
             is_told: false,
+            most_descriptors: most_descriptors(),
+            is_full: false,
+            full_told: 0,
+            arrivals: 0,
             sockets: Slab::new(alloc),
             is_busy: false,
         })
@@ -100,6 +113,7 @@ impl Sockets {
         ensures { Closes c self.old.sockets self.new.sockets }
     {
         self.sockets.try_remove(usize::from(c));
+        self.is_full = false;
         self.shrink();
     }
 

@@ -30,6 +30,7 @@ pub fn serve(rt: &HostRuntime, service: Service) -> io::Result<u8> {
             seconds: service.login_seconds,
             most: service.most_unconnected,
         },
+        has_console: service.console,
         must_save: service.must_save,
     };
     let files = rt.clone()?;

@@ -57,6 +57,8 @@ pub struct Service<'a> {
     pub login_seconds: u64,
     /// The greatest number of connections on which nobody has logged in, or 0 for no limit.
     pub most_unconnected: usize,
+    /// Whether standard input and output are the operator's own connection.
+    pub console: bool,
     /// Whether the exit status says that the server ended without a last checkpoint.
     pub must_save: bool,
     /// The time before each line of the log.
@@ -117,6 +119,7 @@ fn service_of<'a>(found: &ArgMatches<'a>, host: IpAddr) -> Option<Service<'a>> {
         most_waiting: found.get_one::<usize>("most-waiting")?,
         login_seconds: found.get_one::<u64>("login-seconds")?,
         most_unconnected: found.get_one::<usize>("most-unconnected")?,
+        console: found.get_flag("console"),
         must_save: found.get_flag("must-save"),
         log_times: times_of(found),
     })
@@ -207,6 +210,7 @@ fn serve<'a>(alloc: Global) -> Result<Command<'a>, AllocError> {
         .arg(most_waiting)?
         .arg(login_seconds(alloc))?
         .arg(most_unconnected(alloc))?
+        .arg(console(alloc))?
         .arg(must_save(alloc))?
         .arg(log_times(alloc))
 }
@@ -229,6 +233,13 @@ fn most_unconnected<'a>(alloc: Global) -> Arg<'a> {
         )
         .value_parser(value_parser!(usize))
         .default_value("0")
+}
+
+fn console<'a>(alloc: Global) -> Arg<'a> {
+    Arg::new(alloc, "console")
+        .long("console")
+        .action(ArgAction::SetTrue)
+        .help("Take standard input and output as the operator's own connection, of number 65535")
 }
 
 fn must_save<'a>(alloc: Global) -> Arg<'a> {

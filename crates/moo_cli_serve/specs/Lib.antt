@@ -1,4 +1,5 @@
 -- What a program does that serves connections: a server over a disk in calls of one event each, round by round.
+pub mod Console
 pub mod Course
 pub mod Found
 pub mod Program

@@ -5,6 +5,7 @@ ghost use Rattle.moo_server_core.specs.Server.{Hands, waiting_of};
 ghost use Rattle.moo_cli_serve.specs.Rounds.{Logs};
 ghost use Rattle.moo_cli_serve.specs.Writing.{IsLeft, IsWrittenTo, Writes, is_among, is_parted};
 
+use crate::console::Console;
 use crate::strangers::Strangers;
 use log::{Log, info, warn};
 use moo_cli_sockets::{Sockets, put};
@@ -89,10 +90,16 @@ fn tell_waiting<L: Log>(rt: &L, c: u16, most: usize, waiting: Option<usize>) {
     }
 }
 
-/// Takes the lines that wait for the log, and logs them. Their target is `moo`.
-pub fn log_lines<S: StartApplication, L: Log>(rt: &L, server: &mut ServerCore<S>)
-    ensures { Logs S.layer server.old server.new }
+/// Takes what waits for the console, and shows it there. Takes the lines that wait for the log, and logs them. Their target
+/// is `moo`.
+pub fn log_lines<S: StartApplication, L: Log>(
+    rt: &L,
+    console: &mut Console,
+    server: &mut ServerCore<S>,
+)
+    ensures { Logs S.layer console.new.is_on server.old server.new }
 {
+    console.show(server);
     let lines = server.take_log();
     for line in &lines {
         if let Ok(line) = str::from_utf8(line.as_bytes()) {

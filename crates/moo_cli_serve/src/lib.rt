@@ -3,6 +3,7 @@
 #![tactic(auto)]
 
 mod coming;
+mod console;
 mod fault;
 mod giving;
 pub mod laws;

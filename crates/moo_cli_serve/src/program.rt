@@ -37,6 +37,8 @@ pub struct Served<'a> {
     pub most_waiting: usize,
     /// The limits for connections on which nobody has logged in.
     pub login: LoginLimits,
+    /// Whether standard input and output are the operator's own connection.
+    pub has_console: bool,
     /// Whether a server that ends without a last checkpoint has ended badly.
     pub must_save: bool,
 }
@@ -116,6 +118,7 @@ pub fn serve_disk<S: StartApplication, D: Disk + Watched + Drop, R: Net + Clock 
         served.port,
         served.most_waiting,
         served.login,
+        served.has_console,
     )?;
     let address = serving.address()?;
     info!(rt; target: "moo::serve", "listening on {address} over {}", served.db);

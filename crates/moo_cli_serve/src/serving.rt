@@ -7,6 +7,7 @@ ghost use Rattle.moo_cli_serve.specs.Rounds.{IsClosed, Rounds};
 ghost use Rattle.moo_cli_serve.specs.Service.{Begun, BreaksOff, EndsFor, IsBegunFrom, IsOutside, IsServed, LeavesUnbegun, NotStarted, Steps, Turns, Waits};
 
 use crate::coming::{come, now};
+use crate::console::Console;
 use crate::fault::ServeFault;
 use crate::giving::{give, give_if_open};
 use crate::leaving::{log_lines, write_all};
@@ -46,6 +47,9 @@ pub struct Serving<S: StartApplication, D: Disk> {
     /// The number of waiting bytes past which a connection is hung up.
     most_waiting: usize,
     strangers: Strangers,
+    console: Console,
+    /// Whether the clock is before the last reported moment.
+    is_late: bool,
 }
 
 impl<S: StartApplication, D: Disk + Watched> Serving<S, D> {
@@ -59,6 +63,7 @@ impl<S: StartApplication, D: Disk + Watched> Serving<S, D> {
         port: u16,
         most_waiting: usize,
         login: LoginLimits,
+        has_console: bool,
     ) -> Result<Serving<S, D>, ServeFault>
     where
         D: Drop,
@@ -78,6 +83,8 @@ impl<S: StartApplication, D: Disk + Watched> Serving<S, D> {
             moment,
             most_waiting,
             strangers: Strangers::new(login),
+            console: Console::new(has_console),
+            is_late: false,
         })
     }
 
@@ -144,7 +151,7 @@ impl<S: StartApplication, D: Disk + Watched> Serving<S, D> {
         }
         let calls = self.disk.calls();
         let turned = self.turn(rt);
-        log_lines(rt, &mut self.server);
+        log_lines(rt, &mut self.console, &mut self.server);
         turned?;
         Ok(self.found(calls))
     }
@@ -162,7 +169,14 @@ impl<S: StartApplication, D: Disk + Watched> Serving<S, D> {
     {
         self.sockets.rest();
         self.sockets.look(0)?;
-        let came = come(rt, &mut self.sockets, &mut self.moment)?;
+        let came = come(
+            rt,
+            self.alloc,
+            &mut self.sockets,
+            &mut self.console,
+            &mut self.moment,
+            &mut self.is_late,
+        )?;
         let calls = self.disk.calls();
         let given = give(&mut self.server, &mut self.disk, &came);
         tell_checkpoint(rt, &self.disk, calls);
@@ -197,7 +211,7 @@ impl<S: StartApplication, D: Disk + Watched> Serving<S, D> {
         if self.is_closed() {
             return Round::Over;
         }
-        if self.sockets.is_busy() || self.disk.calls() != calls {
+        if self.sockets.is_busy() || self.console.is_busy() || self.disk.calls() != calls {
             return Round::Busy;
         }
         Round::Idle

@@ -66,6 +66,7 @@ fn a_client_looks_round_by_round(rt: HostRuntime) -> Result<(), Fail> {
             seconds: 0,
             most: 0,
         },
+        false,
     )?;
     let mut client = TcpStream::connect(&rt, serving.address()?)?;
     client.set_nonblocking(true)?;

@@ -4,8 +4,8 @@ ghost use Rattle.moo_server_core.specs.declared.event.Event as given;
 ghost use Rattle.moo_cli_sockets.specs.Coming.{Comes, Each, Follow, IsOpening, IsRead, held, only};
 
 use crate::age::{Age, seconds};
-use crate::descriptors::{is_at, keep_alive};
-use crate::sockets::Sockets;
+use crate::descriptors::is_at;
+use crate::sockets::{CONSOLE, Sockets};
 use crate::{Came, Socket};
 use log::{Log, warn};
 use mio::net::TcpStream;
@@ -59,11 +59,13 @@ impl Sockets {
         };
         self.is_busy = true;
         self.is_told = false;
-        let Ok(c) = u16::try_from(self.sockets.vacant_key()) else {
-            warn!(rt; target: "moo::serve", "a connection is refused: all numbers are taken");
-            return Ok(None);
-        };
-        self.keep(rt, c, stream)
+        match u16::try_from(self.sockets.vacant_key()) {
+            Ok(c) if c != CONSOLE => self.keep(rt, c, stream),
+            _ => {
+                warn!(rt; target: "moo::serve", "a connection is refused: all numbers are taken");
+                Ok(None)
+            }
+        }
     }
 
     // Logs that no connection can be accepted, once until one is.
@@ -105,8 +107,6 @@ impl Sockets {
         if registered.is_err() || stream.set_nodelay(true).is_err() {
             return Ok(None);
         }
-        // A system without it still notices that a connection is gone when something is sent.
-        keep_alive(&stream);
         self.sockets.reserve(1)?;
         self.is_full = is_at(&stream, self.most_descriptors);
         self.arrivals = self.arrivals.wrapping_add(1);

@@ -1,5 +1,4 @@
-//! The descriptors of the process: how many connections may take, and how the system watches a socket.
-use libc::net::{SO_KEEPALIVE, SOL_SOCKET, setsockopt};
+//! The descriptors of the process, and how many of them connections may take.
 use libc::types::rlimit;
 use mio::net::TcpStream;
 use std::os::fd::AsRawFd;
@@ -26,12 +25,4 @@ pub fn most_descriptors() -> u64 {
 /// Returns whether a socket has this descriptor or a higher one.
 pub fn is_at(stream: &TcpStream, most: u64) -> bool {
     u64::try_from(stream.as_raw_fd()).is_ok_and(|number| number >= most)
-}
-
-/// Has the system ask the other side of an idle connection from time to time whether it is still there. If nobody
-/// answers, the socket fails. Returns whether the system does so.
-pub fn keep_alive(stream: &TcpStream) -> bool {
-    let mut on = [0u8; 16];
-    on[0] = 1;
-    unsafe { setsockopt(stream.as_raw_fd(), SOL_SOCKET, SO_KEEPALIVE, &on, 4) == 0 }
 }

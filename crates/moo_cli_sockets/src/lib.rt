@@ -16,5 +16,5 @@ pub use age::{Age, seconds};
 pub use coming::put;
 pub use fault::SocketsFault;
 pub use socket::{Came, Socket};
-pub use sockets::Sockets;
+pub use sockets::{CONSOLE, Sockets};
 pub use waiting::Waiting;

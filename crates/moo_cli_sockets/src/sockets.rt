@@ -16,6 +16,9 @@ use std::time::Duration;
 /// The number of ready sockets that one call of `look` reports. The next call reports more.
 const REPORTED: usize = 256;
 
+/// The number of the operator's own connection. No socket gets it.
+pub const CONSOLE: u16 = u16::MAX;
+
 const LISTENER: Token = Token(usize::MAX);
 
 /// Holds the sockets of connections, and the listener. The key of a socket is the number of its connection.

@@ -31,6 +31,7 @@ pub fn serve(rt: &HostRuntime, service: Service) -> io::Result<u8> {
             most: service.most_unconnected,
         },
         has_console: service.console,
+        has_telnet: service.telnet,
         must_save: service.must_save,
     };
     let files = rt.clone()?;

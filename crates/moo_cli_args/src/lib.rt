@@ -59,6 +59,8 @@ pub struct Service<'a> {
     pub most_unconnected: usize,
     /// Whether standard input and output are the operator's own connection.
     pub console: bool,
+    /// Whether the commands of telnet are dropped from what clients send.
+    pub telnet: bool,
     /// Whether the exit status says that the server ended without a last checkpoint.
     pub must_save: bool,
     /// The time before each line of the log.
@@ -120,6 +122,7 @@ fn service_of<'a>(found: &ArgMatches<'a>, host: IpAddr) -> Option<Service<'a>> {
         login_seconds: found.get_one::<u64>("login-seconds")?,
         most_unconnected: found.get_one::<usize>("most-unconnected")?,
         console: found.get_flag("console"),
+        telnet: found.get_flag("telnet"),
         must_save: found.get_flag("must-save"),
         log_times: times_of(found),
     })
@@ -211,6 +214,7 @@ fn serve<'a>(alloc: Global) -> Result<Command<'a>, AllocError> {
         .arg(login_seconds(alloc))?
         .arg(most_unconnected(alloc))?
         .arg(console(alloc))?
+        .arg(telnet(alloc))?
         .arg(must_save(alloc))?
         .arg(log_times(alloc))
 }
@@ -240,6 +244,13 @@ fn console<'a>(alloc: Global) -> Arg<'a> {
         .long("console")
         .action(ArgAction::SetTrue)
         .help("Take standard input and output as the operator's own connection, of number 65535")
+}
+
+fn telnet<'a>(alloc: Global) -> Arg<'a> {
+    Arg::new(alloc, "telnet")
+        .long("telnet")
+        .action(ArgAction::SetTrue)
+        .help("Drop the commands of telnet from what clients send")
 }
 
 fn must_save<'a>(alloc: Global) -> Arg<'a> {

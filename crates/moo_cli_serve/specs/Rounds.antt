@@ -43,7 +43,8 @@ module _ {S Application : Type 0} (l : Layer S Application Saved) where
   pub record Logs (console : Bool) (before after : ServerCore S) : Type 0 where
     pub handed : (handed : Output) × Hands l handed before after
     pub none : (waiting_of l after).logged ≡ []
-    pub unsent : (c : ℕ) → (console ≡ false) ⊎ (c ≢ 65535) → (waiting_of l after).sent c ≡ (waiting_of l before).sent c
+    pub unsent : console ≡ false → (waiting_of l after).sent ≡ (waiting_of l before).sent
+    pub others : (c : ℕ) → c ≢ 65535 → (waiting_of l after).sent c ≡ (waiting_of l before).sent c
 
 module _ {S Application D : Type 0} (l : Layer S Application Saved) (view : D → DiskView) (honest : D → Type 0) where
   -- A server that isn't closed is given these events.

@@ -1,5 +1,5 @@
 //! The console: the operator's own connection, over standard input and standard output.
-ghost use Rattle.std.specs.Prelude.{◌≡◌, ◌≢◌, ◌⊎◌, ℕ, IfOk, OnOk, false};
+ghost use Rattle.std.specs.Prelude.{◌≡◌, ◌≢◌, ℕ, IfOk, OnOk, false};
 ghost use Rattle.moo_server_core.specs.Application.{Output};
 ghost use Rattle.moo_server_core.specs.Server.{Hands, waiting_of};
 ghost use Rattle.moo_cli_serve.specs.Console.{IsConsolesEnd, IsConsolesInput, IsConsolesOpening, Types};
@@ -110,7 +110,8 @@ impl Console {
     /// Without a console it does nothing.
     pub fn show<S: StartApplication>(&mut self, server: &mut ServerCore<S>)
         ensures handed { (handed : Output) × Hands S.layer handed server.old server.new }
-        ensures others { (c : ℕ) → (self.new.is_on ≡ false) ⊎ (c ≢ 65535) → (waiting_of S.layer server.new).sent c ≡ (waiting_of S.layer server.old).sent c }
+        ensures unsent { self.new.is_on ≡ false → (waiting_of S.layer server.new).sent ≡ (waiting_of S.layer server.old).sent }
+        ensures others { (c : ℕ) → c ≢ 65535 → (waiting_of S.layer server.new).sent c ≡ (waiting_of S.layer server.old).sent c }
         ensures log { (waiting_of S.layer server.new).logged ≡ (waiting_of S.layer server.old).logged }
     {
         if !self.is_on {

@@ -10,6 +10,7 @@ use log::{Log, info, warn};
 use moo_checkpoint::OpenFault;
 use moo_cli_file_disk::{FileDisk, Watched};
 use moo_cli_sockets::SocketsFault;
+use moo_cli_telnet::Telnet;
 use moo_disk::Disk;
 use moo_server_core::StartApplication;
 use std::alloc::Global;
@@ -39,6 +40,8 @@ pub struct Served<'a> {
     pub login: LoginLimits,
     /// Whether standard input and output are the operator's own connection.
     pub has_console: bool,
+    /// Whether the commands of telnet are dropped from what clients send.
+    pub has_telnet: bool,
     /// Whether a server that ends without a last checkpoint has ended badly.
     pub must_save: bool,
 }
@@ -119,6 +122,7 @@ pub fn serve_disk<S: StartApplication, D: Disk + Watched + Drop, R: Net + Clock 
         served.most_waiting,
         served.login,
         served.has_console,
+        served.has_telnet.then_some(Telnet::new()),
     )?;
     let address = serving.address()?;
     info!(rt; target: "moo::serve", "listening on {address} over {}", served.db);

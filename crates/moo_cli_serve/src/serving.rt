@@ -15,6 +15,7 @@ use crate::strangers::{LoginLimits, Strangers};
 use log::{Log, info, warn};
 use moo_cli_file_disk::{News, Watched};
 use moo_cli_sockets::Sockets;
+use moo_cli_telnet::Telnet;
 use moo_disk::Disk;
 use moo_server_core::{Phase, ServerCore as Server, StartApplication};
 use std::alloc::Global;
@@ -64,6 +65,7 @@ impl<S: StartApplication, D: Disk + Watched> Serving<S, D> {
         most_waiting: usize,
         login: LoginLimits,
         has_console: bool,
+        telnet: Option<Telnet>,
     ) -> Result<Serving<S, D>, ServeFault>
     where
         D: Drop,
@@ -74,7 +76,7 @@ impl<S: StartApplication, D: Disk + Watched> Serving<S, D> {
         let mut disk = disk;
         let moment = now(rt).unwrap_or(0);
         let server = begin(rt, alloc, &mut disk, moment)?;
-        let sockets = Sockets::open(rt, alloc, host, port)?;
+        let sockets = Sockets::open(rt, alloc, host, port, telnet)?;
         Ok(Serving {
             alloc,
             sockets,

@@ -67,6 +67,7 @@ fn a_client_looks_round_by_round(rt: HostRuntime) -> Result<(), Fail> {
             most: 0,
         },
         false,
+        None,
     )?;
     let mut client = TcpStream::connect(&rt, serving.address()?)?;
     client.set_nonblocking(true)?;

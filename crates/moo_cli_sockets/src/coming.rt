@@ -112,7 +112,7 @@ impl Sockets {
         self.arrivals = self.arrivals.wrapping_add(1);
         let age = Age::new(rt, self.arrivals);
         self.sockets
-            .insert_reserved(Socket::new(self.alloc, stream, age));
+            .insert_reserved(Socket::new(self.alloc, stream, age, self.telnet));
         Ok(Some(Event::Open(c)))
     }
 
@@ -143,7 +143,10 @@ impl Sockets {
         match socket.read(&mut buffer) {
             Came::Bytes(count) => {
                 self.is_busy = true;
-                let piece = buffer[..count].to_vec(self.alloc)?;
+                let piece = socket.text(self.alloc, &buffer[..count])?;
+                if piece.is_empty() {
+                    return Ok(None);
+                }
                 Ok(Some(Event::Bytes(c, piece)))
             }
             Came::NothingYet => Ok(None),

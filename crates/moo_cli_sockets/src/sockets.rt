@@ -7,6 +7,7 @@ use crate::descriptors::most_descriptors;
 use crate::fault::SocketsFault;
 use mio::net::TcpListener;
 use mio::{Events, Interest, Poll, Token};
+use moo_cli_telnet::Telnet;
 use slab::Slab;
 use std::alloc::{AllocError, Global};
 use std::io::ErrorKind;
@@ -40,6 +41,8 @@ pub struct Sockets {
     pub(crate) full_told: u64,
     /// The number of connections that were accepted.
     pub(crate) arrivals: u64,
+    /// The filter of each new connection that drops the commands of telnet, if they are to be dropped.
+    pub(crate) telnet: Option<Telnet>,
     pub(crate) sockets: Slab<Socket>,
     /// Whether a connection, bytes or an end came, or bytes were written, since `rest`.
     pub(crate) is_busy: bool,
@@ -54,6 +57,7 @@ impl Sockets {
         alloc: Global,
         host: IpAddr,
         port: u16,
+        telnet: Option<Telnet>,
     ) -> Result<Sockets, SocketsFault>
         ensures { IfOk result (λ sockets. (c : ℕ) → held sockets.sockets c ≡ None) }
     {
@@ -72,6 +76,7 @@ impl Sockets {
             is_full: false,
             full_told: 0,
             arrivals: 0,
+            telnet,
             sockets: Slab::new(alloc),
             is_busy: false,
         })

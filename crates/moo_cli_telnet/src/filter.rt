@@ -1,5 +1,5 @@
 //! A filter that drops the commands of telnet, however the bytes are cut into pieces.
-ghost use Rattle.std.specs.Prelude.{◌≡◌, ◌++◌, IfOk, OnOk};
+ghost use Rattle.std.specs.Prelude.{◌≡◌, ◌≤◌, ◌+◌, ◌++◌, length, IfOk, OnOk};
 ghost use Rattle.moo_cli_telnet.specs.Commands.{is_text, next, state_after, text_from, text_of_byte};
 
 use std::alloc::{AllocError, Global};
@@ -13,7 +13,7 @@ const SB: u8 = 250;
 /// The command that ends a subnegotiation.
 const SE: u8 = 240;
 
-/// The first of the four commands that have an option behind them: `WILL`, `WONT`, `DO` and `DONT`.
+/// The first of the four commands that have an option after them: `WILL`, `WONT`, `DO` and `DONT`.
 const WILL: u8 = 251;
 
 /// What the last bytes have begun.
@@ -23,7 +23,7 @@ pub enum State {
     Text,
     /// A command, of which the byte 255 has come.
     Command,
-    /// A command that has an option behind it, which comes next.
+    /// A command that has an option after it, which comes next.
     Option,
     /// A subnegotiation.
     Inside,
@@ -50,6 +50,7 @@ impl Telnet {
     pub fn text(&mut self, alloc: Global, piece: &[u8]) -> Result<Vec<u8>, AllocError>
         ensures text { IfOk result (λ text. text.items ≡ text_from self.old.state piece.now) }
         ensures state { OnOk result (self.new.state ≡ state_after self.old.state piece.now) }
+        ensures most { IfOk result (λ text. length text.items ≤ length piece.now) }
     {
         let mut text = Vec::new(alloc);
         for byte in piece {
@@ -61,6 +62,7 @@ impl Telnet {
     // Takes the next byte, and appends it to the text if it belongs to no command.
     fn put(&mut self, text: &mut Vec<u8>, byte: u8) -> Result<(), AllocError>
         ensures text { OnOk result (text.new.items ≡ text.old.items ++ text_of_byte self.old.state byte) }
+        ensures most { OnOk result (length text.new.items ≤ length text.old.items + 1) }
         ensures state { self.new.state ≡ next self.old.state byte }
     {
         let was = self.state;

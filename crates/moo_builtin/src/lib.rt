@@ -11,6 +11,7 @@ mod setting;
 pub use call::{Caller, call_found, call_plain};
 pub use code_call::call_code;
 pub use listing::verb_code;
+pub use moo_builtin_operator::OperationFault;
 pub use moo_builtin_value::Outcome;
-pub use moo_syntax_function::Function;
+pub use moo_syntax_function::{Function, Kind, Row};
 pub use setting::{is_programmer, told_fault};

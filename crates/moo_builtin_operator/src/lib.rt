@@ -1,4 +1,4 @@
-//! The operators of the language over values. An internal crate of `moo_eval`.
+//! The operators of the language over values. An internal crate of `moo_builtin`.
 #![tactic(auto)]
 
 mod arithmetic;
@@ -10,7 +10,7 @@ mod made;
 mod operator;
 mod place;
 
-pub use assignment::{index_refusal, with_index, with_range};
+pub use assignment::{before_place, index_refusal, with_index, with_range};
 pub use comparison::{is_decided, is_equal, is_true};
 pub use fault::OperationFault;
 pub use made::list;

@@ -50,6 +50,7 @@ pub use moo_server_core::laws::{
     a_failing_disk_goes_on, a_failing_disk_is_handed_on, a_refused_start_loses_nothing,
     a_report_comes, a_report_done_is_durable, a_start_reads_a_prefix,
     a_start_reads_a_prefix_since_the_start, a_stop_at_any_moment, a_stop_since_the_start,
-    a_stopping_disk_goes_on, all_output_is_handed_out, calls_are_one_life, lives_begin_from_marks,
-    one_run, output_may_be_taken,
+    a_stopped_server_starts_again, a_stopping_disk_goes_on, a_stopping_disk_is_handed_on,
+    all_output_is_handed_out, calls_are_one_life, lives_begin_from_marks, one_run,
+    output_may_be_taken,
 };

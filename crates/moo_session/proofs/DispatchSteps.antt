@@ -1,6 +1,6 @@
 -- The steps of the program are those of the meaning.
 use Rattle.std.proofs.Common.{◌≡◌, ℕ, ◌+◌, ◌≤◌, ℤ, Bool, true, false, cond, List, [], ◌∷◌, ◌++◌, length, Option, Some, None, Bor, refl, sym, ◌∙◌, ap, subst, arith}
-use Rattle.std.specs.Prelude.{Result, Ok, Err, OnOk, IfSome, codes, ◌==◌, is_some}
+use Rattle.std.specs.Prelude.{Result, Ok, Err, OnOk, IsSomeAnd, codes, ◌==◌, is_some}
 use Rattle.std.specs.Option.{option_map_or, option_copied}
 use Rattle.std.specs.declared.alloc.AllocError.{AllocError}
 use Rattle.moo_value.specs.Tree.{Tree}
@@ -23,7 +23,7 @@ use Rattle.moo_command.specs.Typed.{with_verb, expanded}
 use Rattle.moo_command.specs.Commands.{Command, Commands, says, says_nothing}
 use Rattle.moo_session_task.specs.Tasks.{RunsTask, CallsServerVerb}
 use Rattle.moo_session.specs.Frames.{command_frame}
-use Rattle.moo_session.specs.Dispatch.{RunsVerb, runs, nothing_runs, Follows, goes_on, Commanded, verb_to_run, is_true_answer, sent_unless_empty}
+use Rattle.moo_session.specs.Dispatch.{RunsVerb, runs, nothing_runs, FollowsDoCommand, goes_on, Commanded, verb_to_run, is_true_answer, sent_unless_empty}
 
 unindented_step : (t : Bool) (b : ℕ) (bs : List ℕ) → length (unindented bs) ≤ length bs → length (cond t (unindented bs) (b ∷ bs)) ≤ length (b ∷ bs)
 unindented_step true b bs h = omega (arith, h)
@@ -85,14 +85,14 @@ none_ran (Err short) moment n player c s t e f = tt
 
 -- the command was read, and its verb has run
 pub followed : (r : Result (Unit {0}) AllocError) (moment n : ℕ) (player : ℤ) (line : List ℕ) (answer : Option Tree) (c : Command) (s u : WorldState) →
-    is_true_answer answer ≡ false → Commands s.world player line c → OnOk r (RunsVerb Faults moment n player c s u) → OnOk r (Follows Faults moment n player line answer s u)
+    is_true_answer answer ≡ false → Commands s.world player line c → OnOk r (RunsVerb Faults moment n player c s u) → OnOk r (FollowsDoCommand Faults moment n player line answer s u)
 followed (Ok v) moment n player line answer c s u e d h = goes_on e d h
 followed (Err short) moment n player line answer c s u e d h = tt
 
 -- all parts of a command are done
 pub commanded : (r : Result (Unit {0}) AllocError) (moment n : ℕ) (client : Client) (player : ℤ) (words : List (List ℕ)) (line : List ℕ) (s : WorldState) (p : Session) (asked done : WorldState) (q : Session) (answer : Option Tree) →
     p ≡ sent_unless_empty n client.prefix s.session → CallsServerVerb Faults moment (codes "do_command") player (strings_of words) line (state s.world p) answer asked →
-    Follows Faults moment n player line answer asked done → OnOk r (q ≡ sent_unless_empty n client.suffix done.session) → OnOk r (Commanded Faults moment n client player words line s (state done.world q))
+    FollowsDoCommand Faults moment n player line answer asked done → OnOk r (q ≡ sent_unless_empty n client.suffix done.session) → OnOk r (Commanded Faults moment n client player words line s (state done.world q))
 commanded (Ok v) moment n client player words line s p asked done q answer e call follows f = record {
   answer = answer;
   asked = asked;
@@ -104,8 +104,8 @@ commanded (Ok v) moment n client player words line s p asked done q answer e cal
 commanded (Err short) moment n client player words line s p asked done q answer e call follows f = tt
 
 -- of the connection that was found
-pub of_client : (r : Result (Unit {0}) AllocError) (o : Option Client) (client : Client) (P : Client → Type 0) → o ≡ Some client → OnOk r (P client) → OnOk r (IfSome o P)
-of_client (Ok v) o client P e h = subst (λ (x : Option Client). IfSome x P) (sym e) h
+pub of_client : (r : Result (Unit {0}) AllocError) (o : Option Client) (client : Client) (P : Client → Type 0) → o ≡ Some client → OnOk r (P client) → OnOk r (IsSomeAnd o P)
+of_client (Ok v) o client P e h = subst (λ (x : Option Client). IsSomeAnd x P) (sym e) h
 of_client (Err short) o client P e h = tt
 
 -- what is found where a reference leads

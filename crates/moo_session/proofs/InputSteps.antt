@@ -1,6 +1,6 @@
 -- The steps of the program are those of the meaning.
 use Rattle.std.proofs.Common.{◌≡◌, ℕ, ◌+◌, ◌≤◌, ℤ, Bool, true, false, cond, ◌==◌, List, [], ◌∷◌, length, map, Option, Some, None, refl, sym, ◌∙◌, ap, subst, arith}
-use Rattle.std.specs.Prelude.{Result, Ok, Err, OnOk, IfSome, is_some, is_none}
+use Rattle.std.specs.Prelude.{Result, Ok, Err, OnOk, IsSomeAnd, is_some, is_none}
 use Rattle.std.specs.Option.{option_and_then}
 use Rattle.std.specs.declared.alloc.AllocError.{AllocError}
 use Rattle.std.proofs.lemmas.Bool.{eqb-true}
@@ -65,25 +65,25 @@ types_as moment n client login line s u e (as_played f d) = plays e f d
 
 -- a player's line
 pub typed_as : (r : Result (Unit {0}) AllocError) (o : Option Client) (moment n : ℕ) (client : Client) (login : Login) (who : ℤ) (line : List ℕ) (s u : WorldState) → o ≡ Some client →
-    client.connection.login ≡ Some login → who ≡ login.player → OnOk r (IfSome o (λ c. TypesAs moment n c who line s u)) → OnOk r (IfSome o (λ c. Types Faults moment n c line s u))
+    client.connection.login ≡ Some login → who ≡ login.player → OnOk r (IsSomeAnd o (λ c. TypesAs moment n c who line s u)) → OnOk r (IsSomeAnd o (λ c. Types Faults moment n c line s u))
 typed_as (Ok v) o moment n client login who line s u here e p h =
-    let own : TypesAs moment n client who line s u = subst (λ (x : Option Client). IfSome x (λ c. TypesAs moment n c who line s u)) here h in
-    subst (λ (x : Option Client). IfSome x (λ c. Types Faults moment n c line s u)) (sym here)
+    let own : TypesAs moment n client who line s u = subst (λ (x : Option Client). IsSomeAnd x (λ c. TypesAs moment n c who line s u)) here h in
+    subst (λ (x : Option Client). IsSomeAnd x (λ c. Types Faults moment n c line s u)) (sym here)
     (types_as moment n client login line s u e (subst (λ (x : ℤ). TypesAs moment n client x line s u) p own))
 typed_as (Err short) o moment n client login who line s u here e p h = tt
 
 gathered_by : (o : Option Gathering) (moment n : ℕ) (client : Client) (player : ℤ) (line : List ℕ) (s u : WorldState) → client.gathering ≡ o → is_some o ≡ true →
-    IfSome o (λ g. Gathers Faults n player g line s u) → TypesAs moment n client player line s u
+    IsSomeAnd o (λ g. Gathers Faults n player g line s u) → TypesAs moment n client player line s u
 gathered_by (Some g) moment n client player line s u e is h = as_gathered e h
 gathered_by None moment n client player line s u e is h = absurd cc
 
 -- a line that is gathered
 pub line_gathered : (r : Result (Unit {0}) AllocError) (o : Option Client) (moment n : ℕ) (player who : ℤ) (line copy : List ℕ) (s u : WorldState) → is_some (option_and_then (λ (c : Client). c.gathering) o) ≡ true →
-    who ≡ player → copy ≡ line → OnOk r (IfSome (option_and_then (λ (c : Client). c.gathering) o) (λ g. Gathers Faults n who g copy s u)) → OnOk r (IfSome o (λ c. TypesAs moment n c player line s u))
+    who ≡ player → copy ≡ line → OnOk r (IsSomeAnd (option_and_then (λ (c : Client). c.gathering) o) (λ g. Gathers Faults n who g copy s u)) → OnOk r (IsSomeAnd o (λ c. TypesAs moment n c player line s u))
 line_gathered (Ok v) (Some client) moment n player who line copy s u is p e h =
-    let P : ℤ → List ℕ → Type 0 = λ x l. IfSome client.gathering (λ g. Gathers Faults n x g l s u) in
+    let P : ℤ → List ℕ → Type 0 = λ x l. IsSomeAnd client.gathering (λ g. Gathers Faults n x g l s u) in
     gathered_by client.gathering moment n client player line s u refl is (subst (λ (l : List ℕ). P player l) e (subst (λ (x : ℤ). P x copy) p h))
-line_gathered (Ok v) None moment n player who line copy s u is p e h = tt
+line_gathered (Ok v) None moment n player who line copy s u is p e h = h
 line_gathered (Err short) o moment n player who line copy s u is p e h = tt
 
 not_gathering : (o : Option Gathering) → is_some o ≡ false → o ≡ None
@@ -92,45 +92,45 @@ not_gathering (Some g) e = absurd cc
 
 -- a player's line that isn't
 pub line_played : (r : Result (Unit {0}) AllocError) (o : Option Client) (moment n : ℕ) (player who : ℤ) (line : List ℕ) (s u : WorldState) → is_some (option_and_then (λ (c : Client). c.gathering) o) ≡ false →
-    who ≡ player → OnOk r (IfSome o (λ c. PlayerTypes Faults moment n c who line s u)) → OnOk r (IfSome o (λ c. TypesAs moment n c player line s u))
+    who ≡ player → OnOk r (IsSomeAnd o (λ c. PlayerTypes Faults moment n c who line s u)) → OnOk r (IsSomeAnd o (λ c. TypesAs moment n c player line s u))
 line_played (Ok v) (Some client) moment n player who line s u is p h =
     as_played (not_gathering client.gathering is) (subst (λ (x : ℤ). PlayerTypes Faults moment n client x line s u) p h)
-line_played (Ok v) None moment n player who line s u is p h = tt
+line_played (Ok v) None moment n player who line s u is p h = h
 line_played (Err short) o moment n player who line s u is p h = tt
 
 -- the kinds of a player's line
-pub nothing_typed : (o : Option Client) (moment n : ℕ) (player : ℤ) (line : List ℕ) (s : WorldState) → Words line [] → IfSome o (λ c. PlayerTypes Faults moment n c player line s s)
-nothing_typed (Some client) moment n player line s w = no_word w
-nothing_typed None moment n player line s w = tt
+pub nothing_typed : (o : Option Client) (moment n : ℕ) (player : ℤ) (line : List ℕ) (s : WorldState) → is_some o ≡ true → Words line [] → IsSomeAnd o (λ c. PlayerTypes Faults moment n c player line s s)
+nothing_typed (Some client) moment n player line s here w = no_word w
+nothing_typed None moment n player line s here w = absurd cc
 
-pub prefix_typed : (o : Option Client) (moment n : ℕ) (player : ℤ) (line word text : List ℕ) (args : List (List ℕ)) (s : WorldState) (t : Session) → IsTyped line word text args → kind_of word ≡ kind.Prefix →
-    t ≡ in_connections (with_changed n (with_prefix text)) s.session → IfSome o (λ c. PlayerTypes Faults moment n c player line s (state s.world t))
-prefix_typed (Some client) moment n player line word text args s t x k e =
+pub prefix_typed : (o : Option Client) (moment n : ℕ) (player : ℤ) (line word text : List ℕ) (args : List (List ℕ)) (s : WorldState) (t : Session) → is_some o ≡ true → IsTyped line word text args → kind_of word ≡ kind.Prefix →
+    t ≡ in_connections (with_changed n (with_prefix text)) s.session → IsSomeAnd o (λ c. PlayerTypes Faults moment n c player line s (state s.world t))
+prefix_typed (Some client) moment n player line word text args s t here x k e =
     subst (λ (y : Session). PlayerTypes Faults moment n client player line s (state s.world y)) (sym e) (prefix x k)
-prefix_typed None moment n player line word text args s t x k e = tt
+prefix_typed None moment n player line word text args s t here x k e = absurd cc
 
-pub suffix_typed : (o : Option Client) (moment n : ℕ) (player : ℤ) (line word text : List ℕ) (args : List (List ℕ)) (s : WorldState) (t : Session) → IsTyped line word text args → kind_of word ≡ kind.Suffix →
-    t ≡ in_connections (with_changed n (with_suffix text)) s.session → IfSome o (λ c. PlayerTypes Faults moment n c player line s (state s.world t))
-suffix_typed (Some client) moment n player line word text args s t x k e =
+pub suffix_typed : (o : Option Client) (moment n : ℕ) (player : ℤ) (line word text : List ℕ) (args : List (List ℕ)) (s : WorldState) (t : Session) → is_some o ≡ true → IsTyped line word text args → kind_of word ≡ kind.Suffix →
+    t ≡ in_connections (with_changed n (with_suffix text)) s.session → IsSomeAnd o (λ c. PlayerTypes Faults moment n c player line s (state s.world t))
+suffix_typed (Some client) moment n player line word text args s t here x k e =
     subst (λ (y : Session). PlayerTypes Faults moment n client player line s (state s.world y)) (sym e) (suffix x k)
-suffix_typed None moment n player line word text args s t x k e = tt
+suffix_typed None moment n player line word text args s t here x k e = absurd cc
 
-pub program_typed : (o : Option Client) (moment n : ℕ) (player who : ℤ) (line word text : List ℕ) (args : List (List ℕ)) (s : WorldState) (t : Session) → IsTyped line word text args → kind_of word ≡ kind.Program →
-    who ≡ player → t ≡ programming_begun s.world n who args s.session → IfSome o (λ c. PlayerTypes Faults moment n c player line s (state s.world t))
-program_typed (Some client) moment n player who line word text args s t x k p e =
+pub program_typed : (o : Option Client) (moment n : ℕ) (player who : ℤ) (line word text : List ℕ) (args : List (List ℕ)) (s : WorldState) (t : Session) → is_some o ≡ true → IsTyped line word text args → kind_of word ≡ kind.Program →
+    who ≡ player → t ≡ programming_begun s.world n who args s.session → IsSomeAnd o (λ c. PlayerTypes Faults moment n c player line s (state s.world t))
+program_typed (Some client) moment n player who line word text args s t here x k p e =
     subst (λ (y : Session). PlayerTypes Faults moment n client player line s (state s.world y)) (sym (e ∙ ap (λ (z : ℤ). programming_begun s.world n z args s.session) p)) (program x k)
-program_typed None moment n player who line word text args s t x k p e = tt
+program_typed None moment n player who line word text args s t here x k p e = absurd cc
 
 pub command_typed : (o : Option Client) (moment n : ℕ) (player who : ℤ) (line word text : List ℕ) (args : List (List ℕ)) (s u : WorldState) → IsTyped line word text args → kind_of word ≡ kind.Command →
-    who ≡ player → IfSome o (λ c. Commanded Faults moment n c who (word ∷ args) line s u) → IfSome o (λ c. PlayerTypes Faults moment n c player line s u)
+    who ≡ player → IsSomeAnd o (λ c. Commanded Faults moment n c who (word ∷ args) line s u) → IsSomeAnd o (λ c. PlayerTypes Faults moment n c player line s u)
 command_typed (Some client) moment n player who line word text args s u x k p h = command x k (subst (λ (z : ℤ). Commanded Faults moment n client z (word ∷ args) line s u) p h)
-command_typed None moment n player who line word text args s u x k p h = tt
+command_typed None moment n player who line word text args s u x k p h = h
 
 -- the command of all words
 pub command_run : (r : Result (Unit {0}) AllocError) (o : Option Client) (moment n : ℕ) (player who : ℤ) (words all : List (List ℕ)) (line : List ℕ) (s u : WorldState) → who ≡ player → words ≡ all →
-    OnOk r (IfSome o (λ c. Commanded Faults moment n c who words line s u)) → OnOk r (IfSome o (λ c. Commanded Faults moment n c player all line s u))
+    OnOk r (IsSomeAnd o (λ c. Commanded Faults moment n c who words line s u)) → OnOk r (IsSomeAnd o (λ c. Commanded Faults moment n c player all line s u))
 command_run r o moment n player who words all line s u p e h =
-    let P : ℤ → List (List ℕ) → Type 0 = λ x ws. OnOk r (IfSome o (λ c. Commanded Faults moment n c x ws line s u)) in
+    let P : ℤ → List (List ℕ) → Type 0 = λ x ws. OnOk r (IsSomeAnd o (λ c. Commanded Faults moment n c x ws line s u)) in
     subst (λ (ws : List (List ℕ)). P player ws) e (subst (λ (x : ℤ). P x words) p h)
 
 -- who isn't gone is here
@@ -143,13 +143,13 @@ none_here None e = refl
 none_here (Some c) e = absurd cc
 
 met_at : (o : Option Client) (moment n : ℕ) (line : List ℕ) (s t u : WorldState) → client_here n s.session.connections ≡ o → is_none o ≡ false →
-    IfSome o (λ client. Types Faults moment n client line s t) → HooksRun Faults moment t u → MeetsNext moment n line s u
+    IsSomeAnd o (λ client. Types Faults moment n client line s t) → HooksRun Faults moment t u → MeetsNext moment n line s u
 met_at (Some client) moment n line s t u e is typed hooks = meets e (record { typed = t; types = typed; hooks = hooks })
 met_at None moment n line s t u e is typed hooks = absurd cc
 
 -- a line was typed, and its hooks have run
 pub met : (r : Result (Unit {0}) AllocError) (moment n : ℕ) (line : List ℕ) (s t u : WorldState) → is_none (client_here n s.session.connections) ≡ false →
-    IfSome (client_here n s.session.connections) (λ client. Types Faults moment n client line s t) → OnOk r (HooksRun Faults moment t u) → OnOk r (MeetsNext moment n line s u)
+    IsSomeAnd (client_here n s.session.connections) (λ client. Types Faults moment n client line s t) → OnOk r (HooksRun Faults moment t u) → OnOk r (MeetsNext moment n line s u)
 met (Ok v) moment n line s t u is typed hooks = met_at (client_here n s.session.connections) moment n line s t u refl is typed hooks
 met (Err short) moment n line s t u is typed hooks = tt
 

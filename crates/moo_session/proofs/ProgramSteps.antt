@@ -1,6 +1,6 @@
 -- The steps of the program are those of the meaning.
 use Rattle.std.proofs.Common.{◌≡◌, ℕ, ℤ, Bool, true, false, cond, ◌+◌, take, drop, List, [], ◌∷◌, Option, Some, None, refl, sym, ◌∙◌, ap, subst}
-use Rattle.std.specs.Prelude.{Result, Ok, Err, OnOk, IfSome, codes, position}
+use Rattle.std.specs.Prelude.{Result, Ok, Err, OnOk, IsSomeAnd, codes, position}
 use Rattle.std.specs.declared.alloc.AllocError.{AllocError}
 use Rattle.moo_syntax_ast.specs.Tree.{Block}
 use Rattle.moo_syntax_grammar.specs.declared.names.Names.TheVariants.{Known}
@@ -91,12 +91,9 @@ ended (Ok v) n player g line s t u dot e d = ends dot (subst (λ (x : WorldState
 ended (Err short) n player g line s t u dot e d = tt
 
 -- what was taken out is what was gathered
-pub of_gathered : (r : Result (Unit {0}) AllocError) (o : Option Gathering) (g : Gathering) (P : Gathering → Type 0) → o ≡ Some g → OnOk r (P g) → OnOk r (IfSome o P)
-of_gathered (Ok v) o g P e h = subst (λ (x : Option Gathering). IfSome x P) (sym e) h
+pub of_gathered : (r : Result (Unit {0}) AllocError) (o : Option Gathering) (g : Gathering) (P : Gathering → Type 0) → o ≡ Some g → OnOk r (P g) → OnOk r (IsSomeAnd o P)
+of_gathered (Ok v) o g P e h = subst (λ (x : Option Gathering). IsSomeAnd x P) (sym e) h
 of_gathered (Err short) o g P e h = tt
 
-pub of_nothing : (o : Option Gathering) (P : Gathering → Type 0) → o ≡ None → IfSome o P
-of_nothing o P e = subst (λ (x : Option Gathering). IfSome x P) (sym e) tt
-
-pub kept_gathered : (o : Option Gathering) (g : Gathering) (P : Gathering → Type 0) → o ≡ Some g → P g → IfSome o P
-kept_gathered o g P e h = subst (λ (x : Option Gathering). IfSome x P) (sym e) h
+pub kept_gathered : (o : Option Gathering) (g : Gathering) (P : Gathering → Type 0) → o ≡ Some g → P g → IsSomeAnd o P
+kept_gathered o g P e h = subst (λ (x : Option Gathering). IsSomeAnd x P) (sym e) h

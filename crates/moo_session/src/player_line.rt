@@ -1,5 +1,5 @@
 //! A player's line.
-ghost use Rattle.std.specs.Prelude.{◌≡◌, ◌∷◌, ◌++◌, [], OnOk, IfOk, IfSome, IsSome};
+ghost use Rattle.std.specs.Prelude.{◌≡◌, ◌∷◌, ◌++◌, [], OnOk, IfOk, IsSomeAnd, IsSome};
 ghost use Rattle.moo_builtin.specs.Telling.{Faults};
 ghost use Rattle.moo_session_connection.specs.Connections.{client_here};
 ghost use Rattle.moo_session_line.specs.Rest.{IsLine};
@@ -14,7 +14,7 @@ use moo_session_task::WorldState;
 use moo_value::MooStr;
 use std::alloc::{AllocError, Global};
 
-/// What a player's line is.
+/// Is the kind of a player's line.
 #[derive(Clone, Copy)]
 pub(crate) enum LineKind {
     /// It says what goes before the output of commands.
@@ -38,7 +38,7 @@ pub(crate) fn player_types(
 ) -> Result<(), AllocError>
     requires line { IsLine line.now }
     requires here { IsSome (client_here number live.old.session.connections) }
-    ensures { OnOk result (IfSome (client_here number live.old.session.connections) (λ client. PlayerTypes Faults moment number client player line.now live.old live.new)) }
+    ensures { OnOk result (IsSomeAnd (client_here number live.old.session.connections) (λ client. PlayerTypes Faults moment number client player line.now live.old live.new)) }
 {
     let Some(typed) = read_typed(alloc, line)? else {
         return Ok(());
@@ -85,7 +85,7 @@ fn sets_suffix(word: &[u8]) -> bool
     word == b"SUFFIX".as_slice() || word == b"OUTPUTSUFFIX".as_slice()
 }
 
-// The command of what is typed in a line.
+// Returns the command that is typed in a line.
 fn run_command(
     alloc: Global,
     live: &mut WorldState,
@@ -98,14 +98,14 @@ fn run_command(
     requires typed { IsTyped line.now typed.verb typed.rest typed.args.items }
     requires line { IsLine line.now }
     requires here { IsSome (client_here number live.old.session.connections) }
-    ensures { OnOk result (IfSome (client_here number live.old.session.connections) (λ client. Commanded Faults moment number client player (typed.verb ∷ typed.args.items) line.now live.old live.new)) }
+    ensures { OnOk result (IsSomeAnd (client_here number live.old.session.connections) (λ client. Commanded Faults moment number client player (typed.verb ∷ typed.args.items) line.now live.old live.new)) }
 {
     words_are_light();
     let words = all_words(alloc, typed)?;
     command(alloc, live, moment, number, player, words, line)
 }
 
-// The first word and the others.
+// Returns the first word and the others.
 fn all_words(alloc: Global, typed: Typed) -> Result<Vec<MooStr>, AllocError>
     ensures { IfOk result (λ words. words.items ≡ typed.verb ∷ typed.args.items) }
 {

@@ -1,5 +1,5 @@
 //! Lines that are gathered.
-ghost use Rattle.std.specs.Prelude.{◌≡◌, OnOk, IfSome, IsSome};
+ghost use Rattle.std.specs.Prelude.{◌≡◌, OnOk, IsSomeAnd, IsSome};
 ghost use Rattle.moo_builtin.specs.Telling.{Faults};
 ghost use Rattle.moo_session.specs.DotProgram.{Gathers, gathering_of, is_dot};
 
@@ -18,7 +18,7 @@ pub fn gather(
     line: MooStr,
 ) -> Result<(), AllocError>
     requires { IsSome (gathering_of number live.old.session) }
-    ensures { OnOk result (IfSome (gathering_of number live.old.session) (λ g. Gathers Faults number player g line live.old live.new)) }
+    ensures { OnOk result (IsSomeAnd (gathering_of number live.old.session) (λ g. Gathers Faults number player g line live.old live.new)) }
 {
     let mut gathering = live.session.take_gathering(number).unwrap();
     if is_dot(&line) {

@@ -1,5 +1,5 @@
 //! One line.
-ghost use Rattle.std.specs.Prelude.{◌≡◌, OnOk, IfSome, IsSome, is_some};
+ghost use Rattle.std.specs.Prelude.{◌≡◌, OnOk, IsSomeAnd, IsSome, is_some};
 ghost use Rattle.moo_builtin.specs.Telling.{Faults};
 ghost use Rattle.moo_session_connection.specs.Connections.{client_here};
 ghost use Rattle.moo_session_line.specs.Rest.{IsLine};
@@ -26,7 +26,7 @@ pub(crate) fn type_line(
 ) -> Result<(), AllocError>
     requires line { IsLine line.now }
     requires here { IsSome (client_here number live.old.session.connections) }
-    ensures { OnOk result (IfSome (client_here number live.old.session.connections) (λ client. Types Faults moment number client line.now live.old live.new)) }
+    ensures { OnOk result (IsSomeAnd (client_here number live.old.session.connections) (λ client. Types Faults moment number client line.now live.old live.new)) }
 {
     let client = live.session.connections().client_here(number).unwrap();
     match client.connection.login {
@@ -35,7 +35,7 @@ pub(crate) fn type_line(
     }
 }
 
-// A line of a connection on which this player is connected.
+// Takes a line of a connection on which this player is connected.
 fn type_as(
     alloc: Global,
     live: &mut WorldState,
@@ -46,7 +46,7 @@ fn type_as(
 ) -> Result<(), AllocError>
     requires line { IsLine line.now }
     requires here { IsSome (client_here number live.old.session.connections) }
-    ensures { OnOk result (IfSome (client_here number live.old.session.connections) (λ client. TypesAs moment number client player line.now live.old live.new)) }
+    ensures { OnOk result (IsSomeAnd (client_here number live.old.session.connections) (λ client. TypesAs moment number client player line.now live.old live.new)) }
 {
     if gathers(&live.session, number) {
         let line = line.try_clone()?;
@@ -55,7 +55,7 @@ fn type_as(
     player_types(alloc, live, moment, number, player, line)
 }
 
-// Whether the connection gathers lines.
+// Is true if the connection gathers lines.
 fn gathers(session: &Session, number: u16) -> bool
     ensures { result ≡ is_some (gathering_of number session.now) }
 {
@@ -65,7 +65,7 @@ fn gathers(session: &Session, number: u16) -> bool
     }
 }
 
-// The line's words are those of the login.
+// Takes the line's words as those of the login.
 fn log_in_by_line(
     alloc: Global,
     live: &mut WorldState,

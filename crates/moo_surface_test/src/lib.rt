@@ -8,6 +8,7 @@ pub mod command;
 pub mod dbtext;
 pub mod disk;
 pub mod eval;
+pub mod laws;
 pub mod server;
 pub mod session;
 pub mod syntax;

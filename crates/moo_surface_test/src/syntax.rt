@@ -1,7 +1,8 @@
 //! The surface of `moo_syntax`.
 use moo_syntax::{
-    Arm, Codes, Expr, Handler, Item, Literal, Name, NameInterner, Names, Program, Stmt,
-    SyntaxFault, SyntaxFaultKind, Text,
+    Arm, Codes, Cursor, Expr, Fault, Given, Handler, Item, Keyword, Level, Literal, Name,
+    NameInterner, Names, Operator, Program, Sign, Spot, Stmt, SyntaxFault, SyntaxFaultKind, Text,
+    Token,
 };
 use moo_value::MooStr;
 use std::alloc::{AllocError, Global};
@@ -154,5 +155,59 @@ pub fn branches(stmt: &Stmt) -> Option<&[Arm]> {
     match stmt {
         Stmt::If(_, _, arms) => Some(arms.as_slice()),
         _ => None,
+    }
+}
+
+/// Returns the variable that every frame has, if a name is one.
+pub fn given(name: &Name) -> Option<Given> {
+    name.given()
+}
+
+/// Returns a cursor at the first token.
+pub fn cursor(spots: &[Spot]) -> Cursor<'_> {
+    Cursor { spots, at: 0 }
+}
+
+pub fn take(cursor: &mut Cursor<'_>, sign: Sign) -> bool {
+    cursor.take(sign)
+}
+
+pub fn expect_keyword(cursor: &mut Cursor<'_>, keyword: Keyword) -> Result<(), Fault> {
+    cursor.expect_keyword(keyword)
+}
+
+pub fn take_operator(cursor: &mut Cursor<'_>, level: Level) -> Option<Operator> {
+    cursor.take_operator(level)
+}
+
+/// Returns the number of a token's form.
+pub fn token(token: &Token) -> u8 {
+    match token {
+        Token::Integer(_) => 0,
+        Token::Object(_) => 1,
+        Token::Error(_) => 2,
+        Token::Str(_) => 3,
+        Token::Name(_) => 4,
+        Token::Keyword(_) => 5,
+        Token::Sign(_) => 6,
+        Token::Bad => 7,
+    }
+}
+
+/// Returns whether an operator evaluates both operands.
+pub fn is_strict(operator: Operator) -> bool {
+    match operator {
+        Operator::Binary(_) => true,
+        Operator::Logic(_) => false,
+    }
+}
+
+/// Returns the number of a level.
+pub fn level(level: Level) -> u8 {
+    match level {
+        Level::Logic => 0,
+        Level::Relation => 1,
+        Level::Sum => 2,
+        Level::Product => 3,
     }
 }

@@ -2,10 +2,10 @@
 use moo_syntax::Program;
 use moo_value::{ErrorCode, MooStr, Value};
 use moo_world::{
-    Action, Forest, Need, ObjectSpecifier, PrepositionSpecifier, PropCell, PropPerms, Rights, Verb,
-    VerbArgs, VerbAt, VerbPerms, World, WorldFault,
+    Action, Forest, Need, Node, ObjectSpecifier, PrepositionSpecifier, PropCell, PropPerms, Rights,
+    Step, Verb, VerbArgs, VerbAt, VerbPerms, World, WorldFault,
 };
-use std::alloc::Global;
+use std::alloc::{AllocError, Global};
 
 pub fn empty(alloc: Global) -> World {
     World::empty(alloc)
@@ -243,5 +243,19 @@ pub fn is_one(specifier: PrepositionSpecifier) -> bool {
         PrepositionSpecifier::None => false,
         PrepositionSpecifier::Any => false,
         PrepositionSpecifier::One(_) => true,
+    }
+}
+
+/// Returns a node that has this one right above it, and those right below it in order.
+pub fn node(alloc: Global, above: Option<usize>, below: &[usize]) -> Result<Node, AllocError> {
+    Node::new(alloc, above, below)
+}
+
+/// Walks down from a node. The walk has no step if there is no such node.
+pub fn walk(forest: &Forest, alloc: Global, x: usize) -> Result<Vec<Step>, AllocError> {
+    if x < forest.len() {
+        forest.walk_down(alloc, x)
+    } else {
+        Ok(Vec::new(alloc))
     }
 }

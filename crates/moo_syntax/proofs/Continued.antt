@@ -14,8 +14,8 @@ use Rattle.moo_syntax_grammar.proofs.Derived.{derived}
 use Rattle.moo_syntax_grammar.proofs.Admitted.{admitted, loose_admits}
 use Rattle.moo_syntax_grammar.proofs.Endings.{behind as stands_behind, Ends, ends_with_more}
 use Rattle.moo_syntax.specs.Outgrown.{CanEnd, can_give, can_read, can_take, can_stop, can_miss, Certain, ends, takes as takes_certain, sees as sees_certain, misses as misses_certain, part, behind}
-use Rattle.moo_syntax.proofs.Examples.{example}
-use Rattle.moo_syntax.proofs.Ends.{all_end}
+use Rattle.moo_syntax_grammar.proofs.Examples.{example}
+use Rattle.moo_syntax_grammar.proofs.Ends.{all_end}
 
 -- the token comes first, if one is named
 abbrev pub IsFirst : Option Token → List Token → Type 0

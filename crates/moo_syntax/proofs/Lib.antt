@@ -8,8 +8,6 @@ pub mod Jumps
 pub mod TextLengths
 pub mod Passing
 pub mod Words
-pub mod Examples
-pub mod Ends
 pub mod Continued
 pub mod Swapped
 pub mod Rests

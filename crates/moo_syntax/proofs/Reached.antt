@@ -13,7 +13,7 @@ use Rattle.moo_syntax_grammar.proofs.Derived.{all_lead, led, derived}
 use Rattle.moo_syntax_grammar.proofs.Endings.{behind, Ends, Ending, ending}
 use Rattle.moo_syntax.specs.Programs.{SameBefore, BeginsSome}
 use Rattle.moo_syntax.proofs.Continued.{closed}
-use Rattle.moo_syntax.proofs.Ends.{all_end}
+use Rattle.moo_syntax_grammar.proofs.Ends.{all_end}
 use Rattle.moo_syntax.proofs.Openings.{CanGoOn, by_tokens, by_assign, Opens, all_open}
 use Rattle.moo_syntax.proofs.Swapped.{Swaps, at_rest, token, KeepsAssign, Needs, Replaced, replaced}
 use Rattle.moo_syntax.proofs.Rests.{before_behind}

@@ -9,11 +9,15 @@ ghost use Rattle.moo_syntax.specs.declared.syntax_fault.SyntaxFaultKind.{SyntaxF
 ghost use Rattle.moo_syntax.specs.declared.syntax_fault.SyntaxFaultKind.TheVariants.{Unexpected, TooDeep, Memory};
 ghost use Rattle.moo_syntax.specs.Programs.{Blames, IsTooDeep, HasLongLine, text_length};
 
+pub use moo_syntax_ast::laws::slots_are_the_variables;
 pub use moo_syntax_grammar::laws::{
     admitted_programs, one_program, one_program_of_text, programs_are_loose,
     programs_under_any_names,
 };
-pub use moo_syntax_token::laws::one_token_list;
+pub use moo_syntax_token::laws::{
+    bad_is_last, each_text_has_a_reading, lines_within, names_are_names, one_reading,
+    one_token_list, same_lines_same_fault, same_lines_same_tokens, spelling_is_read, tokens_or_bad,
+};
 
 /// Proves that the text of a program within the limits has no fault except out of memory.
 pub fn programs_are_not_blamed()

@@ -10,6 +10,8 @@ pub mod Unique
 pub mod Heights
 pub mod Depths
 pub mod Endings
+pub mod Examples
+pub mod Ends
 pub mod Begun
 pub mod Searched
 pub mod Folded

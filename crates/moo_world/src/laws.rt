@@ -20,7 +20,16 @@ ghost use Rattle.moo_world_table.specs.Properties.{definition_named, read};
 
 use crate::World;
 use moo_value::{MooStr, Value};
+pub use moo_world_object::laws::{
+    a_fitting_name_meets_the_rule, a_number_has_one_set_of_flags,
+    a_number_has_one_set_of_property_permissions, a_number_has_one_set_of_verb_permissions,
+    every_name_fits_a_star,
+};
 use moo_world_object::{Object, PropPerms};
+pub use moo_world_text::laws::{
+    object_specifiers_are_read_back, preposition_specifiers_are_read_back,
+    prop_perms_are_read_back, verb_perms_are_read_back,
+};
 use moo_world_tree::Forest;
 
 /// A property that is defined on an object or an ancestor has a value, and no other has one.

@@ -32,7 +32,7 @@ pub use moo_world_object::{
     PropCell, PropPerms, Row, Verb, VerbArgs, VerbPerms,
 };
 pub use moo_world_table::MOST;
-pub use moo_world_tree::{Below, Forest};
+pub use moo_world_tree::{Below, Forest, Node, Step};
 pub use rights::{Action, Rights};
 use std::marker::Model;
 

@@ -1,5 +1,5 @@
 //! The texts of permissions of properties and verbs, and of the argument specifiers of verbs.
-//! An internal crate of `moo_builtin`.
+//! An internal crate of `moo_world`.
 #![tactic(auto)]
 
 pub mod laws;

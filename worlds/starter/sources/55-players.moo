@@ -386,9 +386,18 @@ if (!$match:found(o, p[1], player))
 elseif (!$controls(player, o))
   player:tell(o.name, " isn't yours.");
   return;
+elseif (!player:may_speak())
+  return;
+endif
+// the words have lost their quotes and backslashes, the line has not
+i = index(argstr, " as ");
+text = i ? $string:trim(argstr[i + 4..$]) | p[2];
+n = length(text);
+if (n > 1 && text[1] == "\"" && index(text[2..n], "\"") == n - 1)
+  text = text[2..n - 1];
 endif
 try
-  o.description = p[2];
+  o.description = text;
   player:tell(o == player ? "You are" | o.name + " is", " described.");
 except e (ANY)
   player:tell("That can't be done: ", e[2], ".");

@@ -15,6 +15,8 @@ if (!$match:found(o, p[1], player))
 elseif (!$controls(player, o))
   player:tell(o.name, " isn't yours.");
   return;
+elseif (!player:may_speak())
+  return;
 endif
 names = {};
 if (length(p[2]) > 600)
@@ -43,9 +45,12 @@ if ($isa(o, $exit) && valid(from = `o.source ! ANY => #-1') && (n = `from:taken_
   return;
 endif
 // only a wizard sets a player's name; so the verb is a wizard's, behind the questions above
+before = o.name;
 o.name = names[1];
 if (!is_player(o))
   set_task_perms(player);
+elseif (before != o.name)
+  $record:add(tostr(before, ": @rename ", o, " to ", o.name));
 endif
 `o.aliases = names[2..$] ! E_PROPNF, E_PERM';
 if (is_player(o))
@@ -56,7 +61,7 @@ player:tell("It is called ", $string:join(names, ", "), " (", o, ") now.");
 
 // @create PARENT named NAME,OTHER NAME
 @program $builder:@create any any any rd wiz
-if (player != this)
+if (player != this || !player:may_speak())
   return;
 endif
 set_task_perms(player);
@@ -174,7 +179,7 @@ endtry
 
 // @dig NAME; @dig north,n to NAME or #12; @dig north,n|south,s to NAME
 @program $builder:"@dig @link" any any any rd wiz
-if (player != this)
+if (player != this || !player:may_speak())
   return;
 endif
 set_task_perms(player);
@@ -301,7 +306,10 @@ if (player != this)
 endif
 text = dobjstr ? dobjstr | "me";
 who = text == "me" ? player | $match:player(text);
-if (!$match:found(who, text, player))
+if (player.wizard && !valid(who) && text[1] == "#" && tostr(toobj(text)) == text)
+  // what somebody owned who is gone
+  who = toobj(text);
+elseif (!$match:found_player(who, text, player))
   return;
 endif
 o = prepstr == "from" ? toint(toobj(iobjstr)) | 0;
@@ -319,7 +327,7 @@ while (o <= end)
   endfor
   o = to + 1;
   if (ticks_left() < 25000 && o <= end)
-    player:tell("That is the list up to #", to, ". For more: @audit ", who.name, " from #", o);
+    player:tell("That is the list up to #", to, ". For more: @audit ", valid(who) ? who.name | who, " from #", o);
     return;
   endif
 endwhile
@@ -328,7 +336,7 @@ player:tell(n, n == 1 ? " object." | " objects.");
 
 // @set OBJECT.PROPERTY to VALUE: a number, #12, "text" or text
 @program $builder:@set any any any rd wiz
-if (player != this)
+if (player != this || !player:may_speak())
   return;
 endif
 set_task_perms(player);
@@ -376,6 +384,10 @@ set_task_perms(player);
 o = $match:object(dobjstr, player);
 key = $match:object(iobjstr, player);
 if ($match:found(o, dobjstr, player) && $match:found(key, iobjstr, player))
+  if (!$controls(player, o))
+    player:tell(o.name, " isn't yours.");
+    return;
+  endif
   try
     o.key = key;
     o.key_serial = key.serial;
@@ -396,6 +408,10 @@ endif
 set_task_perms(player);
 o = $match:object(argstr, player);
 if ($match:found(o, argstr, player))
+  if (!$controls(player, o))
+    player:tell(o.name, " isn't yours.");
+    return;
+  endif
   try
     o.key = #-1;
     player:tell(o.name, " is unlocked.");
@@ -420,6 +436,8 @@ if (!$match:found(o, dobjstr, player) || !$match:found(to, iobjstr, player))
   return;
 elseif (is_player(o) && !player.wizard)
   player:tell("Players move themselves.");
+  return;
+elseif (!player:may_speak())
   return;
 endif
 try

@@ -244,6 +244,8 @@ else
 endif
 if (typeof(lines) != LIST || (kind == "text" && !$controls(player, o)))
   player:tell(typeof(lines) == LIST ? o.name + " isn't yours." | "That is no text that you may edit.");
+elseif (!player:may_speak())
+  return;
 elseif (verb == "@write")
   $editor:start(player, kind, o, name, {}, 1);
 elseif (player.local_editing)

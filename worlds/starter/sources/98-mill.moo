@@ -41,7 +41,8 @@ Dust, sunlight in stripes, and a heap of old sacks that something has nested in.
 @object $mill_can from $thing named oil can
 @object $mill_grain from $thing named sack of grain
 @object $mill_flour from $thing named sack of flour
-;for w in ({{$mill_sluice, "sluice", $mill, "Oak planks in a frame. In the frame is a square hole for a crank. (turn sluice)"}, {$mill_axle, "axle", $mill_wheel, "An axle like a tree. It needs oil. (oil axle)"}, {$mill_hopper, "funnel", $mill_floor, "A wooden funnel over the stones. You could put grain in it."}, {$mill_beam, "beam", $mill_floor, "Oak, with names in chalk. (read beam)"}, {$mill_sacks, "sacks", $mill_loft, "Old sacks, twenty or so. (search sacks)"}}) w[1].aliases = {w[2]}; w[1].fixed = 1; w[1].description = w[4]; move(w[1], w[3]); endfor
+@object $mill_shelf from $thing named stone shelf
+;for w in ({{$mill_sluice, "sluice", $mill, "Oak planks in a frame. In the frame is a square hole for a crank. (turn sluice)"}, {$mill_axle, "axle", $mill_wheel, "An axle like a tree. It needs oil. (oil axle)"}, {$mill_hopper, "funnel", $mill_floor, "A wooden funnel over the stones. You could put grain in it."}, {$mill_beam, "beam", $mill_floor, "Oak, with names in chalk. (read beam)"}, {$mill_sacks, "sacks", $mill_loft, "Old sacks, twenty or so. (search sacks)"}, {$mill_shelf, "shelf", $mill_cellar, "Jars and dust. (search shelf)"}}) w[1].aliases = {w[2]}; w[1].fixed = 1; w[1].description = w[4]; move(w[1], w[3]); endfor
 ;for w in ({{$mill_crank, "crank", "A crank of iron, with a square end."}, {$mill_can, "can", "It still has oil in it."}, {$mill_grain, "grain", "Barley, from the weight of it."}, {$mill_flour, "flour", "Warm, fine, and yours."}}) w[1].aliases = {w[2]}; w[1].description = w[3]; endfor
 
 @property $mill.open r = 0
@@ -177,6 +178,10 @@ if (this:light())
 endif
 args[1]:tell("It is dark");
 args[1]:tell("You feel a shelf, and steps that lead up. A lamp would help.");
+.
+
+@program $mill_shelf:look_self this none this rxd
+return $mill_cellar:light() ? pass(@args) | args[1]:tell("You only feel it: cold stone, and jars. A lamp would help.");
 .
 
 @program $mill_cellar:"search feel" any any any rd

@@ -8,26 +8,26 @@ use Rattle.moo_session.proofs.player_line.player_types.Goals as goal
 
 pub returns-in_default : goal.returns-in_default
 returns-in_default c =
-    nothing_typed (client_here c.args.number c.args.live.now.session.connections) c.args.moment c.args.number c.args.player c.args.line.now c.args.live.now (rw c.in_default.is at c.in_ok-typed.ensures.none)
+    nothing_typed (client_here c.args.number c.args.live.now.session.connections) c.args.moment c.args.number c.args.player c.args.line.now c.args.live.now c.requires.here (rw c.in_default.is at c.in_ok-typed.ensures.none)
 
 pub returns-in-Prefix : goal.returns-in-Prefix
 returns-in-Prefix c =
     let t = c.in-Some.typed in
     let k : kind_of t.verb ≡ kind.Prefix = ap kind_of (sym c.as_bytes.ensures.value) ∙ sym c.kind_of.ensures ∙ c.in-Prefix.is in
-    prefix_typed (client_here c.args.number c.args.live.now.session.connections) c.args.moment c.args.number c.args.player c.args.line.now t.verb t.rest t.args.items c.args.live.now c.set_prefix.new.self (rw c.in-Some.is at c.in_ok-typed.ensures.some) k c.set_prefix.ensures
+    prefix_typed (client_here c.args.number c.args.live.now.session.connections) c.args.moment c.args.number c.args.player c.args.line.now t.verb t.rest t.args.items c.args.live.now c.set_prefix.new.self c.requires.here (rw c.in-Some.is at c.in_ok-typed.ensures.some) k c.set_prefix.ensures
 
 pub returns-in-Suffix : goal.returns-in-Suffix
 returns-in-Suffix c =
     let t = c.in-Some.typed in
     let k : kind_of t.verb ≡ kind.Suffix = ap kind_of (sym c.as_bytes.ensures.value) ∙ sym c.kind_of.ensures ∙ c.in-Suffix.is in
-    suffix_typed (client_here c.args.number c.args.live.now.session.connections) c.args.moment c.args.number c.args.player c.args.line.now t.verb t.rest t.args.items c.args.live.now c.set_suffix.new.self (rw c.in-Some.is at c.in_ok-typed.ensures.some) k c.set_suffix.ensures
+    suffix_typed (client_here c.args.number c.args.live.now.session.connections) c.args.moment c.args.number c.args.player c.args.line.now t.verb t.rest t.args.items c.args.live.now c.set_suffix.new.self c.requires.here (rw c.in-Some.is at c.in_ok-typed.ensures.some) k c.set_suffix.ensures
 
 pub returns-in_ok-begin_programming-in-Program : goal.returns-in_ok-begin_programming-in-Program
 returns-in_ok-begin_programming-in-Program c =
     let t = c.in-Some.typed in
     let k : kind_of t.verb ≡ kind.Program = ap kind_of (sym c.as_bytes.ensures.value) ∙ sym c.kind_of.ensures ∙ c.in-Program.is in
     let who : to_z w32 (of_z w32 c.args.player) ≡ c.args.player = (let fits : SFits w32 c.args.player = search rules in to_z-of_z fits) in
-    program_typed (client_here c.args.number c.args.live.now.session.connections) c.args.moment c.args.number c.args.player (to_z w32 (of_z w32 c.args.player)) c.args.line.now t.verb t.rest t.args.items c.args.live.now c.begin_programming.new.session (rw c.in-Some.is at c.in_ok-typed.ensures.some) k who
+    program_typed (client_here c.args.number c.args.live.now.session.connections) c.args.moment c.args.number c.args.player (to_z w32 (of_z w32 c.args.player)) c.args.line.now t.verb t.rest t.args.items c.args.live.now c.begin_programming.new.session c.requires.here (rw c.in-Some.is at c.in_ok-typed.ensures.some) k who
     (c.in_ok-begin_programming-in-Program.ensures ∙ ap (λ (a : List (List ℕ)). programming_begun c.args.live.now.world c.args.number (to_z w32 (of_z w32 c.args.player)) a c.args.live.now.session) c.deref.ensures.value)
 
 pub returns-in_ok-run_command-in-Command : goal.returns-in_ok-run_command-in-Command

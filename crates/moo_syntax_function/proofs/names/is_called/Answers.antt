@@ -4,7 +4,7 @@ use Rattle.std.proofs.lemmas.Bool.Decides.{same_from_decides}
 use Rattle.std.proofs.lemmas.Slice.Eq.{bytes_eq-Decides}
 use Rattle.moo_value.specs.Compare.{folded}
 use Rattle.moo_syntax_function.proofs.Naming.{folded-name}
-use Rattle.moo_syntax_function.proofs.function.is_called.Goals as goal
+use Rattle.moo_syntax_function.proofs.names.is_called.Goals as goal
 
 pub returns : goal.returns
 returns c =

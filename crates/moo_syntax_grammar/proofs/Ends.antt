@@ -20,7 +20,7 @@ use Rattle.moo_syntax_grammar.specs.Machine.{Reading, give}
 use Rattle.moo_syntax_grammar.specs.Predictive.{grammar, mark, behind_brace, expect, loop_at, jump}
 use Rattle.moo_syntax_grammar.proofs.Leads.{Fact}
 use Rattle.moo_syntax_grammar.proofs.Endings.{behind, End, ending, tail, gives_end, refuses_end, phrase_end, last_end, peek_end, taken_end, sign_end, expect_end, keyword_taken_end, keyword_end, needed_end, ruled_end, ruled_keyword_end, forbidden_name_end, name_end, option_end}
-use Rattle.moo_syntax.proofs.Examples.{zero_token, zero, a_conditional, an_expression}
+use Rattle.moo_syntax_grammar.proofs.Examples.{zero_token, zero, a_conditional, an_expression}
 
 mark_end : (i : Bool) {close : List Token → List Token} {Q : Fact Sort.expr} → End Sort.expr close (mark i) Q
 mark_end true = gives_end

@@ -44,7 +44,7 @@ ROWS = [
     (["serve", "folder.db", "0"], None, None, DEVICE, [f"{folder}/folder.db: {FOLDER}"], 3),
     (["serve", "cut.db", "0"], None, None, CUT, ["cut.db: " + CUT[:-1]], 1),
     (["serve", "cut.db", "0"], None, "/dev/full", "", ["cut.db: " + CUT[:-1], f"standard output: {FULL}"], 1),
-    (["serve", long, "0", "--rounds", "1"], None, None, "listening on 127.0.0.1:.*\n", [f"no checkpoint can be made: .*/{long}.new: File name too long .*", "listening on .*"], 0),
+    (["serve", long, "0", "--rounds", "1"], None, None, "listening on 127.0.0.1:.*\n", [f"no lock keeps a second server from {long}: .*/{long}.lock: File name too long .*", f"no checkpoint can be made: .*/{long}.new: File name too long .*", "listening on .*"], 0),
     (["serve", "world.db", port], None, None, DEVICE, [f"127.0.0.1:{port}: Address already in use (os error 98)"], 3),
     (["serve", "world.db", "0", "--host", "192.0.2.1"], None, None, DEVICE, ["192.0.2.1:0: Cannot assign requested address (os error 99)"], 3),
     (["serve", "world.db", "0", "--rounds", "0"], None, "/dev/full", "", ["listening on .*", f"standard output: {FULL}"], 3),

@@ -14,7 +14,7 @@ from outcome import PATIENCE, Outcome, Result, Skipped
 from row_file import TOP
 
 # The commands that the launcher takes from the system. A run has these alone on its path, and perhaps a kit.
-TOOLS = "awk cat chmod cp cut date dirname find grep mkdir mktemp mv paste readlink rm sed sh sha256sum sleep sort stat tail tar uname wc xargs".split()
+TOOLS = "awk cat chmod cp cut date dirname find grep mkdir mkfifo mktemp mv paste readlink rm sed sh sha256sum sleep sort stat tail tar uname wc xargs".split()
 
 PARTS = ["moo", "release/sum", "release/check", "release/launch"]
 NEWER = "moo: the sources are newer than the release; this is the release\n"
@@ -183,8 +183,43 @@ def an_installed_program_needs_no_repository(folder):
     place = folder.top.parent / "place"
     yield folder.run("install", str(place)), 0, ""
     shutil.rmtree(folder.top)
-    yield folder.run("serve", "a.db", command=place / "moo"), 0, "released serve a.db --rounds 18446744073709551615\n"
-    yield folder.run("serve", "a.db", "--rounds", "3", command=place / "moo"), 0, "released serve a.db --rounds 3\n"
+    yield folder.run("check", "a.db", command=place / "moo"), 0, "released check a.db\n"
+
+
+def a_server_has_limits_and_a_console(folder):
+    folder.release()
+    world = folder.top / "a.db"
+    limits = "--login-seconds 300 --most-unconnected 1000 --telnet --must-save"
+    yield folder.run("serve", str(world), "0"), 0, f"released serve {world} 0 --rounds 18446744073709551615 {limits} --console\n"
+    yield folder.run("serve", str(world), "0", "--rounds", "3"), 0, f"released serve {world} 0 --rounds 3 {limits} --console\n"
+    given = ["--rounds", "3", "--login-seconds", "0", "--most-unconnected=5", "--telnet", "--must-save", "--console"]
+    yield folder.run("serve", str(world), "0", *given), 0, f"released serve {world} 0 {' '.join(given)}\n"
+    yield folder.run("serve", "--help"), 0, "released serve --help\n"
+    yield Result(0, "".join(path.name for path in folder.top.glob("a.db*")).encode()), 0, ""
+
+
+def a_server_without_a_pipe_has_no_console(folder):
+    folder.release()
+    world = folder.top / "none" / "a.db"
+    yield (folder.run("serve", str(world), "0", "--rounds", "3"), 0,
+           f"moo: there is no console, since {world}.console cannot be made: a signal ends the server at once\n"
+           f"released serve {world} 0 --rounds 3 --login-seconds 300 --most-unconnected 1000 --telnet --must-save\n")
+
+
+def a_world_that_everybody_can_read_is_warned_of(folder):
+    folder.release()
+    folder.write("a.db", "")
+    world = folder.top / "a.db"
+    given = ["--rounds", "3", "--login-seconds", "0", "--most-unconnected", "5", "--telnet", "--must-save", "--console"]
+    yield (folder.run("serve", str(world), "0", *given), 0,
+           f"moo: everybody on this machine can read {world}, and the passwords in it: chmod o-r {world}\nreleased serve {world} 0 {' '.join(given)}\n")
+    world.chmod(0o640)
+    yield folder.run("serve", str(world), "0", *given), 0, f"released serve {world} 0 {' '.join(given)}\n"
+
+
+def what_is_typed_for_a_console_without_a_server_is_refused(folder):
+    folder.release()
+    yield (folder.run("console", "a.db"), 2, "moo: a.db.console is no pipe: the server of this database was not started by moo serve\n")
 
 
 CASES = [
@@ -202,6 +237,10 @@ CASES = [
     each_file_counts_but_those_of_out,
     the_path_is_printed,
     an_installed_program_needs_no_repository,
+    a_server_has_limits_and_a_console,
+    a_server_without_a_pipe_has_no_console,
+    a_world_that_everybody_can_read_is_warned_of,
+    what_is_typed_for_a_console_without_a_server_is_refused,
 ]
 
 

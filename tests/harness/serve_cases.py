@@ -37,7 +37,8 @@ PROGRAMS = [
     ('server_log("up");', {}, ["--rounds", "1"], LISTENS, BEGUN + "[INFO  moo] up\n", 0),
     ("dump_database();", {}, ["--rounds", "5"], LISTENS, BEGUN + "[INFO  moo::serve] checkpoint done: 453 bytes\n", 0),
     ("dump_database();", {"before": block}, ["--rounds", "1"], LISTENS,
-     BEGUN + "[WARN  moo::serve] checkpoint failed: HERE/programs.db.new: Is a directory (os error 21)\n", 0),
+     "[WARN  moo::serve] no checkpoint can be made: HERE/programs.db.new: Is a directory (os error 21)\n" + BEGUN
+     + "[WARN  moo::serve] checkpoint failed: HERE/programs.db.new: Is a directory (os error 21)\n", 0),
     ("shutdown();", {}, ["--rounds", "1000000000"], LISTENS, BEGUN + "[INFO  moo::serve] checkpoint done: 448 bytes\n", 0),
     ("return 0;", {"is_taken": True}, ["--rounds", "1"], "refused: Device\n",
      "[WARN  moo::serve] 127.0.0.1:PORT: Address already in use (os error 98)\n", 3),

@@ -1,14 +1,16 @@
 //! The program `moo`.
 #![tactic(auto)]
 
+mod service;
+
+use crate::service::serve;
 use clap::Error;
 use clap::error::ErrorKind;
-use moo_cli_args::{Service, Work, not_utf8, read_words};
+use moo_cli_args::{Work, not_utf8, read_words};
 use moo_cli_check::{run_check, run_check_all, run_copy};
 use moo_cli_expr::run_expr;
 use moo_cli_io::{Device, ExitReason, log_error, open};
 use moo_cli_script::run_script;
-use moo_cli_serve::{Served, run_serve};
 use moo_server::MooApplication;
 use std::io::BufReader;
 use std::process::ExitCode;
@@ -91,23 +93,4 @@ fn run_work(rt: &HostRuntime, work: Work) -> io::Result<u8> {
         }
         Work::Serve(service) => serve(rt, service),
     }
-}
-
-fn serve(rt: &HostRuntime, service: Service) -> io::Result<u8> {
-    let served = Served {
-        db: service.database,
-        host: service.host,
-        port: service.port,
-        rounds: service.rounds,
-        most_waiting: service.most_waiting,
-    };
-    let files = rt.clone()?;
-    let mut output = io::writer(rt);
-    Ok(run_serve::<MooApplication, HostRuntime, HostRuntime, _>(
-        rt,
-        files,
-        rt.alloc(),
-        &mut output,
-        served,
-    ))
 }

@@ -2,10 +2,11 @@
 //! An internal crate of `moo`.
 #![tactic(auto)]
 
+use clap::builder::ValueParser;
 use clap::error::ErrorKind;
 use clap::{Arg, ArgAction, ArgMatches, Command, Error, value_parser};
 use std::alloc::{AllocError, Global};
-use std::net::IpAddr;
+use std::net::{IpAddr, Ipv4Addr};
 
 /// The default number of rounds of `moo serve`.
 const ROUNDS: &str = "1000000000";
@@ -15,6 +16,12 @@ const HOST: &str = "127.0.0.1";
 
 /// The default number of bytes that may wait for a connection of `moo serve`.
 const MOST_WAITING: &str = "16777216";
+
+/// The names of the times before the lines of the log.
+const TIMES: &[&str] = &["none", "utc", "local"];
+
+/// The version that `--version` prints: what `server_version()` returns.
+const VERSION: &str = "1.8-integer";
 
 /// The command that the program is to run.
 #[derive(Clone, Copy, Debug, PartialEq, Eq)]
@@ -46,6 +53,29 @@ pub struct Service<'a> {
     pub rounds: u64,
     /// The number of waiting bytes past which a connection is hung up.
     pub most_waiting: usize,
+    /// The seconds within which somebody must log in on a connection, or 0 for no limit.
+    pub login_seconds: u64,
+    /// The greatest number of connections on which nobody has logged in, or 0 for no limit.
+    pub most_unconnected: usize,
+    /// Whether standard input and output are the operator's own connection.
+    pub console: bool,
+    /// Whether the commands of telnet are dropped from what clients send.
+    pub telnet: bool,
+    /// Whether the exit status says that the server ended without a last checkpoint.
+    pub must_save: bool,
+    /// The time before each line of the log.
+    pub log_times: Times,
+}
+
+/// The time before each line of the log.
+#[derive(Clone, Copy, Debug, PartialEq, Eq)]
+pub enum Times {
+    /// No time.
+    None,
+    /// The universal time.
+    Utc,
+    /// The time of the machine's zone.
+    Local,
 }
 
 /// Parses the words of the command line, the program's name first. Returns `None` if they name no command. If help
@@ -53,12 +83,21 @@ pub struct Service<'a> {
 pub fn read_words<'a>(alloc: Global, words: &'a [String]) -> Result<Option<Work<'a>>, Error> {
     let matches = command(alloc)?.try_get_matches_from(words)?;
     match matches.subcommand() {
-        Some(("serve", found)) => match found.get_one::<IpAddr>("host") {
+        Some(("serve", found)) => match host_of(found) {
             Some(host) => Ok(service_of(found, host).map(Work::Serve)),
             None => Err(no_address(alloc)?),
         },
         Some((name, found)) => Ok(work_of(name, found)),
         None => Ok(None),
+    }
+}
+
+// Returns the address of `--host`. The name `localhost` is the address of this machine itself; other names aren't looked
+// up.
+fn host_of(found: &ArgMatches) -> Option<IpAddr> {
+    match found.get_str("host") {
+        Some("localhost") => Some(IpAddr::V4(Ipv4Addr::LOCALHOST)),
+        _ => found.get_one::<IpAddr>("host"),
     }
 }
 
@@ -80,7 +119,21 @@ fn service_of<'a>(found: &ArgMatches<'a>, host: IpAddr) -> Option<Service<'a>> {
         port: found.get_one::<u16>("PORT")?,
         rounds: found.get_one::<u64>("rounds")?,
         most_waiting: found.get_one::<usize>("most-waiting")?,
+        login_seconds: found.get_one::<u64>("login-seconds")?,
+        most_unconnected: found.get_one::<usize>("most-unconnected")?,
+        console: found.get_flag("console"),
+        telnet: found.get_flag("telnet"),
+        must_save: found.get_flag("must-save"),
+        log_times: times_of(found),
     })
+}
+
+fn times_of(found: &ArgMatches) -> Times {
+    match found.get_str("log-times") {
+        Some("utc") => Times::Utc,
+        Some("local") => Times::Local,
+        _ => Times::None,
+    }
 }
 
 /// Returns the usage fault of a command line with an argument that isn't UTF-8. Fails only if memory runs out.
@@ -97,6 +150,7 @@ fn command<'a>(alloc: Global) -> Result<Command<'a>, AllocError> {
     let expr = Command::new(alloc, "expr").about("Evaluate the expression on standard input");
     Command::new(alloc, "moo")
         .about("A LambdaMOO server with crash-safe checkpoints")
+        .version(VERSION)
         .subcommand_required(true)
         .arg_required_else_help(true)
         .disable_help_subcommand(true)
@@ -156,5 +210,61 @@ fn serve<'a>(alloc: Global) -> Result<Command<'a>, AllocError> {
         .arg(port)?
         .arg(host)?
         .arg(rounds)?
-        .arg(most_waiting)
+        .arg(most_waiting)?
+        .arg(login_seconds(alloc))?
+        .arg(most_unconnected(alloc))?
+        .arg(console(alloc))?
+        .arg(telnet(alloc))?
+        .arg(must_save(alloc))?
+        .arg(log_times(alloc))
+}
+
+fn login_seconds<'a>(alloc: Global) -> Arg<'a> {
+    Arg::new(alloc, "login-seconds")
+        .long("login-seconds")
+        .value_name("N")
+        .help("A connection on which nobody logs in within N seconds is hung up; 0 for no limit")
+        .value_parser(value_parser!(u64))
+        .default_value("0")
+}
+
+fn most_unconnected<'a>(alloc: Global) -> Arg<'a> {
+    Arg::new(alloc, "most-unconnected")
+        .long("most-unconnected")
+        .value_name("N")
+        .help(
+            "The most connections on which nobody has logged in; the oldest is hung up; 0 for no limit",
+        )
+        .value_parser(value_parser!(usize))
+        .default_value("0")
+}
+
+fn console<'a>(alloc: Global) -> Arg<'a> {
+    Arg::new(alloc, "console")
+        .long("console")
+        .action(ArgAction::SetTrue)
+        .help("Take standard input and output as the operator's own connection, of number 65535")
+}
+
+fn telnet<'a>(alloc: Global) -> Arg<'a> {
+    Arg::new(alloc, "telnet")
+        .long("telnet")
+        .action(ArgAction::SetTrue)
+        .help("Drop the commands of telnet from what clients send")
+}
+
+fn must_save<'a>(alloc: Global) -> Arg<'a> {
+    Arg::new(alloc, "must-save")
+        .long("must-save")
+        .action(ArgAction::SetTrue)
+        .help("End with status 3 if there is no last checkpoint that is done")
+}
+
+fn log_times<'a>(alloc: Global) -> Arg<'a> {
+    Arg::new(alloc, "log-times")
+        .long("log-times")
+        .value_name("ZONE")
+        .help("The time before each line of the log")
+        .value_parser(ValueParser::Names(TIMES))
+        .default_value("none")
 }

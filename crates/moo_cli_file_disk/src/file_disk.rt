@@ -8,7 +8,7 @@ use moo_disk::{Disk, DiskFault};
 use std::alloc::Global;
 use std::fs::{File, OpenFile, OpenOptions};
 use std::io::{ErrorKind, Read, Seek, SeekFrom, Write};
-use std::os::unix::fs::OpenOptionsExt;
+use std::os::unix::fs::{MetadataExt, OpenOptionsExt};
 use std::path::Path;
 use std::rt::Files;
 use std::{fs, io};
@@ -35,12 +35,20 @@ enum Last {
 /// Two files of one folder: the database, and the spare, whose name ends in `.new`. No contract says what the files
 /// hold. The contracts say only that each fault is counted, and that bytes go only to a spare of its own. That is a
 /// file which has been open since it was created, and is not main's.
+///
+/// A checkpoint needs one descriptor more than the disk holds between checkpoints. The disk keeps one for it, gives it
+/// up to open a spare, and takes it back after the rename. So a checkpoint succeeds when other parts of the program
+/// have taken every other descriptor of the process.
 #[derive(Drop)]
 pub struct FileDisk<R: Files> {
     files: R,
     main: String,
     spare: String,
     folder: String,
+    /// The folder, open for the syncs of its names, if it could be opened at the start.
+    names: Option<R::File>,
+    /// The descriptor that is kept for a spare. `None` while a spare is open, or if the system gave none.
+    kept: Option<R::File>,
     /// The spare, open for writing from `create_spare` to `rename`.
     writing: Option<R::File>,
     /// The number of bytes written to the spare since it was created.
@@ -48,6 +56,23 @@ pub struct FileDisk<R: Files> {
     last: Last,
     failures: u64,
     calls: u64,
+}
+
+/// Fails if a path is neither a regular file nor a folder, which the system refuses to read.
+fn refuse_device<R: Files>(files: &R, path: &str) -> io::Result<()> {
+    let kind = fs::metadata(files, path)?.file_type();
+    if kind.is_file() || kind.is_dir() {
+        return Ok(());
+    }
+    Err(io::Error::new(ErrorKind::InvalidInput, "not a regular file"))
+}
+
+/// Returns another handle of an open file. Returns `None` if there is no file, or no descriptor is left.
+fn clone_of<F: OpenFile + Drop>(file: &Option<F>) -> Option<F> {
+    match file {
+        Some(file) => file.try_clone().ok(),
+        None => None,
+    }
 }
 
 /// Returns the folder of a path.
@@ -60,16 +85,22 @@ fn folder_of(path: &str) -> &str {
 
 impl<R: Files + Drop> FileDisk<R> {
     /// Returns the disk of the database at this path. Resolves a symbolic link once, here, so that a checkpoint
-    /// replaces the file it leads to and not the link. Fails if there is no such file.
+    /// replaces the file it leads to and not the link. Fails if there is no such file, or if it is a device, a socket
+    /// or a pipe, whose reading might never end.
     pub fn open(alloc: Global, files: R, path: &str) -> io::Result<FileDisk<R>> {
         let main = files.canonicalize(alloc, path)?.into_string();
+        refuse_device(&files, main.as_str())?;
         let folder = String::from_str(alloc, folder_of(main.as_str()))?;
         let spare = format!(in alloc; "{}.new", main.as_str())?;
+        let names = File::open(&files, folder.as_str()).ok();
+        let kept = clone_of(&names);
         Ok(FileDisk {
             files,
             main,
             spare,
             folder,
+            names,
+            kept,
             writing: None,
             bytes: 0,
             last: Last::Went,
@@ -85,13 +116,30 @@ impl<R: Files> FileDisk<R> {
         self.spare.as_str()
     }
 
-    /// Tests whether a spare can be created, and removes it again. Leaves an existing spare as it is. The error says
-    /// why none can be created.
-    pub fn try_spare(&self) -> io::Result<()> {
-        match self.create_new() {
-            Ok(_) => fs::remove_file(&self.files, self.spare.as_str()),
-            Err(error) if error.kind() == ErrorKind::AlreadyExists => Ok(()),
-            Err(error) => Err(error),
+    pub(crate) fn main(&self) -> &str {
+        self.main.as_str()
+    }
+
+    pub(crate) fn folder(&self) -> &str {
+        self.folder.as_str()
+    }
+
+    pub(crate) fn files(&self) -> &R {
+        &self.files
+    }
+
+    /// Returns whether the folder could be opened at the start.
+    pub(crate) fn has_folder(&self) -> bool {
+        self.names.is_some()
+    }
+
+    // Takes back the descriptor that is kept for a spare, if the system has one.
+    fn keep_descriptor(&mut self)
+        ensures writing { self.new.writing ≡ self.old.writing }
+        ensures failures { self.new.failures ≡ self.old.failures }
+    {
+        if self.kept.is_none() {
+            self.kept = clone_of(&self.names);
         }
     }
 
@@ -114,8 +162,8 @@ impl<R: Files> FileDisk<R> {
         }
     }
 
-    // Creates a file that was not there before, so that it can't be the file of main, even by a link.
-    fn create_new(&self) -> io::Result<R::File> {
+    /// Creates a file that was not there before, so that it can't be the file of main, even by a link.
+    pub(crate) fn create_new(&self) -> io::Result<R::File> {
         OpenOptions::new()
             .write(true)
             .create_new(true)
@@ -141,9 +189,27 @@ impl<R: Files> FileDisk<R> {
         file.read(buffer)
     }
 
-    // A folder opens for reading as a file does. Its sync makes the names in it stable.
+    // The sync of a folder makes the names in it stable. A folder opens for reading as a file does.
     fn sync_folder(&self) -> io::Result<()> {
-        File::open(&self.files, self.folder.as_str())?.sync_all()
+        match &self.names {
+            Some(folder) => folder.sync_all(),
+            None => File::open(&self.files, self.folder.as_str())?.sync_all(),
+        }
+    }
+
+    // Moves the spare over main, if its name still leads to the file that was opened. Another program that uses these
+    // names may have put a file of its own there.
+    fn replace_main(&self) -> io::Result<()> {
+        let Some(file) = &self.writing else {
+            return no_spare();
+        };
+        let opened = file.metadata()?;
+        let named = fs::symlink_metadata(&self.files, self.spare.as_str())?;
+        if opened.dev() != named.dev() || opened.ino() != named.ino() {
+            let message = "another program has replaced this file";
+            return Err(io::Error::new(ErrorKind::Other, message));
+        }
+        fs::rename(&self.files, self.spare.as_str(), self.main.as_str())
     }
 
     fn name_of(&self, place: Place) -> &str {
@@ -184,7 +250,12 @@ impl<R: Files> Disk for FileDisk<R> {
     ghost stands = { λ d. IsSome d.writing };
 
     fn create_spare(&mut self) -> Result<(), DiskFault> {
+        self.writing = None;
+        self.kept = None;
         let created = self.fresh_spare();
+        if created.is_err() {
+            self.keep_descriptor();
+        }
         let file = self.counted(Place::Spare, created)?;
         self.writing = Some(file);
         self.bytes = 0;
@@ -209,8 +280,9 @@ impl<R: Files> Disk for FileDisk<R> {
     }
 
     fn rename(&mut self) -> Result<(), DiskFault> {
-        let renamed = fs::rename(&self.files, self.spare.as_str(), self.main.as_str());
+        let renamed = self.replace_main();
         self.writing = None;
+        self.keep_descriptor();
         self.counted(Place::Spare, renamed)
     }
 

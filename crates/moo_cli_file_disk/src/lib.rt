@@ -3,7 +3,11 @@
 #![tactic(auto)]
 
 mod file_disk;
+mod lock;
 mod news;
+mod probe;
 
 pub use file_disk::FileDisk;
+pub use lock::{Lock, LockFault};
 pub use news::{News, Watched};
+pub use probe::Unwritable;

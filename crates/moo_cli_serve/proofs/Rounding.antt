@@ -28,6 +28,7 @@ pub begins_on : (old looked new : Slab Socket) (before now : ℕ) (events : List
     → Begins looked new before now events → Begins old new before now events
 begins_on old looked new before now events same begins = record {
   came = begins.came;
+  typed = begins.typed;
   clock = begins.clock;
   timed = begins.timed;
   all = begins.all;
@@ -42,6 +43,7 @@ begins_on old looked new before now events same begins = record {
         (λ c less event is. subst (λ (w : Option (List ℕ)). IsRead (held_after c w (only begins.comes.opened)) c event) (same c) is) begins.comes.read;
     follow = λ c. begins.comes.follow c ∙ ap (λ (w : Option (List ℕ)). held_after c w begins.came) (same c);
   };
+  types = begins.types;
   told = begins.told;
 }
 

@@ -1,5 +1,5 @@
 -- What `moo serve` does over a file, and the status that it answers.
-use Rattle.std.specs.Prelude.{◌≡◌, ◌⊎◌, ℕ}
+use Rattle.std.specs.Prelude.{◌≡◌, ◌⊎◌, ℕ, Bool, true}
 use Rattle.moo_cli_file_disk.specs.Files.{file_failures, file_honest, file_view}
 use Rattle.moo_cli_file_disk.specs.declared.file_disk.FileDisk.{FileDisk}
 use Rattle.moo_checkpoint.specs.declared.open_fault.OpenFault.TheVariants as opening
@@ -23,6 +23,8 @@ module _ {S Application : Type 0} (l : Layer S Application Saved) (F File Dir : 
   abbrev pub FailsFile : ℕ → ServeFault → Type 0
   FailsFile rounds fault = NoDisk fault ⊎ ((disk : FileDisk F File Dir) × Fails l file_view file_honest file_failures disk most rounds fault)
 
-  -- the status is 0 where it was served to the end, and else that of the fault
-  abbrev pub ShowsService : ℕ → ℕ → Type 0
-  ShowsService rounds status = (ServesFile rounds × (status ≡ 0)) ⊎ ((fault : ServeFault) × FailsFile rounds fault × (status ≡ fault_status fault))
+  -- If the file was served to the end, the status is 0, or 3 only of a server that must save. Else it is that of the fault.
+  abbrev pub ShowsService : ℕ → Bool → ℕ → Type 0
+  ShowsService rounds must status =
+      (ServesFile rounds × ((status ≡ 0) ⊎ ((must ≡ true) × (status ≡ 3))))
+      ⊎ ((fault : ServeFault) × FailsFile rounds fault × (status ≡ fault_status fault))

@@ -1,5 +1,5 @@
 -- What one round does, and in which order.
-use Rattle.std.specs.Prelude.{◌≡◌, ◌⊎◌, ℕ, ◌≤◌, ◌<◌, List, [], ◌∷◌, ◌++◌, Option, Some, None}
+use Rattle.std.specs.Prelude.{◌≡◌, ◌≢◌, ◌⊎◌, Bool, false, ℕ, ◌≤◌, ◌<◌, List, [], ◌∷◌, ◌++◌, Option, Some, None}
 use Rattle.slab.specs.Slab.{Slab}
 use Rattle.moo_disk.specs.Disk.{DiskView}
 use Rattle.moo_dbtext_read.specs.Saved.{Saved}
@@ -12,6 +12,7 @@ use Rattle.moo_server_core.specs.declared.event.Event.{Event}
 use Rattle.moo_server_core.specs.declared.event.Event.TheVariants as the
 use Rattle.moo_server_core.specs.declared.event.Phase.TheVariants as phase
 use Rattle.moo_server_core.specs.declared.server_core.ServerCore.{ServerCore}
+use Rattle.moo_cli_serve.specs.Console.{Types}
 use Rattle.moo_cli_serve.specs.Course.{Given}
 use Rattle.moo_cli_serve.specs.Writing.{Writes}
 
@@ -22,13 +23,15 @@ IsTold None before now events = (events ≡ []) × (now ≡ before)
 IsTold (Some moment) before now events =
     ((before ≤ moment) × (events ≡ the.Moment moment ∷ []) × (now ≡ moment)) ⊎ ((moment < before) × (events ≡ []) × (now ≡ before))
 
--- What is given first: what came on the sockets, the moment, a flush.
+-- What is given first: what came on the sockets and from the console, the moment, a flush.
 pub record Begins (old new : Slab Socket) (before now : ℕ) (events : List Event) : Type 0 where
   pub came : List Event
+  pub typed : List Event
   pub clock : Option ℕ
   pub timed : List Event
-  pub all : events ≡ (came ++ timed) ++ the.Flush ∷ []
+  pub all : events ≡ (typed ++ timed) ++ the.Flush ∷ []
   pub comes : Comes old new came
+  pub types : Types came typed
   pub told : IsTold clock before now timed
 
 module _ {S : Type 0} where
@@ -36,11 +39,12 @@ module _ {S : Type 0} where
   IsClosed server = phase_of server.halted server.course ≡ phase.Closed
 
 module _ {S Application : Type 0} (l : Layer S Application Saved) where
-  -- All lines that wait for the log are handed out, and no output.
-  pub record Logs (before after : ServerCore S) : Type 0 where
+  -- All lines that wait for the log are handed out, and no output but the console's, if there is one.
+  pub record Logs (console : Bool) (before after : ServerCore S) : Type 0 where
     pub handed : (handed : Output) × Hands l handed before after
     pub none : (waiting_of l after).logged ≡ []
-    pub unsent : (waiting_of l after).sent ≡ (waiting_of l before).sent
+    pub unsent : console ≡ false → (waiting_of l after).sent ≡ (waiting_of l before).sent
+    pub others : (c : ℕ) → c ≢ 65535 → (waiting_of l after).sent c ≡ (waiting_of l before).sent c
 
 module _ {S Application D : Type 0} (l : Layer S Application Saved) (view : D → DiskView) (honest : D → Type 0) where
   -- A server that isn't closed is given these events.

@@ -56,7 +56,7 @@ module _ {S Application D : Type 0} (l : Layer S Application Saved) (view : D â†
   -- a round was made
   pub record Turns (old new : Serving S D) : Type 0 where
     pub turned : inner.ServerCore S
-    pub logs : Logs l turned new.server
+    pub logs : Logs l new.console.is_on turned new.server
     pub rounds : Rounds l view honest old.most_waiting old.moment new.moment old.server turned old.disk new.disk old.sockets.sockets new.sockets.sockets
     pub most_is : new.most_waiting â‰¡ old.most_waiting
 

@@ -1,53 +1,60 @@
 -- What goes out in one round, and who is hung up.
-use Rattle.std.specs.Prelude.{◌≡◌, ℕ, ◌<◌, ◌≤◌, List, [], ◌++◌, length, Option, Some, None, IfSome, Bool, true, false, ◌&&◌, ◌||◌, eqb, nat_lt, if◌then◌else◌}
+use Rattle.std.specs.Prelude.{◌≡◌, ℕ, ◌<◌, ◌≤◌, List, [], ◌++◌, length, Option, Some, None, IfSome, Bool, true, false, ◌&&◌, ◌||◌, eqb, nat_lt, All, if◌then◌else◌}
+use Rattle.std.specs.List.{list_any}
 use Rattle.std.specs.Option.{option_map}
 use Rattle.slab.specs.Slab.{Slab}
 use Rattle.moo_cli_sockets.specs.declared.socket.Socket.{Socket}
 use Rattle.moo_cli_sockets.specs.Coming.{Each, held}
 use Rattle.moo_dbtext_read.specs.Saved.{Saved}
 use Rattle.moo_server_core.specs.Application.{Layer}
-use Rattle.moo_server_core.specs.Server.{state_of, waiting_of}
+use Rattle.moo_server_core.specs.Server.{waiting_of}
 use Rattle.moo_server_core.specs.declared.event.Event.{Event}
 use Rattle.moo_server_core.specs.declared.event.Event.TheVariants as the
 use Rattle.moo_server_core.specs.declared.server_core.ServerCore.{ServerCore}
+use Rattle.moo_cli_serve.specs.Strangers.{is_stranger, leaves}
 
--- Who was written to is hung up: where the socket failed, where the connection leaves and nothing waits for it any more, and where more
--- waits than may. So many bytes still wait, or none is told where the socket failed.
-abbrev pub is_parted : ℕ → Bool → Option ℕ → Bool
-is_parted most leaving None = true
-is_parted most leaving (Some waiting) = (leaving && eqb waiting 0) || nat_lt most waiting
+-- A connection that was written to is hung up if the socket failed, if the connection leaves and nothing waits for it any
+-- more, if more waits than may, and if it is late: a stranger whose time is over. So many bytes still wait; None is for a
+-- socket that failed.
+abbrev pub is_parted : ℕ → Bool → Bool → Option ℕ → Bool
+is_parted most leaving late None = true
+is_parted most leaving late (Some waiting) = ((leaving && eqb waiting 0) || nat_lt most waiting) || late
+
+-- a connection is one of these
+abbrev pub is_among : List ℕ → ℕ → Bool
+is_among numbers c = list_any (λ k. eqb k c) numbers
 
 -- These bytes went behind what waited for connection c's socket, and some of all that, from the front, went out: the rest still waits.
 -- Where the socket failed no rest is told. Who is hung up has no socket then.
-pub record Wrote (most : ℕ) (leaving : Bool) (bytes before : List ℕ) (is : Option (List ℕ)) (c : ℕ) (event : Option Event) : Type 0 where
+pub record Wrote (most : ℕ) (leaving late : Bool) (bytes before : List ℕ) (is : Option (List ℕ)) (c : ℕ) (event : Option Event) : Type 0 where
   pub rest : Option (List ℕ)
   pub out : IfSome rest (λ waits. (out : List ℕ) × (before ++ bytes ≡ out ++ waits))
-  pub stays : is ≡ (if is_parted most leaving (option_map (λ (w : List ℕ). length w) rest) then None else rest)
-  pub parts : event ≡ (if is_parted most leaving (option_map (λ (w : List ℕ). length w) rest) then Some (the.Hangup c) else None)
+  pub stays : is ≡ (if is_parted most leaving late (option_map (λ (w : List ℕ). length w) rest) then None else rest)
+  pub parts : event ≡ (if is_parted most leaving late (option_map (λ (w : List ℕ). length w) rest) then Some (the.Hangup c) else None)
 
 -- What one write to connection c's socket does, if it has one: `bytes` waited for it in the server, and `left` does then; `was` waited
 -- for its socket, and `is` does then.
-abbrev pub IsWritten : ℕ → Bool → List ℕ → List ℕ → Option (List ℕ) → Option (List ℕ) → ℕ → Option Event → Type 0
-IsWritten most leaving bytes left None is c event = (left ≡ bytes) × (is ≡ None) × (event ≡ None)
-IsWritten most leaving bytes left (Some before) is c event = (left ≡ []) × Wrote most leaving bytes before is c event
+abbrev pub IsWritten : ℕ → Bool → Bool → List ℕ → List ℕ → Option (List ℕ) → Option (List ℕ) → ℕ → Option Event → Type 0
+IsWritten most leaving late bytes left None is c event = (left ≡ bytes) × (is ≡ None) × (event ≡ None)
+IsWritten most leaving late bytes left (Some before) is c event = (left ≡ []) × Wrote most leaving late bytes before is c event
 
 module _ {S Application : Type 0} (l : Layer S Application Saved) where
-  abbrev pub leaves : ServerCore S → ℕ → Bool
-  leaves server c = if server.halted then false else l.meaning.is_leaving (state_of l server).sessions c
-
-  abbrev pub IsWrittenTo : ℕ → ServerCore S → ServerCore S → Slab Socket → Slab Socket → ℕ → Option Event → Type 0
-  IsWrittenTo most before after old new c event =
-      IsWritten most (leaves before c) ((waiting_of l before).sent c) ((waiting_of l after).sent c) (held old c) (held new c) c event
+  abbrev pub IsWrittenTo : ℕ → Bool → ServerCore S → ServerCore S → Slab Socket → Slab Socket → ℕ → Option Event → Type 0
+  IsWrittenTo most late before after old new c event =
+      IsWritten most (leaves l before c) late ((waiting_of l before).sent c) ((waiting_of l after).sent c) (held old c) (held new c) c event
 
   -- connection c's socket holds what it held, and the server what it held for c
   pub record IsLeft (c : ℕ) (before after : ServerCore S) (old new : Slab Socket) : Type 0 where
     pub socket : held new c ≡ held old c
     pub waiting : (waiting_of l after).sent c ≡ (waiting_of l before).sent c
 
-  -- One write to each socket, by rising number, with the hang-ups that come of it. No line for the log is handed out.
+  -- One write to each socket, by rising number, with the hang-ups that come of it. Those that are late are strangers. No
+  -- line for the log is handed out.
   pub record Writes (most : ℕ) (before after : ServerCore S) (old new : Slab Socket) (events : List Event) : Type 0 where
     pub below : ℕ
-    pub each : Each (λ c event. IsWrittenTo most before after old new c event) below events
+    pub late : List ℕ
+    pub strangers : All (λ c. is_stranger l before c ≡ true) late
+    pub each : Each (λ c event. IsWrittenTo most (is_among late c) before after old new c event) below events
     -- there are no others, and what waits in the server for their numbers stays there
     pub beyond : (c : ℕ) → below ≤ c → c < 65536 → (held old c ≡ None) × (held new c ≡ None)
     pub untaken : (c : ℕ) → below ≤ c → (waiting_of l after).sent c ≡ (waiting_of l before).sent c

@@ -3,25 +3,44 @@ ghost use Rattle.std.specs.Prelude.{◌≡◌, ◌++◌, ℕ, List, IfOk, OnOk};
 ghost use Rattle.moo_server_core.specs.declared.event.Event as given;
 ghost use Rattle.moo_cli_serve.specs.Rounds.{Begins, IsTold};
 
-use log::Log;
+use crate::console::Console;
+use log::{Log, warn};
 use moo_cli_sockets::Sockets;
 use moo_server_core::Event;
-use std::alloc::AllocError;
+use std::alloc::{AllocError, Global};
 use std::rt::Clock;
 
-/// Returns the events of a round: those of the sockets, the moment, and a flush. Sets the last reported moment. Fails only if
-/// memory runs out.
+/// Returns the events of a round: those of the sockets and of the console, the moment, and a flush. Sets the last reported
+/// moment. Fails only if memory runs out.
 pub fn come<L: Clock + Log>(
     rt: &L,
+    alloc: Global,
     sockets: &mut Sockets,
+    console: &mut Console,
     moment: &mut u32,
+    is_late: &mut bool,
 ) -> Result<Vec<Event>, AllocError>
     ensures { IfOk result (λ events. Begins sockets.old.sockets sockets.new.sockets moment.old moment.new events.items) }
 {
     let mut events = sockets.take(rt)?;
-    tell(now(rt), moment, &mut events)?;
+    console.take(alloc, &mut events)?;
+    let now = now(rt);
+    tell_back(rt, now, *moment, is_late);
+    tell(now, moment, &mut events)?;
     events.push(Event::Flush)?;
     Ok(events)
+}
+
+// Logs that the clock was set back, once until it has passed the last reported moment.
+fn tell_back<L: Log>(rt: &L, now: Option<u32>, moment: u32, is_late: &mut bool) {
+    let late = match now {
+        Some(now) => moment.saturating_sub(now),
+        None => 0,
+    };
+    if late != 0 && !*is_late {
+        warn!(rt; target: "moo::serve", "the clock was set back: no checkpoint comes by time for {late} seconds, only if asked for; a restart ends that");
+    }
+    *is_late = late != 0;
 }
 
 // Appends the moment, unless the clock was set back. Then the last reported moment stays until the clock has passed it.

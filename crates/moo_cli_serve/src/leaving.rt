@@ -3,29 +3,35 @@ ghost use Rattle.std.specs.Prelude.{◌≡◌, ◌≢◌, ℕ, List, IfOk, OnOk}
 ghost use Rattle.moo_server_core.specs.Application.{Output};
 ghost use Rattle.moo_server_core.specs.Server.{Hands, waiting_of};
 ghost use Rattle.moo_cli_serve.specs.Rounds.{Logs};
-ghost use Rattle.moo_cli_serve.specs.Writing.{IsLeft, IsWrittenTo, Writes, is_parted};
+ghost use Rattle.moo_cli_serve.specs.Writing.{IsLeft, IsWrittenTo, Writes, is_among, is_parted};
 
+use crate::console::Console;
+use crate::strangers::Strangers;
 use log::{Log, info, warn};
 use moo_cli_sockets::{Sockets, put};
 use moo_server_core::{Event, ServerCore, StartApplication};
 use std::alloc::{AllocError, Global};
+use std::rt::Clock;
 
 /// Writes once to each socket what waits for its connection. Returns the hang-ups of the connections that it closes. Fails only
 /// if memory runs out.
-pub fn write_all<S: StartApplication, L: Log>(
+pub fn write_all<S: StartApplication, L: Clock + Log>(
     rt: &L,
     alloc: Global,
     server: &mut ServerCore<S>,
     sockets: &mut Sockets,
     most_waiting: usize,
+    strangers: &mut Strangers,
 ) -> Result<Vec<Event>, AllocError>
     ensures handed { (handed : Output) × Hands S.layer handed server.old server.new }
     ensures written { IfOk result (λ events. Writes S.layer most_waiting server.old server.new sockets.old.sockets sockets.new.sockets events.items) }
 {
+    let late = strangers.find_late(rt, alloc, server, sockets)?;
     let mut parted = Vec::new(alloc);
     for key in 0..sockets.capacity() {
         let Ok(c) = u16::try_from(key) else { break };
-        let event = write(rt, server, sockets, c, most_waiting)?;
+        let is_late = is_among(&late, c);
+        let event = write(rt, server, sockets, c, most_waiting, is_late)?;
         put(&mut parted, event)?;
     }
     Ok(parted)
@@ -38,9 +44,10 @@ fn write<S: StartApplication, L: Log>(
     sockets: &mut Sockets,
     c: u16,
     most_waiting: usize,
+    is_late: bool,
 ) -> Result<Option<Event>, AllocError>
     ensures handed { (handed : Output) × Hands S.layer handed server.old server.new }
-    ensures written { IfOk result (λ event. IsWrittenTo S.layer most_waiting server.old server.new sockets.old.sockets sockets.new.sockets c event) }
+    ensures written { IfOk result (λ event. IsWrittenTo S.layer most_waiting is_late server.old server.new sockets.old.sockets sockets.new.sockets c event) }
     ensures others { OnOk result ((k : ℕ) → k ≢ c → IsLeft S.layer k server.old server.new sockets.old.sockets sockets.new.sockets) }
     ensures log { (waiting_of S.layer server.new).logged ≡ (waiting_of S.layer server.old).logged }
 {
@@ -50,7 +57,7 @@ fn write<S: StartApplication, L: Log>(
     let is_leaving = server.is_leaving(c);
     let output = server.take_output(c);
     let waiting = sockets.write(c, output)?;
-    if !is_parted(most_waiting, is_leaving, waiting) {
+    if !is_parted(most_waiting, is_leaving, is_late, waiting) {
         return Ok(None);
     }
     tell_waiting(rt, c, most_waiting, waiting);
@@ -58,14 +65,21 @@ fn write<S: StartApplication, L: Log>(
     Ok(Some(Event::Hangup(c)))
 }
 
-// Returns whether a connection is hung up: its socket failed, or it leaves and nothing waits, or too much waits.
-fn is_parted(most: usize, is_leaving: bool, waiting: Option<usize>) -> bool
-    ensures { result ≡ is_parted most is_leaving waiting }
+// Returns whether a connection is hung up: the socket failed, or the connection leaves and nothing waits, or too much
+// waits, or nobody has logged in on it in time.
+fn is_parted(most: usize, is_leaving: bool, is_late: bool, waiting: Option<usize>) -> bool
+    ensures { result ≡ is_parted most is_leaving is_late waiting }
 {
     match waiting {
-        Some(waiting) => (is_leaving && waiting == 0) || waiting > most,
+        Some(waiting) => (is_leaving && waiting == 0) || waiting > most || is_late,
         None => true,
     }
+}
+
+fn is_among(numbers: &[u16], c: u16) -> bool
+    ensures { result ≡ is_among numbers.now c }
+{
+    numbers.iter().any(|number| *number == c)
 }
 
 fn tell_waiting<L: Log>(rt: &L, c: u16, most: usize, waiting: Option<usize>) {
@@ -76,10 +90,16 @@ fn tell_waiting<L: Log>(rt: &L, c: u16, most: usize, waiting: Option<usize>) {
     }
 }
 
-/// Takes the lines that wait for the log, and logs them. Their target is `moo`.
-pub fn log_lines<S: StartApplication, L: Log>(rt: &L, server: &mut ServerCore<S>)
-    ensures { Logs S.layer server.old server.new }
+/// Takes what waits for the console, and shows it there. Takes the lines that wait for the log, and logs them. Their target
+/// is `moo`.
+pub fn log_lines<S: StartApplication, L: Log>(
+    rt: &L,
+    console: &mut Console,
+    server: &mut ServerCore<S>,
+)
+    ensures { Logs S.layer console.new.is_on server.old server.new }
 {
+    console.show(server);
     let lines = server.take_log();
     for line in &lines {
         if let Ok(line) = str::from_utf8(line.as_bytes()) {

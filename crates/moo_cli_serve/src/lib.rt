@@ -3,13 +3,16 @@
 #![tactic(auto)]
 
 mod coming;
+mod console;
 mod fault;
 mod giving;
 pub mod laws;
 mod leaving;
 mod program;
 mod serving;
+mod strangers;
 
 pub use fault::ServeFault;
 pub use program::{Served, run_serve};
 pub use serving::{Round, Serving};
+pub use strangers::LoginLimits;

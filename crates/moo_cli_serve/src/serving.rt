@@ -7,12 +7,15 @@ ghost use Rattle.moo_cli_serve.specs.Rounds.{IsClosed, Rounds};
 ghost use Rattle.moo_cli_serve.specs.Service.{Begun, BreaksOff, EndsFor, IsBegunFrom, IsOutside, IsServed, LeavesUnbegun, NotStarted, Steps, Turns, Waits};
 
 use crate::coming::{come, now};
+use crate::console::Console;
 use crate::fault::ServeFault;
 use crate::giving::{give, give_if_open};
 use crate::leaving::{log_lines, write_all};
+use crate::strangers::{LoginLimits, Strangers};
 use log::{Log, info, warn};
 use moo_cli_file_disk::{News, Watched};
 use moo_cli_sockets::Sockets;
+use moo_cli_telnet::Telnet;
 use moo_disk::Disk;
 use moo_server_core::{Phase, ServerCore as Server, StartApplication};
 use std::alloc::Global;
@@ -44,6 +47,10 @@ pub struct Serving<S: StartApplication, D: Disk> {
     moment: u32,
     /// The number of waiting bytes past which a connection is hung up.
     most_waiting: usize,
+    strangers: Strangers,
+    console: Console,
+    /// Whether the clock is before the last reported moment.
+    is_late: bool,
 }
 
 impl<S: StartApplication, D: Disk + Watched> Serving<S, D> {
@@ -56,6 +63,9 @@ impl<S: StartApplication, D: Disk + Watched> Serving<S, D> {
         host: IpAddr,
         port: u16,
         most_waiting: usize,
+        login: LoginLimits,
+        has_console: bool,
+        telnet: Option<Telnet>,
     ) -> Result<Serving<S, D>, ServeFault>
     where
         D: Drop,
@@ -66,7 +76,7 @@ impl<S: StartApplication, D: Disk + Watched> Serving<S, D> {
         let mut disk = disk;
         let moment = now(rt).unwrap_or(0);
         let server = begin(rt, alloc, &mut disk, moment)?;
-        let sockets = Sockets::open(rt, alloc, host, port)?;
+        let sockets = Sockets::open(rt, alloc, host, port, telnet)?;
         Ok(Serving {
             alloc,
             sockets,
@@ -74,6 +84,9 @@ impl<S: StartApplication, D: Disk + Watched> Serving<S, D> {
             disk,
             moment,
             most_waiting,
+            strangers: Strangers::new(login),
+            console: Console::new(has_console),
+            is_late: false,
         })
     }
 
@@ -140,7 +153,7 @@ impl<S: StartApplication, D: Disk + Watched> Serving<S, D> {
         }
         let calls = self.disk.calls();
         let turned = self.turn(rt);
-        log_lines(rt, &mut self.server);
+        log_lines(rt, &mut self.console, &mut self.server);
         turned?;
         Ok(self.found(calls))
     }
@@ -158,7 +171,14 @@ impl<S: StartApplication, D: Disk + Watched> Serving<S, D> {
     {
         self.sockets.rest();
         self.sockets.look(0)?;
-        let came = come(rt, &mut self.sockets, &mut self.moment)?;
+        let came = come(
+            rt,
+            self.alloc,
+            &mut self.sockets,
+            &mut self.console,
+            &mut self.moment,
+            &mut self.is_late,
+        )?;
         let calls = self.disk.calls();
         let given = give(&mut self.server, &mut self.disk, &came);
         tell_checkpoint(rt, &self.disk, calls);
@@ -169,12 +189,18 @@ impl<S: StartApplication, D: Disk + Watched> Serving<S, D> {
             &mut self.server,
             &mut self.sockets,
             self.most_waiting,
+            &mut self.strangers,
         )?;
         give_if_open(&mut self.server, &mut self.disk, &parted)?;
         Ok(())
     }
 
-    fn is_closed(&self) -> bool
+    /// Returns whether the server is closed, and its last checkpoint didn't fail.
+    pub fn is_saved(&self) -> bool {
+        self.is_closed() && !matches!(self.disk.news(), News::Failed(_, _))
+    }
+
+    pub(crate) fn is_closed(&self) -> bool
         ensures { IsTrue result ↔ IsClosed self.now.server }
     {
         matches!(self.server.phase(), Phase::Closed)
@@ -187,7 +213,7 @@ impl<S: StartApplication, D: Disk + Watched> Serving<S, D> {
         if self.is_closed() {
             return Round::Over;
         }
-        if self.sockets.is_busy() || self.disk.calls() != calls {
+        if self.sockets.is_busy() || self.console.is_busy() || self.disk.calls() != calls {
             return Round::Busy;
         }
         Round::Idle

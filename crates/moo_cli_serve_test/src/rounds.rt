@@ -2,7 +2,7 @@
 ghost use Rattle.moo_server_core.specs.Server.{Follows};
 
 use moo_cli_file_disk::{FileDisk, Watched};
-use moo_cli_serve::Serving;
+use moo_cli_serve::{LoginLimits, Serving};
 use moo_disk::Disk;
 use moo_server::{MooApplication, StartApplication};
 use std::fs;
@@ -62,6 +62,12 @@ fn a_client_looks_round_by_round(rt: HostRuntime) -> Result<(), Fail> {
         host,
         0,
         1_000_000,
+        LoginLimits {
+            seconds: 0,
+            most: 0,
+        },
+        false,
+        None,
     )?;
     let mut client = TcpStream::connect(&rt, serving.address()?)?;
     client.set_nonblocking(true)?;

@@ -3,7 +3,9 @@ ghost use Rattle.std.specs.Prelude.{◌≡◌, ℕ, List, ◌++◌, IfOk, OnOk};
 ghost use Rattle.moo_server_core.specs.declared.event.Event as given;
 ghost use Rattle.moo_cli_sockets.specs.Coming.{Comes, Each, Follow, IsOpening, IsRead, held, only};
 
-use crate::sockets::Sockets;
+use crate::age::{Age, seconds};
+use crate::descriptors::is_at;
+use crate::sockets::{CONSOLE, Sockets};
 use crate::{Came, Socket};
 use log::{Log, warn};
 use mio::net::TcpStream;
@@ -12,16 +14,20 @@ use moo_server_core::Event;
 use std::alloc::AllocError;
 use std::io;
 use std::io::ErrorKind;
+use std::rt::Clock;
 
 /// The greatest number of bytes in one read. One read is one event, and all its lines are done before the next turn.
 /// This is few enough for short turns, and enough for most lines that people type.
 const READ_MOST: usize = 256;
 
+/// The least number of seconds between two lines of the log which say that no descriptor is left for a connection.
+const FULL_TOLD_SECONDS: u64 = 60;
+
 impl Sockets {
     /// Takes the input of one round: at most one new connection, and then one read of each socket that may have
     /// bytes, by rising number. Closes at once a connection for which no number is left, and any socket that ended or
     /// failed. Fails only if memory runs out.
-    pub fn take<L: Log>(&mut self, rt: &L) -> Result<Vec<Event>, AllocError>
+    pub fn take<L: Clock + Log>(&mut self, rt: &L) -> Result<Vec<Event>, AllocError>
         ensures { IfOk result (λ events. Comes self.old.sockets self.new.sockets events.items) }
     {
         let mut events = Vec::new(self.alloc);
@@ -33,10 +39,14 @@ impl Sockets {
 
     // Accepts one new connection, if one waits. After a fault it is tried again later, and the other connections go
     // on.
-    fn accept<L: Log>(&mut self, rt: &L) -> Result<Option<Event>, AllocError>
+    fn accept<L: Clock + Log>(&mut self, rt: &L) -> Result<Option<Event>, AllocError>
         ensures { IfOk result (λ event. IsOpening self.old.sockets event × Follow (only event) self.old.sockets self.new.sockets) }
     {
         if !self.may_accept {
+            return Ok(None);
+        }
+        if self.is_full {
+            self.tell_full(rt);
             return Ok(None);
         }
         let stream = match self.listener.accept() {
@@ -49,11 +59,13 @@ impl Sockets {
         };
         self.is_busy = true;
         self.is_told = false;
-        let Ok(c) = u16::try_from(self.sockets.vacant_key()) else {
-            warn!(rt; target: "moo::serve", "a connection is refused: all numbers are taken");
-            return Ok(None);
-        };
-        self.keep(c, stream)
+        match u16::try_from(self.sockets.vacant_key()) {
+            Ok(c) if c != CONSOLE => self.keep(rt, c, stream),
+            _ => {
+                warn!(rt; target: "moo::serve", "a connection is refused: all numbers are taken");
+                Ok(None)
+            }
+        }
     }
 
     // Logs that no connection can be accepted, once until one is.
@@ -66,8 +78,26 @@ impl Sockets {
         }
     }
 
+    // Logs that connections have taken all descriptors that are theirs, and that others may wait. Says it again after a
+    // minute.
+    fn tell_full<L: Clock + Log>(&mut self, rt: &L)
+        ensures { self.new.sockets ≡ self.old.sockets }
+    {
+        let now = seconds(rt);
+        if now >= self.full_told {
+            self.full_told = now.saturating_add(FULL_TOLD_SECONDS);
+            let count = self.sockets.len();
+            warn!(rt; target: "moo::serve", "no further connection is accepted until one of {count} ends: no descriptor is left for it");
+        }
+    }
+
     // Keeps a new connection's socket under its number. Closes it if the system can't watch it.
-    fn keep(&mut self, c: u16, mut stream: TcpStream) -> Result<Option<Event>, AllocError>
+    fn keep<L: Clock + Log>(
+        &mut self,
+        rt: &L,
+        c: u16,
+        mut stream: TcpStream,
+    ) -> Result<Option<Event>, AllocError>
         requires { c ≡ self.old.sockets.vacant_key }
         ensures { IfOk result (λ event. IsOpening self.old.sockets event × Follow (only event) self.old.sockets self.new.sockets) }
     {
@@ -78,8 +108,11 @@ impl Sockets {
             return Ok(None);
         }
         self.sockets.reserve(1)?;
+        self.is_full = is_at(&stream, self.most_descriptors);
+        self.arrivals = self.arrivals.wrapping_add(1);
+        let age = Age::new(rt, self.arrivals);
         self.sockets
-            .insert_reserved(Socket::new(self.alloc, stream));
+            .insert_reserved(Socket::new(self.alloc, stream, age, self.telnet));
         Ok(Some(Event::Open(c)))
     }
 
@@ -110,7 +143,10 @@ impl Sockets {
         match socket.read(&mut buffer) {
             Came::Bytes(count) => {
                 self.is_busy = true;
-                let piece = buffer[..count].to_vec(self.alloc)?;
+                let piece = socket.text(self.alloc, &buffer[..count])?;
+                if piece.is_empty() {
+                    return Ok(None);
+                }
                 Ok(Some(Event::Bytes(c, piece)))
             }
             Came::NothingYet => Ok(None),

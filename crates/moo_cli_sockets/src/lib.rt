@@ -2,7 +2,9 @@
 //! An internal crate of the program `moo`.
 #![tactic(auto)]
 
+mod age;
 mod coming;
+mod descriptors;
 mod fault;
 mod queue;
 mod sending;
@@ -10,8 +12,9 @@ mod socket;
 mod sockets;
 mod waiting;
 
+pub use age::{Age, seconds};
 pub use coming::put;
 pub use fault::SocketsFault;
 pub use socket::{Came, Socket};
-pub use sockets::Sockets;
+pub use sockets::{CONSOLE, Sockets};
 pub use waiting::Waiting;

@@ -2,8 +2,10 @@
 ghost use Rattle.std.specs.Prelude.{◌≡◌, ◌≤◌, ◌++◌, [], length, drop, IfOk, OnOk, OnErr};
 ghost use Rattle.moo_cli_sockets.specs.Waiting.{IsCame, waits_of};
 
+use crate::age::Age;
 use crate::waiting::Waiting;
 use mio::net::TcpStream;
+use moo_cli_telnet::Telnet;
 use std::alloc::{AllocError, Global};
 use std::io;
 use std::io::{ErrorKind, Read, Write};
@@ -27,11 +29,14 @@ pub struct Socket {
     waiting: Waiting,
     may_read: bool,
     may_write: bool,
+    age: Age,
+    /// Drops the commands of telnet, if they are to be dropped.
+    telnet: Option<Telnet>,
 }
 
 impl Socket {
     /// Returns a socket that was just accepted.
-    pub fn new(alloc: Global, stream: TcpStream) -> Socket
+    pub fn new(alloc: Global, stream: TcpStream, age: Age, telnet: Option<Telnet>) -> Socket
         ensures { waits_of result ≡ [] }
     {
         Socket {
@@ -39,7 +44,14 @@ impl Socket {
             waiting: Waiting::new(alloc),
             may_read: true,
             may_write: true,
+            age,
+            telnet,
         }
+    }
+
+    /// Returns when it was accepted.
+    pub fn age(&self) -> Age {
+        self.age
     }
 
     /// Records that the system reports the socket as ready.
@@ -84,6 +96,18 @@ impl Socket {
             }
             Err(error) if error.kind() == ErrorKind::Interrupted => Came::NothingYet,
             Err(_) => Came::End,
+        }
+    }
+
+    /// Returns what these bytes of the client are without the commands of telnet, or all of them if none are dropped.
+    /// Fails only if memory runs out.
+    pub fn text(&mut self, alloc: Global, piece: &[u8]) -> Result<Vec<u8>, AllocError>
+        ensures most { IfOk result (λ text. length text.items ≤ length piece.now) }
+        ensures waits { waits_of self.new ≡ waits_of self.old }
+    {
+        match &mut self.telnet {
+            Some(telnet) => telnet.text(alloc, piece),
+            None => piece.to_vec(alloc),
         }
     }
 

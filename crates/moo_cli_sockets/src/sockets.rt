@@ -3,9 +3,11 @@ ghost use Rattle.std.specs.Prelude.{◌≡◌, ◌≤◌, ◌↔◌, ℕ, IfOk, 
 ghost use Rattle.moo_cli_sockets.specs.Coming.{Closes, held};
 
 use crate::Socket;
+use crate::descriptors::most_descriptors;
 use crate::fault::SocketsFault;
 use mio::net::TcpListener;
 use mio::{Events, Interest, Poll, Token};
+use moo_cli_telnet::Telnet;
 use slab::Slab;
 use std::alloc::{AllocError, Global};
 use std::io::ErrorKind;
@@ -14,6 +16,9 @@ use std::time::Duration;
 
 /// The number of ready sockets that one call of `look` reports. The next call reports more.
 const REPORTED: usize = 256;
+
+/// The number of the operator's own connection. No socket gets it.
+pub const CONSOLE: u16 = u16::MAX;
 
 const LISTENER: Token = Token(usize::MAX);
 
@@ -28,6 +33,16 @@ pub struct Sockets {
     pub(crate) may_accept: bool,
     /// Whether the log already says that no connection can be accepted.
     pub(crate) is_told: bool,
+    /// The descriptors of the process from which on no connection is accepted.
+    pub(crate) most_descriptors: u64,
+    /// Whether the last connection that was accepted took one of the last descriptors, and none was closed since.
+    pub(crate) is_full: bool,
+    /// The second from which on the log may say so again.
+    pub(crate) full_told: u64,
+    /// The number of connections that were accepted.
+    pub(crate) arrivals: u64,
+    /// The filter of each new connection that drops the commands of telnet, if they are to be dropped.
+    pub(crate) telnet: Option<Telnet>,
     pub(crate) sockets: Slab<Socket>,
     /// Whether a connection, bytes or an end came, or bytes were written, since `rest`.
     pub(crate) is_busy: bool,
@@ -42,6 +57,7 @@ impl Sockets {
         alloc: Global,
         host: IpAddr,
         port: u16,
+        telnet: Option<Telnet>,
     ) -> Result<Sockets, SocketsFault>
         ensures { IfOk result (λ sockets. (c : ℕ) → held sockets.sockets c ≡ None) }
     {
@@ -56,6 +72,11 @@ impl Sockets {
             listener,
             may_accept: true,
             is_told: false,
+            most_descriptors: most_descriptors(),
+            is_full: false,
+            full_told: 0,
+            arrivals: 0,
+            telnet,
             sockets: Slab::new(alloc),
             is_busy: false,
         })
@@ -100,6 +121,7 @@ impl Sockets {
         ensures { Closes c self.old.sockets self.new.sockets }
     {
         self.sockets.try_remove(usize::from(c));
+        self.is_full = false;
         self.shrink();
     }
 

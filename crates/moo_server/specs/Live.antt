@@ -1,9 +1,11 @@
 -- The world with its connections, as the layer of sessions that a server is over.
-use Rattle.std.specs.Prelude.{◌≡◌, ℕ, [], Bool, false, ◌&&◌, not}
+use Rattle.std.specs.Prelude.{◌≡◌, ℕ, [], Bool, false, ◌&&◌, is_some, not}
+use Rattle.std.specs.Option.{option_map_or}
 use Rattle.moo_dbtext_read.specs.Saved.{Saved, SpellsSavedWithin}
 use Rattle.moo_dbtext.specs.Canonical.{canonical}
 use Rattle.moo_builtin.specs.Telling.{Telling, Faults}
-use Rattle.moo_session_connection.specs.Connections.{is_open, is_leaving, players_of}
+use Rattle.moo_session_connection.specs.Clients.{player_on}
+use Rattle.moo_session_connection.specs.Connections.{Connections, client_here, is_open, is_leaving, players_of}
 use Rattle.moo_session_connection.specs.Streams.{stream}
 use Rattle.moo_session_task.specs.declared.world_state.WorldState.{WorldState}
 use Rattle.moo_session_task.specs.Session.{Session}
@@ -15,6 +17,10 @@ use Rattle.moo_session.specs.Interval.{interval}
 use Rattle.moo_server_core.specs.Application.{Input, Opens, Receives, Starts, Finishes, Layer, Meaning, Told}
 use Rattle.moo_server_core.specs.Application.{HangsUp as HangsUpOn}
 use Rattle.moo_server.specs.declared.moo_application.MooApplication.{MooApplication}
+
+-- a player is connected on the connection of this number
+abbrev pub has_player : Connections → ℕ → Bool
+has_player connections n = option_map_or (λ client. is_some (player_on client)) (client_here n connections) false
 
 -- with nothing sent, logged or asked for
 abbrev pub settled_session : Session → Session
@@ -61,6 +67,7 @@ live_meaning T = record {
   starts = LiveStarts T;
   is_open = λ s c. is_open c s.session.connections;
   is_leaving = λ s c. is_leaving c s.session.connections;
+  has_player = λ s c. has_player s.session.connections c;
   interval = λ s. interval s.world;
   saved_of = λ s. record { world = s.world; connected = players_of s.session.connections };
   text_of = canonical;

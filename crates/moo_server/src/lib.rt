@@ -1,6 +1,7 @@
 //! The server of a world that is kept on a disk: events, checkpoints, and what a crash may leave.
 #![tactic(auto)]
 
+mod connected;
 mod happening;
 pub mod laws;
 mod lives;

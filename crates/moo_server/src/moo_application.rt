@@ -1,6 +1,7 @@
 //! The world with its connections and what waits to be taken: the layer of sessions that a server is over.
 ghost use Rattle.std.specs.Prelude.{◌≡◌};
 
+use crate::connected::has_player;
 use crate::happening::{apply, discard_leftovers, is_dropped, move_out};
 use moo_dbtext::write_world_and_connected;
 use moo_dbtext_read::Saved;
@@ -54,6 +55,10 @@ impl Application for MooApplication {
 
     fn is_leaving(&self, c: u16) -> bool {
         self.live.session.connections().is_leaving(c)
+    }
+
+    fn has_player(&self, c: u16) -> bool {
+        has_player(self.live.session.connections(), c)
     }
 
     fn interval(&self) -> u32 {

@@ -52,6 +52,8 @@ pub record Meaning (Application Saved : Type 0) : Type 1 where
   pub is_open : Application → ℕ → Bool
   -- it is open, and leaving
   pub is_leaving : Application → ℕ → Bool
+  -- it is open, and a player is connected on it
+  pub has_player : Application → ℕ → Bool
   -- seconds from a checkpoint's beginning to the next one's, as the world has them
   pub interval : Application → ℕ
   -- the world and the connected players in order of their connections

@@ -66,6 +66,10 @@ pub trait Application: Drop {
     fn is_leaving(&self, c: u16) -> bool
         ensures { result ≡ layer.meaning.is_leaving (layer.state self.now) c };
 
+    /// Returns whether a connection is open, and a player is connected on it.
+    fn has_player(&self, c: u16) -> bool
+        ensures { result ≡ layer.meaning.has_player (layer.state self.now) c };
+
     /// Returns the seconds from the start of a checkpoint to that of the next.
     fn interval(&self) -> u32
         ensures { result ≡ layer.meaning.interval (layer.state self.now) };

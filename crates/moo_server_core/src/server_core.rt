@@ -93,6 +93,16 @@ impl<S: Application> ServerCore<S> {
         self.sessions.is_leaving(c)
     }
 
+    /// Returns whether a connection is open and a player is connected on it. A halted server has no connections.
+    pub fn has_player(&self, c: u16) -> bool
+        ensures { result ≡ (if self.now.halted then false else S.layer.meaning.has_player (state_of S.layer self.now).sessions c) }
+    {
+        if self.halted {
+            return false;
+        }
+        self.sessions.has_player(c)
+    }
+
     /// Removes and returns the bytes that wait for a connection's number. Needs no memory.
     pub fn take_output(&mut self, c: u16) -> Vec<u8>
         ensures all { result.items ≡ (waiting_of S.layer self.old).sent c }

@@ -2,7 +2,7 @@ use Rattle.std.proofs.Common.{◌≡◌, false, sym, ◌∙◌, rules}
 use Rattle.moo_server_core.specs.Application.{silence}
 use Rattle.moo_server_core.specs.Server.{waiting_of}
 use Rattle.moo_cli_sockets.specs.Coming.{held}
-use Rattle.moo_cli_serve.specs.Writing.{leaves}
+use Rattle.moo_cli_serve.specs.Strangers.{leaves}
 use Rattle.moo_cli_serve.proofs.Coursing.{hands_none}
 use Rattle.moo_cli_serve.proofs.Writing.{stays}
 use Rattle.moo_cli_serve.proofs.leaving.write.Goals as goal
@@ -13,7 +13,7 @@ returns-then-not-contains-clause-handed g c = (silence, hands_none g.S.Applicati
 pub returns-then-not-is_parted-clause-written : goal.returns-then-not-is_parted-clause-written
 returns-then-not-is_parted-clause-written g c =
     let no : c.is_parted.result ≡ false = search rules in
-    stays c.args.most_waiting c.is_leaving-is_leaving.result (leaves g.S.Application.layer c.args.server.now c.args.c)
+    stays c.args.most_waiting c.args.is_late c.is_leaving-is_leaving.result (leaves g.S.Application.layer c.args.server.now c.args.c)
     c.take_output-output.result.items ((waiting_of g.S.Application.layer c.args.server.now).sent c.args.c) ((waiting_of g.S.Application.layer c.take_output-output.new.self).sent c.args.c)
     (held c.args.sockets.now.sockets c.args.c) (held c.write.new.self.sockets c.args.c) c.args.c c.in_ok-waiting.waiting
     c.is_leaving-is_leaving.ensures c.take_output-output.ensures.all c.take_output-output.ensures.nothing (sym c.is_parted.ensures ∙ no) c.in_ok-waiting.ensures.sent

@@ -1,6 +1,6 @@
-use Rattle.std.proofs.Common.{◌≡◌, ℕ, refl, ◌∙◌, subst, rules}
+use Rattle.std.proofs.Common.{◌≡◌, ℕ, Bool, refl, ◌∙◌, subst, rules}
 use Rattle.moo_server_core.specs.Application.{silence, then_out}
-use Rattle.moo_cli_serve.specs.Writing.{IsWrittenTo}
+use Rattle.moo_cli_serve.specs.Writing.{IsWrittenTo, is_among}
 use Rattle.moo_cli_serve.proofs.Coursing.{hands_join, hands_none}
 use Rattle.moo_cli_serve.proofs.Writing.{written_more}
 use Rattle.moo_cli_serve.proofs.leaving.write_all.Goals as goal
@@ -12,6 +12,9 @@ loop-key-init g c = record {
   left = λ k from. record { socket = refl; waiting = refl };
   log = refl;
 }
+
+pub returns-in_err-late-clause-handed : goal.returns-in_err-late-clause-handed
+returns-in_err-late-clause-handed g c = (silence, hands_none g.S.Application.layer c.args.server.now)
 
 pub returns-in_err-event-clause-handed : goal.returns-in_err-event-clause-handed
 returns-in_err-event-clause-handed g c =
@@ -30,9 +33,11 @@ loop-key-preserved g c =
     let so_far = c.loop-key.invariant.handed in
     let now = c.in_ok-event.ensures.handed in
     let same : c.in-Ok.c ≡ c.loop-key.key = search rules in
-    written_more g.S.Application.layer c.args.most_waiting c.loop-key.key c.args.server.now c.loop-key.server c.write.new.server
+    let flag : c.is_among-is_late.result ≡ is_among c.in_ok-late.late.items c.in-Ok.c = search rules in
+    written_more g.S.Application.layer c.args.most_waiting c.in_ok-late.late.items c.loop-key.key c.args.server.now c.loop-key.server c.write.new.server
     c.args.sockets.now.sockets c.loop-key.sockets.sockets c.write.new.sockets.sockets c.loop-key.parted.items c.put.new.events.items c.in_ok-event.event
     c.loop-key.invariant (then_out so_far.0 now.0, hands_join g.S.Application.layer so_far.0 now.0 c.args.server.now c.loop-key.server c.write.new.server so_far.1 now.1)
-    (subst (λ (k : ℕ). IsWrittenTo g.S.Application.layer c.args.most_waiting c.loop-key.server c.write.new.server c.loop-key.sockets.sockets c.write.new.sockets.sockets k c.in_ok-event.event) same
-    c.in_ok-event.ensures.written)
+    (subst (λ (k : ℕ). IsWrittenTo g.S.Application.layer c.args.most_waiting (is_among c.in_ok-late.late.items k) c.loop-key.server c.write.new.server c.loop-key.sockets.sockets c.write.new.sockets.sockets k c.in_ok-event.event) same
+    (subst (λ (b : Bool). IsWrittenTo g.S.Application.layer c.args.most_waiting b c.loop-key.server c.write.new.server c.loop-key.sockets.sockets c.write.new.sockets.sockets c.in-Ok.c c.in_ok-event.event) flag
+    c.in_ok-event.ensures.written))
     (λ k differs. c.in_ok-event.ensures.others k (λ e. differs (e ∙ same))) c.in_ok-event.ensures.log c.in_ok-put.ensures

@@ -1,7 +1,6 @@
 use Rattle.std.proofs.Common.{[], inl, inr, refl}
 use Rattle.std.proofs.lemmas.Result.{err_from_is_err_and}
 use Rattle.moo_cli_serve.proofs.Coursing.{course_none}
-use Rattle.moo_cli_serve.proofs.Serviced.{serves_so, stops_so}
 use Rattle.moo_cli_serve.proofs.program.serve_disk.Goals as goal
 
 pub returns-in_err-serving-clause-ended : goal.returns-in_err-serving-clause-ended
@@ -30,12 +29,22 @@ returns-in_err-tell_address-clause-ended g c =
       course = ([], course_none g.S.Application.layer g.D.Disk.view g.D.Disk.honest s.server s.disk);
     }))
 
-pub returns-clause-served : goal.returns-clause-served
-returns-clause-served g c =
-    serves_so g.S.Application.layer g.D.Disk.view g.D.Disk.honest g.D.Disk.failures _ _ _ c.in_ok-serving.serving c.serve.new.self c.serve.result c.in_ok-serving.ensures.begun c.serve.ensures.course
-    c.serve.ensures.served
+pub returns-in_err-serve-clause-ended : goal.returns-in_err-serve-clause-ended
+returns-in_err-serve-clause-ended g c =
+    let s = c.in_ok-serving.serving in
+    let p = err_from_is_err_and c.from_residual-in_err-serve.result c.from_residual-in_err-serve.ensures.1 in rw (p.1, p.2) (inr (record {
+      start = s;
+      end = c.serve.new.self;
+      begun = c.in_ok-serving.ensures.begun;
+      breaks = inr c.in_err-serve.ensures.ended;
+      course = c.in_err-serve.ensures.course;
+    }))
 
-pub returns-clause-ended : goal.returns-clause-ended
-returns-clause-ended g c =
-    stops_so g.S.Application.layer g.D.Disk.view g.D.Disk.honest g.D.Disk.failures _ _ _ c.in_ok-serving.serving c.serve.new.self c.serve.result c.in_ok-serving.ensures.begun c.serve.ensures.course
-    c.serve.ensures.ended
+pub returns-clause-served : goal.returns-clause-served
+returns-clause-served g c = record {
+  start = c.in_ok-serving.serving;
+  end = c.serve.new.self;
+  begun = c.in_ok-serving.ensures.begun;
+  served = c.in_ok-serve.ensures.served;
+  course = c.in_ok-serve.ensures.course;
+}

@@ -1,0 +1,9 @@
+//! The log with the time of each line.
+//! An internal crate of `moo`.
+#![tactic(auto)]
+
+mod local;
+mod sink;
+
+pub use local::LocalTime;
+pub use sink::{LogTimes, TimedLog};

@@ -1,0 +1,17 @@
+-- The connections on which nobody has logged in.
+use Rattle.std.specs.Prelude.{ℕ, Bool, false, ◌&&◌, not, if◌then◌else◌}
+use Rattle.moo_dbtext_read.specs.Saved.{Saved}
+use Rattle.moo_server_core.specs.Application.{Layer}
+use Rattle.moo_server_core.specs.Server.{state_of}
+use Rattle.moo_server_core.specs.declared.server_core.ServerCore.{ServerCore}
+
+module _ {S Application : Type 0} (l : Layer S Application Saved) where
+  abbrev pub leaves : ServerCore S → ℕ → Bool
+  leaves server c = if server.halted then false else l.meaning.is_leaving (state_of l server).sessions c
+
+  abbrev pub has_player : ServerCore S → ℕ → Bool
+  has_player server c = if server.halted then false else l.meaning.has_player (state_of l server).sessions c
+
+  -- connection c isn't leaving, and no player is connected on it
+  abbrev pub is_stranger : ServerCore S → ℕ → Bool
+  is_stranger server c = not (leaves server c) && not (has_player server c)

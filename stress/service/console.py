@@ -1,0 +1,81 @@
+#!/usr/bin/env python3
+"""The console and signals: console.py MOO. Lines on standard input are the operator's own, without a password; the launcher's signals type
+`shutdown` and `checkpoint`, and a second signal kills. Whoever connects through the network gets no such rights."""
+import signal
+from service import *
+
+moo = program()
+checks = Checks()
+LAUNCH = os.path.join(TOP, "release", "launch")
+
+
+class Launched:
+    """A server that the launcher runs, over a database in a folder of its own."""
+
+    def __init__(self, *options):
+        self.folder = tempfile.mkdtemp(prefix="service-console-")
+        self.path = os.path.join(self.folder, "world.db")
+        shutil.copy(STARTER, self.path)
+        os.chmod(self.path, 0o600)
+        self.log_path = os.path.join(self.folder, "log")
+        # A signal that is ignored at the start can't be caught by a shell.
+        with open(self.log_path, "wb") as log:
+            self.process = subprocess.Popen([LAUNCH, "serve", self.path, "0", *options], stdin=subprocess.DEVNULL, stdout=subprocess.PIPE,
+                                            stderr=log, env={**os.environ, "MOO_PROGRAM": moo})
+        found = re.fullmatch(rb"listening on .*:(\d+)\n", self.process.stdout.readline())
+        self.port = int(found[1]) if found else None
+
+    log = Server.log
+    waits_for = Server.waits_for
+    status = Server.status
+    text = Server.text
+
+
+def has_work(server, text):
+    """A player does something that no checkpoint has yet."""
+    player = wizard(server.port)
+    player.say(f"@describe me as {text}")
+    player.say(';"so" + "far"')
+    checks.check(f"{text}: it is done", player.waits_for("sofar"))
+
+
+for number in (signal.SIGINT, signal.SIGTERM):
+    server = Launched()
+    has_work(server, "LAST WORK")
+    server.process.send_signal(number)
+    checks.check(f"{number.name}: status 0", server.status() == 0, server.log())
+    checks.check(f"{number.name}: the last checkpoint has the last work", b"LAST WORK" in server.text())
+    checks.check(f"{number.name}: the pipe is gone", not os.path.exists(server.path + ".console"))
+
+server = Launched()
+for count, number in enumerate((signal.SIGHUP, signal.SIGUSR1, signal.SIGUSR2), 1):
+    server.process.send_signal(number)
+    checks.check(f"{number.name}: a checkpoint", server.waits_for("checkpoint done", count), server.log())
+with open(server.path + ".console", "w") as console:
+    console.write("wizard\n;notify(player, \"con\" + \"sole\")\n")
+answers = []
+while not any("console" in line for line in answers) and len(answers) < 100:
+    answers.append(server.process.stdout.readline().decode())
+checks.check("the console is the wizard's, without a password", "console" in answers[-1], answers)
+server.process.send_signal(signal.SIGTERM)
+checks.check("a shutdown while the wizard is on the console", server.status() == 0, server.log())
+
+server = Launched()
+player = wizard(server.port)
+player.say(";shutdown_now = 0; while (1) shutdown_now = shutdown_now + 1; endwhile")
+server.process.send_signal(signal.SIGSTOP)
+server.process.send_signal(signal.SIGCONT)
+server.process.send_signal(signal.SIGINT)
+server.process.send_signal(signal.SIGINT)
+checks.check("two signals end it in any case", server.status() is not None)
+
+server = Launched()
+for line in ("shutdown", "wizard", "checkpoint"):
+    stranger = Client(server.port)
+    stranger.say(line)
+    stranger.say("who")
+    checks.check(f"a stranger's {line!r} does nothing", stranger.waits_for("Nobody is connected"), stranger.seen)
+    stranger.close()
+server.process.send_signal(signal.SIGTERM)
+checks.check("it goes on until it is asked", server.status() == 0, server.log())
+checks.end()

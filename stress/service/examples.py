@@ -1,0 +1,56 @@
+#!/usr/bin/env python3
+"""The files of examples/service, each tried as far as this machine has its tool: examples.py MOO."""
+from service import *
+
+moo = program()
+checks = Checks()
+EXAMPLES = os.path.join(TOP, "examples", "service")
+
+
+def run(*words, **environ):
+    return subprocess.run(words, stdout=subprocess.PIPE, stderr=subprocess.STDOUT, text=True, timeout=60, env={**os.environ, **environ})
+
+
+folder = tempfile.mkdtemp(prefix="service-examples-")
+server = Server(moo)
+player = wizard(server.port)
+copies = []
+for number in range(3):
+    player.say(f"@describe me as COPY {number}")
+    player.say("@dump-database")
+    server.waits_for("checkpoint done", number + 1)
+    answer = run(os.path.join(EXAMPLES, "backup"), server.path, folder, "2", MOO=moo)
+    checks.check(f"copy {number + 1} is made while the server runs", answer.returncode == 0, answer.stdout)
+    copies.append(answer.stdout.strip())
+    time.sleep(1.1)
+checks.check("the newest two are kept", sorted(os.listdir(folder)) == sorted(os.path.basename(copy) for copy in copies[1:]), os.listdir(folder))
+with open(copies[2], "rb") as file:
+    checks.check("the last one has what the checkpoint had", b"COPY 2" in file.read())
+broken = os.path.join(folder, "broken.db")
+with open(broken, "wb") as file:
+    file.write(server.text()[:5000])
+checks.check("a copy that is cut off doesn't count", run(os.path.join(EXAMPLES, "backup"), broken, os.path.join(folder, "b"), MOO=moo).returncode == 1)
+server.kill()
+restored = os.path.join(folder, "restored.db")
+shutil.copy(copies[1], restored)
+server = Server(moo, path=restored)
+checks.check("a copy that is put back is served", server.port is not None, server.log())
+server.kill()
+
+if shutil.which("systemd-analyze"):
+    unit = os.path.join(folder, "moo.service")
+    with open(os.path.join(EXAMPLES, "moo.service")) as file:
+        text = file.read()
+    with open(unit, "w") as file:
+        file.write(text.replace("/srv/moo/moo ", "/bin/true ").replace("User=moo", "User=root"))
+    answer = run("systemd-analyze", "verify", unit)
+    checks.check("systemd takes the unit", answer.returncode == 0 and "moo.service" not in answer.stdout, answer.stdout)
+else:
+    checks.skip("the unit", "there is no systemd-analyze")
+for tool, words in (("stunnel", ["-version"]), ("nginx", ["-t", "-c", os.path.join(EXAMPLES, "nginx.conf")]), ("logrotate", ["-d", os.path.join(EXAMPLES, "logrotate.conf")])):
+    if shutil.which(tool):
+        answer = run(tool, *words)
+        checks.check(f"{tool} takes its file", answer.returncode == 0, answer.stdout)
+    else:
+        checks.skip(f"{tool}'s file", f"there is no {tool}")
+checks.end()

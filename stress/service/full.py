@@ -1,0 +1,61 @@
+#!/usr/bin/env python3
+"""A full disk at a shutdown: full.py MOO. It needs root, for a small file system in memory.
+
+Without the option --must-save the status is 0, and the log says what isn't saved. With it the status is 3, and the output's last line says why.
+The database stays what the last checkpoint that is done left."""
+from service import *
+
+moo = program()
+checks = Checks()
+
+
+def fill(folder):
+    """Fills the file system but for a few bytes."""
+    with open(os.path.join(folder, "hog"), "wb") as hog:
+        try:
+            while True:
+                hog.write(b"x" * 4096)
+                hog.flush()
+        except OSError:
+            pass
+
+
+def shut_down(folder, *options):
+    """A server on a file system that fills up before the shutdown; its status and its output's last line."""
+    server = Server(moo, *options, folder=folder)
+    player = wizard(server.port)
+    player.say("@describe me as LOST WORK")
+    player.say(';"so" + "far"')
+    player.waits_for("sofar")
+    fill(folder)
+    player.say("@shutdown")
+    status = server.status()
+    last = server.process.stdout.read()
+    checks.check("the last checkpoint fails", "checkpoint failed" in server.log(), server.log())
+    checks.check("the log's last line says what isn't saved", "NOT SAVED" in server.log().splitlines()[-1], server.log())
+    answer = subprocess.run([moo, "check", server.path], stdout=subprocess.PIPE, timeout=60)
+    checks.check("the database is whole", answer.returncode == 0, answer.stdout)
+    return status, last
+
+
+if not is_root():
+    checks.skip("a full disk", "it needs root")
+    checks.end()
+for options, status, last in ([], 0, b""), (["--must-save"], 3, b"refused: Device\n"):
+    folder = tempfile.mkdtemp(prefix="service-full-")
+    if subprocess.run(["mount", "-t", "tmpfs", "-o", "size=2m", "tmpfs", folder]).returncode != 0:
+        checks.skip("a full disk", "no file system can be mounted")
+        continue
+    try:
+        found = shut_down(folder, *options)
+        checks.check(f"the status with {options} is {status}", found == (status, last), found)
+    finally:
+        subprocess.run(["umount", "-l", folder])
+
+server = Server(moo, "--must-save")
+wizard(server.port).say("@shutdown")
+checks.check("a shutdown that saves has status 0 with --must-save too", server.status() == 0, server.log())
+server = Server(moo, "--must-save", "--rounds", "3")
+Client(server.port)
+checks.check("rounds that are over have status 3 with it", server.status() == 3, server.log())
+checks.end()

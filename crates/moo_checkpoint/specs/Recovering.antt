@@ -1,9 +1,9 @@
 -- The reads of recovery from a disk, and its answers.
-use Rattle.std.specs.Prelude.{◌≡◌, ◌≢◌, ◌↔◌, ℕ, List, take, Option, Some, None, Result, Ok, Err}
+use Rattle.std.specs.Prelude.{◌≡◌, ◌≢◌, ◌↔◌, ◌⊎◌, ℕ, List, take, Option, Some, None, Result, Ok, Err, MatchResult}
 use Rattle.moo_dbtext_record.specs.declared.fault.DbFault.{DbFault}
 use Rattle.moo_dbtext_record.specs.declared.fault.DbFaultKind.TheVariants as kind
 use Rattle.moo_disk.specs.Disk.{DiskView, HasRisen, KeepsMain, KeepsSpare}
-use Rattle.moo_dbtext_read.specs.Saved.{saved_of}
+use Rattle.moo_dbtext_read.specs.Saved.{Saved, saved_of}
 use Rattle.moo_dbtext_read.specs.declared.saved.Saved as stored
 use Rattle.moo_dbtext_read.specs.Loading.{IsLoaded, IsRefusedSo}
 use Rattle.moo_checkpoint.specs.declared.open_fault.OpenFault.{OpenFault}
@@ -49,3 +49,8 @@ Tells text Memory = Unit {0}
 abbrev pub Recovers : List ℕ → Result stored.Saved OpenFault → Type 0
 Recovers text (Ok s) = IsLoaded text (saved_of s)
 Recovers text (Err e) = Tells text e
+
+-- Over a main text the result of `recover` is this saved world, a failed device, or that memory ran out: no fault of the text.
+abbrev pub IsRecovered : List ℕ → Saved → Type 0
+IsRecovered text saved =
+    (result : Result stored.Saved OpenFault) → Recovers text result → MatchResult result (λ s. saved_of s ≡ saved) (λ e. (e ≡ Device) ⊎ (e ≡ Memory))

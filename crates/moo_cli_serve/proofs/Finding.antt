@@ -2,7 +2,6 @@
 use Rattle.std.proofs.Common.{◌≡◌, ℕ, List, [], ◌∷◌, ◌++◌, refl, sym, ◌∙◌, ap, subst}
 use Rattle.moo_disk.specs.Disk.{DiskView}
 use Rattle.moo_dbtext_read.specs.Saved.{Saved, SpellsSavedWithin}
-use Rattle.moo_checkpoint.proofs.Answered.{recovers_within}
 use Rattle.moo_server_core.specs.Application.{Layer}
 use Rattle.moo_server_core.specs.Meaning.{Entry}
 use Rattle.moo_server_core.specs.Calls.{Call, Calls, Lent, One, Opened, StartsAgain, lent_view}
@@ -76,11 +75,8 @@ module _ {S Application D : Type 0} (l : Layer S Application Saved) (view : D �
         → honest first → ((c : List ℕ) → (view first).may_leave c → SpellsSavedWithin c served.begun.from.saved)
         → (found : E) → honest' found → (view' found).main_text ≡ text → FindsAgain l view honest view' honest' served found
     found_again after since first most text served h spells found h' same =
-        let starts = starts_of served.stopped.returned served.stopped.others served.stopped.all
-        (subst (λ (t : List ℕ). (view served.end.disk).left_since (clock_after view (view first).clock served.stopped.returned) t) (sym same) served.stopped.left) in record {
-          starts = starts;
-          recovers = λ result recovered. recovers_within (view' found).main_text result recovered starts.saved starts.spelled;
-        }
+        starts_of served.stopped.returned served.stopped.others served.stopped.all
+        (subst (λ (t : List ℕ). (view served.end.disk).left_since (clock_after view (view first).clock served.stopped.returned) t) (sym same) served.stopped.left)
       where
         starts_of : (returned others : List LentCall) → served.course.calls ≡ returned ++ others
             → (view served.end.disk).left_since (clock_after view (view first).clock returned) (view' found).main_text

@@ -1,11 +1,7 @@
 -- A stop at some moment of what a server did over a disk, and what a start over what it left finds.
-use Rattle.std.specs.Prelude.{◌≡◌, ◌⊎◌, ℕ, List, [], ◌∷◌, ◌++◌, Result, MatchResult}
+use Rattle.std.specs.Prelude.{◌≡◌, ℕ, List, [], ◌∷◌, ◌++◌}
 use Rattle.moo_disk.specs.Disk.{DiskView}
-use Rattle.moo_dbtext_read.specs.Saved.{Saved, saved_of}
-use Rattle.moo_dbtext_read.specs.declared.saved.Saved as stored
-use Rattle.moo_checkpoint.specs.Recovering.{Recovers}
-use Rattle.moo_checkpoint.specs.declared.open_fault.OpenFault.{OpenFault}
-use Rattle.moo_checkpoint.specs.declared.open_fault.OpenFault.TheVariants.{Device, Memory}
+use Rattle.moo_dbtext_read.specs.Saved.{Saved}
 use Rattle.moo_server_core.specs.Application.{Layer}
 use Rattle.moo_server_core.specs.Meaning.{Entry}
 use Rattle.moo_server_core.specs.Calls.{Call, Lent, StartsAgain, lent_view}
@@ -27,11 +23,6 @@ module _ {S D : Type 0} where
   abbrev pub clock_after : (D → DiskView) → ℕ → List (Call S (Lent D D)) → ℕ
   clock_after view clock [] = clock
   clock_after view clock (call ∷ calls) = clock_after view (lent_view view view call.disk).clock calls
-
--- The result of `recover` over a main text is this saved world, or a failed device, or that memory ran out: no fault of the text.
-abbrev pub IsRecovered : List ℕ → Saved → Type 0
-IsRecovered text saved =
-    (result : Result stored.Saved OpenFault) → Recovers text result → MatchResult result (λ s. saved_of s ≡ saved) (λ e. (e ≡ Device) ⊎ (e ≡ Memory))
 
 module _ {S Application D : Type 0} (l : Layer S Application Saved) (view : D → DiskView) (honest : D → Type 0) where
   -- A stop at some moment of a course, inside a call of the disk too, leaves this text under main. The calls `returned` had returned by then. If
@@ -64,7 +55,6 @@ module _ {S Application D : Type 0} (l : Layer S Application Saved) (view : D �
   module _ {E : Type 0} (view' : E → DiskView) (honest' : E → Type 0) where
     -- Over such a disk a start finds the saved world after a prefix of the events that ends with a mark. The prefix holds every event before the
     -- mark of the last report done of a call that had returned. If there was no such report, it may find the world that was read at first.
-    -- `recover` returns the world that is found.
-    pub record FindsAgain {first : D} {most : ℕ} {text : List ℕ} (served : ServedTo first most text) (found : E) : Type 0 where
-      pub starts : StartsAgain l view' honest' (state_of l served.start.server) served.begun.from.saved (entries_in served.stopped.returned) (entries_in served.stopped.others) found
-      pub recovers : IsRecovered (view' found).main_text starts.saved
+    abbrev pub FindsAgain : {first : D} {most : ℕ} {text : List ℕ} (served : ServedTo first most text) (found : E) → Type 0
+    FindsAgain served found =
+        StartsAgain l view' honest' (state_of l served.start.server) served.begun.from.saved (entries_in served.stopped.returned) (entries_in served.stopped.others) found

@@ -2,6 +2,7 @@
 use Rattle.std.proofs.Common.{◌≡◌, ◌⊎◌, inl, inr, ⊎_elim, ℕ, List, [], ◌∷◌, ◌++◌, Option, Some, None, refl, sym, ◌∙◌, ap, subst, arith}
 use Rattle.moo_disk.specs.Disk.{DiskView, Gains, KeepsMain, NoText}
 use Rattle.moo_checkpoint.specs.Checkpoint.{text_of}
+use Rattle.moo_checkpoint.proofs.Answered.{recovers_within}
 use Rattle.moo_dbtext_read.specs.Saved.{Saved, SpellsSavedWithin}
 use Rattle.moo_server_core.specs.Application.{Layer, Output, then_out}
 use Rattle.moo_server_core.specs.Traces.{Done, Trace}
@@ -47,6 +48,7 @@ module _ {S Application : Type 0} (l : Layer S Application Saved) where
     saved = kept.saved;
     spelled = within kept.saved kept.spelled;
     which = kept.which;
+    recovers = λ result recovered. recovers_within (view found).main_text result recovered kept.saved (within kept.saved kept.spelled);
     begins = λ server new again moment opened. sym (opened.only h kept.saved kept.spelled);
   }
 

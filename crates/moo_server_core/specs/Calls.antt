@@ -2,6 +2,7 @@
 use Rattle.std.specs.Prelude.{◌≡◌, ◌≢◌, ◌⊎◌, ℕ, ◌≤◌, List, [], ◌∷◌, ◌++◌, length, Some, None}
 use Rattle.moo_disk.specs.Disk.{DiskView, KeepsMain}
 use Rattle.moo_dbtext_read.specs.Saved.{Saved, SpellsSavedWithin}
+use Rattle.moo_checkpoint.specs.Recovering.{IsRecovered}
 use Rattle.moo_server_core.specs.Crash.{IsDoneNext, IsOneOf, texts_of_marks, since_done, NoneDone}
 use Rattle.moo_server_core.specs.Application.{Layer, Output, silence, then_out}
 use Rattle.moo_server_core.specs.Meaning.{State, Entry, Begins, Run}
@@ -132,10 +133,11 @@ module _ {S Application : Type 0} (l : Layer S Application Saved) where
     pub spelled : l.meaning.Spells c saved
     pub which : (NoneDone (traces_under l.meaning entries) × (saved ≡ first)) ⊎ IsPrefix start entries (entries ++ later) saved
 
-  -- A start over this disk reads such a world: main spells it within the limits of database texts, and a server that is opened over the
-  -- disk begins from it.
+  -- A start over this disk reads such a world: main spells it within the limits of database texts, `recover` returns it, or reports that the
+  -- device failed or memory ran out, and a server that is opened over the disk begins from it.
   pub record StartsAgain {D : Type 0} (view : D → DiskView) (honest : D → Type 0) (start : State Application) (first : Saved) (entries later : List (Entry Saved)) (found : D) : Type 0 where
     pub saved : Saved
     pub spelled : SpellsSavedWithin (view found).main_text saved
     pub which : (NoneDone (traces_under l.meaning entries) × (saved ≡ first)) ⊎ IsPrefix start entries (entries ++ later) saved
+    pub recovers : IsRecovered (view found).main_text saved
     pub begins : (server : ServerCore S) (new : D) (again : Saved) (moment : ℕ) → Opened view honest server found new again moment → again ≡ saved

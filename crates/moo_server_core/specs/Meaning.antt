@@ -152,7 +152,7 @@ module _ {Application Saved : Type 0} (m : Meaning Application Saved) where
     pub mark : entry.mark ≡ None
     pub out : entry.out ≡ silence
 
-  -- an event that may need memory: it is neither refused nor passed over, and it isn't for a connection that is leaving
+  -- An event that may need memory: it is neither refused nor passed over, nor bytes for a connection that is leaving while no checkpoint is due.
   abbrev pub MayWant : State Application → Event → Type 0
   MayWant state event = (refusal state event ≡ None) × (is_passed_over state event ≡ false) × (is_idle state event ≡ false)
 

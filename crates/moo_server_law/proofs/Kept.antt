@@ -17,7 +17,7 @@ use Rattle.moo_session_task.specs.Session.{Session, in_connections}
 use Rattle.moo_session_task.specs.Sending.{sent_to, notified, all_notified}
 use Rattle.moo_session_task.specs.Leaving.{parted, disconnected_from}
 use Rattle.moo_session_task.specs.Notices.{applied, all_applied}
-use Rattle.moo_server_law.proofs.Carried.{KeepsBoth, IsCarried}
+use Rattle.moo_server_law.proofs.Carried.{KeepsHeard, IsCarried}
 
 -- at most one connection has this number, and it holds this rest
 pub data Lone (n : ℕ) (r : Rest) : List Client → Type 0 where
@@ -32,7 +32,7 @@ none_step : (b : Bool) (c : Client) (o : Option Client) → cond b (Some c) o �
 none_step true c o e = absurd cc
 none_step false c o e = (refl, e)
 
-none_first : (n : ℕ) (c : Client) (cs : List Client) → find (has_number n) (c ∷ cs) ≡ None → (has_number n c ≡ false) × (find (has_number n) cs ≡ None)
+pub none_first : (n : ℕ) (c : Client) (cs : List Client) → find (has_number n) (c ∷ cs) ≡ None → (has_number n c ≡ false) × (find (has_number n) cs ≡ None)
 none_first n c cs e = none_step (has_number n c) c (find (has_number n) cs) e
 
 none_again : (n : ℕ) (c : Client) (cs : List Client) → has_number n c ≡ false → find (has_number n) cs ≡ None → find (has_number n) (c ∷ cs) ≡ None
@@ -75,23 +75,27 @@ none_changed : (n : ℕ) (test : Client → Bool) (f : Client → Client) → ((
 none_changed n test f k [] e = e
 none_changed n test f k (c ∷ cs) e = let both = none_first n c cs e in none_changed_at (test c) n test f k c cs both.0 both.1 (none_changed n test f k cs both.1)
 
-another_changed : (b : Bool) (n : ℕ) (r : Rest) (test : Client → Bool) (f : Client → Client) → KeepsBoth f → (c : Client) (cs : List Client) → has_number n c ≡ false → Lone n r cs →
+another_changed : (b : Bool) (n : ℕ) (r : Rest) (test : Client → Bool) (f : Client → Client) → KeepsHeard f → (c : Client) (cs : List Client) → has_number n c ≡ false → Lone n r cs →
     Lone n r (changed test f cs) → Lone n r (cond b (f c ∷ cs) (c ∷ changed test f cs))
 another_changed true n r test f k c cs e h ih = another (k.number n c ∙ e) h
 another_changed false n r test f k c cs e h ih = another e ih
 
-itself_changed : (b : Bool) (n : ℕ) (r : Rest) (test : Client → Bool) (f : Client → Client) → KeepsBoth f → (c : Client) (cs : List Client) → has_number n c ≡ true → c.reader ≡ r → find (has_number n) cs ≡ None →
+itself_changed : (b : Bool) (n : ℕ) (r : Rest) (test : Client → Bool) (f : Client → Client) → KeepsHeard f → (c : Client) (cs : List Client) → has_number n c ≡ true → c.reader ≡ r → find (has_number n) cs ≡ None →
     Lone n r (cond b (f c ∷ cs) (c ∷ changed test f cs))
 itself_changed true n r test f k c cs e g h = itself (k.number n c ∙ e) (k.reader c ∙ g) h
 itself_changed false n r test f k c cs e g h = itself e g (none_changed n test f (k.number n) cs h)
 
-lone_changed : (n : ℕ) (r : Rest) (test : Client → Bool) (f : Client → Client) → KeepsBoth f → {cs : List Client} → Lone n r cs → Lone n r (changed test f cs)
+lone_changed : (n : ℕ) (r : Rest) (test : Client → Bool) (f : Client → Client) → KeepsHeard f → {cs : List Client} → Lone n r cs → Lone n r (changed test f cs)
 lone_changed n r test f k nobody = nobody
 lone_changed n r test f k (another {c = c} {cs = cs} e h) = another_changed (test c) n r test f k c cs e h (lone_changed n r test f k h)
 lone_changed n r test f k (itself {c = c} {cs = cs} e g h) = itself_changed (test c) n r test f k c cs e g h
 
-pub lone_is_carried : (n : ℕ) (r : Rest) → IsCarried (Lone n r)
-lone_is_carried n r = record { goes = λ test cs h. lone_goes n r test h; changes = λ test f k cs h. lone_changed n r test f k h; none = nobody }
+-- whether the server is shutting down or not
+abbrev pub IsLone : ℕ → Rest → Bool → List Client → Type 0
+IsLone n r closing cs = Lone n r cs
+
+pub lone_is_carried : (n : ℕ) (r : Rest) → IsCarried (IsLone n r)
+lone_is_carried n r = record { goes = λ closing test cs h. lone_goes n r test h; changes = λ closing test f k cs h. lone_changed n r test f k h; none = nobody }
 
 -- the connection's own bytes
 heard_step : (b : Bool) (n moment : ℕ) (r after : Rest) (c : Client) (cs : List Client) → has_number n c ≡ b → b ≡ true → find (has_number n) cs ≡ None →

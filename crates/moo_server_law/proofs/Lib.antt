@@ -11,3 +11,8 @@ pub mod Typed
 pub mod RunTyped
 mod Layer
 mod Within
+mod Mapped
+pub mod Moved
+pub mod Joined
+mod Quiet
+pub mod CutRun

@@ -22,7 +22,7 @@ use Rattle.moo_server_core.specs.Meaning.{Acts, Begins, Entry, FindsFree, Hears,
 use Rattle.moo_server_core.proofs.Idle.{finds_free}
 use Rattle.moo_server.specs.Live.{Becomes, live_meaning, settled}
 use Rattle.moo_server_law.specs.Laws.{NumbersRise}
-use Rattle.moo_server_law.proofs.Carried.{KeepsBoth, IsCarried, hooks_keep, login_keeps, lines_keep, own_hook_keeps, gone_keeps}
+use Rattle.moo_server_law.proofs.Carried.{KeepsHeard, IsCarried, hooks_keep, login_keeps, lines_keep, own_hook_keeps, gone_keeps}
 use Rattle.moo_server_law.proofs.Empty.{started_empty}
 
 -- one goes
@@ -61,36 +61,40 @@ order_changed : (test : Client → Bool) (f : Client → Client) → ((c : Clien
 order_changed test f same [] h = tt
 order_changed test f same (c ∷ cs) h = order_changed_at (test c) test f same c cs h (order_changed test f same cs h.1)
 
-same_number : (f : Client → Client) → KeepsBoth f → (c : Client) → number_of (f c) ≡ number_of c
+same_number : (f : Client → Client) → KeepsHeard f → (c : Client) → number_of (f c) ≡ number_of c
 same_number f k c = eqb-true (number_of (f c)) (number_of c) (k.number (number_of c) c ∙ eq-eqb (number_of c) (number_of c) refl)
 
-pub order_is_carried : IsCarried AreInOrder
-order_is_carried = record { goes = order_goes; changes = λ test f k cs h. order_changed test f (same_number f k) cs h; none = tt }
+-- whether the server is shutting down or not
+abbrev pub IsInOrder : Bool → List Client → Type 0
+IsInOrder closing cs = AreInOrder cs
+
+pub order_is_carried : IsCarried IsInOrder
+order_is_carried = record { goes = λ closing test cs h. order_goes test cs h; changes = λ closing test f k cs h. order_changed test f (same_number f k) cs h; none = tt }
 
 -- an event of the sessions
-abbrev Ordered : WorldState → Type 0
+abbrev pub Ordered : WorldState → Type 0
 Ordered s = AreInOrder s.session.connections.clients
 
 bytes_ordered : (moment c : ℕ) (piece : List ℕ) (old end : WorldState) → HearsBytes Faults moment c piece old end → Ordered old → Ordered end
 bytes_ordered moment c piece old end (event.dropped e) h = h
 bytes_ordered moment c piece old end (event.heard x d) h =
-    lines_keep Faults AreInOrder order_is_carried c moment d
+    lines_keep Faults IsInOrder order_is_carried c moment d
     (subst (λ (s : Connections). AreInOrder s.clients) x.leaves (order_changed (has_number c) (with_heard moment x.after) (λ k. refl) old.session.connections.clients h))
 
 becomes_ordered : (happening : Input) (moment : ℕ) (old end : WorldState) → IsApt (live_meaning Faults) old happening → Becomes Faults happening moment old end → Ordered old → Ordered end
 becomes_ordered (Opens c) moment old end free d h =
-    hooks_keep Faults AreInOrder order_is_carried moment d.hooks
-    (login_keeps Faults AreInOrder order_is_carried c moment [] [] (in_session (in_connections (joined c moment)) old) d.greeted d.logs_in
+    hooks_keep Faults IsInOrder order_is_carried moment d.hooks
+    (login_keeps Faults IsInOrder order_is_carried c moment [] [] (in_session (in_connections (joined c moment)) old) d.greeted d.logs_in
     (order-insert (newcomer c moment) old.session.connections.clients (nobody_here c old.session.connections free) h))
 becomes_ordered (Receives c piece) moment old end apt d h = bytes_ordered moment c piece old end d h
 becomes_ordered (HangsUp c) moment old end apt d h =
-    hooks_keep Faults AreInOrder order_is_carried moment d
-    (gone_keeps AreInOrder order_is_carried (player_at c old.session.connections) (in_connections (freed c) old.session) (order_goes (has_number c) old.session.connections.clients h))
-becomes_ordered Starts moment old end apt d h = own_hook_keeps Faults AreInOrder order_is_carried moment _ _ old end d h
-becomes_ordered (Finishes done) moment old end apt d h = own_hook_keeps Faults AreInOrder order_is_carried moment _ _ old end d h
+    hooks_keep Faults IsInOrder order_is_carried moment d
+    (gone_keeps IsInOrder order_is_carried (player_at c old.session.connections) (in_connections (freed c) old.session) (order_goes (has_number c) old.session.connections.clients h))
+becomes_ordered Starts moment old end apt d h = own_hook_keeps Faults IsInOrder order_is_carried moment _ _ old end d h
+becomes_ordered (Finishes done) moment old end apt d h = own_hook_keeps Faults IsInOrder order_is_carried moment _ _ old end d h
 
 -- an event of the server
-abbrev IsOrdered : State WorldState → Type 0
+abbrev pub IsOrdered : State WorldState → Type 0
 IsOrdered s = Ordered s.sessions
 
 hears_ordered : (happening : Input) (old : State WorldState) (out : Output) (new : State WorldState) → IsApt (live_meaning Faults) old.sessions happening
@@ -130,15 +134,15 @@ taken_ordered false old entry new free steps h =
     marks_ordered entry.mark steps.reported steps.started new steps.marks
     (reports_ordered entry.event entry.report steps.acted steps.finished steps.reported steps.reports (acts_ordered entry.event old steps.own steps.acted (free refl) steps.acts h))
 
-takes_ordered : (old : State WorldState) (entry : Entry Saved) (new : State WorldState) → Takes (live_meaning Faults) old entry new → IsOrdered old → IsOrdered new
+pub takes_ordered : (old : State WorldState) (entry : Entry Saved) (new : State WorldState) → Takes (live_meaning Faults) old entry new → IsOrdered old → IsOrdered new
 takes_ordered old entry new takes h =
     taken_ordered (is_passed_over (live_meaning Faults) old entry.event) old entry new (λ counts. finds_free (live_meaning Faults) old entry.event takes.accepted counts) takes.takes h
 
-run_ordered : (entries : List (Entry Saved)) (old new : State WorldState) → Run (live_meaning Faults) old entries new → IsOrdered old → IsOrdered new
+pub run_ordered : (entries : List (Entry Saved)) (old new : State WorldState) → Run (live_meaning Faults) old entries new → IsOrdered old → IsOrdered new
 run_ordered [] old new same h = subst IsOrdered (sym same) h
 run_ordered (entry ∷ entries) old new runs h = run_ordered entries runs.0 new runs.2 (takes_ordered old entry runs.0 runs.1 h)
 
-begun_ordered : (saved : Saved) (moment : ℕ) (out : Output) (start : State WorldState) → Begins (live_meaning Faults) saved moment out start → IsOrdered start
+pub begun_ordered : (saved : Saved) (moment : ℕ) (out : Output) (start : State WorldState) → Begins (live_meaning Faults) saved moment out start → IsOrdered start
 begun_ordered saved moment out start begins =
     let none : start.sessions.session.connections ≡ no_connections =
     ap (λ (s : State WorldState). s.sessions.session.connections) begins.state_is ∙ ap (λ (s : WorldState). s.session.connections) begins.starts.new_is

@@ -24,7 +24,7 @@ use Rattle.moo_server_core.proofs.Idle.{finds_free}
 use Rattle.moo_server.specs.Live.{Becomes, live_meaning, settled}
 use Rattle.moo_server_law.specs.Stream.{HappensBeside, opens, hears, hangs_up, checkpoint_starts, checkpoint_ends, piece_of, stream_of, StaysOpen, LinesOfTheRun}
 use Rattle.moo_server_law.proofs.Carried.{hooks_keep, login_keeps, lines_keep}
-use Rattle.moo_server_law.proofs.Kept.{Lone, Keeps, lone_is_carried, lone_of_none, lone_reader, joins_itself}
+use Rattle.moo_server_law.proofs.Kept.{IsLone, Lone, Keeps, lone_is_carried, lone_of_none, lone_reader, joins_itself}
 use Rattle.moo_server_law.proofs.Typed.{beside_keeps, own_heard, read_on}
 
 abbrev Holds : ℕ → List ℕ → State WorldState → Type 0
@@ -90,7 +90,7 @@ hears_beside n stream happening old out new besides d h =
 own_bytes : (n moment : ℕ) (stream piece : List ℕ) (old end : WorldState) → HearsBytes Faults moment n piece old end → Keeps n (rest stream) old.session → Keeps n (rest (stream ++ piece)) end.session
 own_bytes n moment stream piece old end (event.dropped e) h = lone_of_none n (rest (stream ++ piece)) old.session.connections.clients e
 own_bytes n moment stream piece old end (event.heard {lines = more} {after = after} x d) h =
-    lines_keep Faults (Lone n (rest (stream ++ piece))) (lone_is_carried n (rest (stream ++ piece))) n moment d (own_heard n moment stream piece old.session.connections more after h x).1
+    lines_keep Faults (IsLone n (rest (stream ++ piece))) (lone_is_carried n (rest (stream ++ piece))) n moment d (own_heard n moment stream piece old.session.connections more after h x).1
 
 hears_own : (n : ℕ) (stream piece : List ℕ) (old : State WorldState) (out : Output) (new : State WorldState) → Hears (live_meaning Faults) (Receives n piece) old out new → Holds n stream old → Holds n (stream ++ piece) new
 hears_own n stream piece old out new d h =
@@ -152,8 +152,8 @@ run_holds n stream (entry ∷ entries) old new d stays r h =
 -- its opening
 opening_holds : (n moment : ℕ) (old end : WorldState) → client_here n old.session.connections ≡ None → OpensConnection Faults moment n old end → Keeps n (rest []) end.session
 opening_holds n moment old end none d =
-    hooks_keep Faults (Lone n (rest [])) (lone_is_carried n (rest [])) moment d.hooks
-    (login_keeps Faults (Lone n (rest [])) (lone_is_carried n (rest [])) n moment [] [] (in_session (in_connections (joined n moment)) old) d.greeted d.logs_in (joins_itself n moment old.session.connections none))
+    hooks_keep Faults (IsLone n (rest [])) (lone_is_carried n (rest [])) moment d.hooks
+    (login_keeps Faults (IsLone n (rest [])) (lone_is_carried n (rest [])) n moment [] [] (in_session (in_connections (joined n moment)) old) d.greeted d.logs_in (joins_itself n moment old.session.connections none))
 
 opens_held : (n : ℕ) (e : Event) (old : State WorldState) (out : Output) (new : State WorldState) → e ≡ Open n → FindsFree (live_meaning Faults) old e → Acts (live_meaning Faults) e old out new → Holds n [] new
 opens_held n e old out new is free d =

@@ -38,22 +38,22 @@ use Rattle.moo_session.specs.Events as event
 use Rattle.moo_session.specs.Events.{OpensConnection, Hears, HangsUp, CallsOwnHook, hung_up, parted_from_client, player_at, with_connections}
 use Rattle.moo_server_law.specs.Stream.{HappensBeside, opens, hears, hangs_up, checkpoint_starts, checkpoint_ends, HasTyped, opened, passed, moved_out, heard}
 use Rattle.moo_server_law.proofs.Carried.{hooks_keep, login_keeps, lines_keep, own_hook_keeps, gone_keeps}
-use Rattle.moo_server_law.proofs.Kept.{Lone, Keeps, lone_is_carried, lone_heard, lone_reader, lone_beside, joins_beside, joins_itself, frees_beside}
+use Rattle.moo_server_law.proofs.Kept.{IsLone, Lone, Keeps, lone_is_carried, lone_heard, lone_reader, lone_beside, joins_beside, joins_itself, frees_beside}
 
 bytes_keep : (T : Telling) (n m : ℕ) (r : Rest) (moment : ℕ) (piece : List ℕ) (s s' : WorldState) → m ≢ n → Hears T moment m piece s s' → Keeps n r s.session → Keeps n r s'.session
 bytes_keep T n m r moment piece s s' apart (event.dropped e) h = h
 bytes_keep T n m r moment piece s s' apart (event.heard {after = after} x d) h =
     let kept : Lone n r after.clients = subst (λ (c : Connections). Lone n r c.clients) x.leaves (lone_beside n m moment r x.after apart h) in
-    lines_keep T (Lone n r) (lone_is_carried n r) m moment d kept
+    lines_keep T (IsLone n r) (lone_is_carried n r) m moment d kept
 
 pub beside_keeps : (T : Telling) (n : ℕ) (r : Rest) (s s' : WorldState) → HappensBeside T n s s' → Keeps n r s.session → Keeps n r s'.session
 beside_keeps T n r s s' (opens {moment = moment} {m = m} apart d) h =
-    hooks_keep T (Lone n r) (lone_is_carried n r) moment d.hooks (login_keeps T (Lone n r) (lone_is_carried n r) m moment [] [] (in_session (in_connections (joined m moment)) s) d.greeted d.logs_in (joins_beside n m moment r s.session.connections apart h))
+    hooks_keep T (IsLone n r) (lone_is_carried n r) moment d.hooks (login_keeps T (IsLone n r) (lone_is_carried n r) m moment [] [] (in_session (in_connections (joined m moment)) s) d.greeted d.logs_in (joins_beside n m moment r s.session.connections apart h))
 beside_keeps T n r s s' (hears {moment = moment} {m = m} {piece = piece} apart d) h = bytes_keep T n m r moment piece s s' apart d h
 beside_keeps T n r s s' (hangs_up {moment = moment} {m = m} apart d) h =
-    hooks_keep T (Lone n r) (lone_is_carried n r) moment d (gone_keeps (Lone n r) (lone_is_carried n r) (player_at m s.session.connections) (in_connections (freed m) s.session) (frees_beside n m r s.session.connections h))
-beside_keeps T n r s s' (checkpoint_starts {moment = moment} d) h = own_hook_keeps T (Lone n r) (lone_is_carried n r) moment _ _ s s' d h
-beside_keeps T n r s s' (checkpoint_ends {moment = moment} done d) h = own_hook_keeps T (Lone n r) (lone_is_carried n r) moment _ _ s s' d h
+    hooks_keep T (IsLone n r) (lone_is_carried n r) moment d (gone_keeps (IsLone n r) (lone_is_carried n r) (player_at m s.session.connections) (in_connections (freed m) s.session) (frees_beside n m r s.session.connections h))
+beside_keeps T n r s s' (checkpoint_starts {moment = moment} d) h = own_hook_keeps T (IsLone n r) (lone_is_carried n r) moment _ _ s s' d h
+beside_keeps T n r s s' (checkpoint_ends {moment = moment} done d) h = own_hook_keeps T (IsLone n r) (lone_is_carried n r) moment _ _ s s' d h
 
 -- what was typed so far, and what the connection holds
 pub record IsTyped (n : ℕ) (stream : List ℕ) (typed : List (List ℕ)) (s : Session) : Type 0 where
@@ -77,7 +77,7 @@ own_heard n moment stream piece s more after holds x =
 pub is_typed : (T : Telling) (n : ℕ) {stream : List ℕ} {typed : List (List ℕ)} {s : WorldState} → HasTyped T n stream typed s → IsTyped n stream typed s.session
 is_typed T n (opened {moment = moment} {s = s} {s' = s'} e d) = record {
   same = refl;
-  holds = hooks_keep T (Lone n (rest [])) (lone_is_carried n (rest [])) moment d.hooks (login_keeps T (Lone n (rest [])) (lone_is_carried n (rest [])) n moment [] [] (in_session (in_connections (joined n moment)) s) d.greeted d.logs_in (joins_itself n moment s.session.connections e));
+  holds = hooks_keep T (IsLone n (rest [])) (lone_is_carried n (rest [])) moment d.hooks (login_keeps T (IsLone n (rest [])) (lone_is_carried n (rest [])) n moment [] [] (in_session (in_connections (joined n moment)) s) d.greeted d.logs_in (joins_itself n moment s.session.connections e));
 }
 is_typed T n (passed {stream = stream} {s = s} {s' = s'} h d) =
     let before = is_typed T n h in
@@ -90,5 +90,5 @@ is_typed T n (heard {moment = moment} {stream = stream} {piece = piece} {typed =
     let held = own_heard n moment stream piece s.session.connections more after before.holds x in
     record {
       same = ap (λ (ls : List (List ℕ)). ls ++ more) before.same ∙ held.0;
-      holds = lines_keep T (Lone n (rest (stream ++ piece))) (lone_is_carried n (rest (stream ++ piece))) n moment d held.1;
+      holds = lines_keep T (IsLone n (rest (stream ++ piece))) (lone_is_carried n (rest (stream ++ piece))) n moment d held.1;
     }

@@ -48,8 +48,8 @@ abbrev pub StaysOpen : ℕ → List (Entry Saved) → Type 0
 StaysOpen n [] = Unit {0}
 StaysOpen n (entry ∷ entries) = (entry.event ≢ Open n) × (entry.event ≢ Hangup n) × StaysOpen n entries
 
--- However its bytes are cut in a run, a connection's next piece ends the lines that all its bytes since its opening then have more. While a
--- server closes, nobody is on a connection, and no piece is heard.
+-- However a connection's bytes are cut in a run, each piece ends the lines by which it makes the lines of all bytes since the opening grow.
+-- While a server closes, no connection has a client, and no piece is heard.
 abbrev pub LinesOfTheRun : Type 0
 LinesOfTheRun = (n : ℕ) (before start end : State WorldState) (opening : Entry Saved) (entries : List (Entry Saved)) (moment : ℕ) (piece : List ℕ) (more : List (List ℕ)) (after : Connections)
     → opening.event ≡ Open n → Takes (live_meaning Faults) before opening start → Run (live_meaning Faults) start entries end → StaysOpen n entries → end.course ≡ Running

@@ -1,4 +1,5 @@
 //! One run of a server.
+ghost use Rattle.moo_server_law.specs.Cutting.{CuttingChangesOnlyMarks};
 ghost use Rattle.moo_server_law.specs.Runs.{ChosenRunMayBe, OneRunByChoice, OneRunOfSingleFaults};
 
 /// Whatever is chosen to be told of texts that are no programs, the saved world, the moment, the events and their reports make a
@@ -27,3 +28,10 @@ pub fn a_chosen_run_may_be()
 {
     crate::laws::sessions::chosen_faults_may_be_told();
 }
+
+/// Proves that how a connection's bytes are cut into events changes nothing but marks. Two events in a row with bytes of one
+/// connection do what one event with all these bytes does, unless a checkpoint begins after the first.
+#[tactic(none)]
+pub fn cutting_changes_only_marks()
+    ensures { CuttingChangesOnlyMarks }
+{}

@@ -1,6 +1,6 @@
 -- Lives of a server over one disk. Each ends by a crash, or by an end of the server alone.
 use Rattle.std.specs.Prelude.{◌≡◌, ◌≢◌, ◌⊎◌, ◌<◌, ◌≤◌, ℕ, List, [], ◌∷◌, length, take, slice_get, All, Some, Result, Ok, Err}
-use Rattle.moo_disk.specs.Disk.{DiskView, IsLeftBy, KeepsMain}
+use Rattle.moo_disk.specs.Disk.{DiskView, IsLeftBy, KeepsMain, KeepsSpare}
 use Rattle.moo_checkpoint.specs.Recovering.{CountsFault}
 use Rattle.moo_checkpoint.specs.declared.open_fault.OpenFault.{OpenFault}
 use Rattle.moo_checkpoint.specs.declared.open_fault.OpenFault.TheVariants.{Device, Memory as no_memory}
@@ -90,11 +90,12 @@ module _ {S Application : Type 0} (l : Layer S Application Saved) where
   AreTold lives runs begins = ⊥
 
   module _ {D : Type 0} (view : D → DiskView) (honest : D → Type 0) (failures : D → ℕ) where
-    -- It began by an `open` in which the device didn't fail, and then ran its events.
+    -- It began by an `open` in which the device didn't fail and that left the spare as it was, and then ran its events.
     pub record IsLife (life : LifeRun S D) : Type 0 where
       pub main : life.main ≡ (view life.old).main_text
       pub opened : Opened l view honest life.start life.old life.opened life.saved life.moment
       pub open_counts : failures life.opened ≡ failures life.old
+      pub open_spare : honest life.old → KeepsSpare (view life.old) (view life.opened)
       pub runs : Runs l view honest failures life.start life.end life.opened life.new life.events life.result
       pub entries : entries_of runs.ran.taken ≡ life.entries
       pub all : RanAll life.result life.events life.end
@@ -116,6 +117,7 @@ module _ {S Application : Type 0} (l : Layer S Application Saved) where
       pub sound : honest old → (s : Saved) → l.meaning.Spells (view old).main_text s → IsSound fault
       pub device : CountsFault (honest old) (failures old) (failures new) fault
       pub main : honest old → KeepsMain (view old) (view new)
+      pub spare : honest old → KeepsSpare (view old) (view new)
 
     abbrev pub IsMet : D → D → LivesCause → Type 0
     IsMet old new (not_open fault) = NotBegun old new fault

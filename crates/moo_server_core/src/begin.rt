@@ -1,6 +1,6 @@
 //! The start of a life: a server, and the text of the world that it begins from.
 ghost use Rattle.std.specs.Prelude.{◌≡◌, ◌↔◌, IfOk, IfErr};
-ghost use Rattle.moo_disk.specs.Disk.{KeepsMain};
+ghost use Rattle.moo_disk.specs.Disk.{KeepsMain, KeepsSpare};
 ghost use Rattle.moo_dbtext_read.specs.Saved.{Saved};
 ghost use Rattle.moo_checkpoint.specs.Recovering.{CountsDevice};
 ghost use Rattle.moo_server_core.specs.Lives.{IsOpen, IsSound};
@@ -21,6 +21,7 @@ pub(crate) fn open<S: StartApplication, D: Disk>(
     ensures accepted { D.honest disk.old → (s : Saved) → S.layer.meaning.Spells (D.view disk.old).main_text s → IfErr result IsSound }
     ensures device { CountsDevice (D.honest disk.old) (D.failures disk.old) (D.failures disk.new) result }
     ensures main { D.honest disk.old → KeepsMain (D.view disk.old) (D.view disk.new) }
+    ensures spare { D.honest disk.old → KeepsSpare (D.view disk.old) (D.view disk.new) }
     ensures honest { D.honest disk.old ↔ D.honest disk.new }
 {
     let saved = recover(alloc, disk)?;

@@ -34,6 +34,7 @@ returns-in-Ok-clause-lived g c =
         main = refl;
         opened = o.opened;
         open_counts = c.in-Ok.ensures.device;
+        open_spare = c.open.ensures.spare;
         runs = runs;
         entries = refl;
         all = ran_all c.run.result c.deref.result.now events c.run.new.self c.deref.ensures.value c.run.ensures.all;
@@ -44,4 +45,4 @@ returns-in-Ok-clause-lived g c =
     }
 
 pub returns-in-Err-clause-met : goal.returns-in-Err-clause-met
-returns-in-Err-clause-met g c = record { sound = c.in-Err.ensures.accepted; device = c.in-Err.ensures.device; main = c.open.ensures.main }
+returns-in-Err-clause-met g c = record { sound = c.in-Err.ensures.accepted; device = c.in-Err.ensures.device; main = c.open.ensures.main; spare = c.open.ensures.spare }

@@ -26,13 +26,7 @@ for life in range(lives):
     if not found:
         wrong.append((life, "no start", open(log_path, encoding="latin-1").read()))
         break
-    player = wizard(int(found[1])) if life == 0 else Client(int(found[1]))
-    if life == 0:
-        player.say("@password lantern")
-        player.say(';"pass" + "word"')
-        player.waits_for("password")
-    else:
-        player.say("connect wizard lantern")
+    player = wizard(int(found[1]))
     saved = number
     for _ in range(random.randrange(1, 12)):
         number += 1

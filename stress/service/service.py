@@ -2,7 +2,9 @@
 import os, re, resource, shutil, socket, subprocess, sys, tempfile, time
 
 TOP = os.path.dirname(os.path.dirname(os.path.dirname(os.path.realpath(__file__))))
-STARTER = os.path.join(TOP, "worlds", "starter.db")
+FRESH = os.path.join(TOP, "worlds", "starter.db")
+STARTER = os.path.join(tempfile.mkdtemp(prefix="service-world-"), "starter.db")
+PASSWORD = "lantern"
 WAIT = 20
 
 
@@ -10,7 +12,21 @@ def program():
     """The program that the command line names."""
     if len(sys.argv) < 2:
         sys.exit(f"usage: {sys.argv[0]} MOO")
-    return os.path.abspath(sys.argv[1])
+    moo = os.path.abspath(sys.argv[1])
+    make_world(moo)
+    return moo
+
+
+def make_world(moo):
+    """Makes the starter world in which the wizard has a password. The world makes the first one from the moment, which is 0 in a script."""
+    lines = ["open 1", "line 1 connect wizard sanotu-sorosi", "line 1 @password " + PASSWORD, "hangup 1", "moment 3600", *40 * ["flush"], "show", ""]
+    done = subprocess.run([moo, "script", FRESH], input="\n".join(lines).encode(), stdout=subprocess.PIPE, stderr=subprocess.DEVNULL, timeout=120)
+    begin = done.stdout.find(b"** LambdaMOO Database")
+    if begin < 0 or b"Your password is changed" not in done.stdout:
+        sys.exit("the world of these scripts can't be made")
+    with open(STARTER, "wb") as file:
+        file.write(done.stdout[begin:])
+    os.chmod(STARTER, 0o600)
 
 
 class Checks:
@@ -139,7 +155,7 @@ class Client:
 def wizard(port):
     """The wizard of the starter world, connected."""
     client = Client(port)
-    client.say("connect wizard")
+    client.say("connect wizard " + PASSWORD)
     client.say(';"ready" + "now"')
     if not client.waits_for("readynow"):
         sys.exit("the wizard can't connect")

@@ -16,6 +16,7 @@ use Rattle.moo_cli_serve.specs.Course.{Course}
 use Rattle.moo_cli_serve.specs.Program.{FailsFile, ServesFile}
 use Rattle.moo_cli_serve.specs.Rounds.{IsClosed}
 use Rattle.moo_cli_serve.specs.Service.{Begun, BreaksOff, EndsFor, Fails, IsOutside, IsRefused, IsServed, LeavesUnbegun, Makes, NotStarted, RefusesParted, Serves, Steps, Turns, Waits}
+use Rattle.moo_cli_serve.specs.declared.console.Console.{Console}
 use Rattle.moo_cli_serve.specs.declared.fault.ServeFault.{ServeFault}
 use Rattle.moo_cli_serve.specs.declared.fault.ServeFault.TheVariants as the
 use Rattle.moo_cli_serve.specs.declared.serving.Round.{Round}
@@ -131,18 +132,18 @@ module _ {S Application D : Type 0} (l : Layer S Application Saved) (view : D �
     outside_ends the.Memory old new outside = outside
 
     -- and one that has ended has done so also where some of what waits is then handed out.
-    pub ends_hands : (fault : ServeFault) (old mid : Serving S D) (after : inner.ServerCore S) → EndsFor l view honest failures fault old mid
-        → ((h : Output) × Hands l h mid.server after) → EndsFor l view honest failures fault old (record mid { server = after })
-    ends_hands (the.Open fault) old mid after ends handed = ends
-    ends_hands (the.Sockets fault) old mid after ends handed = ends
-    ends_hands (the.Output fault) old mid after ends handed = ends
-    ends_hands (the.Refused cause) old mid after ends handed = record {
+    pub ends_hands : (fault : ServeFault) (old mid : Serving S D) (after : inner.ServerCore S) (console : Console) → EndsFor l view honest failures fault old mid
+        → ((h : Output) × Hands l h mid.server after) → EndsFor l view honest failures fault old (record mid { server = after; console = console })
+    ends_hands (the.Open fault) old mid after console ends handed = ends
+    ends_hands (the.Sockets fault) old mid after console ends handed = ends
+    ends_hands (the.Output fault) old mid after console ends handed = ends
+    ends_hands (the.Refused cause) old mid after console ends handed = record {
       first = ends.first;
       read = ends.read;
       begins = ends.begins;
       refused = either_hands cause ends.first old ends.read mid.server after mid.disk ends.refused handed;
     }
-    ends_hands the.Memory old mid after ends handed = ends
+    ends_hands the.Memory old mid after console ends handed = ends
 
     -- what came of a server that was begun over a disk
     pub serves_so : {T : Type 0} (most rounds : ℕ) (disk : D) (start end : Serving S D) (r : Result T ServeFault) → Begun l view honest disk most start

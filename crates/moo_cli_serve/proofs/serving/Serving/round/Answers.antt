@@ -66,7 +66,7 @@ returns-in_err-turned-clause-ended g c =
     let p = err_from_is_err_and c.from_residual.result c.from_residual.ensures.1 in
     rw (p.1, p.2)
     (ends_hands g.S.Application.layer g.D.Disk.view g.D.Disk.honest g.D.Disk.failures _
-    c.args.self.now c.turn-turned.new.self c.log_lines.new.server c.in_err-turned.ensures.ended c.log_lines.ensures.handed)
+    c.args.self.now c.turn-turned.new.self c.log_lines.new.server c.log_lines.new.console c.in_err-turned.ensures.ended c.log_lines.ensures.handed)
 
 pub returns-clause-ended : goal.returns-clause-ended
 returns-clause-ended g c = tt

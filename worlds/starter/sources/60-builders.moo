@@ -332,8 +332,9 @@ while (o <= end)
   for x in [toobj(o)..toobj(to)]
     if (valid(x) && x.owner == who)
       n = n + 1;
-      place = x.location;
-      player:tell($string:right(x, 7), "  ", $string:left(x.name, 30), " ", valid(parent(x)) ? "[" + parent(x).name + "] " | "", valid(place) ? "in " + place.name | "");
+      exit = $isa(x, $exit);
+      place = exit ? x.source | x.location;
+      player:tell($string:right(x, 7), "  ", $string:left(x.name, 30), " ", valid(parent(x)) ? "[" + parent(x).name + "] " | "", valid(place) ? (exit ? "from " | "in ") + place.name | "");
     endif
   endfor
   o = to + 1;

@@ -7,6 +7,7 @@
 // {when the day began, how many things were made since}, and how many may be made in a day
 @property $player.made r wiz = {0, 0}
 @property $player.most_in_day r wiz = 60
+@property $player.renamed r wiz = {0, 0}
 @property $player.home r wiz = #2
 @property $player.last_place r wiz = #-1
 @property $player.last_connect r wiz = 0
@@ -24,7 +25,8 @@
 @property $player.refusals r wiz = {}
 @property $player.muted r wiz = {0, 0}
 
-// Drops what is caused by a player whom this one gags, or who is muted.
+// Drops what is caused by a player whom this one gags, or who is muted. A line that begins with #$ would be a command to
+// some clients (#$# edit): it gets a blank before it, as nobody but the world itself sends those.
 @program $player:"tell tell_lines" this none this rxd wiz
 if (player != this && valid(player))
   {at, span} = `player.muted ! ANY => {0, 0}';
@@ -33,7 +35,8 @@ if (player != this && valid(player))
   endif
 endif
 if (verb == "tell")
-  notify(this, tostr(@args));
+  text = tostr(@args);
+  notify(this, index(text, "#$") == 1 ? " " + text | text);
   return;
 endif
 lines = args[1];
@@ -44,6 +47,7 @@ if (this.pagelength && length(lines) > this.pagelength)
 endif
 for l in (lines)
   l = tostr(l);
+  l = index(l, "#$") == 1 ? " " + l | l;
   for part in (this.linelength < 78 && length(l) > this.linelength ? $string:wrap(l, this.linelength) | {l})
     notify(this, part);
   endfor
@@ -93,9 +97,15 @@ endif
 return 0;
 .
 
+// Things come into somebody's hands by `give`, @move and programs: not from one who is gagged, or whose things are refused.
 @program $player:accept this none this rxd
 {what} = args;
-return !is_player(what) && length(this.contents) < 50;
+if (is_player(what) || length(this.contents) >= 50)
+  return 0;
+elseif (player in {this, #-1} || what.owner == this || player.wizard)
+  return 1;
+endif
+return !(player in this.gags || {"things", #-1} in this.refusals || {"things", player} in this.refusals);
 .
 
 @program $player:look_self this none this rxd
@@ -150,6 +160,8 @@ if (n)
   notify(this, tostr("You have ", n, n == 1 ? " letter that isn't read" | " letters that aren't read", ": type  @mail."));
 endif
 if (this.editing)
+  // what a client sent by @write is cut off: from here on the dots are commands again
+  this.editing[6] = 0;
   notify(this, tostr("You are still writing ", $editor:title(this.editing), ". A line of one dot ends, .q drops it, .h shows more."));
 endif
 if (this == #3 && $login:unclaimed())
@@ -451,14 +463,14 @@ endif
 dest:announce(player.name + words[2], {player});
 .
 
-// The exits of the room, and where they lead.
+// The exits of the room, and where they lead. No verb of an exit is called: one could use up the ticks.
 @program $player:"@ways ways" none none none rd
 here = player.location;
 lines = {};
 for e in ($isa(here, $room) ? here.exits[1..min(40, length(here.exits))] | {})
   if ($isa(e, $exit))
     names = {e.name, @(typeof(more = `e.aliases ! ANY => {}') == LIST ? more[1..min(5, length(more))] | {})};
-    lines = {@lines, tostr("  ", $string:left($string:join(names, ", "), 24), " to ", valid(e.dest) ? e.dest.name | "nowhere", e:unlocked_for(player) ? "" | " (locked)")};
+    lines = {@lines, tostr("  ", $string:left($string:join(names, ", "), 24), " to ", valid(e.dest) ? e.dest.name | "nowhere", $exit:opens(e, player) ? "" | " (locked)")};
   endif
 endfor
 player:tell_lines(lines ? lines | {"There are no exits."});
@@ -534,7 +546,7 @@ owner = o.owner;
 player:tell(o.name, " (", o, "), owned by ", valid(owner) ? owner.name | "nobody", " (", owner, ")");
 names = `o.aliases ! ANY => {}';
 if (names && typeof(names) == LIST)
-  player:tell_lines($string:wrap("Also called: " + $string:join(names[1..min(20, length(names))], ", ") + "."));
+  player:tell_lines($string:flow("Also called:", names[1..min(20, length(names))]));
 endif
 player:tell("A kind of: ", valid(parent(o)) ? tostr(parent(o).name, " (", parent(o), ")") | "nothing");
 player:tell_lines($string:lines(`o.description ! ANY => ""'));
@@ -543,7 +555,7 @@ if (o.contents && $controls(player, o))
   for c in (o.contents[1..min(50, length(o.contents))])
     inside = {@inside, tostr(c.name, " (", c, ")")};
   endfor
-  player:tell_lines($string:wrap("Contents: " + $string:join(inside, ", ") + "."));
+  player:tell_lines($string:flow("Contents:", inside));
 endif
 lines = {};
 k = o;

@@ -40,6 +40,17 @@ if (!names)
   player:tell("A name is wanted.");
   return;
 endif
+if (is_player(o) && !player.wizard && !equal(names[1], o.name))
+  // each new name is a line of the record, which is to keep other things too
+  {day, n} = o.renamed;
+  since = time() - day;
+  {day, n} = since < 0 || since >= 86400 ? {time(), 0} | {day, n};
+  if (n >= 10)
+    player:tell("You have had ten new names today.");
+    return;
+  endif
+  o.renamed = {day, n + 1};
+endif
 if ($isa(o, $exit) && valid(from = `o.source ! ANY => #-1') && (n = `from:taken_name(names, o) ! ANY => ""'))
   player:tell("There is an exit ", $string:quoted(n), " in ", from.name, " already.");
   return;
@@ -321,8 +332,9 @@ while (o <= end)
   for x in [toobj(o)..toobj(to)]
     if (valid(x) && x.owner == who)
       n = n + 1;
-      place = x.location;
-      player:tell($string:right(x, 7), "  ", $string:left(x.name, 30), " ", valid(parent(x)) ? "[" + parent(x).name + "] " | "", valid(place) ? "in " + place.name | "");
+      exit = $isa(x, $exit);
+      place = exit ? x.source | x.location;
+      player:tell($string:right(x, 7), "  ", $string:left(x.name, 30), " ", valid(parent(x)) ? "[" + parent(x).name + "] " | "", valid(place) ? (exit ? "from " | "in ") + place.name | "");
     endif
   endfor
   o = to + 1;
@@ -465,11 +477,12 @@ elseif (dobj.wizard)
   player:tell("Not a wizard.");
 else
   name = dobj.name;
+  // to no place whose verbs could keep it here
   dest = is_player(dobj) ? $login.start | #-1;
-  if (is_player(dobj) && $isa(`dobj.home ! ANY => #-1', $room) && dobj.home != here)
-    dest = dobj.home;
-  elseif ($isa(dobj.owner, $player))
-    dest = is_player(dobj) ? dest | dobj.owner;
+  if (is_player(dobj) && $isa(home = `dobj.home ! ANY => #-1', $room) && home != here && $recycler:is_safe(home))
+    dest = home;
+  elseif (!is_player(dobj) && $isa(dobj.owner, $player) && $recycler:is_safe(dobj.owner))
+    dest = dobj.owner;
   endif
   if (dest == here)
     player:tell("There is nowhere to send it.");

@@ -87,6 +87,73 @@ endfor
 return 0;
 .
 
+// Is PLACE without verbs of a stranger, its own or those of its kinds? Such a verb could use up the ticks.
+@program $recycler:is_safe this none this rxd wiz
+{place} = args;
+k = place;
+while (valid(k) && k > $login.core_end)
+  if (k.owner != player && verbs(k))
+    return 0;
+  endif
+  k = parent(k);
+endwhile
+return valid(place);
+.
+
+// Takes the verbs from an object, and the kinds that don't belong to the core.
+@program $recycler:disarm this none this rxd wiz
+if (!caller_perms().wizard)
+  raise(E_PERM);
+endif
+{o} = args;
+k = parent(o);
+while (valid(k) && k > $login.core_end)
+  k = parent(k);
+endwhile
+chparent(o, valid(k) ? k | #1);
+while (verbs(o))
+  delete_verb(o, 1);
+endwhile
+.
+
+// Before an exit goes, its two rooms forget it. Before a room goes, its people go to the first room, the exits from it and to it
+// go too, and who lived here lives at the start. No verb of others is called, which could use up the ticks: so who has verbs of
+// his own, which would run as he arrives, is nowhere, and has to type home.
+@program $recycler:unhook this none this rxd wiz
+if (!caller_perms().wizard)
+  raise(E_PERM);
+endif
+{o} = args;
+if ($isa(o, $exit))
+  for r in ({o.source, o.dest})
+    if ($isa(r, $room))
+      r.exits = setremove(r.exits, o);
+      r.ways_in = setremove(r.ways_in, o);
+    endif
+  endfor
+elseif ($isa(o, $room))
+  for p in (players())
+    if (`p.home ! ANY => 0' == o)
+      p.home = $login.start;
+    endif
+    if (`p.last_place ! ANY => 0' == o)
+      p.last_place = #-1;
+    endif
+  endfor
+  for p in (o.contents)
+    if (is_player(p))
+      notify(p, "The place around you vanishes.");
+      move(p, this:is_safe(p) ? $login.start | #-1);
+    endif
+  endfor
+  for e in ({@o.exits, @o.ways_in})
+    if ($isa(e, $exit) && o in {e.source, e.dest})
+      this:keep(e);
+    endif
+  endfor
+endif
+.
+
 // Takes an object away. What is in it stays where it is, or goes to its owner; kinds of it become kinds of its own kind.
 // What is large, and what belongs to the core, is recycled by the server, and its number isn't used again.
 @program $recycler:keep this none this rxd wiz
@@ -96,16 +163,23 @@ if (!valid(o) || is_player(o) || o <= #3)
 elseif (!$controls(caller_perms(), o))
   raise(E_PERM);
 endif
-// first what the object itself does about it: it may fail, or use up the ticks
-`o:recycle() ! ANY';
+// first what the object itself does about it: it may fail, or use up the ticks; a stranger's object isn't asked
+core = this:is_core(o);
+if (o.owner in {caller_perms(), player} && !core)
+  `o:recycle() ! ANY';
+elseif (!core)
+  this:disarm(o);
+endif
 if (!valid(o))
   return;
-elseif (this:is_core(o) || length(verbs(o)) > 100 || length(properties(o)) > 100 || length(children(o)) > 50)
+endif
+this:unhook(o);
+if (core || length(verbs(o)) > 100 || length(properties(o)) > 100 || length(children(o)) > 50)
   return recycle(o);
 endif
 for c in (o.contents)
   for place in ({o.location, c.owner, #-1})
-    if (place == #-1 || (valid(place) && `place:accept(c) ! ANY => 0'))
+    if (place == #-1 || (this:is_safe(place) && `place:accept(c) ! ANY => 0'))
       `move(c, place) ! ANY';
       break;
     endif

@@ -11,6 +11,10 @@ endif
 {text} = args;
 text = text[1..min(200, length(text))];
 n = length(this.lines);
+if (n && index(text, "login refused") == 1 && index(this.lines[n][2], "login refused") == 1)
+  // a flood of guesses leaves one line, not all the lines there are
+  n = n - 1;
+endif
 this.lines = {@this.lines[max(1, n - this.most + 2)..n], {time(), text}};
 this:show_watchers(text);
 .

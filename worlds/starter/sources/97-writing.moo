@@ -163,6 +163,8 @@ try
     fault = lines ? $post:send_list(who, name, lines) | "There is nothing in it.";
   elseif (kind == "board")
     fault = lines ? (what:add(lines) ? "" | "It isn't pinned.") | "There is nothing in it.";
+  elseif (!who:may_speak())
+    fault = "It isn't kept.";
   else
     this:save_text(who, what, name, lines);
   endif
@@ -248,6 +250,7 @@ elseif (!player:may_speak())
   return;
 elseif (verb == "@write")
   $editor:start(player, kind, o, name, {}, 1);
+  player:tell("Lines for ", o, ".", name, " follow; a line of one dot ends.");
 elseif (player.local_editing)
   $editor:send_local(player, tostr(o.name, kind == "verb" ? ":" | ".", name), tostr(kind == "verb" ? ".program " | "@write ", o, kind == "verb" ? ":" | ".", name), lines);
 else
@@ -273,6 +276,8 @@ player:tell("@edit ", this.local_editing ? "sends the text to your client, which
 @property $player.sent - wiz = {0, 0}
 @property $post.most r wiz = 30
 @property $post.most_in_day r wiz = 50
+// How many letters of one player a box holds: so nobody fills another's box alone.
+@property $post.most_of_one r wiz = 10
 
 // {{name, who made it, those who get its letters}, ..}
 @property $post.lists - wiz = {}
@@ -282,6 +287,9 @@ player:tell("@edit ", this.local_editing ? "sends the text to your client, which
 {who, lines} = args;
 size = 0;
 for l in (lines)
+  if (typeof(l) != STR)
+    return "A letter has lines of text.";
+  endif
   size = size + length(l);
 endfor
 {day, n} = who.sent;
@@ -294,6 +302,19 @@ elseif (n >= this.most_in_day && since >= 0 && since < 86400 && !who.wizard)
   return "You have sent as many letters today as may be sent in a day.";
 endif
 return "";
+.
+
+// Has WHOM's box as many letters of WHO as it may have?
+@program $post:is_enough this none this rxd wiz
+if (caller != this)
+  raise(E_PERM);
+endif
+{who, whom} = args;
+n = 0;
+for l in (whom.letters)
+  n = n + (l[1] == who);
+endfor
+return n >= this.most_of_one && !who.wizard;
 .
 
 // Counts a letter of WHO's day.
@@ -329,6 +350,8 @@ elseif (!valid(whom) || !$isa(whom, $builder) || !is_player(whom))
   return "Guests have no letter box.";
 elseif (length(whom.letters) >= this.most)
   return whom.name + "'s letter box is full.";
+elseif (this:is_enough(who, whom))
+  return tostr(whom.name, " has ", this.most_of_one, " letters of yours already.");
 elseif (!who:may_speak(whom, "letters"))
   return "It isn't sent.";
 endif
@@ -368,7 +391,7 @@ endif
 this:count(who);
 n = 0;
 for o in (this.lists[i][3])
-  if (valid(o) && is_player(o) && $isa(o, $builder) && !(o in who.gagged_by || {"letters", #-1} in o.refusals || {"letters", who} in o.refusals) && length(o.letters) < this.most)
+  if (valid(o) && is_player(o) && $isa(o, $builder) && !(o in who.gagged_by || {"letters", #-1} in o.refusals || {"letters", who} in o.refusals) && length(o.letters) < this.most && !this:is_enough(who, o))
     n = n + 1;
     this:deliver(who, who.name + " to *" + this.lists[i][1], o, lines);
   endif
@@ -391,10 +414,18 @@ endif
 name = argstr && argstr[1] == "*" ? argstr[2..$] | argstr;
 i = $post:list(name);
 if (verb == "@newlist")
-  if (i || length(name) < 2 || length(name) > 16 || index(name, " "))
+  mine = 0;
+  for l in ($post.lists)
+    mine = mine + (l[2] == player);
+  endfor
+  if (!player:may_speak())
+    return;
+  elseif (i || length(name) < 2 || length(name) > 16 || index(name, " "))
     player:tell(i ? "There is such a list." | "A list's name has 2 to 16 characters, and no blank. For example: @newlist tea");
   elseif (length($post.lists) >= 50)
     player:tell("There are fifty lists already.");
+  elseif (mine >= 5 && !player.wizard)
+    player:tell("You have made five lists already. @rmlist one first.");
   else
     $post.lists = {@$post.lists, {name, player, {player}}};
     player:tell("The list ", name, " is made, and you get its letters: @send *", name, " TEXT");
@@ -518,6 +549,10 @@ who:tell(this.text ? "There is something written on it. (read it)" | "Nothing is
 .
 
 @program $note:read this none none rd
+if (!(this.location in {player, player.location}) && !$controls(player, this))
+  player:tell("It isn't within reach.");
+  return;
+endif
 lines = $string:lines(this.text);
 player:tell_lines(lines ? lines | {"Nothing is written on it."});
 .
@@ -546,6 +581,8 @@ if (caller != this)
   raise(E_PERM);
 elseif (!($controls(player, this) || (this.open_to_all && this.location == player)))
   player:tell("You may not write on it.");
+elseif (!player:may_speak())
+  return;
 elseif (!args)
   this.text = {};
   player:tell("You wipe ", $string:the(this.name), " clean.");

@@ -44,7 +44,7 @@ if (!valid(e))
 elseif (!$isa(e, $exit) || !$isa(e.dest, $room) || !e:unlocked_for(player) || !(`e.dest:accept(player) ! ANY => 0'))
   player:tell("You can't drive there.");
 elseif (e:move(this))
-  this:announce(tostr($string:capital($string:the(this.name)), " comes to ", this.location.name, "."));
+  this:announce(tostr("You come to ", this.location.name, "."));
   this.location:look_self(player);
 else
   player:tell("It doesn't go there.");

@@ -18,7 +18,7 @@ use Rattle.moo_server_core.specs.Traces.{Report}
 use Rattle.moo_server_core.specs.declared.event.Course.{Course}
 use Rattle.moo_server_core.specs.declared.event.Course.TheVariants.{Running, Closing, Closed}
 use Rattle.moo_server_core.specs.Meaning.{Acts, Entry, Hears, Marks, Passes, Reports, Run, State, Steps, Takes, heard, is_due, is_passed_over, refusal, refusal_in}
-use Rattle.moo_server_core.proofs.Out.{then_silence, then_then}
+use Rattle.moo_server_law.proofs.Outputs.{then_silence, then_then}
 use Rattle.moo_server.specs.Live.{LiveHappens, live_meaning, settled, told_of}
 use Rattle.moo_server_law.proofs.Joined.{heard_at_once, preceded}
 use Rattle.moo_server_law.proofs.Order.{IsOrdered, begun_ordered, takes_ordered}

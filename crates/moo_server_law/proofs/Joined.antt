@@ -193,7 +193,7 @@ kept_apart s = λ i. record {
 abbrev clients_of : WorldState → List Client
 clients_of s = s.session.connections.clients
 
--- A piece was heard, and its lines were met.
+-- A piece was heard, and its lines were applied.
 module _ (T : Telling) (n moment : ℕ) (a b : List ℕ) (s : WorldState) (ls : List (List ℕ)) (between : Connections) (end : WorldState)
     (ordered : AreInOrder (clients_of s)) (x : HasHeard n moment a s.session.connections ls between) (d : MeetsLines T moment n ls (with_connections between s) end) where
   abbrev last : Rest

@@ -15,4 +15,5 @@ mod Mapped
 pub mod Moved
 pub mod Joined
 mod Quiet
+mod Outputs
 pub mod CutRun

@@ -13,7 +13,7 @@ use Rattle.moo_eval_frame.specs.declared.surroundings.Login.{Login}
 use Rattle.moo_eval_frame.specs.declared.frame.Frame.{Frame}
 use Rattle.moo_eval_frame.specs.declared.notice.Notice.TheVariants as notice
 use Rattle.moo_eval_frame.specs.declared.notice.Notice.{Notice}
-use Rattle.moo_session.specs.Dispatch.{RunsVerb, runs, nothing_runs, Follows, is_done, goes_on, Commanded, sent_unless_empty}
+use Rattle.moo_session.specs.Dispatch.{RunsVerb, runs, nothing_runs, FollowsDoCommand, is_done, goes_on, Commanded, sent_unless_empty}
 use Rattle.moo_session.specs.DotProgram.{begun_by, begun_at_colon, begun_for_place, gathering_for, ready_line, told_usage, is_colon, may_write, EndsProgramming, no_verb, denied, faulty, parsed, programmed_unless, Gathers, keeps, ends, with_line}
 use Rattle.moo_session.specs.Frames.{command_frame}
 use Rattle.moo_session.specs.Input.{PlayerTypes, no_word, prefix, suffix, program, command, Types, logs_in, gathers, plays, MeetsLines, no_line_more, dropped, one_line_more}
@@ -28,8 +28,8 @@ use Rattle.moo_session_line.specs.Rest.{Rest}
 use Rattle.moo_session_task.specs.Frames.{server_frame}
 use Rattle.moo_session_task.specs.Hooks.{HooksRun, none_waits, first_runs, hook_name, player_of_hook}
 use Rattle.moo_session_task.specs.Leaving.{parted, disconnected_from, shut_down, sent_to_each, shutdown_line}
-use Rattle.moo_session_task.specs.Notices.{all_met, met}
-use Rattle.moo_session_task.specs.Sending.{sent, told, all_told, sent_to}
+use Rattle.moo_session_task.specs.Notices.{all_applied, applied}
+use Rattle.moo_session_task.specs.Sending.{sent, notified, all_notified, sent_to}
 use Rattle.moo_session_task.specs.Session.{Session, caused, in_connections, with_hooks}
 use Rattle.moo_session_task.specs.declared.hook.Hook.TheVariants.{Reconnected}
 use Rattle.moo_session_task.specs.State.{state, in_session}
@@ -153,12 +153,12 @@ module _ (n : ℕ) (r : Rest) (sent_before : List Sent) (log_before : List (List
   sent_moves : (m : ℕ) (line : List ℕ) (s : Session) → sent m line (moved_session s) ≡ moved_session (sent m line s)
   sent_moves m line s = ap (λ (o : Option Client). sent_to o line (moved_session s)) (here_moves m s.connections) ∙ sent_to_moves (client_here m s.connections) line s
 
-  told_moves : (who : ℤ) (line : List ℕ) (s : Session) → told who line (moved_session s) ≡ moved_session (told who line s)
-  told_moves who line s = ap (λ (o : Option Client). sent_to o line (moved_session s)) (known_moves who s.connections) ∙ sent_to_moves (client_known_as who s.connections) line s
+  notified_moves : (who : ℤ) (line : List ℕ) (s : Session) → notified who line (moved_session s) ≡ moved_session (notified who line s)
+  notified_moves who line s = ap (λ (o : Option Client). sent_to o line (moved_session s)) (known_moves who s.connections) ∙ sent_to_moves (client_known_as who s.connections) line s
 
-  all_told_moves : (who : ℤ) (ls : List (List ℕ)) (s : Session) → all_told who ls (moved_session s) ≡ moved_session (all_told who ls s)
-  all_told_moves who [] s = refl
-  all_told_moves who (line ∷ ls) s = ap (all_told who ls) (told_moves who line s) ∙ all_told_moves who ls (told who line s)
+  all_notified_moves : (who : ℤ) (ls : List (List ℕ)) (s : Session) → all_notified who ls (moved_session s) ≡ moved_session (all_notified who ls s)
+  all_notified_moves who [] s = refl
+  all_notified_moves who (line ∷ ls) s = ap (all_notified who ls) (notified_moves who line s) ∙ all_notified_moves who ls (notified who line s)
 
   left_moves : (test : Client → Bool) → ((c : Client) → test (g c) ≡ test c) → (o : Option Client) (s : Connections) → left_where test (option_map g o) (moved_connections s) ≡ moved_connections (left_where test o s)
   left_moves test same None s = refl
@@ -211,19 +211,19 @@ module _ (n : ℕ) (r : Rest) (sent_before : List Sent) (log_before : List (List
       ∙ ap (λ (x : List Sent). all [] (s.connections.leaving ++ map number_of s.connections.clients) x true) (append_assoc sent_before s.sent (sent_to_each line (row_of s.connections.clients)))
       ∙ ap (all [] (s.connections.leaving ++ map number_of s.connections.clients) (sent_before ++ (s.sent ++ sent_to_each line (row_of s.connections.clients)))) (sym (or_true asked_before))
 
-  met_moves : (x : Notice) (s : Session) → met x (moved_session s) ≡ moved_session (met x s)
-  met_moves (notice.Notify who line) s = told_moves who line s
-  met_moves (notice.BootPlayer who) s = ended_moves who (codes "*** Disconnected ***") s
-  met_moves (notice.SetPlayerFlag o true) s = refl
-  met_moves (notice.SetPlayerFlag o false) s = ended_moves o (codes "*** Disconnected ***") s
-  met_moves (notice.Recycle o) s = ended_moves o (codes "*** Recycled ***") s
-  met_moves notice.DumpDatabase s = ap (λ (b : Bool). record (moved_session s) { asked = b }) (sym (or_true asked_before))
-  met_moves (notice.Shutdown why) s = shut_moves why s
-  met_moves (notice.ServerLog line) s = ap (λ (x : List (List ℕ)). record (moved_session s) { log = x }) (append_assoc log_before s.log (line ∷ []))
+  applied_moves : (x : Notice) (s : Session) → applied x (moved_session s) ≡ moved_session (applied x s)
+  applied_moves (notice.Notify who line) s = notified_moves who line s
+  applied_moves (notice.BootPlayer who) s = ended_moves who (codes "*** Disconnected ***") s
+  applied_moves (notice.SetPlayerFlag o true) s = refl
+  applied_moves (notice.SetPlayerFlag o false) s = ended_moves o (codes "*** Disconnected ***") s
+  applied_moves (notice.Recycle o) s = ended_moves o (codes "*** Recycled ***") s
+  applied_moves notice.DumpDatabase s = ap (λ (b : Bool). record (moved_session s) { asked = b }) (sym (or_true asked_before))
+  applied_moves (notice.Shutdown why) s = shut_moves why s
+  applied_moves (notice.ServerLog line) s = ap (λ (x : List (List ℕ)). record (moved_session s) { log = x }) (append_assoc log_before s.log (line ∷ []))
 
-  all_met_moves : (xs : List Notice) (s : Session) → all_met xs (moved_session s) ≡ moved_session (all_met xs s)
-  all_met_moves [] s = refl
-  all_met_moves (x ∷ xs) s = ap (all_met xs) (met_moves x s) ∙ all_met_moves xs (met x s)
+  all_applied_moves : (xs : List Notice) (s : Session) → all_applied xs (moved_session s) ≡ moved_session (all_applied xs s)
+  all_applied_moves [] s = refl
+  all_applied_moves (x ∷ xs) s = ap (all_applied xs) (applied_moves x s) ∙ all_applied_moves xs (applied x s)
 
   around_moves : (moment : ℕ) (s : Connections) → around moment (moved_connections s) ≡ around moment s
   around_moves moment s = ap (λ (row : List Connection). record { moment = moment; connections = row }) (rows_move s.clients)
@@ -237,8 +237,8 @@ module _ (n : ℕ) (r : Rest) (sent_before : List Sent) (log_before : List (List
     ends = subst (λ (a : Surroundings). TaskEnds T a start s.world d.end d.after d.notices) (sym (around_moves moment s.session.connections)) d.ends;
     gives = d.gives;
     leaves =
-        ap (λ (x : Session). state d.after (all_told start.player (account_of d.end) x)) (all_met_moves d.notices s.session)
-        ∙ ap (state d.after) (all_told_moves start.player (account_of d.end) (all_met d.notices s.session))
+        ap (λ (x : Session). state d.after (all_notified start.player (account_of d.end) x)) (all_applied_moves d.notices s.session)
+        ∙ ap (state d.after) (all_notified_moves start.player (account_of d.end) (all_applied d.notices s.session))
         ∙ ap moved d.leaves;
   }
 
@@ -262,9 +262,9 @@ module _ (n : ℕ) (r : Rest) (sent_before : List Sent) (log_before : List (List
   redirected_moves m player moment s =
       let first = codes "*** Redirecting old connection to this port ***" in
       let second = codes "*** Redirecting connection to new port ***" in
-      ap (λ (x : Session). caused (Reconnected player) (in_connections (played m player moment) (told player second x))) (sent_moves m first s)
-      ∙ ap (λ (x : Session). caused (Reconnected player) (in_connections (played m player moment) x)) (told_moves player second (sent m first s))
-      ∙ ap (caused (Reconnected player)) (in_moves (played m player moment) (played_moves m player moment) (told player second (sent m first s)))
+      ap (λ (x : Session). caused (Reconnected player) (in_connections (played m player moment) (notified player second x))) (sent_moves m first s)
+      ∙ ap (λ (x : Session). caused (Reconnected player) (in_connections (played m player moment) x)) (notified_moves player second (sent m first s))
+      ∙ ap (caused (Reconnected player)) (in_moves (played m player moment) (played_moves m player moment) (notified player second (sent m first s)))
 
   connected_at : (b : Bool) (m : ℕ) (player : ℤ) (moment : ℕ) (is_new : Bool) (s : Session) →
       cond b (redirected m player moment (moved_session s)) (welcomed m player moment is_new (moved_session s)) ≡ moved_session (cond b (redirected m player moment s) (welcomed m player moment is_new s))
@@ -347,7 +347,7 @@ module _ (n : ℕ) (r : Rest) (sent_before : List Sent) (log_before : List (List
   verb_moves T m moment player c {s = s} (nothing_runs e) =
       subst (RunsVerb T moment m player c (moved s)) (ap (state s.world) (sent_moves m (codes "I couldn't understand that.") s.session)) (nothing_runs e)
 
-  following_moves : (T : Telling) (m : ℕ) (moment : ℕ) (player : ℤ) (line : List ℕ) (answer : Option Tree) {s s' : WorldState} → Follows T moment m player line answer s s' → Follows T moment m player line answer (moved s) (moved s')
+  following_moves : (T : Telling) (m : ℕ) (moment : ℕ) (player : ℤ) (line : List ℕ) (answer : Option Tree) {s s' : WorldState} → FollowsDoCommand T moment m player line answer s s' → FollowsDoCommand T moment m player line answer (moved s) (moved s')
   following_moves T m moment player line answer (is_done e) = is_done e
   following_moves T m moment player line answer (goes_on {c = c} e d v) = goes_on e d (verb_moves T m moment player c v)
 

@@ -36,9 +36,9 @@ still_open false false e f = refl
 
 hears_quiet : (happening : Input) (old : State WorldState) (out : Output) (new : State WorldState) → Hears (live_meaning Faults) happening old out new → IsQuiet old → IsQuiet new
 hears_quiet happening old out new d h e =
-    let told = d.0 in
+    let notified = d.0 in
     let happens = d.2 in
-    let before = running_before told.shuts old.course (sym (ap (λ (s : State WorldState). s.course) d.4) ∙ e) in
+    let before = running_before notified.shuts old.course (sym (ap (λ (s : State WorldState). s.course) d.4) ∙ e) in
     let shuts : (happens.end.session.closing && not old.sessions.session.closing) ≡ false = sym (ap (λ t. t.shuts) happens.told_is) ∙ before.0 in
     ap (λ (s : State WorldState). s.sessions.session.closing) d.4 ∙ ap (λ (s : WorldState). s.session.closing) happens.new_is
     ∙ still_open happens.end.session.closing old.sessions.session.closing shuts (h before.1)

@@ -11,11 +11,10 @@ checks = Checks()
 
 def fill(folder):
     """Fills the file system but for a few bytes."""
-    with open(os.path.join(folder, "hog"), "wb") as hog:
+    with open(os.path.join(folder, "hog"), "wb", buffering=0) as hog:
         try:
-            while True:
-                hog.write(b"x" * 4096)
-                hog.flush()
+            while hog.write(b"x" * 4096):
+                pass
         except OSError:
             pass
 

@@ -16,7 +16,7 @@ shutil.copy(STARTER, path)
 os.chmod(path, 0o600)
 random.seed(1)
 wrong = []
-number = 0
+number = kept = 0
 for life in range(lives):
     log_path = os.path.join(folder, f"log{life}")
     with open(log_path, "wb") as log:
@@ -27,7 +27,8 @@ for life in range(lives):
         wrong.append((life, "no start", open(log_path, encoding="latin-1").read()))
         break
     player = wizard(int(found[1]))
-    saved = number
+    # What the life before left is what this one begins with.
+    saved = kept
     for _ in range(random.randrange(1, 12)):
         number += 1
         player.say(f"@describe me as number {number} of many")

@@ -25,7 +25,7 @@ const OUTPUT: &str = "standard output";
 fn main(rt: HostRuntime) -> ExitCode {
     match run(&rt) {
         Ok(status) => ExitCode::from(status),
-        Err(error) => ExitCode::from(ExitReason::from(error).told(&mut io::writer(&rt))),
+        Err(error) => ExitCode::from(ExitReason::from(error).report(&mut io::writer(&rt))),
     }
 }
 

@@ -77,7 +77,7 @@ pub fn with_range(
 }
 
 /// Returns how many of `length` elements come before the one at a place, which counts from 1, if there is one.
-pub(crate) fn before_place(place: i32, length: usize) -> Option<usize>
+pub fn before_place(place: i32, length: usize) -> Option<usize>
     ensures value { result ≡ before_place place length }
     ensures bound { IfSome result (λ k. k < length) }
 {

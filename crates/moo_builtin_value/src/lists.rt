@@ -4,13 +4,12 @@ ghost use Rattle.moo_value.specs.View.{tree, trees};
 ghost use Rattle.moo_value.specs.Size.{weight_limit};
 ghost use Rattle.moo_builtin_operator.specs.Truth.{same_tree, equal};
 ghost use Rattle.moo_builtin_operator.specs.Comparison.{place_value};
-ghost use Rattle.moo_builtin_operator.specs.Assignment.{before_place};
 ghost use Rattle.moo_builtin_value.specs.TextAnswers.{Gives};
 ghost use Rattle.moo_builtin_value.specs.Lists.{brought_to, put_in, taken_out, list_append, list_insert, list_set, set_at, list_delete, delete_at, with_member, set_add, without_found, set_remove, is_member};
 
 use crate::looks::is_same;
 use crate::made::{RANGE, TYPE_MISMATCH, list_answer};
-use moo_builtin_operator::{OperationFault, is_equal};
+use moo_builtin_operator::{OperationFault, before_place, is_equal};
 use moo_value::{MooList, Value};
 use std::alloc::{AllocError, Global};
 use std::mem;
@@ -280,18 +279,6 @@ fn brought_to(place: i32, count: usize) -> usize
         return 0;
     }
     (place as usize).min(count)
-}
-
-// Returns how many elements come before the place, if it is one of `count` places.
-fn before_place(place: i32, count: usize) -> Option<usize>
-    ensures value { result ≡ before_place place count }
-    ensures bound { IfSome result (λ k. k < count) }
-{
-    if place < 1 {
-        return None;
-    }
-    let before = place as usize - 1;
-    if before < count { Some(before) } else { None }
 }
 
 #[tactic(auto, using(crate::proofs::Making::limited_made))]

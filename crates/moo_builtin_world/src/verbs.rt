@@ -1,16 +1,15 @@
 //! Functions that inspect verbs: 'Operations on Verbs' of the LambdaMOO Programmer's Manual, 'Functions over the
 //! world' of docs/reference/language.md. Arguments that don't fit the function's row raise E_TYPE; no call has such arguments.
-ghost use Rattle.std.specs.Prelude.{◌≡◌, ◌<◌, ◌∷◌, [], IfOk, IfSome, length, map};
+ghost use Rattle.std.specs.Prelude.{◌≡◌, ◌∷◌, [], IfOk, length, map};
 ghost use Rattle.moo_value.specs.Tree.{object, string, list_of};
 ghost use Rattle.moo_value.specs.View.{tree, trees};
 ghost use Rattle.moo_builtin_operator.specs.Answer.{limited};
-ghost use Rattle.moo_builtin_operator.specs.Assignment.{before_place};
 ghost use Rattle.moo_builtin_value.specs.TextAnswers.{Gives};
 ghost use Rattle.moo_builtin_world.specs.Verbs.{listed_verbs, verb_place, chosen, info_of_verb, args_of_verb, told_of_verb, chosen_info, verb_info, chosen_args, verb_args};
 
 use crate::allowed::numbered_verb;
 use crate::made::{INVALID_ARGUMENT, PERMISSION, TYPE_MISMATCH, VERB_NOT_FOUND, listed};
-use moo_builtin_operator::OperationFault;
+use moo_builtin_operator::{OperationFault, before_place};
 use moo_value::{MooStr, Value};
 use moo_world::{Rights, World};
 use moo_world_object::{Need, Object, Verb};
@@ -75,17 +74,6 @@ fn verb_place(object: &Object, choice: &Value) -> Option<usize>
         Value::Int(place) => before_place(*place, object.verbs().len()),
         _ => None,
     }
-}
-
-// Returns how many verbs come before the place, if it is one of `count` places.
-fn before_place(place: i32, count: usize) -> Option<usize>
-    ensures { result ≡ before_place place count }
-{
-    if place < 1 {
-        return None;
-    }
-    let before = place as usize - 1;
-    if before < count { Some(before) } else { None }
 }
 
 /// Computes `verb_info(o, v)`: `{owner, perms, names}`, where perms has the letters of `rwxd` that are set. Raises

@@ -1,13 +1,15 @@
 //! The records of a database, and its programs, without a world.
 use crate::databases::LARGER;
-use moo_dbtext_read::{Database, read_programs};
-use moo_dbtext_record::read_records;
+use moo_dbtext_read::{Database, ProgramReader};
+use moo_dbtext_record::RecordReader;
 use std::test::Fail;
 
 #[test]
 fn records_are_read(rt: HostRuntime) -> Result<(), Fail> {
     let alloc = rt.alloc();
-    let dump = read_records(alloc, LARGER)?;
+    let mut reader = RecordReader::new(alloc);
+    reader.feed(alloc, LARGER)?;
+    let dump = reader.finish()?;
     assert_eq!(rt; dump.version, 4);
     assert_eq!(rt; dump.objects.len(), 4);
     Ok(())
@@ -28,7 +30,10 @@ fn count_programs(database: &Database) -> usize {
 
 #[test]
 fn programs_are_read(rt: HostRuntime) -> Result<(), Fail> {
-    let database = read_programs(rt.alloc(), LARGER)?;
+    let alloc = rt.alloc();
+    let mut reader = ProgramReader::new(alloc);
+    reader.feed(alloc, LARGER)?;
+    let database = reader.finish()?;
     assert_eq!(rt; database.objects.len(), 4);
     assert_eq!(rt; count_programs(&database), 2);
     Ok(())

@@ -8,7 +8,7 @@ ghost use Rattle.moo_cli_io.specs.Watching.{HasFailed};
 
 use crate::counts::counts_line;
 use crate::loading::load;
-use moo_cli_io::{ExitReason, Watch, show, tell};
+use moo_cli_io::{ExitReason, Watch, report_fault, show};
 use std::alloc::Global;
 use std::io::{Read, Write};
 use std::mem::forget;
@@ -35,7 +35,7 @@ pub fn check_watched<I: Read, O: Write>(
 {
     match checked(alloc, input, output, watch) {
         Ok(status) => status,
-        Err(refusal) => refusal.told_watched(output, watch),
+        Err(refusal) => refusal.report_watched(output, watch),
     }
 }
 
@@ -58,6 +58,6 @@ fn checked<I: Read, O: Write>(
             forget(saved);
             show(&line, output, watch)
         }
-        Err(fault) => tell(alloc, fault, output, watch),
+        Err(fault) => report_fault(alloc, fault, output, watch),
     }
 }

@@ -10,7 +10,7 @@ ghost use Rattle.moo_cli_check.specs.Shown.{IsAnswered, ShowsAll, survey_text};
 use crate::counts_line;
 use crate::readers::{Answer, survey};
 use crate::told::survey_text;
-use moo_cli_io::{ExitReason, Watch, show, tell};
+use moo_cli_io::{ExitReason, Watch, report_fault, show};
 use moo_dbtext_read::{DbFault, DbFaultKind};
 use std::alloc::Global;
 use std::io::{Read, Write};
@@ -40,13 +40,13 @@ pub fn check_all_watched<I: Read, O: Write>(
 ) -> u8
     ensures { IsAnswered (I.remaining input.old) (O.contents output.old) (O.contents output.new) result ⊎ HasGivenUp (O.contents output.old) (O.contents output.new) watch.new result }
 {
-    match checked(alloc, input, output, watch) {
+    match surveyed(alloc, input, output, watch) {
         Ok(status) => status,
-        Err(refusal) => refusal.told_watched(output, watch),
+        Err(refusal) => refusal.report_watched(output, watch),
     }
 }
 
-fn checked<I: Read, O: Write>(
+fn surveyed<I: Read, O: Write>(
     alloc: Global,
     input: &mut I,
     output: &mut O,
@@ -64,20 +64,20 @@ fn checked<I: Read, O: Write>(
             forget(saved);
             show(&line, output, watch)
         }
-        Answer::Checked(Err(fault)) => tell(alloc, fault, output, watch),
-        Answer::Surveyed(faults, end) => tell_all(alloc, &faults, end, output, watch),
+        Answer::Checked(Err(fault)) => report_fault(alloc, fault, output, watch),
+        Answer::Surveyed(faults, end) => report_all(alloc, &faults, end, output, watch),
     }
 }
 
 // Running out of memory is a refusal of the program's own.
-fn tell_all<O: Write>(
+fn report_all<O: Write>(
     alloc: Global,
     faults: &[DbFault],
     end: Option<DbFault>,
     output: &mut O,
     watch: &mut Watch,
 ) -> Result<u8, ExitReason>
-    ensures told { IfOk result (λ status. (status ≡ 1) × (LacksMemory end → ⊥) × Appends (O.contents output.old) (O.contents output.new) (survey_text faults.now end)) }
+    ensures reported { IfOk result (λ status. (status ≡ 1) × (LacksMemory end → ⊥) × Appends (O.contents output.old) (O.contents output.new) (survey_text faults.now end)) }
     ensures earned { IfErr result (IsEarned watch.new) }
     ensures silent { IfErr result (λ r. HasFailed watch.new ⊎ Keeps (O.contents output.old) (O.contents output.new)) }
 {

@@ -9,7 +9,7 @@ ghost use Rattle.moo_cli_io.specs.Refused.{IsEarned};
 ghost use Rattle.moo_cli_io.specs.Watching.{HasFailed};
 
 use crate::loading::load;
-use moo_cli_io::{ExitReason, Watch, show, tell};
+use moo_cli_io::{ExitReason, Watch, report_fault, show};
 use moo_dbtext::write_db;
 use moo_dbtext_read::Saved;
 use std::alloc::Global;
@@ -38,7 +38,7 @@ pub fn copy_watched<I: Read, O: Write>(
 {
     match copied(alloc, input, output, watch) {
         Ok(status) => status,
-        Err(refusal) => refusal.told_watched(output, watch),
+        Err(refusal) => refusal.report_watched(output, watch),
     }
 }
 
@@ -59,7 +59,7 @@ fn copied<I: Read, O: Write>(
             forget(saved);
             show(&text, output, watch)
         }
-        Err(fault) => tell(alloc, fault, output, watch),
+        Err(fault) => report_fault(alloc, fault, output, watch),
     }
 }
 

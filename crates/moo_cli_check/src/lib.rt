@@ -6,7 +6,6 @@ mod check;
 mod check_all;
 mod copy;
 mod counts;
-mod fault;
 mod loading;
 mod readers;
 mod survey;

@@ -1,39 +1,19 @@
 //! The refused programs of a text that comes in pieces.
-ghost use Rattle.std.specs.Prelude.{◌≡◌, ◌++◌, ℕ, List, [], Ok, Some, OnOk, IfErr, IfNone, IfOk, IfSome};
+ghost use Rattle.std.specs.Prelude.{◌≡◌, ◌++◌, ℕ, List, [], Some, OnOk, IfErr, IfNone, IfSome};
 ghost use Rattle.moo_syntax_ast.specs.Tree.{Block};
 ghost use Rattle.moo_syntax_grammar.specs.declared.names.Names.TheVariants.{Any};
 ghost use Rattle.moo_syntax_grammar.specs.Texts.{IsParsed};
-ghost use Rattle.moo_dbtext_object.specs.Lines.{Line, limited};
+ghost use Rattle.moo_dbtext_object.specs.Lines.{Line};
 ghost use Rattle.moo_dbtext_record.specs.Programs.{entry_at};
 ghost use Rattle.moo_dbtext_record.specs.Sparing.{AreAlikeTaken};
-ghost use Rattle.moo_dbtext_record.specs.Answer.{IsGoing, IsWholeLine, Stops, HasNoEnd, taken_of, taken_on};
-ghost use Rattle.moo_dbtext_read.specs.Reading.{IsSourceRefused, ended_between, verb_at, sources_at};
+ghost use Rattle.moo_dbtext_record.specs.Answer.{IsGoing, IsWholeLine, HasNoEnd, taken_of};
+ghost use Rattle.moo_dbtext_read.specs.Reading.{IsSourceRefused, sources_at};
 ghost use Rattle.moo_cli_check.specs.Reading.{IsBehind, IsNoted, IsEnded, IsWholly};
 
-use crate::fault::kind_of_source;
-use moo_dbtext_record::{DbFault, DbFaultKind, RecordFault, RecordReader, first_line};
+use moo_dbtext_read::{kind_of_source, take_line};
+use moo_dbtext_record::{DbFault, DbFaultKind, RecordReader, first_line};
 use moo_syntax::{Names, parse};
 use std::alloc::Global;
-
-/// Takes a line with its end. Returns the object and verb whose program the line ends, if it ends one.
-fn take_line(
-    alloc: Global,
-    records: &mut RecordReader,
-    line: &[u8],
-) -> Result<Option<(u32, u32)>, RecordFault>
-    requires { IsWholeLine line.now }
-    ensures steps { IsGoing records.old → OnOk result (taken_on limited (taken_of records.old) line.now ≡ Ok (taken_of records.new)) }
-    ensures stops { IsGoing records.old → IfErr result (λ e. Stops e (taken_on limited (taken_of records.old) line.now)) }
-    ensures ok { OnOk result (IsGoing records.new) }
-    ensures ended { IfOk result (λ verb. verb ≡ ended_between (verb_at records.old) (verb_at records.new)) }
-{
-    let verb = records.verb();
-    records.feed_line(alloc, line)?;
-    match records.verb() {
-        Some(_) => Ok(None),
-        None => Ok(verb),
-    }
-}
 
 /// Returns the fault of the source of a verb whose dot has come, or `None` if the source is a program.
 fn source_fault(alloc: Global, records: &RecordReader, object: u32, verb: u32) -> Option<DbFault>

@@ -33,7 +33,7 @@ pub fn expr_watched<I: BufRead, O: Write>(
 {
     match evaluated(alloc, input, output, watch) {
         Ok(status) => status,
-        Err(refusal) => refusal.told_watched(output, watch),
+        Err(refusal) => refusal.report_watched(output, watch),
     }
 }
 

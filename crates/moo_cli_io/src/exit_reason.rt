@@ -42,16 +42,16 @@ impl ExitReason {
     }
 
     /// Writes the refusal as a line, if the output still takes it, and returns the exit status.
-    pub fn told<O: Write>(self, output: &mut O) -> u8
+    pub fn report<O: Write>(self, output: &mut O) -> u8
         ensures { result ≡ refusal_status self }
     {
-        self.told_watched(output, &mut Watch::new())
+        self.report_watched(output, &mut Watch::new())
     }
 
-    /// Writes the refusal and returns the exit status as `told` does, with the output watched.
-    pub fn told_watched<O: Write>(self, output: &mut O, watch: &mut Watch) -> u8
+    /// Writes the refusal and returns the exit status as `report` does, with the output watched.
+    pub fn report_watched<O: Write>(self, output: &mut O, watch: &mut Watch) -> u8
         ensures status { result ≡ refusal_status self }
-        ensures told { HasFailed watch.new ⊎ Appends (O.contents output.old) (O.contents output.new) (refusal_line self) }
+        ensures reported { HasFailed watch.new ⊎ Appends (O.contents output.old) (O.contents output.new) (refusal_line self) }
         ensures remembers { Remembers watch.old watch.new }
     {
         let _ = watch.write(output, self.line());

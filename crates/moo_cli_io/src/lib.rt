@@ -13,6 +13,6 @@ mod watch;
 pub use device::{Device, log_error, open};
 pub use exit_reason::ExitReason;
 pub use part::{LinePart, PartEnd, next_part};
-pub use report::{show, tell};
+pub use report::{report_fault, show};
 pub use told::fault_line;
 pub use watch::Watch;

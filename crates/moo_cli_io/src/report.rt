@@ -27,13 +27,13 @@ pub fn show<O: Write>(text: &[u8], output: &mut O, watch: &mut Watch) -> Result<
 
 /// Writes a line that says why a database is refused, and returns the exit status 1. Returns a refusal if the output
 /// fails or memory runs out, and also if the fault itself is `Memory`.
-pub fn tell<O: Write>(
+pub fn report_fault<O: Write>(
     alloc: Global,
     fault: DbFault,
     output: &mut O,
     watch: &mut Watch,
 ) -> Result<u8, ExitReason>
-    ensures told { IfOk result (λ status. (status ≡ 1) × (fault.kind ≢ DbFaultKind.Memory) × Appends (O.contents output.old) (O.contents output.new) (fault_line fault)) }
+    ensures reported { IfOk result (λ status. (status ≡ 1) × (fault.kind ≢ DbFaultKind.Memory) × Appends (O.contents output.old) (O.contents output.new) (fault_line fault)) }
     ensures earned { IfErr result (IsEarned watch.new) }
     ensures silent { IfErr result (λ r. HasFailed watch.new ⊎ Keeps (O.contents output.old) (O.contents output.new)) }
 {

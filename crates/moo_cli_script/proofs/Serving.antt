@@ -15,7 +15,7 @@ use Rattle.moo_cli_io.specs.Watching.{HasFailed, Remembers}
 use Rattle.moo_cli_io.specs.declared.exit_reason.ExitReason.{ExitReason}
 use Rattle.moo_cli_io.specs.declared.watch.Watch.{Watch}
 use Rattle.moo_cli_script.specs.declared.script.Script.{Script}
-use Rattle.moo_cli_script.specs.Script.{HandsOut, NotOpened, Opens, ScriptDisk, printed_below}
+use Rattle.moo_cli_script.specs.Script.{HandsOut, NotOpened, OpensServer, ScriptDisk, printed_below}
 use Rattle.moo_cli_script.specs.Told.{opening_line, opening_status}
 use Rattle.moo_cli_script.specs.Playing.{GivesUp, Holds, IsAnswered, PlaysInput, ShowsScript}
 use Rattle.moo_cli_script.specs.Works.{HasGrown, IsEarnedIn, printed_of}
@@ -51,7 +51,7 @@ module _ {S Application : Type 0} (l : Layer S Application Saved) where
   shows database input old new loading watch status (inr gives) = inr (gives.refusal, gives.is)
 
   pub served : (database input old mid new : Option (List ℕ)) (text : List ℕ) (disk : ScriptDisk) (opened start : Script S) (status : ℕ)
-      → IfSome database (λ bytes. text ≡ bytes) → Holds text disk → Opens l disk 0 opened → HandsOut l opened start → Appends old mid [] → PlaysInput l start input mid new status
+      → IfSome database (λ bytes. text ≡ bytes) → Holds text disk → OpensServer l disk 0 opened → HandsOut l opened start → Appends old mid [] → PlaysInput l start input mid new status
       → IsAnswered l database input old new status
   served None input old mid new text disk opened start status read holds opens hands none plays = tt
   served (Some db) None old mid new text disk opened start status read holds opens hands none plays = tt

@@ -11,7 +11,7 @@ use Rattle.moo_cli_script.specs.declared.script.Refused.TheVariants as refusing
 use Rattle.moo_cli_script.specs.declared.script.Script.{Script}
 use Rattle.moo_cli_script.specs.declared.work.Work.{Work}
 use Rattle.moo_cli_script.specs.declared.work.Work.TheVariants as work
-use Rattle.moo_cli_script.specs.Script.{Crashes, Does, IsRefused, IsToFail, NotCrashed, NotOpened, NotTaken, Opens, Takes, disk_view, event_of, shown_of}
+use Rattle.moo_cli_script.specs.Script.{Crashes, Does, IsRefused, IsToFail, NotCrashed, NotOpened, NotTaken, OpensServer, Takes, disk_view, event_of, shown_of}
 use Rattle.moo_cli_script.specs.Works.{IsWork, is_show}
 
 module _ {S Application : Type 0} (l : Layer S Application Saved) where
@@ -58,7 +58,7 @@ module _ {S Application : Type 0} (l : Layer S Application Saved) where
   pub fail_done : (w : Work) (k : ℕ) (effect : Bool) (old new : Script S) → w ≡ work.Fail k effect → IsToFail l k effect old new → (s : Step) → IsWork w s → Does l s old new
   fail_done w k effect old new is fails s does = subst (λ (x : Step). Does l x old new) (sym (subst (λ (x : Work). IsWork x s) is does)) fails
 
-  pub reopen_done : (w : Work) (old new : Script S) → w ≡ work.Reopen → Opens l old.disk old.server.moment new → (s : Step) → IsWork w s → Does l s old new
+  pub reopen_done : (w : Work) (old new : Script S) → w ≡ work.Reopen → OpensServer l old.disk old.server.moment new → (s : Step) → IsWork w s → Does l s old new
   reopen_done w old new is opens s does = subst (λ (x : Step). Does l x old new) (sym (subst (λ (x : Work). IsWork x s) is does)) opens
 
   pub reopen_refused : (w : Work) (old : Script S) (fault : _) → w ≡ work.Reopen → NotOpened old.disk fault → (s : Step) → IsWork w s → IsRefused l s old (refusing.Opening fault)

@@ -7,7 +7,7 @@ use Rattle.moo_server_core.specs.Seen.{Event, seen}
 use Rattle.moo_server_core.specs.Server.{Hands}
 use Rattle.moo_server_core.specs.Calls.{Call, Calls, HandsOn, Lent, One}
 use Rattle.moo_server_core.specs.declared.server_core.ServerCore.{ServerCore}
-use Rattle.moo_cli_script.specs.ScriptLines.{Asks, Step, opening, typing, sending, hanging_up, moment, flushing, failing, reopening, crashing, showing}
+use Rattle.moo_cli_script.specs.ScriptLines.{Asks, Step, reopening, crashing}
 use Rattle.moo_cli_script.specs.Script.{ScriptDisk, disk_honest, disk_view, event_of}
 
 -- the step opens another server

@@ -1,6 +1,6 @@
 -- What a step of a script does to a server and its disk.
 pub mod Script
--- What is told where a script ends.
+-- What is printed at the end of a script.
 pub mod Told
 -- What all lines of a script do.
 pub mod Playing

@@ -18,11 +18,11 @@ use Rattle.moo_cli_script.specs.Lines.{lines_of}
 use Rattle.moo_cli_script.specs.declared.script.Script.{Script}
 use Rattle.moo_cli_script.specs.declared.telling.Stop.{Stop}
 use Rattle.moo_cli_script.specs.declared.telling.Stop.TheVariants as stopping
-use Rattle.moo_cli_script.specs.Script.{Does, HandsOut, IsRefused, NotOpened, Opens, ScriptDisk, disk_view, printed_below, shown_of}
+use Rattle.moo_cli_script.specs.Script.{Does, HandsOut, IsRefused, NotOpened, OpensServer, ScriptDisk, disk_view, printed_below, shown_of}
 use Rattle.moo_cli_script.specs.Told.{opening_line, opening_status, stop_line, stop_status}
 
--- The program gave up with this status: where a device is told, a call of one has answered an error, or the most reads of an input were
--- made; where memory is told, a call has answered that it was wanting. The refusal's line is the last that was printed, unless the
+-- The program gave up with this status. If a device is reported, a call of one has returned an error, or the most reads of an input were
+-- made. If memory is reported, a call has returned that it ran out. The refusal's line is the last that was printed, unless the
 -- script's input or the output has failed.
 pub record GivesUp (old new : Option (List ℕ)) (database script : Watch) (status : ℕ) : Type 0 where
   pub refusal : ExitReason
@@ -38,7 +38,7 @@ pub record Holds (text : List ℕ) (disk : ScriptDisk) : Type 0 where
   pub call : left_of disk ≡ 0
 
 module _ {S Application : Type 0} (l : Layer S Application Saved) where
-  -- A line was taken: what it asks for was done, and behind it this was printed.
+  -- A line was taken: what it asks for was done, and then this was printed.
   pub record IsTaken (line : List ℕ) (old new : Script S) (text : List ℕ) : Type 0 where
     pub step : Step
     pub asks : Asks line step
@@ -63,7 +63,7 @@ module _ {S Application : Type 0} (l : Layer S Application Saved) where
   EndsAt script number line text status =
       (stop : Stop) × IsStop script line stop × (text ≡ stop_line number stop) × (status ≡ stop_status stop)
 
-  -- behind so many lines the script ends: none is left, or the next isn't taken
+  -- after so many lines the script ends: none is left, or the next isn't taken
   abbrev pub Ends : Script S → ℕ → List (List ℕ) → List ℕ → ℕ → Type 0
   Ends script number [] text status = (text ≡ []) × (status ≡ 0)
   Ends script number (line ∷ lines) text status = EndsAt script (number + 1) line text status
@@ -85,7 +85,7 @@ module _ {S Application : Type 0} (l : Layer S Application Saved) where
     pub disk : ScriptDisk
     pub holds : Holds database disk
     pub opened : Script S
-    pub opens : Opens l disk 0 opened
+    pub opens : OpensServer l disk 0 opened
     pub start : Script S
     pub hands : HandsOut l opened start
     pub plays : Plays start lines text status

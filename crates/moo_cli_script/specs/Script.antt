@@ -54,7 +54,7 @@ pub record IsCrashed (i : ℕ) (old new : ScriptDisk) : Type 0 where
   pub spare : (disk_view new).spare ≡ None
   pub call : left_of new ≡ 0
 
--- Why there is no server over a disk: where the text is refused, this is what is told of it, and it spells no saved world within the
+-- Why there is no server over a disk: if the text is refused, this is the fault that is reported, and it spells no saved world within the
 -- limits.
 pub record NotOpened (disk : ScriptDisk) (fault : OpenFault) : Type 0 where
   pub text : (f : DbFault) → fault ≡ opening_fault.Db f → RefusesText (disk_view disk).main_text f × (f.kind ≢ kind.Memory)
@@ -109,7 +109,7 @@ module _ {S Application : Type 0} (l : Layer S Application Saved) where
     pub cause_is : cause ≡ fault.cause
 
   -- a server was opened over a disk, at a moment, from a saved world that main spells within the limits of database texts
-  pub record Opens (disk : ScriptDisk) (at : ℕ) (new : Script S) : Type 0 where
+  pub record OpensServer (disk : ScriptDisk) (at : ℕ) (new : Script S) : Type 0 where
     pub saved : Saved
     pub spelled : SpellsSavedWithin (disk_view disk).main_text saved
     pub opened : Opened l disk_view disk_honest new.server disk new.disk saved at
@@ -119,7 +119,7 @@ module _ {S Application : Type 0} (l : Layer S Application Saved) where
   pub record Crashes (i : ℕ) (old new : Script S) : Type 0 where
     pub left : ScriptDisk
     pub crashed : IsCrashed i old.disk left
-    pub opens : Opens left old.server.moment new
+    pub opens : OpensServer left old.server.moment new
 
   -- a call of the disk is to fail, and nothing else is another
   pub record IsToFail (k : ℕ) (effect : Bool) (old new : Script S) : Type 0 where
@@ -130,7 +130,7 @@ module _ {S Application : Type 0} (l : Layer S Application Saved) where
   -- what a step does
   abbrev pub Does : Step → Script S → Script S → Type 0
   Does (failing k effect) old new = IsToFail k effect old new
-  Does reopening old new = Opens old.disk old.server.moment new
+  Does reopening old new = OpensServer old.disk old.server.moment new
   Does (crashing i) old new = Crashes i old new
   Does showing old new = new ≡ old
   Does event old new = MatchOption (event_of event) ⊥ (λ e. Takes e old new)
@@ -171,7 +171,7 @@ module _ {S Application : Type 0} (l : Layer S Application Saved) where
     pub disk : new.disk ≡ old.disk
     pub top : new.top ≡ old.top
 
-  -- the main text, where it is to be shown
+  -- the main text, if it is to be shown
   abbrev pub shown_of : Step → Script S → List ℕ
   shown_of showing script = (disk_view script.disk).main_text
   shown_of step script = []

@@ -1,4 +1,4 @@
--- What is told where a script ends, and with which status.
+-- What is printed at the end of a script, and the exit status.
 use Rattle.std.specs.Prelude.{ℕ, List, codes}
 use Rattle.moo_cli_script.specs.Printed.{bad_line}
 use Rattle.moo_cli_script.specs.declared.telling.Stop.{Stop}

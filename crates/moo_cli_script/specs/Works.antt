@@ -1,4 +1,4 @@
--- Words of private clauses: the work of a line, and what comes behind a line.
+-- Words of private clauses: the work of a line, and what comes after a line.
 use Rattle.std.specs.Prelude.{◌≡◌, ◌⊎◌, ℕ, Bool, true, false, List, [], ◌++◌, Option, Some, if◌then◌else◌}
 use Rattle.std.specs.Io.KnownBytes.{Appends, Keeps}
 use Rattle.moo_dbtext_read.specs.Saved.{Saved}
@@ -34,12 +34,12 @@ abbrev pub is_show : Work → Bool
 is_show work.Show = true
 is_show other = false
 
--- the moment behind an event that isn't passed over
+-- the moment after an event that isn't passed over
 abbrev pub told_at : Event → ℕ → ℕ
 told_at (Moment t) now = t
 told_at event now = now
 
--- a server's moment behind an event that it takes
+-- a server's moment after an event that it takes
 abbrev pub moment_at : Course → Event → ℕ → ℕ
 moment_at Running event now = told_at event now
 moment_at course event now = now

@@ -2,7 +2,7 @@
 ghost use Rattle.std.specs.Prelude.{◌≡◌, ◌≤◌, IfErr, IfOk, OnOk};
 ghost use Rattle.moo_server_core.specs.Seen.{seen};
 ghost use Rattle.moo_server_core.specs.Server.{IsAlive};
-ghost use Rattle.moo_cli_script.specs.Script.{Crashes, Fits, IsToFail, NotCrashed, NotOpened, Opens, Refuses, Takes, top_behind};
+ghost use Rattle.moo_cli_script.specs.Script.{Crashes, Fits, IsToFail, NotCrashed, NotOpened, OpensServer, Refuses, Takes, top_behind};
 ghost use Rattle.moo_cli_script.specs.Works.{moment_at};
 
 use crate::script::{Refused, Script};
@@ -19,7 +19,7 @@ impl<S: StartApplication> Script<S> {
         disk: FailAt<MemoryDisk>,
         moment: u32,
     ) -> Result<Script<S>, OpenFault>
-        ensures opens { IfOk result (Opens S.layer disk moment) }
+        ensures opens { IfOk result (OpensServer S.layer disk moment) }
         ensures fits { IfOk result (Fits S.layer) }
         ensures refused { IfErr result (NotOpened disk) }
     {
@@ -101,7 +101,7 @@ impl<S: StartApplication> Script<S> {
     /// Opens another server over the disk as it reads, at the same moment. A call that is set to fail still fails.
     pub(crate) fn reopen(self, alloc: Global) -> Result<Script<S>, OpenFault>
         requires { Fits S.layer self }
-        ensures opens { IfOk result (Opens S.layer self.disk self.server.moment) }
+        ensures opens { IfOk result (OpensServer S.layer self.disk self.server.moment) }
         ensures fits { IfOk result (Fits S.layer) }
         ensures refused { IfErr result (NotOpened self.disk) }
     {

@@ -6,7 +6,7 @@ ghost use Rattle.moo_cli_script.specs.Playing.{PlaysInput};
 ghost use Rattle.moo_cli_script.specs.Works.{HasGrown, IsDone, IsNext, IsSilent};
 
 use crate::script::Script;
-use crate::telling::{Stop, tell_stop};
+use crate::telling::{Stop, report_stop};
 use crate::work::{Work, follow, work_of};
 use crate::{next_line, read_script_line};
 use log::Log;
@@ -44,7 +44,7 @@ pub(crate) fn play<S: StartApplication, R: Log, I: BufRead, O: Write>(
         number += 1;
         match play_line(alloc, rt, script, line.as_slice(), output, watch)? {
             Next::Goes(next) => script = next,
-            Next::Stops(stop) => return tell_stop(alloc, stop, number, output, watch),
+            Next::Stops(stop) => return report_stop(alloc, stop, number, output, watch),
         }
     }
     Ok(0)

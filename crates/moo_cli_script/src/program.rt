@@ -6,7 +6,7 @@ ghost use Rattle.moo_cli_script.specs.Works.{HasGrown, IsEarnedIn};
 
 use crate::playing::play;
 use crate::script::Script;
-use crate::telling::tell_opening;
+use crate::telling::report_opening;
 use crate::whole_text;
 use log::Log;
 use moo_cli_io::{ExitReason, Watch};
@@ -54,7 +54,7 @@ pub fn script_watched<S: StartApplication, R: Log, F: Read, I: BufRead, O: Write
 {
     match serve::<S, R, F, I, O>(alloc, rt, database, input, output, loading, watch) {
         Ok(status) => status,
-        Err(refusal) => refusal.told_watched(output, watch),
+        Err(refusal) => refusal.report_watched(output, watch),
     }
 }
 
@@ -79,6 +79,6 @@ fn serve<S: StartApplication, R: Log, F: Read, I: BufRead, O: Write>(
             script.hand_out(rt, false, output, watch)?;
             play(alloc, rt, script, input, output, watch)
         }
-        Err(fault) => tell_opening(alloc, fault, output, watch),
+        Err(fault) => report_opening(alloc, fault, output, watch),
     }
 }

@@ -8,7 +8,7 @@ ghost use Rattle.moo_cli_script.specs.Told.{cause_line, cause_status, opening_li
 use crate::print_bad_line;
 use crate::script::Refused;
 use moo_checkpoint::OpenFault;
-use moo_cli_io::{ExitReason, Watch, tell};
+use moo_cli_io::{ExitReason, Watch, report_fault};
 use moo_server_core::Cause;
 use std::alloc::Global;
 use std::io::Write;
@@ -23,14 +23,14 @@ pub(crate) enum Stop {
 }
 
 /// Prints why a script ends at the line of this number, counted from 1, and returns the exit status.
-pub(crate) fn tell_stop<O: Write>(
+pub(crate) fn report_stop<O: Write>(
     alloc: Global,
     stop: Stop,
     number: u64,
     output: &mut O,
     watch: &mut Watch,
 ) -> Result<u8, ExitReason>
-    ensures told { IfOk result (λ status. (status ≡ stop_status stop) × Appends (O.contents output.old) (O.contents output.new) (stop_line number stop)) }
+    ensures reported { IfOk result (λ status. (status ≡ stop_status stop) × Appends (O.contents output.old) (O.contents output.new) (stop_line number stop)) }
     ensures earned { IfErr result (IsEarned watch.new) }
     ensures silent { IfErr result (λ r. IsSilent watch.new (O.contents output.old) (O.contents output.new)) }
 {
@@ -39,18 +39,18 @@ pub(crate) fn tell_stop<O: Write>(
             print_bad_line(number, output, watch)?;
             Ok(5)
         }
-        Stop::Refused(refused) => tell_refused(alloc, refused, output, watch),
+        Stop::Refused(refused) => report_refused(alloc, refused, output, watch),
     }
 }
 
 /// Prints why a line isn't done, and returns the exit status.
-fn tell_refused<O: Write>(
+fn report_refused<O: Write>(
     alloc: Global,
     refused: Refused,
     output: &mut O,
     watch: &mut Watch,
 ) -> Result<u8, ExitReason>
-    ensures told { IfOk result (λ status. (status ≡ refused_status refused) × Appends (O.contents output.old) (O.contents output.new) (refused_line refused)) }
+    ensures reported { IfOk result (λ status. (status ≡ refused_status refused) × Appends (O.contents output.old) (O.contents output.new) (refused_line refused)) }
     ensures earned { IfErr result (IsEarned watch.new) }
     ensures silent { IfErr result (λ r. IsSilent watch.new (O.contents output.old) (O.contents output.new)) }
 {
@@ -59,7 +59,7 @@ fn tell_refused<O: Write>(
             watch.write(output, cause_line(cause))?;
             Ok(cause_status(cause))
         }
-        Refused::Opening(fault) => tell_opening(alloc, fault, output, watch),
+        Refused::Opening(fault) => report_opening(alloc, fault, output, watch),
         Refused::NoSuchImage => {
             watch.write(output, b"refused: NoSuchImage\n")?;
             Ok(5)
@@ -68,18 +68,18 @@ fn tell_refused<O: Write>(
 }
 
 /// Prints why there is no server, and returns the exit status.
-pub(crate) fn tell_opening<O: Write>(
+pub(crate) fn report_opening<O: Write>(
     alloc: Global,
     fault: OpenFault,
     output: &mut O,
     watch: &mut Watch,
 ) -> Result<u8, ExitReason>
-    ensures told { IfOk result (λ status. (status ≡ opening_status fault) × Appends (O.contents output.old) (O.contents output.new) (opening_line fault)) }
+    ensures reported { IfOk result (λ status. (status ≡ opening_status fault) × Appends (O.contents output.old) (O.contents output.new) (opening_line fault)) }
     ensures earned { IfErr result (IsEarned watch.new) }
     ensures silent { IfErr result (λ r. IsSilent watch.new (O.contents output.old) (O.contents output.new)) }
 {
     match fault {
-        OpenFault::Db(fault) => tell(alloc, fault, output, watch),
+        OpenFault::Db(fault) => report_fault(alloc, fault, output, watch),
         OpenFault::Device => {
             watch.write(output, b"refused: Device\n")?;
             Ok(3)

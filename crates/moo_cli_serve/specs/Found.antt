@@ -1,7 +1,7 @@
 -- A stop at some moment of what a server did over a disk, and what a start over what it left finds.
 use Rattle.std.specs.Prelude.{◌≡◌, ◌⊎◌, ℕ, List, [], ◌∷◌, ◌++◌, Result, MatchResult}
 use Rattle.moo_disk.specs.Disk.{DiskView}
-use Rattle.moo_dbtext_read.specs.Saved.{Saved, SpellsSavedWithin, saved_of}
+use Rattle.moo_dbtext_read.specs.Saved.{Saved, saved_of}
 use Rattle.moo_dbtext_read.specs.declared.saved.Saved as stored
 use Rattle.moo_checkpoint.specs.Recovering.{Recovers}
 use Rattle.moo_checkpoint.specs.declared.open_fault.OpenFault.{OpenFault}

@@ -12,6 +12,7 @@ pub fn canonical_bytes_spell_the_saved_world()
 {}
 
 pub use crate::dump_laws::worlds_are_writable;
+pub use crate::round_trip_laws::written_and_read;
 pub use moo_dbtext_object::laws::{
     limits_only_refuse as limits_only_refuse_objects, read_objects_are_written,
     written_objects_are_read,

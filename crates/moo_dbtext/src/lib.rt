@@ -7,6 +7,7 @@ pub mod laws;
 mod link;
 mod object;
 mod program;
+mod round_trip_laws;
 mod world;
 mod writing;
 
@@ -14,4 +15,4 @@ pub use moo_dbtext_read::{
     DbFault, DbFaultKind, DbReader, ProgramFault, ProgramFaultKind, Saved, read_db,
 };
 pub use world::write_world;
-pub use writing::{write_db, write_world_and_connected, written_and_read};
+pub use writing::{write_db, write_world_and_connected};

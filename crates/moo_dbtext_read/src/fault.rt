@@ -20,7 +20,7 @@ fn told_kind(kind: &SyntaxFaultKind) -> Option<ProgramFaultKind>
 }
 
 /// Returns the fault to report for a verb whose source has this syntax fault.
-pub(crate) fn kind_of_source(object: u32, verb: u32, fault: &SyntaxFault) -> DbFaultKind
+pub fn kind_of_source(object: u32, verb: u32, fault: &SyntaxFault) -> DbFaultKind
     ensures { result ≡ source_kind object verb fault.now.line fault.now.kind }
 {
     match told_kind(&fault.kind) {

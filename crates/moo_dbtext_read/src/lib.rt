@@ -18,7 +18,8 @@ mod world_reader;
 
 pub use database::Database;
 pub use db_reader::DbReader;
+pub use fault::kind_of_source;
 pub use moo_dbtext_record::{DbFault, DbFaultKind, ProgramFault, ProgramFaultKind};
-pub use program_reader::{ProgramReader, read_programs};
+pub use program_reader::{ProgramReader, take_line};
 pub use saved::Saved;
 pub use text::read_db;

@@ -1,14 +1,12 @@
 //! A reader of texts that come in pieces, with the programs in them.
-ghost use Rattle.std.specs.Prelude.{◌≡◌, ◌++◌, ℕ, List, [], Some, Ok, OnOk, IfErr, IfOk, IsErrOf, MatchResult};
+ghost use Rattle.std.specs.Prelude.{◌≡◌, ◌++◌, ℕ, List, [], Some, Ok, OnOk, IfErr, IfOk, IsErrOf};
 ghost use Rattle.moo_dbtext_object.specs.Lines.{Line, limited};
 ghost use Rattle.moo_dbtext_record.specs.Programs.{entry_at};
-ghost use Rattle.moo_dbtext_record.specs.Texts.{Text, Spells, SpellsWithin, text_of};
+ghost use Rattle.moo_dbtext_record.specs.Texts.{text_of};
 ghost use Rattle.moo_dbtext_record.specs.Sparing.{AreAlikeTaken, has_objects};
-ghost use Rattle.moo_dbtext_record.specs.Answer.{IsGoing, IsWholeLine, Stops, HasNoEnd, taken_of, taken_on, begin, front_lines, Stand, StandWithoutLimits};
-ghost use Rattle.moo_dbtext_record.specs.declared.fault.ProgramFault.{ProgramFault};
+ghost use Rattle.moo_dbtext_record.specs.Answer.{IsGoing, IsWholeLine, Stops, HasNoEnd, taken_of, taken_on, begin};
 ghost use Rattle.moo_dbtext_record.specs.declared.fault.DbFault.{DbFault};
-ghost use Rattle.moo_dbtext_read.specs.Says.{IsParsedAs, programs_of, Says, HasPrograms, HasProgramsWithin};
-ghost use Rattle.moo_dbtext_read.specs.Faults.{IsProgramFault, IsOfLine, IsOfLimits};
+ghost use Rattle.moo_dbtext_read.specs.Says.{IsParsedAs, programs_of};
 ghost use Rattle.moo_dbtext_read.specs.Reading.{IsBehind, IsRefused, HasRead, IsWell, HasRefused, Answers, lines_of, ended_between, verb_at, sources_at, place_of, IsSourceRefused};
 
 use crate::database::Database;
@@ -22,7 +20,7 @@ use std::alloc::Global;
 
 /// Takes a line with its end. Returns the object and verb whose program the line ends, if it ends one.
 #[inline(always)]
-fn take_line(
+pub fn take_line(
     alloc: Global,
     records: &mut RecordReader,
     line: &[u8],
@@ -241,37 +239,4 @@ impl ProgramReader {
         let dump = self.records.finish()?;
         Ok(with_programs(dump, self.programs))
     }
-}
-
-fn read_all(alloc: Global, bytes: &[u8]) -> Result<Database, DbFault>
-    ensures { Answers result bytes.now }
-{
-    let mut reader = ProgramReader::new(alloc);
-    reader.feed(alloc, bytes)?;
-    reader.finish()
-}
-
-/// Reads a whole text with its programs. Returns the first fault, or `Memory`.
-pub fn read_programs(alloc: Global, bytes: &[u8]) -> Result<Database, DbFault>
-    // The bytes spell, within the limits, a text with the contents that are returned.
-    ensures found { IfOk result (λ d. (t : Text) × (SpellsWithin bytes.now t × Says t d)) }
-    // If the bytes spell a text whose sources are programs, the reader returns its contents, unless memory runs out
-    // or a limit is exceeded.
-    ensures only { (t : Text) → Spells bytes.now t → HasPrograms t → MatchResult result (Says t) (λ e. IsOfLimits e.kind) }
-    // If text and programs are within the limits, the reader returns the contents, unless memory runs out.
-    ensures within { (t : Text) → SpellsWithin bytes.now t → HasProgramsWithin t → MatchResult result (Says t) (λ e. e.kind ≡ DbFaultKind.Memory) }
-    // No text begins with the lines up to the reported one.
-    ensures place { IfErr result (λ e. IsOfLine e.kind → (more : List ℕ) (t : Text) → ¬ (Spells (front_lines e.line bytes.now ++ more) t)) }
-    // If a program is reported, the bytes have it there, and its source is no program.
-    ensures program { IfErr result (λ e. (object verb : ℕ) (fault : ProgramFault) → e.kind ≡ DbFaultKind.Program object verb fault → IsProgramFault bytes.now e.line object verb fault) }
-    // If a size is reported, no text within the limits begins with the lines up to that one.
-    ensures size { IfErr result (λ e. e.kind ≡ DbFaultKind.TooLarge → (more : List ℕ) (t : Text) → ¬ (SpellsWithin (front_lines e.line bytes.now ++ more) t)) }
-    // A size is reported only of a line that would be right without limits,
-    ensures large { IfErr result (λ e. e.kind ≡ DbFaultKind.TooLarge → StandWithoutLimits e.line bytes.now) }
-    // and that is wrong with them.
-    ensures past { IfErr result (λ e. e.kind ≡ DbFaultKind.TooLarge → ¬ (Stand limited e.line bytes.now)) }
-    // The answer is that of a reader that is fed these bytes in any pieces.
-    ensures exact { Answers result bytes.now }
-{
-    read_all(alloc, bytes)
 }

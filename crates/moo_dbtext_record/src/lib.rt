@@ -14,7 +14,7 @@ mod writing;
 pub use dump::{Connection, Dump, Form};
 pub use fault::{DbFault, DbFaultKind, ProgramFault, ProgramFaultKind};
 pub use program_table::Source;
-pub use record_reader::{RecordFault, RecordReader, first_line, read_records};
+pub use record_reader::{RecordFault, RecordReader, first_line};
 pub use writing::{
     put_connections, put_header, put_live, put_players, put_program, put_program_line,
     put_recycled, put_tasks,

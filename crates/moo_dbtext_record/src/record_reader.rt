@@ -1,13 +1,13 @@
 //! A reader of whole texts that come in pieces.
-ghost use Rattle.std.specs.Prelude.{◌≡◌, ◌<◌, ◌≤◌, ℕ, ◌++◌, List, [], Ok, Some, None, take, length, OnOk, IfErr, IfOk, IfSome, IsErrOf, MatchOption};
+ghost use Rattle.std.specs.Prelude.{◌≡◌, ◌<◌, ◌≤◌, ℕ, ◌++◌, List, [], Ok, Some, None, take, length, OnOk, IfErr, IfSome, IsErrOf, MatchOption};
 ghost use Rattle.memchr.specs.Find.{IsFirstByte, is_byte};
 ghost use Rattle.moo_dbtext_object.specs.Lines.{Gives, limited};
-ghost use Rattle.moo_dbtext_record.specs.Texts.{Text, Spells, SpellsWithin, text_of};
+ghost use Rattle.moo_dbtext_record.specs.Texts.{text_of};
 ghost use Rattle.moo_dbtext_record.specs.declared.record_reader.RecordFault.{RecordFault};
 ghost use Rattle.moo_dbtext_record.specs.DumpReading.{progress_of, verb_read, dump_step};
 ghost use Rattle.moo_dbtext_record.specs.Programs.{entry_at};
 ghost use Rattle.moo_dbtext_record.specs.Sparing.{AreAlikeTaken, IsAt, AnswersBut, has_objects};
-ghost use Rattle.moo_dbtext_record.specs.Answer.{Answers, HasTaken, IsGoing, HasFailed, Stand, StandWithoutLimits, taken_of, taken_on, line_ended, finished, answer_to, HasNoEnd, IsWholeLine, IsOfLine, IsOfSize, IsReadOrTooLarge, front_lines};
+ghost use Rattle.moo_dbtext_record.specs.Answer.{Answers, HasTaken, IsGoing, HasFailed, taken_of, taken_on, line_ended, finished, answer_to, HasNoEnd, IsWholeLine};
 
 use crate::dump::Dump;
 use crate::dump_reader::DumpReader;
@@ -258,34 +258,4 @@ impl RecordReader {
         }
         self.end()
     }
-}
-
-fn read_all(alloc: Global, bytes: &[u8]) -> Result<Dump, RecordFault>
-    ensures { Answers text_of result (answer_to limited bytes.now) }
-{
-    let mut reader = RecordReader::new(alloc);
-    reader.feed(alloc, bytes)?;
-    reader.finish()
-}
-
-/// Reads the records of a whole text. Returns the first fault, or `Memory`.
-pub fn read_records(alloc: Global, bytes: &[u8]) -> Result<Dump, RecordFault>
-    // The bytes spell, within the limits, the text that is returned.
-    ensures found { IfOk result (λ d. SpellsWithin bytes.now (text_of d)) }
-    // If the bytes spell a text, the reader returns it, unless memory runs out or a limit is exceeded.
-    ensures only { (t : Text) → Spells bytes.now t → IsReadOrTooLarge text_of t result }
-    // If the text is within the limits, the reader returns it, unless memory runs out.
-    ensures within { (t : Text) → SpellsWithin bytes.now t → Answers text_of result (Ok t) }
-    // No text begins with the lines up to the reported one.
-    ensures place { IfErr result (λ e. IsOfLine e.kind → (more : List ℕ) (t : Text) → ¬ (Spells (front_lines e.line bytes.now ++ more) t)) }
-    // If a size is reported, no text within the limits begins with the lines up to that one.
-    ensures size { IfErr result (λ e. IsOfSize e.kind → (more : List ℕ) (t : Text) → ¬ (SpellsWithin (front_lines e.line bytes.now ++ more) t)) }
-    // A size is reported only of a line that would be right without limits,
-    ensures large { IfErr result (λ e. IsOfSize e.kind → StandWithoutLimits e.line bytes.now) }
-    // and that is wrong with them.
-    ensures past { IfErr result (λ e. IsOfSize e.kind → ¬ (Stand limited e.line bytes.now)) }
-    // The answer is that of a reader that is fed these bytes in any pieces.
-    ensures exact { Answers text_of result (answer_to limited bytes.now) }
-{
-    read_all(alloc, bytes)
 }

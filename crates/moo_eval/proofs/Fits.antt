@@ -1,4 +1,4 @@
--- Arguments that a function over values alone answers fit its row of the table.
+-- Arguments that a function on the fast path answers fit its row of the table.
 use Rattle.std.proofs.Common.{◌≡◌, ℕ, zero, suc, ◌+◌, ℤ, List, [], ◌∷◌, length, Bool, true, not, ◌&&◌, if◌then◌else◌, Option, None, Some, is_some, Ok, refl, ap, ◌∙◌, arith}
 use Rattle.std.proofs.lemmas.Bool.Decides.{nat_tests}
 use Rattle.moo_value.specs.declared.error_code.ErrorCode.{ErrorCode}
@@ -281,14 +281,6 @@ module _ (valid : ℤ → Bool) (m : ℕ) {v : Tree} where
   member_fits (a ∷ string s ∷ ts) h = absurd cc
   member_fits (a ∷ list es ∷ []) h = refl
   member_fits (a ∷ list es ∷ t ∷ ts) h = absurd cc
-
-  pub time_fits : (vs : List Tree) → plain_answer function.Time m vs ≡ Some (Ok v) → refusal valid (row function.Time) vs ≡ None
-  time_fits [] h = refl
-  time_fits (t ∷ ts) h = absurd cc
-
-  pub version_fits : (vs : List Tree) → plain_answer function.ServerVersion m vs ≡ Some (Ok v) → refusal valid (row function.ServerVersion) vs ≡ None
-  version_fits [] h = refl
-  version_fits (t ∷ ts) h = absurd cc
 
   pub text_fits : (vs : List Tree) → plain_answer function.Tostr m vs ≡ Some (Ok v) → refusal valid (row function.Tostr) vs ≡ None
   text_fits vs h = unrefused valid (row function.Tostr) vs (grind (arith, nat_tests)) (holds_always (λ place t. fits (kind_at (row function.Tostr) place) t) (λ place t. refl) 0 vs) (holds_always (λ place t. names_valid valid (kind_at (row function.Tostr) place) t) (λ place t. refl) 0 vs)

@@ -18,6 +18,7 @@ use Rattle.moo_eval_frame.specs.State.{Context, within}
 use Rattle.moo_eval_access.specs.State.{State}
 use Rattle.moo_eval_access.specs.Calls.{read_property}
 use Rattle.moo_builtin.specs.Telling.{Faults}
+use Rattle.moo_eval_fast_expr.specs.Functions.{is_timeless}
 use Rattle.moo_eval_fast_expr.specs.Leaves.{IsLeaf}
 use Rattle.moo_eval_fast_expr.specs.Worth.{IsWorthWith, IsPlaceWith, AreWorthWith, none_worth, next_worth, leaf_known, operator_known, unary_known, decided_known, undecided_known, true_known, false_known, element_known, place_known, place_last, part_known, list_known, property_known, function_known}
 use Rattle.moo_eval_semantics.specs.Meaning.{Evaluates, EvaluatesAll, begins, applies, no_more, element_then, unary_is, binary_is, logic_decides, logic_goes_on, conditional_true, conditional_false, index_is, range_is, list_is, length_is, property_is}
@@ -77,8 +78,8 @@ module _ (w : World) (variables : List ℕ → Option Tree) (p : ℤ) where
   owned : {a b : Expr} {x y v : Tree} {n n' n'' n3 : ℕ} → 0 < n → n' ≡ n - 1 → GivesWith w variables p n' a x n'' → GivesWith w variables p n'' b y n3 → read_property w p x y ≡ Ok v → GivesWith w variables p n (property a b) v n3
   owned z t f g h = λ c notices. begins z (applies (element_then (rw t at f c notices) (element_then (g c notices) no_more refl) refl) no_more (property_is (ap answers h))) refl
 
-  function_answers : {f : List ℕ} {g : Function} {items : Items} {vs : List Tree} {v : Tree} {n n' n'' : ℕ} → 0 < n → n' ≡ n - 1 → AllGiveWith w variables p n' items vs n'' → function_of f ≡ Some g → ((moment : ℕ) → plain_answer g moment vs ≡ Some (Ok v)) → GivesWith w variables p n (call f items) v n''
-  function_answers z t d h m = λ c notices. begins z (answer_computed h (rw t at d c notices) m) refl
+  function_answers : {f : List ℕ} {g : Function} {items : Items} {vs : List Tree} {v : Tree} {n n' n'' : ℕ} → 0 < n → n' ≡ n - 1 → AllGiveWith w variables p n' items vs n'' → function_of f ≡ Some g → is_timeless g ≡ true → ((moment : ℕ) → plain_answer g moment vs ≡ Some (Ok v)) → GivesWith w variables p n (call f items) v n''
+  function_answers z t d h k m = λ c notices. begins z (answer_computed h k (rw t at d c notices) m) refl
 
 mutual
   pub worth_gives : {w : World} {variables : List ℕ → Option Tree} {p : ℤ} {n m : ℕ} {e : Expr} {v : Tree} → IsWorthWith w variables p n e v m → GivesWith w variables p n e v m
@@ -93,7 +94,7 @@ mutual
   worth_gives {w = w} {variables = variables} {p = p} (part_known z t f g k h) = part w variables p z t (worth_gives f) (place_gives g) (place_gives k) h
   worth_gives {w = w} {variables = variables} {p = p} (list_known z t d h) = listed w variables p z t (all_give d) h
   worth_gives {w = w} {variables = variables} {p = p} (property_known z t f g h) = owned w variables p z t (worth_gives f) (worth_gives g) h
-  worth_gives {w = w} {variables = variables} {p = p} (function_known z t d h m) = function_answers w variables p z t (all_give d) h m
+  worth_gives {w = w} {variables = variables} {p = p} (function_known z t d h k m) = function_answers w variables p z t (all_give d) h k m
 
   pub place_gives : {w : World} {variables : List ℕ → Option Tree} {p : ℤ} {x : Tree} {n m : ℕ} {e : Expr} {y : Tree} → IsPlaceWith w variables p x n e y m → GivesInside w variables p x n e y m
   place_gives {x = x} (place_known g) = λ c notices. worth_gives g (within c (x ∷ [])) notices

@@ -53,7 +53,7 @@ three_parts z = ((omega (arith, z.0), refl), (omega (arith, z.0), refl), (omega 
 
 -- a call of `length` takes a tick and what its argument takes
 pub length_worth : (w : World) (active : Activation) {f : List ℕ} {e : Expr} {v : Tree} {k : ℤ} {n n' n'' : ℕ} → (0 < n) × (n' ≡ n - 1) → IsWorth w active n' e v n'' → function_of f ≡ Some Length → length_of v ≡ Ok (integer k) → IsWorth w active n (call f (element e no_items)) (integer k) n''
-length_worth w active z g h m = function_known z.0 z.1 (next_worth g none_worth) h (λ moment. ap Some m)
+length_worth w active z g h m = function_known z.0 z.1 (next_worth g none_worth) h refl (λ moment. ap Some m)
 
 -- of an answer, where there is one
 pub map_some : {A : Type 0} {P Q : A → Type 0} (r : Option A) → ((x : A) → P x → Q x) → IfSome r P → IfSome r Q

@@ -18,72 +18,8 @@ use Rattle.moo_eval_fast_expr.specs.Worth.{IsWorth, AreWorth, function_known}
 
 -- what such a function gives, it gives at any moment
 at_any_moment : (g : Function) (m : ℕ) (vs : List Tree) → is_timeless g ≡ true → plain_answer g m vs ≡ plain_answer g 0 vs
-at_any_moment function.Typeof m vs h = refl
-at_any_moment function.Length m vs h = refl
-at_any_moment function.Tostr m vs h = refl
-at_any_moment function.Toliteral m vs h = refl
-at_any_moment function.Toint m vs h = refl
-at_any_moment function.Tonum m vs h = refl
-at_any_moment function.Toobj m vs h = refl
-at_any_moment function.Equal m vs h = refl
-at_any_moment function.Strcmp m vs h = refl
-at_any_moment function.Min m vs h = refl
-at_any_moment function.Max m vs h = refl
-at_any_moment function.Abs m vs h = refl
-at_any_moment function.Index m vs h = refl
-at_any_moment function.Rindex m vs h = refl
-at_any_moment function.Strsub m vs h = refl
-at_any_moment function.ListAppend m vs h = refl
-at_any_moment function.ListInsert m vs h = refl
-at_any_moment function.ListSet m vs h = refl
-at_any_moment function.ListDelete m vs h = refl
-at_any_moment function.SetAdd m vs h = refl
-at_any_moment function.SetRemove m vs h = refl
-at_any_moment function.IsMember m vs h = refl
-at_any_moment function.Valid m vs h = refl
-at_any_moment function.Parent m vs h = refl
-at_any_moment function.Children m vs h = refl
-at_any_moment function.MaxObject m vs h = refl
-at_any_moment function.Players m vs h = refl
-at_any_moment function.IsPlayer m vs h = refl
-at_any_moment function.SetPlayerFlag m vs h = refl
-at_any_moment function.Properties m vs h = refl
-at_any_moment function.Verbs m vs h = refl
-at_any_moment function.PropertyInfo m vs h = refl
-at_any_moment function.SetPropertyInfo m vs h = refl
-at_any_moment function.AddProperty m vs h = refl
-at_any_moment function.DeleteProperty m vs h = refl
-at_any_moment function.IsClearProperty m vs h = refl
-at_any_moment function.ClearProperty m vs h = refl
-at_any_moment function.VerbInfo m vs h = refl
-at_any_moment function.VerbArgs m vs h = refl
-at_any_moment function.VerbCode m vs h = refl
-at_any_moment function.SetVerbInfo m vs h = refl
-at_any_moment function.SetVerbArgs m vs h = refl
-at_any_moment function.SetVerbCode m vs h = refl
-at_any_moment function.AddVerb m vs h = refl
-at_any_moment function.DeleteVerb m vs h = refl
-at_any_moment function.Chparent m vs h = refl
 at_any_moment function.Time m vs h = absurd cc
-at_any_moment function.ServerVersion m vs h = refl
-at_any_moment function.Create m vs h = refl
-at_any_moment function.Recycle m vs h = refl
-at_any_moment function.Move m vs h = refl
-at_any_moment function.Pass m vs h = refl
-at_any_moment function.Eval m vs h = refl
-at_any_moment function.Raise m vs h = refl
-at_any_moment function.Callers m vs h = refl
-at_any_moment function.CallerPerms m vs h = refl
-at_any_moment function.SetTaskPerms m vs h = refl
-at_any_moment function.TicksLeft m vs h = refl
-at_any_moment function.Notify m vs h = refl
-at_any_moment function.BootPlayer m vs h = refl
-at_any_moment function.ConnectedPlayers m vs h = refl
-at_any_moment function.IdleSeconds m vs h = refl
-at_any_moment function.ConnectedSeconds m vs h = refl
-at_any_moment function.DumpDatabase m vs h = refl
-at_any_moment function.Shutdown m vs h = refl
-at_any_moment function.ServerLog m vs h = refl
+at_any_moment _ m vs h = refl
 
 -- a value that it gives
 given_value : (g : Function) (vs : List Tree) (v : Value) (r : Option (Result Tree ErrorCode)) → GivesSome g vs (Some (Ok v)) r → r ≡ Some (Ok (tree v))
@@ -99,5 +35,5 @@ given_some g vs (Ok v) t h = given_always g vs v t h
 given_some g vs (Err e) t h = tt
 
 -- a call takes a tick and what its arguments take
-pub function_worth : (w : World) (active : Activation) {f : List ℕ} {g : Function} {items : Items} {vs : List Tree} {v : Tree} {n n' n'' : ℕ} → (0 < n) × (n' ≡ n - 1) → AreWorth w active n' items vs n'' → function_of f ≡ Some g → ((moment : ℕ) → plain_answer g moment vs ≡ Some (Ok v)) → IsWorth w active n (call f items) v n''
-function_worth w active z g h m = function_known z.0 z.1 g h m
+pub function_worth : (w : World) (active : Activation) {f : List ℕ} {g : Function} {items : Items} {vs : List Tree} {v : Tree} {n n' n'' : ℕ} → (0 < n) × (n' ≡ n - 1) → AreWorth w active n' items vs n'' → function_of f ≡ Some g → is_timeless g ≡ true → ((moment : ℕ) → plain_answer g moment vs ≡ Some (Ok v)) → IsWorth w active n (call f items) v n''
+function_worth w active z g h t m = function_known z.0 z.1 g h t m

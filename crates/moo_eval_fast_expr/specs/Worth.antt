@@ -15,6 +15,7 @@ use Rattle.moo_world_table.specs.World.{World}
 use Rattle.moo_eval_frame.specs.Seen.{variables_of}
 use Rattle.moo_eval_frame.specs.declared.frame.Activation.{Activation}
 use Rattle.moo_eval_access.specs.Calls.{read_property}
+use Rattle.moo_eval_fast_expr.specs.Functions.{is_timeless}
 use Rattle.moo_eval_fast_expr.specs.Leaves.{IsLeaf}
 
 mutual
@@ -55,7 +56,7 @@ mutual
         0 < n → n' ≡ n - 1 → IsWorthWith w variables programmer n' a x n'' → IsWorthWith w variables programmer n'' b y n3 → read_property w programmer x y ≡ Ok v →
         IsWorthWith w variables programmer n (property a b) v n3
     function_known : {f : List ℕ} {g : Function} {items : Items} {vs : List Tree} {v : Tree} {n n' n'' : ℕ} →
-        0 < n → n' ≡ n - 1 → AreWorthWith w variables programmer n' items vs n'' → function_of f ≡ Some g → ((moment : ℕ) → plain_answer g moment vs ≡ Some (Ok v)) →
+        0 < n → n' ≡ n - 1 → AreWorthWith w variables programmer n' items vs n'' → function_of f ≡ Some g → is_timeless g ≡ true → ((moment : ℕ) → plain_answer g moment vs ≡ Some (Ok v)) →
         IsWorthWith w variables programmer n (call f items) v n''
 
   -- the same of a place of a value: `$` is the value's length

@@ -10,7 +10,7 @@ use Rattle.moo_session_task.specs.Session.{Session}
 use Rattle.moo_session_task.specs.State.{in_session}
 use Rattle.moo_session_connection.specs.Outbox.{log_under_way, log_waiting, sent_under_way, sent_waiting}
 use Rattle.moo_session.specs.Events.{CheckpointEnds, CheckpointStarts, HangsUp, Hears}
-use Rattle.moo_session.specs.Events.{Opens as OpensFor, Starts as StartsFrom}
+use Rattle.moo_session.specs.Events.{OpensConnection, Starts as StartsFrom}
 use Rattle.moo_session.specs.Interval.{interval}
 use Rattle.moo_server_core.specs.Application.{Input, Opens, Receives, Starts, Finishes, Layer, Meaning, Told}
 use Rattle.moo_server_core.specs.Application.{HangsUp as HangsUpOn}
@@ -33,7 +33,7 @@ told_of was_closing s = record {
 
 -- what each happening does, by what may be told of texts that are no programs
 abbrev pub Becomes : Telling → Input → ℕ → WorldState → WorldState → Type 0
-Becomes T (Opens c) moment old new = OpensFor T moment c old new
+Becomes T (Opens c) moment old new = OpensConnection T moment c old new
 Becomes T (Receives c piece) moment old new = Hears T moment c piece old new
 Becomes T (HangsUpOn c) moment old new = HangsUp T moment c old new
 Becomes T Starts moment old new = CheckpointStarts T moment old new

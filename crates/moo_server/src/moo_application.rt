@@ -41,11 +41,11 @@ impl Application for MooApplication {
     }
 
     fn keep(&mut self) {
-        self.outbox.keep();
+        self.outbox.commit();
     }
 
     fn forget(&mut self) {
-        self.outbox.forget();
+        self.outbox.rollback();
     }
 
     fn is_open(&self, c: u16) -> bool {

@@ -8,10 +8,10 @@ use Rattle.moo_eval_frame.specs.Surroundings.{own_number}
 use Rattle.moo_eval_frame.specs.declared.frame.Frame.{Frame}
 use Rattle.moo_eval_frame.specs.declared.notice.Notice.TheVariants as notice
 use Rattle.moo_eval_frame.specs.declared.notice.Notice.{Notice}
-use Rattle.moo_session.specs.Dispatch.{RunsVerb, runs, nothing_runs, Follows, is_done, goes_on, Commanded, sent_unless_empty}
+use Rattle.moo_session.specs.Dispatch.{RunsVerb, runs, nothing_runs, FollowsDoCommand, is_done, goes_on, Commanded, sent_unless_empty}
 use Rattle.moo_session.specs.DotProgram.{begun_by, begun_at_colon, begun_for_place, gathering_for, ready_line, told_usage, is_colon, may_write, EndsProgramming, no_verb, denied, faulty, parsed, programmed_unless, Gathers, keeps, ends}
 use Rattle.moo_session.specs.Events as event
-use Rattle.moo_session.specs.Events.{Opens, Hears, HangsUp, CallsOwnHook, hung_up, parted_from_client, player_at, with_connections}
+use Rattle.moo_session.specs.Events.{OpensConnection, Hears, HangsUp, CallsOwnHook, hung_up, parted_from_client, player_at, with_connections}
 use Rattle.moo_session.specs.Frames.{command_frame}
 use Rattle.moo_session.specs.Input.{PlayerTypes, no_word, prefix, suffix, program, command, Types, logs_in, gathers, plays, MeetsLines, no_line_more, dropped, one_line_more}
 use Rattle.moo_session.specs.Login.{LogsIn, let_in, admitted, highest_in, redirected, welcomed}
@@ -23,8 +23,8 @@ use Rattle.moo_session_connection.specs.declared.client.Client.{Client}
 use Rattle.moo_session_task.specs.Frames.{nobody as no_player, server_frame}
 use Rattle.moo_session_task.specs.Hooks.{HooksRun, none_waits, first_runs, hook_name, player_of_hook}
 use Rattle.moo_session_task.specs.Leaving.{parted, disconnected_from}
-use Rattle.moo_session_task.specs.Notices.{all_met, met}
-use Rattle.moo_session_task.specs.Sending.{sent, told, all_told, sent_to}
+use Rattle.moo_session_task.specs.Notices.{all_applied, applied}
+use Rattle.moo_session_task.specs.Sending.{sent, notified, all_notified, sent_to}
 use Rattle.moo_session_task.specs.Session.{Session, in_connections, with_hooks}
 use Rattle.moo_session_task.specs.State.{in_session}
 use Rattle.moo_session_task.specs.Tasks.{RunsTask, CallsServerVerb, is_missing, runs as verb_runs, account_of}
@@ -87,23 +87,23 @@ disconnected_keeps P q who None line s h = h
 disconnected_keeps P q who (Some c) line s h =
     parted_keeps P q (player_on c) (in_connections (left_by who) (sent_to (Some c) line s)) (left_keeps P q (is_known_as who) (client_known_as who s.connections) s.connections h)
 
-met_keeps : (P : List Client → Type 0) (q : IsCarried P) (x : Notice) (s : Session) → Carries P s → Carries P (met x s)
-met_keeps P q (notice.Notify who line) s h = sent_to_keeps P q (client_known_as who s.connections) line s h
-met_keeps P q (notice.BootPlayer who) s h = disconnected_keeps P q who (client_known_as who s.connections) (codes "*** Disconnected ***") s h
-met_keeps P q (notice.SetPlayerFlag o true) s h = h
-met_keeps P q (notice.SetPlayerFlag o false) s h = disconnected_keeps P q o (client_known_as o s.connections) (codes "*** Disconnected ***") s h
-met_keeps P q (notice.Recycle o) s h = disconnected_keeps P q o (client_known_as o s.connections) (codes "*** Recycled ***") s h
-met_keeps P q notice.DumpDatabase s h = h
-met_keeps P q (notice.Shutdown why) s h = q.none
-met_keeps P q (notice.ServerLog line) s h = h
+applied_keeps : (P : List Client → Type 0) (q : IsCarried P) (x : Notice) (s : Session) → Carries P s → Carries P (applied x s)
+applied_keeps P q (notice.Notify who line) s h = sent_to_keeps P q (client_known_as who s.connections) line s h
+applied_keeps P q (notice.BootPlayer who) s h = disconnected_keeps P q who (client_known_as who s.connections) (codes "*** Disconnected ***") s h
+applied_keeps P q (notice.SetPlayerFlag o true) s h = h
+applied_keeps P q (notice.SetPlayerFlag o false) s h = disconnected_keeps P q o (client_known_as o s.connections) (codes "*** Disconnected ***") s h
+applied_keeps P q (notice.Recycle o) s h = disconnected_keeps P q o (client_known_as o s.connections) (codes "*** Recycled ***") s h
+applied_keeps P q notice.DumpDatabase s h = h
+applied_keeps P q (notice.Shutdown why) s h = q.none
+applied_keeps P q (notice.ServerLog line) s h = h
 
-all_met_keeps : (P : List Client → Type 0) (q : IsCarried P) (xs : List Notice) (s : Session) → Carries P s → Carries P (all_met xs s)
-all_met_keeps P q [] s h = h
-all_met_keeps P q (x ∷ xs) s h = all_met_keeps P q xs (met x s) (met_keeps P q x s h)
+all_applied_keeps : (P : List Client → Type 0) (q : IsCarried P) (xs : List Notice) (s : Session) → Carries P s → Carries P (all_applied xs s)
+all_applied_keeps P q [] s h = h
+all_applied_keeps P q (x ∷ xs) s h = all_applied_keeps P q xs (applied x s) (applied_keeps P q x s h)
 
-all_told_keeps : (P : List Client → Type 0) (q : IsCarried P) (who : ℤ) (ls : List (List ℕ)) (s : Session) → Carries P s → Carries P (all_told who ls s)
-all_told_keeps P q who [] s h = h
-all_told_keeps P q who (line ∷ ls) s h = all_told_keeps P q who ls (told who line s) (sent_to_keeps P q (client_known_as who s.connections) line s h)
+all_notified_keeps : (P : List Client → Type 0) (q : IsCarried P) (who : ℤ) (ls : List (List ℕ)) (s : Session) → Carries P s → Carries P (all_notified who ls s)
+all_notified_keeps P q who [] s h = h
+all_notified_keeps P q who (line ∷ ls) s h = all_notified_keeps P q who ls (notified who line s) (sent_to_keeps P q (client_known_as who s.connections) line s h)
 
 sent_keeps : (P : List Client → Type 0) (q : IsCarried P) (m : ℕ) (line : List ℕ) (s : Session) → Carries P s → Carries P (sent m line s)
 sent_keeps P q m line s h = sent_to_keeps P q (client_here m s.connections) line s h
@@ -111,7 +111,7 @@ sent_keeps P q m line s h = sent_to_keeps P q (client_here m s.connections) line
 -- tasks and hooks
 task_keeps : (T : Telling) (P : List Client → Type 0) (q : IsCarried P) (moment : ℕ) (start : Frame) (s s' : WorldState) (v : Option Tree) → RunsTask T moment start s v s' → Carries P s.session → Carries P s'.session
 task_keeps T P q moment start s s' v d h =
-    let kept : Carries P (all_told start.player (account_of d.end) (all_met d.notices s.session)) = all_told_keeps P q start.player (account_of d.end) (all_met d.notices s.session) (all_met_keeps P q d.notices s.session h) in
+    let kept : Carries P (all_notified start.player (account_of d.end) (all_applied d.notices s.session)) = all_notified_keeps P q start.player (account_of d.end) (all_applied d.notices s.session) (all_applied_keeps P q d.notices s.session h) in
     subst (λ (x : WorldState). Carries P x.session) d.leaves kept
 
 pub call_keeps : (T : Telling) (P : List Client → Type 0) (q : IsCarried P) (moment : ℕ) (name : List ℕ) (player : ℤ) (args : List Tree) (argstr : List ℕ) (s s' : WorldState) (v : Option Tree) →
@@ -132,7 +132,7 @@ welcomed_keeps P q m player moment false s h = played_keeps P q m player moment 
 redirected_keeps : (P : List Client → Type 0) (q : IsCarried P) (m : ℕ) (player : ℤ) (moment : ℕ) (s : Session) → Carries P s → Carries P (redirected m player moment s)
 redirected_keeps P q m player moment s h =
     let first : Session = sent m (codes "*** Redirecting old connection to this port ***") s in
-    let second : Session = told player (codes "*** Redirecting connection to new port ***") first in
+    let second : Session = notified player (codes "*** Redirecting connection to new port ***") first in
     let kept : Carries P second = sent_to_keeps P q (client_known_as player first.connections) (codes "*** Redirecting connection to new port ***") first (sent_keeps P q m (codes "*** Redirecting old connection to this port ***") s h) in
     played_keeps P q m player moment second.connections kept
 
@@ -200,7 +200,7 @@ verb_keeps : (T : Telling) (P : List Client → Type 0) (q : IsCarried P) (m : �
 verb_keeps T P q m moment player c {s = s} (runs {this = this} {found = found} {v = v} {s' = t} e d) h = task_keeps T P q moment (command_frame found this player c) s t v d h
 verb_keeps T P q m moment player c {s = s} (nothing_runs e) h = sent_keeps P q m (codes "I couldn't understand that.") s.session h
 
-following_keeps : (T : Telling) (P : List Client → Type 0) (q : IsCarried P) (m : ℕ) (moment : ℕ) (player : ℤ) (line : List ℕ) (answer : Option Tree) {s s' : WorldState} → Follows T moment m player line answer s s' → Carries P s.session → Carries P s'.session
+following_keeps : (T : Telling) (P : List Client → Type 0) (q : IsCarried P) (m : ℕ) (moment : ℕ) (player : ℤ) (line : List ℕ) (answer : Option Tree) {s s' : WorldState} → FollowsDoCommand T moment m player line answer s s' → Carries P s.session → Carries P s'.session
 following_keeps T P q m moment player line answer (is_done e) h = h
 following_keeps T P q m moment player line answer (goes_on {c = c} e d v) h = verb_keeps T P q m moment player c v h
 

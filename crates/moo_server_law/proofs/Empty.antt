@@ -11,8 +11,8 @@ use Rattle.moo_session_connection.specs.Changes.{all_left}
 use Rattle.moo_session_connection.specs.Connections.{client_known_as, no_connections}
 use Rattle.moo_session_task.specs.declared.world_state.WorldState.{WorldState}
 use Rattle.moo_session_task.specs.Leaving.{disconnected, disconnected_from}
-use Rattle.moo_session_task.specs.Notices.{all_met, met}
-use Rattle.moo_session_task.specs.Sending.{all_told, sent_to, told}
+use Rattle.moo_session_task.specs.Notices.{all_applied, applied}
+use Rattle.moo_session_task.specs.Sending.{all_notified, sent_to, notified}
 use Rattle.moo_session_task.specs.Session.{Session, caused, no_session}
 use Rattle.moo_session_task.specs.State.{state}
 use Rattle.moo_session_task.specs.Tasks.{CallsServerVerb, is_missing, runs, account_of}
@@ -31,30 +31,30 @@ disconnected_empty who line s e =
     let nobody : client_known_as who s.connections ≡ None = ap (client_known_as who) e in
     subst (λ (o : Option Client). IsEmpty (disconnected_from who o line s)) (sym nobody) e
 
-met_empty : (x : Notice) (s : Session) → IsEmpty s → IsEmpty (met x s)
-met_empty (notice.Notify who line) s e = sent_empty (client_known_as who s.connections) line s e
-met_empty (notice.BootPlayer who) s e = disconnected_empty who (codes "*** Disconnected ***") s e
-met_empty (notice.SetPlayerFlag o true) s e = e
-met_empty (notice.SetPlayerFlag o false) s e = disconnected_empty o (codes "*** Disconnected ***") s e
-met_empty (notice.Recycle o) s e = disconnected_empty o (codes "*** Recycled ***") s e
-met_empty notice.DumpDatabase s e = e
-met_empty (notice.Shutdown why) s e = ap all_left e
-met_empty (notice.ServerLog line) s e = e
+applied_empty : (x : Notice) (s : Session) → IsEmpty s → IsEmpty (applied x s)
+applied_empty (notice.Notify who line) s e = sent_empty (client_known_as who s.connections) line s e
+applied_empty (notice.BootPlayer who) s e = disconnected_empty who (codes "*** Disconnected ***") s e
+applied_empty (notice.SetPlayerFlag o true) s e = e
+applied_empty (notice.SetPlayerFlag o false) s e = disconnected_empty o (codes "*** Disconnected ***") s e
+applied_empty (notice.Recycle o) s e = disconnected_empty o (codes "*** Recycled ***") s e
+applied_empty notice.DumpDatabase s e = e
+applied_empty (notice.Shutdown why) s e = ap all_left e
+applied_empty (notice.ServerLog line) s e = e
 
-all_met_empty : (xs : List Notice) (s : Session) → IsEmpty s → IsEmpty (all_met xs s)
-all_met_empty [] s e = e
-all_met_empty (x ∷ xs) s e = all_met_empty xs (met x s) (met_empty x s e)
+all_applied_empty : (xs : List Notice) (s : Session) → IsEmpty s → IsEmpty (all_applied xs s)
+all_applied_empty [] s e = e
+all_applied_empty (x ∷ xs) s e = all_applied_empty xs (applied x s) (applied_empty x s e)
 
-all_told_empty : (who : ℤ) (lines : List (List ℕ)) (s : Session) → IsEmpty s → IsEmpty (all_told who lines s)
-all_told_empty who [] s e = e
-all_told_empty who (line ∷ lines) s e = all_told_empty who lines (told who line s) (sent_empty (client_known_as who s.connections) line s e)
+all_notified_empty : (who : ℤ) (lines : List (List ℕ)) (s : Session) → IsEmpty s → IsEmpty (all_notified who lines s)
+all_notified_empty who [] s e = e
+all_notified_empty who (line ∷ lines) s e = all_notified_empty who lines (notified who line s) (sent_empty (client_known_as who s.connections) line s e)
 
 call_empty : (T : Telling) (moment : ℕ) (name : List ℕ) (player : ℤ) (args : List Tree) (argstr : List ℕ) {s s' : WorldState} {v : Option Tree}
     → CallsServerVerb T moment name player args argstr s v s' → IsEmpty s.session → IsEmpty s'.session
 call_empty T moment name player args argstr (is_missing missing) e = e
 call_empty T moment name player args argstr {s = s} (runs found task) e =
     subst (λ (l : WorldState). IsEmpty l.session) task.leaves
-    (all_told_empty _ (account_of task.end) (all_met task.notices s.session) (all_met_empty task.notices s.session e))
+    (all_notified_empty _ (account_of task.end) (all_applied task.notices s.session) (all_applied_empty task.notices s.session e))
 
 hooks_empty : (T : Telling) (moment : ℕ) {s s' : WorldState} → HooksRun T moment s s' → IsEmpty s.session → IsEmpty s'.session
 hooks_empty T moment (none_waits none) e = e

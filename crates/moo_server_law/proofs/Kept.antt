@@ -14,9 +14,9 @@ use Rattle.moo_session_connection.specs.Connections.{Connections, client_here, c
 use Rattle.moo_session_connection.specs.Gathering.{Gathering}
 use Rattle.moo_session_connection.specs.Changes.{joined, freed, with_changed, left_where, left_by, displaced, played, as_playing, with_heard, with_prefix, with_suffix, with_gathering}
 use Rattle.moo_session_task.specs.Session.{Session, in_connections}
-use Rattle.moo_session_task.specs.Sending.{sent_to, told, all_told}
+use Rattle.moo_session_task.specs.Sending.{sent_to, notified, all_notified}
 use Rattle.moo_session_task.specs.Leaving.{parted, disconnected_from}
-use Rattle.moo_session_task.specs.Notices.{met, all_met}
+use Rattle.moo_session_task.specs.Notices.{applied, all_applied}
 use Rattle.moo_server_law.proofs.Carried.{KeepsBoth, IsCarried}
 
 -- at most one connection has this number, and it holds this rest

@@ -12,7 +12,7 @@ use Rattle.moo_session_task.specs.declared.world_state.WorldState.{WorldState}
 use Rattle.moo_session_task.specs.Session.{in_connections}
 use Rattle.moo_session_task.specs.State.{in_session}
 use Rattle.moo_session.specs.Events as event
-use Rattle.moo_session.specs.Events.{Hears as HearsBytes, Opens as OpensFor}
+use Rattle.moo_session.specs.Events.{Hears as HearsBytes, OpensConnection}
 use Rattle.moo_server_core.specs.Application.{Input, Opens, Receives, HangsUp, Starts, Finishes, Output}
 use Rattle.moo_server_core.specs.Seen.{Event, Open, Bytes, Hangup, Moment, Flush}
 use Rattle.moo_server_core.specs.Traces.{Report}
@@ -150,7 +150,7 @@ run_holds n stream (entry ∷ entries) old new d stays r h =
     subst (λ (xs : List ℕ). Holds n xs new) (append_assoc stream piece (stream_of n entries)) (run_holds n (stream ++ piece) entries d.0 new d.2 stays.2 r mid)
 
 -- its opening
-opening_holds : (n moment : ℕ) (old end : WorldState) → client_here n old.session.connections ≡ None → OpensFor Faults moment n old end → Keeps n (rest []) end.session
+opening_holds : (n moment : ℕ) (old end : WorldState) → client_here n old.session.connections ≡ None → OpensConnection Faults moment n old end → Keeps n (rest []) end.session
 opening_holds n moment old end none d =
     hooks_keep Faults (Lone n (rest [])) (lone_is_carried n (rest [])) moment d.hooks
     (login_keeps Faults (Lone n (rest [])) (lone_is_carried n (rest [])) n moment [] [] (in_session (in_connections (joined n moment)) old) d.greeted d.logs_in (joins_itself n moment old.session.connections none))

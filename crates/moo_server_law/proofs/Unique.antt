@@ -19,7 +19,7 @@ use Rattle.moo_session_task.proofs.Unique.{one_call, one_run_of_hooks, call_with
 use Rattle.moo_session.proofs.LoginUnique.{one_login, login_within}
 use Rattle.moo_session.specs.Input.{MeetsLines}
 use Rattle.moo_server_law.proofs.UniqueLines.{Agree, Within, one_result_of_lines, lines_within}
-use Rattle.moo_session.specs.Events.{Opens, Hears, dropped, heard, CallsOwnHook, Starts, with_connections}
+use Rattle.moo_session.specs.Events.{OpensConnection, Hears, dropped, heard, CallsOwnHook, Starts, with_connections}
 use Rattle.moo_server_law.specs.Sessions.{HaveOneResult, AreWithin}
 
 -- what is heard is one
@@ -36,7 +36,7 @@ one_hearing_of n moment piece s after instead lines others h k =
       leaves = sym h.leaves ∙ ap (λ (r : Rest). with_changed n (with_heard moment r) s) reads.1 ∙ k.leaves;
     }
 
-one_opening : (T U : Telling) → Agree T U → (moment n : ℕ) (s s' t : WorldState) → Opens T moment n s s' → Opens U moment n s t → s' ≡ t
+one_opening : (T U : Telling) → Agree T U → (moment n : ℕ) (s s' t : WorldState) → OpensConnection T moment n s s' → OpensConnection U moment n s t → s' ≡ t
 one_opening T U agree moment n s s' t r q =
     let same : q.greeted ≡ r.greeted = sym (one_login T U agree.tasks moment n [] [] (in_session (in_connections (joined n moment)) s) r.greeted q.greeted r.logs_in q.logs_in) in
     one_run_of_hooks T U agree.tasks moment r.hooks (subst (λ (x : WorldState). HooksRun U moment x t) same q.hooks)

@@ -4,11 +4,11 @@ use Rattle.moo_world_table.specs.World.{World}
 use Rattle.moo_builtin.specs.Telling.{Telling, Faults, Choice, PassesPrograms, chosen_by}
 use Rattle.moo_eval_semantics.specs.Laws.{ChoosesFaults, Texts, HaveOneFault, faults_of}
 use Rattle.moo_session_task.specs.declared.world_state.WorldState.{WorldState}
-use Rattle.moo_session.specs.Events.{Opens, Hears, HangsUp, CheckpointStarts, CheckpointEnds, Starts}
+use Rattle.moo_session.specs.Events.{OpensConnection, Hears, HangsUp, CheckpointStarts, CheckpointEnds, Starts}
 
 -- What happens to a world and its sessions at a moment: an event, or a call that the server itself makes.
 pub data Happens (T : Telling) (moment : ℕ) (s s' : WorldState) : Type 0 where
-  opens : (n : ℕ) → Opens T moment n s s' → Happens T moment s s'
+  opens : (n : ℕ) → OpensConnection T moment n s s' → Happens T moment s s'
   hears : (n : ℕ) (piece : List ℕ) → Hears T moment n piece s s' → Happens T moment s s'
   hangs_up : (n : ℕ) → HangsUp T moment n s s' → Happens T moment s s'
   checkpoint_starts : CheckpointStarts T moment s s' → Happens T moment s s'
@@ -16,7 +16,7 @@ pub data Happens (T : Telling) (moment : ℕ) (s s' : WorldState) : Type 0 where
 
 -- Whatever comes of an event under the first telling, nothing else comes of it under the second.
 pub record HaveOneResult (T U : Telling) : Type 0 where
-  pub openings : (moment n : ℕ) (s s' t : WorldState) → Opens T moment n s s' → Opens U moment n s t → s' ≡ t
+  pub openings : (moment n : ℕ) (s s' t : WorldState) → OpensConnection T moment n s s' → OpensConnection U moment n s t → s' ≡ t
   pub bytes : (moment n : ℕ) (piece : List ℕ) (s s' t : WorldState) → Hears T moment n piece s s' → Hears U moment n piece s t → s' ≡ t
   pub hangups : (moment n : ℕ) (s s' t : WorldState) → HangsUp T moment n s s' → HangsUp U moment n s t → s' ≡ t
   pub checkpoints : (moment : ℕ) (s s' t : WorldState) → CheckpointStarts T moment s s' → CheckpointStarts U moment s t → s' ≡ t
@@ -25,7 +25,7 @@ pub record HaveOneResult (T U : Telling) : Type 0 where
 
 -- what comes of an event under the first telling may come of it under the second
 pub record AreWithin (T U : Telling) : Type 0 where
-  pub openings : (moment n : ℕ) (s s' : WorldState) → Opens T moment n s s' → Opens U moment n s s'
+  pub openings : (moment n : ℕ) (s s' : WorldState) → OpensConnection T moment n s s' → OpensConnection U moment n s s'
   pub bytes : (moment n : ℕ) (piece : List ℕ) (s s' : WorldState) → Hears T moment n piece s s' → Hears U moment n piece s s'
   pub hangups : (moment n : ℕ) (s s' : WorldState) → HangsUp T moment n s s' → HangsUp U moment n s s'
   pub checkpoints : (moment : ℕ) (s s' : WorldState) → CheckpointStarts T moment s s' → CheckpointStarts U moment s s'

@@ -7,7 +7,7 @@ use Rattle.moo_session_connection.specs.Connections.{Connections, client_here}
 use Rattle.moo_session_connection.specs.Changes.{HasHeard}
 use Rattle.moo_session_task.specs.declared.world_state.WorldState.{WorldState}
 use Rattle.moo_session.specs.Input.{MeetsLines}
-use Rattle.moo_session.specs.Events.{Opens, Hears, HangsUp, CheckpointStarts, CheckpointEnds, with_connections}
+use Rattle.moo_session.specs.Events.{OpensConnection, Hears, HangsUp, CheckpointStarts, CheckpointEnds, with_connections}
 use Rattle.moo_server_core.specs.Seen.{Event, Open, Bytes, Hangup}
 use Rattle.moo_server_core.specs.Meaning.{Entry, Run, State, Takes}
 use Rattle.moo_server_core.specs.declared.event.Course.TheVariants.{Running}
@@ -15,7 +15,7 @@ use Rattle.moo_server.specs.Live.{live_meaning}
 
 -- Something happens that is no opening, bytes or hang-up of connection n.
 pub data HappensBeside (T : Telling) (n : ℕ) (s s' : WorldState) : Type 0 where
-  opens : {moment m : ℕ} → m ≢ n → Opens T moment m s s' → HappensBeside T n s s'
+  opens : {moment m : ℕ} → m ≢ n → OpensConnection T moment m s s' → HappensBeside T n s s'
   hears : {moment m : ℕ} {piece : List ℕ} → m ≢ n → Hears T moment m piece s s' → HappensBeside T n s s'
   hangs_up : {moment m : ℕ} → m ≢ n → HangsUp T moment m s s' → HappensBeside T n s s'
   checkpoint_starts : {moment : ℕ} → CheckpointStarts T moment s s' → HappensBeside T n s s'
@@ -23,7 +23,7 @@ pub data HappensBeside (T : Telling) (n : ℕ) (s s' : WorldState) : Type 0 wher
 
 -- Since its opening, connection n has sent these bytes, in pieces, which ended these lines, whatever happened in between.
 pub data HasTyped (T : Telling) (n : ℕ) : (stream : List ℕ) → (typed : List (List ℕ)) → WorldState → Type 0 where
-  opened : {moment : ℕ} {s s' : WorldState} → client_here n s.session.connections ≡ None → Opens T moment n s s' → HasTyped T n [] [] s'
+  opened : {moment : ℕ} {s s' : WorldState} → client_here n s.session.connections ≡ None → OpensConnection T moment n s s' → HasTyped T n [] [] s'
   passed : {stream : List ℕ} {typed : List (List ℕ)} {s s' : WorldState} → HasTyped T n stream typed s → HappensBeside T n s s' → HasTyped T n stream typed s'
   -- what was sent is moved out, or something else leaves the connections as they are
   moved_out : {stream : List ℕ} {typed : List (List ℕ)} {s s' : WorldState} → HasTyped T n stream typed s → s'.session.connections ≡ s.session.connections → HasTyped T n stream typed s'

@@ -23,7 +23,7 @@ use Rattle.moo_command.specs.Typed.{with_verb, expanded}
 use Rattle.moo_command.specs.Commands.{Command, Commands, says, says_nothing}
 use Rattle.moo_session_task.specs.Tasks.{RunsTask, CallsServerVerb}
 use Rattle.moo_session.specs.Frames.{command_frame}
-use Rattle.moo_session.specs.Dispatch.{RunsVerb, runs, nothing_runs, Follows, goes_on, Commanded, verb_to_run, is_true_answer, sent_unless_empty}
+use Rattle.moo_session.specs.Dispatch.{RunsVerb, runs, nothing_runs, FollowsDoCommand, goes_on, Commanded, verb_to_run, is_true_answer, sent_unless_empty}
 
 unindented_step : (t : Bool) (b : ℕ) (bs : List ℕ) → length (unindented bs) ≤ length bs → length (cond t (unindented bs) (b ∷ bs)) ≤ length (b ∷ bs)
 unindented_step true b bs h = omega (arith, h)
@@ -85,14 +85,14 @@ none_ran (Err short) moment n player c s t e f = tt
 
 -- the command was read, and its verb has run
 pub followed : (r : Result (Unit {0}) AllocError) (moment n : ℕ) (player : ℤ) (line : List ℕ) (answer : Option Tree) (c : Command) (s u : WorldState) →
-    is_true_answer answer ≡ false → Commands s.world player line c → OnOk r (RunsVerb Faults moment n player c s u) → OnOk r (Follows Faults moment n player line answer s u)
+    is_true_answer answer ≡ false → Commands s.world player line c → OnOk r (RunsVerb Faults moment n player c s u) → OnOk r (FollowsDoCommand Faults moment n player line answer s u)
 followed (Ok v) moment n player line answer c s u e d h = goes_on e d h
 followed (Err short) moment n player line answer c s u e d h = tt
 
 -- all parts of a command are done
 pub commanded : (r : Result (Unit {0}) AllocError) (moment n : ℕ) (client : Client) (player : ℤ) (words : List (List ℕ)) (line : List ℕ) (s : WorldState) (p : Session) (asked done : WorldState) (q : Session) (answer : Option Tree) →
     p ≡ sent_unless_empty n client.prefix s.session → CallsServerVerb Faults moment (codes "do_command") player (strings_of words) line (state s.world p) answer asked →
-    Follows Faults moment n player line answer asked done → OnOk r (q ≡ sent_unless_empty n client.suffix done.session) → OnOk r (Commanded Faults moment n client player words line s (state done.world q))
+    FollowsDoCommand Faults moment n player line answer asked done → OnOk r (q ≡ sent_unless_empty n client.suffix done.session) → OnOk r (Commanded Faults moment n client player words line s (state done.world q))
 commanded (Ok v) moment n client player words line s p asked done q answer e call follows f = record {
   answer = answer;
   asked = asked;

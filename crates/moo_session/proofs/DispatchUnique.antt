@@ -14,7 +14,7 @@ use Rattle.moo_session_task.specs.Laws.{AreAlike, IsWithin}
 use Rattle.moo_session_task.specs.Tasks.{RunsTask}
 use Rattle.moo_session_task.proofs.Unique.{one_task, one_call, task_within, call_within}
 use Rattle.moo_session.specs.Frames.{command_frame}
-use Rattle.moo_session.specs.Dispatch.{RunsVerb, runs, nothing_runs, Follows, is_done, goes_on, Commanded, sent_unless_empty}
+use Rattle.moo_session.specs.Dispatch.{RunsVerb, runs, nothing_runs, FollowsDoCommand, is_done, goes_on, Commanded, sent_unless_empty}
 
 one_verb : (T U : Telling) → AreAlike T U → (moment n : ℕ) (player : ℤ) (c : Command) (s s' t : WorldState) → RunsVerb T moment n player c s s' → RunsVerb U moment n player c s t → s' ≡ t
 one_verb T U law moment n player c s s' t (runs {this = this} {found = found} {v = v} e r) (runs {this = other} {found = instead} {v = w} f q) =
@@ -29,7 +29,7 @@ one_verb T U law moment n player c s s' t (nothing_runs e) (runs f q) = cc
 one_verb T U law moment n player c s s' t (nothing_runs e) (nothing_runs f) = refl
 
 one_following : (T U : Telling) → AreAlike T U → OneCommand → (moment n : ℕ) (player : ℤ) (line : List ℕ) (answer : Option Tree) (s s' t : WorldState) →
-    Follows T moment n player line answer s s' → Follows U moment n player line answer s t → s' ≡ t
+    FollowsDoCommand T moment n player line answer s s' → FollowsDoCommand U moment n player line answer s t → s' ≡ t
 one_following T U law one moment n player line answer s s' t (is_done e) (is_done f) = refl
 one_following T U law one moment n player line answer s s' t (is_done e) (goes_on f d h) = cc
 one_following T U law one moment n player line answer s s' t (goes_on e d h) (is_done f) = cc
@@ -41,9 +41,9 @@ pub one_command_done : (T U : Telling) → AreAlike T U → OneCommand → (mome
     Commanded T moment n client player words line s s' → Commanded U moment n client player words line s t → s' ≡ t
 one_command_done T U law one moment n client player words line s s' t r q =
     let same = one_call T U law moment (codes "do_command") player (strings_of words) line (in_session (sent_unless_empty n client.prefix) s) r.asked q.asked r.answer q.answer r.asks q.asks in
-    let other : Follows U moment n player line r.answer r.asked q.done =
-    subst (λ (a : Option Tree). Follows U moment n player line a r.asked q.done) (sym same.answer)
-    (subst (λ (x : WorldState). Follows U moment n player line q.answer x q.done) (sym same.live) q.follows) in
+    let other : FollowsDoCommand U moment n player line r.answer r.asked q.done =
+    subst (λ (a : Option Tree). FollowsDoCommand U moment n player line a r.asked q.done) (sym same.answer)
+    (subst (λ (x : WorldState). FollowsDoCommand U moment n player line q.answer x q.done) (sym same.live) q.follows) in
     let done : r.done ≡ q.done = one_following T U law one moment n player line r.answer r.asked r.done q.done r.follows other in
     sym r.leaves ∙ ap (λ (x : WorldState). in_session (sent_unless_empty n client.suffix) x) done ∙ q.leaves
 
@@ -52,7 +52,7 @@ verb_within T U law moment n player c s s' (runs {this = this} {found = found} {
 verb_within T U law moment n player c s s' (nothing_runs e) = nothing_runs e
 
 following_within : (T U : Telling) → IsWithin T U → (moment n : ℕ) (player : ℤ) (line : List ℕ) (answer : Option Tree) (s s' : WorldState) →
-    Follows T moment n player line answer s s' → Follows U moment n player line answer s s'
+    FollowsDoCommand T moment n player line answer s s' → FollowsDoCommand U moment n player line answer s s'
 following_within T U law moment n player line answer s s' (is_done e) = is_done e
 following_within T U law moment n player line answer s s' (goes_on {c = c} e d h) = goes_on e d (verb_within T U law moment n player c s s' h)
 

@@ -18,14 +18,14 @@ use Rattle.moo_session_task.specs.Tasks.{CallsServerVerb}
 use Rattle.moo_session_task.specs.Hooks.{HooksRun}
 use Rattle.moo_session.specs.Login.{LogsIn}
 use Rattle.moo_session.specs.Input.{MeetsLines}
-use Rattle.moo_session.specs.Events.{Opens, Hears, dropped, heard, HangsUp, hung_up, CallsOwnHook, Starts, all_parted}
+use Rattle.moo_session.specs.Events.{OpensConnection, Hears, dropped, heard, HangsUp, hung_up, CallsOwnHook, Starts, all_parted}
 
 pub no_words_fit : (words : List (List ℕ)) → words ≡ [] → FitsAList words
 no_words_fit words e = subst (λ (ws : List (List ℕ)). FitsAList ws) (sym e) (light_words_fit [] (omega arith))
 
 -- a connection has joined, who it may be was asked, and the hooks have run
 pub opened : (r : Result (Unit {0}) AllocError) (moment n : ℕ) (s : WorldState) (p : Session) (words : List (List ℕ)) (line : List ℕ) (greeted u : WorldState) → p ≡ in_connections (joined n moment) s.session →
-    words ≡ [] → line ≡ [] → LogsIn Faults moment n words line (state s.world p) greeted → OnOk r (HooksRun Faults moment greeted u) → OnOk r (Opens Faults moment n s u)
+    words ≡ [] → line ≡ [] → LogsIn Faults moment n words line (state s.world p) greeted → OnOk r (HooksRun Faults moment greeted u) → OnOk r (OpensConnection Faults moment n s u)
 opened (Ok v) moment n s p words line greeted u e f g d h =
     let silent : LogsIn Faults moment n [] line (state s.world p) greeted = subst (λ (x : List (List ℕ)). LogsIn Faults moment n x line (state s.world p) greeted) f d in
     let empty : LogsIn Faults moment n [] [] (state s.world p) greeted = subst (λ (x : List ℕ). LogsIn Faults moment n [] x (state s.world p) greeted) g silent in

@@ -20,7 +20,7 @@ use Rattle.moo_command.specs.Choice.{chosen}
 use Rattle.moo_session_task.specs.Tasks.{RunsTask, CallsServerVerb}
 use Rattle.moo_session.specs.Frames.{command_frame}
 
--- a line that goes before or after the output of commands, where there is one
+-- a line that goes before or after the output of commands, if there is one
 abbrev pub sent_unless_empty : ℕ → List ℕ → Session → Session
 sent_unless_empty n [] s = s
 sent_unless_empty n (b ∷ bs) s = sent n (b ∷ bs) s
@@ -47,16 +47,16 @@ or_else (Some meant) other = Some meant
 abbrev pub verb_to_run : World → ℤ → Command → Option (ℤ × (ℤ × Verb))
 verb_to_run w player c = or_else (chosen_verb w player c) (huh_verb w player)
 
--- That verb runs with the command, or a line tells that there is none.
+-- That verb runs with the command, or a line says that there is none.
 pub data RunsVerb (T : Telling) (moment : ℕ) (n : ℕ) (player : ℤ) (c : Command) (s : WorldState) : WorldState → Type 0 where
   runs : {this : ℤ} {found : ℤ × Verb} {v : Option Tree} {s' : WorldState} → verb_to_run s.world player c ≡ Some (this, found) →
       RunsTask T moment (command_frame found this player c) s v s' → RunsVerb T moment n player c s s'
   nothing_runs : verb_to_run s.world player c ≡ None → RunsVerb T moment n player c s (in_session (sent n (codes "I couldn't understand that.")) s)
 
--- What comes after `do_command`: nothing where it gave a true value, else the command is read in the world that it left.
-pub data Follows (T : Telling) (moment : ℕ) (n : ℕ) (player : ℤ) (line : List ℕ) (answer : Option Tree) (s : WorldState) : WorldState → Type 0 where
-  is_done : is_true_answer answer ≡ true → Follows T moment n player line answer s s
-  goes_on : {c : Command} {s' : WorldState} → is_true_answer answer ≡ false → Commands s.world player line c → RunsVerb T moment n player c s s' → Follows T moment n player line answer s s'
+-- What comes after `do_command`: nothing if it gave a true value, else the command is read in the world that it left.
+pub data FollowsDoCommand (T : Telling) (moment : ℕ) (n : ℕ) (player : ℤ) (line : List ℕ) (answer : Option Tree) (s : WorldState) : WorldState → Type 0 where
+  is_done : is_true_answer answer ≡ true → FollowsDoCommand T moment n player line answer s s
+  goes_on : {c : Command} {s' : WorldState} → is_true_answer answer ≡ false → Commands s.world player line c → RunsVerb T moment n player c s s' → FollowsDoCommand T moment n player line answer s s'
 
 -- A player's command on connection n: the prefix, `do_command` with all its words, what follows it, and the suffix.
 pub record Commanded (T : Telling) (moment : ℕ) (n : ℕ) (client : Client) (player : ℤ) (words : List (List ℕ)) (line : List ℕ) (s s' : WorldState) : Type 0 where
@@ -64,5 +64,5 @@ pub record Commanded (T : Telling) (moment : ℕ) (n : ℕ) (client : Client) (p
   pub asked : WorldState
   pub done : WorldState
   pub asks : CallsServerVerb T moment (codes "do_command") player (strings_of words) line (in_session (sent_unless_empty n client.prefix) s) answer asked
-  pub follows : Follows T moment n player line answer asked done
+  pub follows : FollowsDoCommand T moment n player line answer asked done
   pub leaves : in_session (sent_unless_empty n client.suffix) done ≡ s'

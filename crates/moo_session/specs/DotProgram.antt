@@ -57,7 +57,7 @@ is_colon b = b == 58
 abbrev pub told_usage : ℕ → Session → Session
 told_usage n s = sent n (codes "Usage: .program OBJECT:VERB") s
 
--- a word with its first colon at this place: the text before it names an object, the text behind it a verb
+-- a word with its first colon at this place: the text before it names an object, the text after it a verb
 abbrev pub begun_at_colon : World → ℕ → ℤ → List ℕ → Option ℕ → Session → Session
 begun_at_colon w n player word None s = told_usage n s
 begun_at_colon w n player word (Some i) s = begun_for w n player (matched w player (take i word)) (drop (i + 1) word) s
@@ -70,7 +70,7 @@ begun_by w n player [] s = told_usage n s
 begun_by w n player (word ∷ []) s = begun_by_word w n player word s
 begun_by w n player (word ∷ other ∷ more) s = told_usage n s
 
--- `.program` with these words behind it
+-- `.program` with these words after it
 abbrev pub programming_begun : World → ℕ → ℤ → List (List ℕ) → Session → Session
 programming_begun w n player words s = if is_programmer w player then begun_by w n player words s else sent n (codes "You are not a programmer.") s
 
@@ -89,11 +89,11 @@ programmed_unless (Some e) n o i b s = in_session (sent n (codes "Verb not progr
 abbrev pub programmed : ℕ → ℤ → ℕ → Block → WorldState → WorldState
 programmed n o i b s = programmed_unless (program_raises s.world (number_of s.world.objects o) i true) n o i b s
 
--- the lines are told a fault
+-- the lines that report a fault
 abbrev pub told_fault : ℕ → SyntaxFault → Session → Session
 told_fault n fault s = sent n (codes "Verb not programmed.") (sent n (fault_text fault) s)
 
--- The lines that were gathered become the verb's program, or a line tells why not. The verb is looked for again by its name, and the
+-- The lines that were gathered become the verb's program, or a line says why not. The verb is looked for again by its name, and the
 -- right to write it is asked again.
 pub data EndsProgramming (T : Telling) (n : ℕ) (player : ℤ) (g : Gathering) (s : WorldState) : WorldState → Type 0 where
   no_verb : own_verb s.world g.object g.verb ≡ None → EndsProgramming T n player g s (in_session (sent n (codes "No such verb.")) s)

@@ -1,5 +1,5 @@
 -- What an opening, bytes and a hang-up do, and the calls that the server itself makes.
-use Rattle.std.specs.Prelude.{◌≡◌, ℕ, ℤ, pos, negsuc, Bool, List, [], ◌∷◌, codes, Option, Some, None, if◌then◌else◌}
+use Rattle.std.specs.Prelude.{◌≡◌, ℕ, ℤ, pos, Bool, List, [], ◌∷◌, codes, Option, Some, None, if◌then◌else◌}
 use Rattle.std.specs.Option.{option_and_then}
 use Rattle.moo_value.specs.Tree.{Tree, integer}
 use Rattle.moo_world_table.specs.World.{World}
@@ -18,7 +18,7 @@ use Rattle.moo_session.specs.Login.{LogsIn}
 use Rattle.moo_session.specs.Input.{MeetsLines}
 
 -- An opening joins a connection of this number and calls `do_login_command` without words; then the hooks run.
-pub record Opens (T : Telling) (moment : ℕ) (n : ℕ) (s s' : WorldState) : Type 0 where
+pub record OpensConnection (T : Telling) (moment : ℕ) (n : ℕ) (s s' : WorldState) : Type 0 where
   pub greeted : WorldState
   pub logs_in : LogsIn T moment n [] [] (in_session (in_connections (joined n moment)) s) greeted
   pub hooks : HooksRun T moment greeted s'
@@ -27,13 +27,13 @@ pub record Opens (T : Telling) (moment : ℕ) (n : ℕ) (s s' : WorldState) : Ty
 abbrev pub with_connections : Connections → WorldState → WorldState
 with_connections connections s = in_session (in_connections (λ _. connections)) s
 
--- Bytes of a connection: the lines that they end are met. Those of a connection that isn't open, or is leaving, are dropped.
+-- Bytes of a connection: the lines that they end are run. Those of a connection that isn't open, or is leaving, are dropped.
 pub data Hears (T : Telling) (moment : ℕ) (n : ℕ) (piece : List ℕ) (s : WorldState) : WorldState → Type 0 where
   dropped : client_here n s.session.connections ≡ None → Hears T moment n piece s s
   heard : {lines : List (List ℕ)} {after : Connections} {s' : WorldState} → HasHeard n moment piece s.session.connections lines after →
       MeetsLines T moment n lines (with_connections after s) s' → Hears T moment n piece s s'
 
--- where a player was connected, `user_client_disconnected` is to run
+-- if a player was connected, `user_client_disconnected` is to run
 abbrev pub parted_from_client : Option ℤ → Session → Session
 parted_from_client None s = s
 parted_from_client (Some player) s = caused (ClientDisconnected player) s
@@ -45,7 +45,7 @@ player_at n s = option_and_then player_on (client_here n s)
 abbrev pub hung_up : ℕ → Session → Session
 hung_up n s = parted_from_client (player_at n s.connections) (in_connections (freed n) s)
 
--- A hang-up frees the connection's number; where a player was connected on it, the hook runs.
+-- A hang-up frees the connection's number; if a player was connected on it, the hook runs.
 abbrev pub HangsUp : Telling → ℕ → ℕ → WorldState → WorldState → Type 0
 HangsUp T moment n s s' = HooksRun T moment (in_session (hung_up n) s) s'
 
@@ -60,7 +60,7 @@ pub record CallsOwnHook (T : Telling) (moment : ℕ) (name : List ℕ) (args : L
 abbrev pub CheckpointStarts : Telling → ℕ → WorldState → WorldState → Type 0
 CheckpointStarts T moment = CallsOwnHook T moment (codes "checkpoint_started") []
 
--- what runs when a checkpoint has ended: with 1 where it was done, and 0 where it failed
+-- what runs when a checkpoint has ended: with 1 if it was done, and 0 if it failed
 abbrev pub CheckpointEnds : Telling → ℕ → Bool → WorldState → WorldState → Type 0
 CheckpointEnds T moment done = CallsOwnHook T moment (codes "checkpoint_finished") (integer (if done then pos 1 else pos 0) ∷ [])
 

@@ -1,4 +1,4 @@
--- What a verb is told that a player's command runs.
+-- What a verb gets that a player's command runs.
 use Rattle.std.specs.Prelude.{ℤ}
 use Rattle.moo_world_object.specs.declared.verb.Verb.{Verb}
 use Rattle.moo_eval_frame.specs.declared.frame.Frame.{Frame}
@@ -7,7 +7,7 @@ use Rattle.moo_eval_access.specs.Entering.{verb_frame}
 use Rattle.moo_session_task.specs.WordList.{strings_of}
 use Rattle.moo_command.specs.Commands.{Command}
 
--- `this` is the object that was looked on, the caller is the player, the arguments are the words behind the first
+-- `this` is the object that was looked on, the caller is the player, the arguments are the words after the first
 abbrev pub command_call : (this : ℤ) → (player : ℤ) → Command → Call
 command_call this player c = record {
   this = this;

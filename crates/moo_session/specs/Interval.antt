@@ -1,5 +1,5 @@
 -- How long it is from one checkpoint to the next.
-use Rattle.std.specs.Prelude.{ℕ, nat_le, pos, negsuc, List, codes, Option, Some, None, if◌then◌else◌}
+use Rattle.std.specs.Prelude.{ℕ, nat_le, pos, negsuc, codes, Option, Some, None, if◌then◌else◌}
 use Rattle.std.specs.Option.{option_and_then}
 use Rattle.moo_value.specs.Compare.{folded}
 use Rattle.moo_value.specs.Tree.{Tree, integer, object, error, string, list}
@@ -21,6 +21,6 @@ seconds_in (Some (string s)) = usual_interval
 seconds_in (Some (list es)) = usual_interval
 seconds_in None = usual_interval
 
--- the seconds that `#0.dump_interval` says, whether it stands on #0 or is inherited
+-- the seconds that `#0.dump_interval` says, whether it is #0's own or is inherited
 abbrev pub interval : World → ℕ
 interval w = seconds_in (option_and_then (λ x. read w x (folded (codes "dump_interval"))) (number_of w.objects (pos 0)))

@@ -13,7 +13,7 @@ use Rattle.moo_session_task.specs.declared.hook.Hook.{Hook}
 use Rattle.moo_session_task.specs.declared.hook.Hook.TheVariants.{Created, Connected, Reconnected}
 use Rattle.moo_session_task.specs.declared.world_state.WorldState.{WorldState}
 use Rattle.moo_session_task.specs.Session.{Session, in_connections, caused}
-use Rattle.moo_session_task.specs.Sending.{sent, told}
+use Rattle.moo_session_task.specs.Sending.{sent, notified}
 use Rattle.moo_session_task.specs.State.{in_session}
 use Rattle.moo_session_task.specs.WordList.{strings_of}
 use Rattle.moo_session_task.specs.Tasks.{CallsServerVerb}
@@ -35,7 +35,7 @@ object_in None = None
 abbrev pub redirected : ℕ → ℤ → ℕ → Session → Session
 redirected n player moment s =
     caused (Reconnected player) (in_connections (played n player moment)
-    (told player (codes "*** Redirecting connection to new port ***") (sent n (codes "*** Redirecting old connection to this port ***") s)))
+    (notified player (codes "*** Redirecting connection to new port ***") (sent n (codes "*** Redirecting old connection to this port ***") s)))
 
 abbrev pub greeting : (is_new : Bool) → List ℕ
 greeting is_new = if is_new then codes "*** Created ***" else codes "*** Connected ***"
@@ -55,7 +55,7 @@ connected n player moment is_new s =
 abbrev pub highest_in : World → ℤ
 highest_in w = highest (length w.objects)
 
--- Whom an answer connects: a valid object with the player flag, where the connection isn't leaving.
+-- Whom an answer connects: a valid object with the player flag, if the connection isn't leaving.
 abbrev pub admitted : WorldState → ℕ → Option Tree → Option ℤ
 admitted s n answer =
     option_map_or (λ o. if is_player s.world o && is_some (client_here n s.session.connections) then Some o else None) (object_in answer) None
@@ -64,8 +64,8 @@ abbrev pub let_in : ℕ → ℕ → ℤ → Option ℤ → Session → Session
 let_in n moment before None s = s
 let_in n moment before (Some player) s = connected n player moment (int_lt before player) s
 
--- `do_login_command` is called with these words and this line; its task ends before anybody is connected. Who is let in is new where
--- the number is above the highest before the call.
+-- `do_login_command` is called with these words and this line; its task ends before anybody is connected. A player is new if the
+-- number is above the highest before the call.
 pub record LogsIn (T : Telling) (moment : ℕ) (n : ℕ) (words : List (List ℕ)) (line : List ℕ) (s s' : WorldState) : Type 0 where
   pub answer : Option Tree
   pub asked : WorldState

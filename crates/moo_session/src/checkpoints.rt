@@ -10,7 +10,7 @@ use moo_value::{ListLimit, MooList, MooStr, Value};
 use moo_world::World;
 use std::alloc::{AllocError, Global};
 
-/// A checkpoint is about to begin. The error is want of memory.
+/// Runs what runs when a checkpoint is about to begin. Fails only if memory runs out.
 pub fn checkpoint_starts(
     alloc: Global,
     live: &mut WorldState,
@@ -22,7 +22,7 @@ pub fn checkpoint_starts(
     call_own_hook(alloc, live, moment, b"checkpoint_started", args)
 }
 
-/// A checkpoint has ended, done or failed. The error is want of memory.
+/// Runs what runs when a checkpoint has ended, done or failed. Fails only if memory runs out.
 pub fn checkpoint_ends(
     alloc: Global,
     live: &mut WorldState,
@@ -35,7 +35,8 @@ pub fn checkpoint_ends(
     call_own_hook(alloc, live, moment, b"checkpoint_finished", args)
 }
 
-/// A server starts over a world, in which these players were connected when it was saved. The error is want of memory.
+/// Runs what runs when a server starts over a world in which these players were connected when it was saved. Fails only
+/// if memory runs out.
 pub fn start(
     alloc: Global,
     world: World,
@@ -86,14 +87,14 @@ fn no_values(alloc: Global) -> Result<MooList, AllocError>
     word_list(alloc, Vec::new(alloc))
 }
 
-// 1 where a checkpoint was done, and 0 where it failed.
+// Returns 1 if a checkpoint was done, and 0 if it failed.
 fn outcome(done: bool) -> i32
     ensures { result ≡ (if done then pos 1 else pos 0) }
 {
     i32::from(done)
 }
 
-// A list of one number.
+// Returns a list of one number.
 fn one_number(alloc: Global, number: i32) -> Result<MooList, AllocError>
     ensures { IfOk result (λ list. list ≡ integer number ∷ []) }
 {

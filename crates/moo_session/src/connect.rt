@@ -1,11 +1,11 @@
-//! A player is connected on a connection.
+//! Connecting a player on a connection.
 ghost use Rattle.std.specs.Prelude.{◌≡◌, OnOk};
 ghost use Rattle.moo_session.specs.Login.{connected, redirected, welcomed, greeting, welcoming_hook};
 
 use moo_session_task::{Hook, Session};
 use std::alloc::AllocError;
 
-/// A player is connected on a connection, or takes the place of another connection of the player's.
+/// Connects a player on a connection, which replaces another connection of the player's if there is one.
 pub(crate) fn connect(
     session: &mut Session,
     number: u16,
@@ -26,7 +26,7 @@ fn redirect(session: &mut Session, number: u16, player: i32, moment: u32) -> Res
     ensures { OnOk result (session.new ≡ redirected number player moment session.old) }
 {
     session.send(number, b"*** Redirecting old connection to this port ***")?;
-    session.tell(player, b"*** Redirecting connection to new port ***")?;
+    session.notify(player, b"*** Redirecting connection to new port ***")?;
     session.play(number, player, moment)?;
     session.cause(Hook::Reconnected(player))
 }

@@ -2,7 +2,7 @@
 ghost use Rattle.std.specs.Prelude.{◌≡◌, OnOk, IfSome, IsSome};
 ghost use Rattle.moo_builtin.specs.Telling.{Faults};
 ghost use Rattle.moo_command.specs.Seen.{command_of};
-ghost use Rattle.moo_session.specs.Dispatch.{Commanded, Follows, RunsVerb, is_true_answer, sent_unless_empty};
+ghost use Rattle.moo_session.specs.Dispatch.{Commanded, FollowsDoCommand, RunsVerb, is_true_answer, sent_unless_empty};
 ghost use Rattle.moo_session_connection.specs.Connections.{client_here};
 ghost use Rattle.moo_session_line.specs.Rest.{IsLine};
 ghost use Rattle.moo_session_task.specs.Seen.{seen_answer};
@@ -53,7 +53,7 @@ fn send_unless_empty(session: &mut Session, number: u16, line: &MooStr) -> Resul
     }
 }
 
-// What comes after `do_command`, which gave this answer.
+// Runs what comes after `do_command`, which gave this answer.
 fn follow(
     alloc: Global,
     live: &mut WorldState,
@@ -64,7 +64,7 @@ fn follow(
     answer: &Option<Value>,
 ) -> Result<(), AllocError>
     requires { IsLine line.now }
-    ensures { OnOk result (Follows Faults moment number player line.now (seen_answer answer.now) live.old live.new) }
+    ensures { OnOk result (FollowsDoCommand Faults moment number player line.now (seen_answer answer.now) live.old live.new) }
 {
     if is_true_answer(answer) {
         return Ok(());
@@ -83,7 +83,7 @@ fn is_true_answer(answer: &Option<Value>) -> bool
     }
 }
 
-// The verb that a command means runs, or a line tells that there is none.
+// Runs the verb that a command means, or sends a line that there is none.
 fn run_verb(
     alloc: Global,
     live: &mut WorldState,

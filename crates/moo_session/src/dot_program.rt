@@ -12,8 +12,8 @@ use moo_world::{Rights, World};
 use moo_world_object::Need;
 use std::alloc::{AllocError, Global};
 
-/// `.program` with these words behind it: the connection of this number gathers lines from now on, or its player is told
-/// why not. The error is want of memory.
+/// Runs `.program` with these words after it. The connection of this number gathers lines from now on, or a line says
+/// why not. Fails only if memory runs out.
 pub fn begin_programming(
     alloc: Global,
     world: &World,
@@ -33,7 +33,7 @@ pub fn begin_programming(
     }
 }
 
-// The text before the first colon names an object, the text behind it a verb.
+// Splits at the first colon: the text before it names an object, the text after it a verb.
 fn begin_by_word(
     alloc: Global,
     world: &World,
@@ -107,7 +107,7 @@ fn ready_line(alloc: Global, o: i32, verb: &[u8]) -> Result<Vec<u8>, AllocError>
     Ok(line)
 }
 
-/// The place of an object's own first verb that a name fits.
+/// Returns the place of the first verb of an object's own that a name fits.
 pub(crate) fn own_verb(world: &World, o: i32, name: &[u8]) -> Option<usize>
     ensures { result ≡ own_verb world.now o name.now }
 {

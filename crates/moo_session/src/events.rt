@@ -2,14 +2,14 @@
 ghost use Rattle.std.specs.Prelude.{◌≡◌, OnOk, IsOk, None, false};
 ghost use Rattle.moo_builtin.specs.Telling.{Faults};
 ghost use Rattle.moo_session_connection.specs.Connections.{client_here, is_open};
-ghost use Rattle.moo_session.specs.Events.{Opens, Hears, HangsUp, hung_up, player_at};
+ghost use Rattle.moo_session.specs.Events.{OpensConnection, Hears, HangsUp, hung_up, player_at};
 
 use crate::{log_in, meet_lines};
 use moo_session_task::{Hook, Session, WorldState, run_hooks};
 use moo_value::MooStr;
 use std::alloc::{AllocError, Global};
 
-/// A connection is opened at this moment, in seconds, under a number that none has. The error is want of memory.
+/// Opens a connection at this moment, in seconds, under a number that none has. Fails only if memory runs out.
 pub fn open(
     alloc: Global,
     live: &mut WorldState,
@@ -17,7 +17,7 @@ pub fn open(
     number: u16,
 ) -> Result<(), AllocError>
     requires { is_open number live.old.session.connections ≡ false }
-    ensures { OnOk result (Opens Faults moment number live.old live.new) }
+    ensures { OnOk result (OpensConnection Faults moment number live.old live.new) }
 {
     live.session.join(number, moment)?;
     let line = MooStr::empty(alloc)?;
@@ -25,8 +25,8 @@ pub fn open(
     run_hooks(alloc, live, moment)
 }
 
-/// Bytes come on the connection of this number, which may end lines. Where it isn't open or is leaving they are dropped,
-/// which takes no memory. The error is want of memory.
+/// Takes bytes of the connection of this number, and runs the lines that they end. If it isn't open or is leaving, drops
+/// them and takes no memory. Fails only if memory runs out.
 pub fn receive(
     alloc: Global,
     live: &mut WorldState,
@@ -43,7 +43,7 @@ pub fn receive(
     meet_lines(alloc, live, moment, number, &lines)
 }
 
-/// The connection of this number hangs up, and its number is free. The error is want of memory.
+/// Closes the connection of this number, which has hung up, and frees its number. Fails only if memory runs out.
 pub fn hang_up(
     alloc: Global,
     live: &mut WorldState,
@@ -67,7 +67,7 @@ fn free(session: &mut Session, number: u16) -> Result<(), AllocError>
     }
 }
 
-// Who is connected on a connection.
+// Returns who is connected on a connection.
 fn player_at(session: &Session, number: u16) -> Option<i32>
     ensures { result ≡ player_at number session.now.connections }
 {

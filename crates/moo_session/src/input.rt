@@ -11,8 +11,8 @@ use moo_session_task::{Session, WorldState, run_hooks};
 use moo_value::MooStr;
 use std::alloc::{AllocError, Global};
 
-/// The lines of the connection of this number, one after another, each with the hooks that it causes. Those of a
-/// connection that isn't open, or is leaving, are dropped. The error is want of memory.
+/// Runs the lines of the connection of this number, one after another, each with the hooks that it causes. Drops those of
+/// a connection that isn't open, or is leaving. Fails only if memory runs out.
 pub fn meet_lines(
     alloc: Global,
     live: &mut WorldState,
@@ -29,7 +29,7 @@ pub fn meet_lines(
     Ok(())
 }
 
-// One line with its hooks, where the connection is there.
+// Runs one line with its hooks, if the connection is there.
 fn meet_line(
     alloc: Global,
     live: &mut WorldState,

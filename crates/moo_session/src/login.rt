@@ -1,4 +1,4 @@
-//! `do_login_command`, and whom its answer lets in.
+//! `do_login_command`, and whom its answer connects.
 ghost use Rattle.std.specs.Prelude.{◌≡◌, OnOk};
 ghost use Rattle.moo_builtin.specs.Telling.{Faults};
 ghost use Rattle.moo_session_task.specs.State.{in_session};
@@ -13,7 +13,7 @@ use moo_world::World;
 use std::alloc::{AllocError, Global};
 
 /// Calls `do_login_command` for the connection of this number, with the words and the line that it sent, and connects the
-/// player that it answers. The error is want of memory.
+/// player that it returns. Fails only if memory runs out.
 pub fn log_in(
     alloc: Global,
     live: &mut WorldState,
@@ -40,7 +40,7 @@ pub fn log_in(
     let_in(live, moment, number, highest, admitted)
 }
 
-// Connects whom an answer admits. Who has a number above the highest before the call is new.
+// Connects the player of an answer. A player with a number above the highest before the call is new.
 fn let_in(
     live: &mut WorldState,
     moment: u32,
@@ -56,7 +56,7 @@ fn let_in(
     }
 }
 
-// Whom an answer connects.
+// Returns whom an answer connects.
 fn admitted(live: &WorldState, number: u16, answer: Option<Value>) -> Option<i32>
     ensures { result ≡ admitted live.now number (seen_answer answer) }
 {
@@ -77,7 +77,7 @@ fn object_in(answer: Option<Value>) -> Option<i32>
     }
 }
 
-// Whether this is a valid object with the player flag.
+// Is true if this is a valid object with the player flag.
 fn is_player(world: &World, o: i32) -> bool
     ensures { result ≡ is_player world.now o }
 {

@@ -14,7 +14,7 @@ use moo_session_task::WorldState;
 use moo_value::MooStr;
 use std::alloc::{AllocError, Global};
 
-/// What a player's line is.
+/// Is the kind of a player's line.
 #[derive(Clone, Copy)]
 pub(crate) enum LineKind {
     /// It says what goes before the output of commands.
@@ -85,7 +85,7 @@ fn sets_suffix(word: &[u8]) -> bool
     word == b"SUFFIX".as_slice() || word == b"OUTPUTSUFFIX".as_slice()
 }
 
-// The command of what is typed in a line.
+// Returns the command that is typed in a line.
 fn run_command(
     alloc: Global,
     live: &mut WorldState,
@@ -105,7 +105,7 @@ fn run_command(
     command(alloc, live, moment, number, player, words, line)
 }
 
-// The first word and the others.
+// Returns the first word and the others.
 fn all_words(alloc: Global, typed: Typed) -> Result<Vec<MooStr>, AllocError>
     ensures { IfOk result (λ words. words.items ≡ typed.verb ∷ typed.args.items) }
 {

@@ -1,4 +1,4 @@
-//! What becomes of the lines that were gathered.
+//! The end of the lines of a program.
 ghost use Rattle.std.specs.Prelude.{◌≡◌, OnOk, true};
 ghost use Rattle.moo_builtin.specs.Setting.{is_of_text};
 ghost use Rattle.moo_builtin.specs.Telling.{Faults};
@@ -12,7 +12,7 @@ use moo_syntax_grammar::{Names, Program};
 use moo_world::{Rights, WorldFault};
 use std::alloc::{AllocError, Global};
 
-/// The lines become the program of the verb that they were gathered for, or the player is told why not.
+/// Makes the lines the program of the verb that they were gathered for, or sends the player a line that says why not.
 pub(crate) fn end_programming(
     alloc: Global,
     live: &mut WorldState,

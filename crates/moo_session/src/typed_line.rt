@@ -35,7 +35,7 @@ pub(crate) fn type_line(
     }
 }
 
-// A line of a connection on which this player is connected.
+// Takes a line of a connection on which this player is connected.
 fn type_as(
     alloc: Global,
     live: &mut WorldState,
@@ -55,7 +55,7 @@ fn type_as(
     player_types(alloc, live, moment, number, player, line)
 }
 
-// Whether the connection gathers lines.
+// Is true if the connection gathers lines.
 fn gathers(session: &Session, number: u16) -> bool
     ensures { result ≡ is_some (gathering_of number session.now) }
 {
@@ -65,7 +65,7 @@ fn gathers(session: &Session, number: u16) -> bool
     }
 }
 
-// The line's words are those of the login.
+// Takes the line's words as those of the login.
 fn log_in_by_line(
     alloc: Global,
     live: &mut WorldState,

@@ -14,7 +14,7 @@ use moo_session_task::word_list;
 use moo_world::World;
 use std::alloc::{AllocError, Global};
 
-/// What a command runs, and on which object: the verb that is chosen, else the room's `huh`.
+/// Returns the verb that a command runs and the object that it runs on: the verb that is chosen, else the room's `huh`.
 pub(crate) fn verb_to_run<'a>(
     world: &'a World,
     player: i32,
@@ -44,7 +44,7 @@ fn huh_verb(world: &World, player: i32) -> Option<(i32, Found<'_>)>
     Some((room, found))
 }
 
-/// The frame of a verb that a player's command runs on an object.
+/// Returns the frame of a verb that a player's command runs on an object.
 pub(crate) fn command_frame(
     alloc: Global,
     found: Found<'_>,

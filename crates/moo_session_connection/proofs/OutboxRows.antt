@@ -6,7 +6,7 @@ use Rattle.std.proofs.lemmas.Bool.{cond-true, cond-false}
 use Rattle.std.proofs.lemmas.List.{append-nil}
 use Rattle.moo_session_connection.specs.Streams.{Sent, stream, ended}
 use Rattle.moo_session_connection.specs.Outbox.{Bytes, no_bytes}
-use Rattle.moo_session_connection.specs.Rows.{OnlyTouched, kept, forgotten, changed_at, all_changed, sent_for}
+use Rattle.moo_session_connection.specs.Rows.{OnlyTouched, committed, rolled_back, changed_at, all_changed, sent_for}
 
 abbrev pub row : List Bytes → ℕ → Bytes
 row rows c = get_or rows c no_bytes
@@ -55,31 +55,31 @@ none_under_way f e h [] rows only c = only c refl
 none_under_way f e h (n ∷ ns) rows only c =
     none_under_way f e h ns (changed_at f n rows) (λ d j. touched_step f e h n ns rows only d (n == d) refl j) c
 
-kept-whole : (b : Bytes) → (kept b).waiting ++ (kept b).under_way ≡ b.waiting ++ b.under_way
-kept-whole b = append-nil (b.waiting ++ b.under_way)
+committed-whole : (b : Bytes) → (committed b).waiting ++ (committed b).under_way ≡ b.waiting ++ b.under_way
+committed-whole b = append-nil (b.waiting ++ b.under_way)
 
-pub kept_waits : (ns : List ℕ) (rows : List Bytes) → OnlyTouched rows ns → (c : ℕ) → (row (all_changed kept ns rows) c).waiting ≡ (row rows c).waiting ++ (row rows c).under_way
-kept_waits ns rows only c =
-    let after : Bytes = row (all_changed kept ns rows) c in
+pub committed_waits : (ns : List ℕ) (rows : List Bytes) → OnlyTouched rows ns → (c : ℕ) → (row (all_changed committed ns rows) c).waiting ≡ (row rows c).waiting ++ (row rows c).under_way
+committed_waits ns rows only c =
+    let after : Bytes = row (all_changed committed ns rows) c in
     sym (append-nil after.waiting)
-    ∙ ap (λ (u : List ℕ). after.waiting ++ u) (sym (none_under_way kept refl (λ b. refl) ns rows only c))
-    ∙ whole (λ b. b.waiting ++ b.under_way) kept refl kept-whole ns rows c
+    ∙ ap (λ (u : List ℕ). after.waiting ++ u) (sym (none_under_way committed refl (λ b. refl) ns rows only c))
+    ∙ whole (λ b. b.waiting ++ b.under_way) committed refl committed-whole ns rows c
 
-pub kept_none : (ns : List ℕ) (rows : List Bytes) → OnlyTouched rows ns → (c : ℕ) → (row (all_changed kept ns rows) c).under_way ≡ []
-kept_none ns rows only c = none_under_way kept refl (λ b. refl) ns rows only c
+pub committed_none : (ns : List ℕ) (rows : List Bytes) → OnlyTouched rows ns → (c : ℕ) → (row (all_changed committed ns rows) c).under_way ≡ []
+committed_none ns rows only c = none_under_way committed refl (λ b. refl) ns rows only c
 
-pub forgotten_waits : (ns : List ℕ) (rows : List Bytes) (c : ℕ) → (row (all_changed forgotten ns rows) c).waiting ≡ (row rows c).waiting
-forgotten_waits ns rows c = whole (λ b. b.waiting) forgotten refl (λ b. refl) ns rows c
+pub rolled_back_waits : (ns : List ℕ) (rows : List Bytes) (c : ℕ) → (row (all_changed rolled_back ns rows) c).waiting ≡ (row rows c).waiting
+rolled_back_waits ns rows c = whole (λ b. b.waiting) rolled_back refl (λ b. refl) ns rows c
 
-pub forgotten_none : (ns : List ℕ) (rows : List Bytes) → OnlyTouched rows ns → (c : ℕ) → (row (all_changed forgotten ns rows) c).under_way ≡ []
-forgotten_none ns rows only c = none_under_way forgotten refl (λ b. refl) ns rows only c
+pub rolled_back_none : (ns : List ℕ) (rows : List Bytes) → OnlyTouched rows ns → (c : ℕ) → (row (all_changed rolled_back ns rows) c).under_way ≡ []
+rolled_back_none ns rows only c = none_under_way rolled_back refl (λ b. refl) ns rows only c
 
 -- one line
 stream_step : (b : Bool) (c : ℕ) (s : Sent) (ss : List Sent) → (s.to == c) ≡ b → stream c (s ∷ ss) ≡ cond b (ended s.line) [] ++ stream c ss
 stream_step true c s ss e =
-    ap (λ (kept : List Sent). flat_map (λ x. ended x.line) kept) (cond-true (s.to == c) (s ∷ filter (λ x. x.to == c) ss) (filter (λ x. x.to == c) ss) e)
+    ap (λ (committed : List Sent). flat_map (λ x. ended x.line) committed) (cond-true (s.to == c) (s ∷ filter (λ x. x.to == c) ss) (filter (λ x. x.to == c) ss) e)
 stream_step false c s ss e =
-    ap (λ (kept : List Sent). flat_map (λ x. ended x.line) kept) (cond-false (s.to == c) (s ∷ filter (λ x. x.to == c) ss) (filter (λ x. x.to == c) ss) e)
+    ap (λ (committed : List Sent). flat_map (λ x. ended x.line) committed) (cond-false (s.to == c) (s ∷ filter (λ x. x.to == c) ss) (filter (λ x. x.to == c) ss) e)
 
 pub stream-cons : (c : ℕ) (s : Sent) (ss : List Sent) → stream c (s ∷ ss) ≡ sent_for c s.to s.line ++ stream c ss
 stream-cons c s ss = stream_step (s.to == c) c s ss refl

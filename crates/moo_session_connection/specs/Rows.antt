@@ -9,12 +9,12 @@ abbrev pub OnlyTouched : List Bytes → List ℕ → Type 0
 OnlyTouched rows touched = (c : ℕ) → list_any (λ n. n == c) touched ≡ false → (slice_index_or rows c no_bytes).under_way ≡ []
 
 -- the bytes that are under way wait
-abbrev pub kept : Bytes → Bytes
-kept b = record { waiting = b.waiting ++ b.under_way; under_way = [] }
+abbrev pub committed : Bytes → Bytes
+committed b = record { waiting = b.waiting ++ b.under_way; under_way = [] }
 
 -- the bytes that are under way are dropped
-abbrev pub forgotten : Bytes → Bytes
-forgotten b = record { waiting = b.waiting; under_way = [] }
+abbrev pub rolled_back : Bytes → Bytes
+rolled_back b = record { waiting = b.waiting; under_way = [] }
 
 -- the row of a number changed, if there is one
 abbrev pub changed_at : (Bytes → Bytes) → ℕ → List Bytes → List Bytes

@@ -5,14 +5,14 @@ ghost use Rattle.moo_session_connection.specs.Outbox.{empty, bytes_of, sent_wait
 ghost use Rattle.moo_session_connection.specs.Rows.{sent_for};
 
 use crate::Sent;
-use crate::row::{Row, forget_all, grow, keep_all};
+use crate::row::{Row, commit_all, grow, rollback_all};
 use moo_value::MooStr;
 use std::alloc::{AllocError, Global};
 use std::marker::Model;
 use std::mem;
 
 /// Holds the bytes for each connection, by its number, and the lines of the log. The output of an event is under way
-/// until `keep`; then it waits to be taken.
+/// until `commit`; then it waits to be taken.
 #[derive(Drop)]
 pub struct Outbox {
     alloc: Global,
@@ -93,25 +93,25 @@ impl Outbox {
     }
 
     /// Makes the output that is under way wait. Allocates no memory. The time depends only on what is under way.
-    pub fn keep(&mut self)
+    pub fn commit(&mut self)
         ensures sent { (c : ℕ) → sent_waiting self.new c ≡ sent_waiting self.old c ++ sent_under_way self.old c }
         ensures log { log_waiting self.new ≡ log_waiting self.old ++ log_under_way self.old }
         ensures none { (c : ℕ) → sent_under_way self.new c ≡ [] }
         ensures no_log { log_under_way self.new ≡ [] }
     {
-        keep_all(&mut self.rows, &self.touched);
+        commit_all(&mut self.rows, &self.touched);
         self.touched.clear();
         self.settled = self.log.len();
     }
 
     /// Drops the output that is under way. Allocates no memory.
-    pub fn forget(&mut self)
+    pub fn rollback(&mut self)
         ensures sent { (c : ℕ) → sent_waiting self.new c ≡ sent_waiting self.old c }
         ensures log { log_waiting self.new ≡ log_waiting self.old }
         ensures none { (c : ℕ) → sent_under_way self.new c ≡ [] }
         ensures no_log { log_under_way self.new ≡ [] }
     {
-        forget_all(&mut self.rows, &self.touched);
+        rollback_all(&mut self.rows, &self.touched);
         self.touched.clear();
         self.log.truncate(self.settled);
     }

@@ -2,7 +2,7 @@
 ghost use Rattle.std.specs.Prelude.{◌≡◌, ◌<◌, ◌++◌, ℕ, [], length, slice_index_or, OnOk};
 ghost use Rattle.moo_session_connection.specs.Streams.{ended};
 ghost use Rattle.moo_session_connection.specs.Outbox.{no_bytes};
-ghost use Rattle.moo_session_connection.specs.Rows.{kept, forgotten, changed_at, all_changed};
+ghost use Rattle.moo_session_connection.specs.Rows.{committed, rolled_back, changed_at, all_changed};
 
 use std::alloc::{AllocError, Global};
 use std::marker::Model;
@@ -50,15 +50,15 @@ impl Row {
     }
 
     // Makes the bytes that are under way wait.
-    pub(crate) fn keep(&mut self)
-        ensures { self.new ≡ kept self.old }
+    pub(crate) fn commit(&mut self)
+        ensures { self.new ≡ committed self.old }
     {
         self.settled = self.bytes.len();
     }
 
     // Drops the bytes that are under way.
-    pub(crate) fn forget(&mut self)
-        ensures { self.new ≡ forgotten self.old }
+    pub(crate) fn rollback(&mut self)
+        ensures { self.new ≡ rolled_back self.old }
     {
         self.bytes.truncate(self.settled);
     }
@@ -68,7 +68,7 @@ impl Row {
         ensures taken { result.items ≡ self.old.waiting }
         ensures left { self.new ≡ no_bytes }
     {
-        self.forget();
+        self.rollback();
         self.settled = 0;
         mem::replace(&mut self.bytes, Vec::new(self.alloc))
     }
@@ -86,37 +86,37 @@ pub(crate) fn grow(alloc: Global, rows: &mut Vec<Row>, number: usize) -> Result<
 }
 
 // Makes the bytes that are under way for these numbers wait.
-pub(crate) fn keep_all(rows: &mut Vec<Row>, numbers: &[u16])
-    ensures { rows.new.items ≡ all_changed kept numbers.now rows.old.items }
+pub(crate) fn commit_all(rows: &mut Vec<Row>, numbers: &[u16])
+    ensures { rows.new.items ≡ all_changed committed numbers.now rows.old.items }
 {
     for number in numbers {
-        keep_at(rows, *number);
+        commit_at(rows, *number);
     }
 }
 
-fn keep_at(rows: &mut Vec<Row>, number: u16)
-    ensures { rows.new.items ≡ changed_at kept number rows.old.items }
+fn commit_at(rows: &mut Vec<Row>, number: u16)
+    ensures { rows.new.items ≡ changed_at committed number rows.old.items }
 {
     let place = usize::from(number);
     if place < rows.len() {
-        rows[place].keep();
+        rows[place].commit();
     }
 }
 
 // Drops the bytes that are under way for these numbers.
-pub(crate) fn forget_all(rows: &mut Vec<Row>, numbers: &[u16])
-    ensures { rows.new.items ≡ all_changed forgotten numbers.now rows.old.items }
+pub(crate) fn rollback_all(rows: &mut Vec<Row>, numbers: &[u16])
+    ensures { rows.new.items ≡ all_changed rolled_back numbers.now rows.old.items }
 {
     for number in numbers {
-        forget_at(rows, *number);
+        rollback_at(rows, *number);
     }
 }
 
-fn forget_at(rows: &mut Vec<Row>, number: u16)
-    ensures { rows.new.items ≡ changed_at forgotten number rows.old.items }
+fn rollback_at(rows: &mut Vec<Row>, number: u16)
+    ensures { rows.new.items ≡ changed_at rolled_back number rows.old.items }
 {
     let place = usize::from(number);
     if place < rows.len() {
-        rows[place].forget();
+        rows[place].rollback();
     }
 }

@@ -11,9 +11,9 @@ use Rattle.moo_session_connection.specs.Connections.{Connections, players_of, cl
 use Rattle.moo_session_connection.specs.Changes.{left_where, left_by}
 use Rattle.moo_session_task.specs.declared.hook.Hook.TheVariants.{Disconnected}
 use Rattle.moo_session_task.specs.Session.{Session, in_connections}
-use Rattle.moo_session_task.specs.Sending.{sent_to, told, all_told}
+use Rattle.moo_session_task.specs.Sending.{sent_to, notified, all_notified}
 use Rattle.moo_session_task.specs.Leaving.{parted, disconnected, disconnected_from, shut_down}
-use Rattle.moo_session_task.specs.Notices.{met, all_met}
+use Rattle.moo_session_task.specs.Notices.{applied, all_applied}
 
 -- two for each player who is connected, and one for each hook that waits: who is disconnected causes one hook
 abbrev pub potential : Session → ℕ
@@ -23,12 +23,12 @@ potential-sent_to : (c : Option Client) (line : List ℕ) (s : Session) → pote
 potential-sent_to None line s = refl
 potential-sent_to (Some c) line s = refl
 
-pub potential-told : (who : ℤ) (line : List ℕ) (s : Session) → potential (told who line s) ≡ potential s
-potential-told who line s = potential-sent_to (client_known_as who s.connections) line s
+pub potential-notified : (who : ℤ) (line : List ℕ) (s : Session) → potential (notified who line s) ≡ potential s
+potential-notified who line s = potential-sent_to (client_known_as who s.connections) line s
 
-pub potential-all_told : (who : ℤ) (lines : List (List ℕ)) (s : Session) → potential (all_told who lines s) ≡ potential s
-potential-all_told who [] s = refl
-potential-all_told who (line ∷ lines) s = potential-all_told who lines (told who line s) ∙ potential-told who line s
+pub potential-all_notified : (who : ℤ) (lines : List (List ℕ)) (s : Session) → potential (all_notified who lines s) ≡ potential s
+potential-all_notified who [] s = refl
+potential-all_notified who (line ∷ lines) s = potential-all_notified who lines (notified who line s) ∙ potential-notified who line s
 
 -- one more or none at the front
 cons_le : (o : Option ℤ) (xs : List ℤ) → length xs ≤ length (cons_option o xs)
@@ -98,16 +98,16 @@ disconnected_le who line s = disconnected_from_le (client_known_as who s.connect
 shut_down_le : (why : Option (List ℕ)) (s : Session) → potential (shut_down why s) ≤ potential s
 shut_down_le why s = omega arith
 
-met_le : (n : Notice) (s : Session) → potential (met n s) ≤ potential s
-met_le (notice.Notify who line) s = omega (arith, potential-told who line s)
-met_le (notice.BootPlayer who) s = disconnected_le who (codes "*** Disconnected ***") s
-met_le (notice.SetPlayerFlag o true) s = omega arith
-met_le (notice.SetPlayerFlag o false) s = disconnected_le o (codes "*** Disconnected ***") s
-met_le (notice.Recycle o) s = disconnected_le o (codes "*** Recycled ***") s
-met_le notice.DumpDatabase s = omega arith
-met_le (notice.Shutdown why) s = shut_down_le why s
-met_le (notice.ServerLog line) s = omega arith
+applied_le : (n : Notice) (s : Session) → potential (applied n s) ≤ potential s
+applied_le (notice.Notify who line) s = omega (arith, potential-notified who line s)
+applied_le (notice.BootPlayer who) s = disconnected_le who (codes "*** Disconnected ***") s
+applied_le (notice.SetPlayerFlag o true) s = omega arith
+applied_le (notice.SetPlayerFlag o false) s = disconnected_le o (codes "*** Disconnected ***") s
+applied_le (notice.Recycle o) s = disconnected_le o (codes "*** Recycled ***") s
+applied_le notice.DumpDatabase s = omega arith
+applied_le (notice.Shutdown why) s = shut_down_le why s
+applied_le (notice.ServerLog line) s = omega arith
 
-pub all_met_le : (ns : List Notice) (s : Session) → potential (all_met ns s) ≤ potential s
-all_met_le [] s = omega arith
-all_met_le (n ∷ ns) s = omega (arith, all_met_le ns (met n s), met_le n s)
+pub all_applied_le : (ns : List Notice) (s : Session) → potential (all_applied ns s) ≤ potential s
+all_applied_le [] s = omega arith
+all_applied_le (n ∷ ns) s = omega (arith, all_applied_le ns (applied n s), applied_le n s)

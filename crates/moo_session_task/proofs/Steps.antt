@@ -20,8 +20,8 @@ use Rattle.moo_session_task.specs.declared.hook.Hook.{Hook}
 use Rattle.moo_session_task.specs.declared.world_state.WorldState.{WorldState}
 use Rattle.moo_session_task.specs.Session.{Session, with_hooks}
 use Rattle.moo_session_task.specs.State.{state, in_session}
-use Rattle.moo_session_task.specs.Sending.{all_told}
-use Rattle.moo_session_task.specs.Notices.{all_met}
+use Rattle.moo_session_task.specs.Sending.{all_notified}
+use Rattle.moo_session_task.specs.Notices.{all_applied}
 use Rattle.moo_session_task.proofs.Potential.{potential}
 use Rattle.moo_session_task.specs.Frames.{server_frame, server_verb}
 use Rattle.moo_session_task.specs.Seen.{seen_answer, EndIs}
@@ -45,7 +45,7 @@ alone ended.Memory near near' start w w' old ns e f h = tt
 
 -- a task that ended so
 ended_so : (moment : ℕ) (start : Frame) (s : WorldState) (w : World) (u : Session) (v : Option Tree) (notices : List Notice) (end : End) →
-    TaskEnds Faults (around moment s.session.connections) start s.world end w notices → value_of end ≡ v → u ≡ all_told start.player (account_of end) (all_met notices s.session) →
+    TaskEnds Faults (around moment s.session.connections) start s.world end w notices → value_of end ≡ v → u ≡ all_notified start.player (account_of end) (all_applied notices s.session) →
     RunsTask Faults moment start s v (state w u)
 ended_so moment start s w u v notices end h e f = record {
   end = end;
@@ -56,21 +56,21 @@ ended_so moment start s w u v notices end h e f = record {
   leaves = ap (λ (x : Session). state w x) (sym f);
 }
 
--- a task that ended, whose notices were met and whose end was told
+-- a task that ended, whose notices were applied and whose end was told
 pub task_run : (moment : ℕ) (start : Frame) (s : WorldState) (w : World) (t u : Session) (e : code.Ended) (v : Option Tree) (notices : List Notice) →
-    IfEnded e (λ end. TaskEnds Faults (around moment s.session.connections) start s.world end w notices) → t ≡ all_met notices s.session →
-    EndIs e (λ end. (value_of end ≡ v) × (u ≡ all_told start.player (account_of end) t)) → RunsTask Faults moment start s v (state w u)
+    IfEnded e (λ end. TaskEnds Faults (around moment s.session.connections) start s.world end w notices) → t ≡ all_applied notices s.session →
+    EndIs e (λ end. (value_of end ≡ v) × (u ≡ all_notified start.player (account_of end) t)) → RunsTask Faults moment start s v (state w u)
 task_run moment start s w t u (ended.Value x) v notices h f g =
     ended_so moment start s w u v notices (value (tree x)) h g.0 (g.1 ∙ f)
 task_run moment start s w t u (ended.Uncaught lines) v notices h f g =
-    ended_so moment start s w u v notices (uncaught (texts lines.items)) h g.0 (g.1 ∙ ap (λ (x : Session). all_told start.player (texts lines.items) x) f)
+    ended_so moment start s w u v notices (uncaught (texts lines.items)) h g.0 (g.1 ∙ ap (λ (x : Session). all_notified start.player (texts lines.items) x) f)
 task_run moment start s w t u (ended.OutOfTicks lines) v notices h f g =
-    ended_so moment start s w u v notices (out_of_ticks (texts lines.items)) h g.0 (g.1 ∙ ap (λ (x : Session). all_told start.player (texts lines.items) x) f)
+    ended_so moment start s w u v notices (out_of_ticks (texts lines.items)) h g.0 (g.1 ∙ ap (λ (x : Session). all_notified start.player (texts lines.items) x) f)
 task_run moment start s w t u ended.Memory v notices h f g = absurd g
 
 pub task_answers : (r : Result (Option Value) AllocError) (moment : ℕ) (start : Frame) (s : WorldState) (w : World) (t u : Session) (e : code.Ended) (notices : List Notice) →
-    IfEnded e (λ end. TaskEnds Faults (around moment s.session.connections) start s.world end w notices) → t ≡ all_met notices s.session →
-    IfOk r (λ v. EndIs e (λ end. (value_of end ≡ seen_answer v) × (u ≡ all_told start.player (account_of end) t))) →
+    IfEnded e (λ end. TaskEnds Faults (around moment s.session.connections) start s.world end w notices) → t ≡ all_applied notices s.session →
+    IfOk r (λ v. EndIs e (λ end. (value_of end ≡ seen_answer v) × (u ≡ all_notified start.player (account_of end) t))) →
     IfOk r (λ v. RunsTask Faults moment start s (seen_answer v) (state w u))
 task_answers (Ok v) moment start s w t u e notices h f g = task_run moment start s w t u e (seen_answer v) notices h f g
 task_answers (Err fault) moment start s w t u e notices h f g = tt

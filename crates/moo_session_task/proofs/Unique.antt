@@ -12,8 +12,8 @@ use Rattle.moo_session_task.specs.declared.hook.Hook.{Hook}
 use Rattle.moo_session_task.specs.declared.world_state.WorldState.{WorldState}
 use Rattle.moo_session_task.specs.Session.{Session, with_hooks}
 use Rattle.moo_session_task.specs.State.{state, in_session}
-use Rattle.moo_session_task.specs.Sending.{all_told}
-use Rattle.moo_session_task.specs.Notices.{all_met}
+use Rattle.moo_session_task.specs.Sending.{all_notified}
+use Rattle.moo_session_task.specs.Notices.{all_applied}
 use Rattle.moo_session_task.specs.Frames.{server_frame}
 use Rattle.moo_session_task.specs.Laws.{AreAlike, IsWithin, OneResultOfCalls, OneResultOfHooks}
 use Rattle.moo_session_task.specs.Tasks.{RunsTask, CallsServerVerb, is_missing, runs, value_of, account_of}
@@ -26,7 +26,7 @@ pub record AreSame (v w : Option Tree) (s t : WorldState) : Type 0 where
 
 -- what a task leaves of its end
 left_by : ℤ → Session → End → World → List Notice → WorldState
-left_by player s end after notices = state after (all_told player (account_of end) (all_met notices s))
+left_by player s end after notices = state after (all_notified player (account_of end) (all_applied notices s))
 
 pub one_task : (T U : Telling) → AreAlike T U → (moment : ℕ) (start : Frame) (s s' t : WorldState) (v w : Option Tree) →
     RunsTask T moment start s v s' → RunsTask U moment start s w t → AreSame v w s' t

@@ -11,7 +11,7 @@ use Rattle.moo_eval_access.specs.Entering.{called_verb, verb_frame}
 abbrev pub nobody : ℤ
 nobody = negsuc 0
 
--- what a verb of #0 is told that the server itself calls; texts that it isn't told are empty
+-- what a verb of #0 gets that the server itself calls; the texts that it doesn't get are empty
 abbrev pub server_call : List ℕ → ℤ → List Tree → List ℕ → Call
 server_call name player args argstr = record {
   this = pos 0;

@@ -10,7 +10,7 @@ use Rattle.moo_session_task.specs.declared.hook.Hook.TheVariants as hook
 use Rattle.moo_session_task.specs.Session.{Session, in_connections, caused}
 use Rattle.moo_session_task.specs.Sending.{sent_to}
 
--- where a player was connected, `user_disconnected` is to run
+-- if a player was connected, `user_disconnected` is to run
 abbrev pub parted : Option ℤ → Session → Session
 parted None s = s
 parted (Some player) s = caused (hook.Disconnected player) s

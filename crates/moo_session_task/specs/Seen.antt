@@ -1,4 +1,4 @@
--- What the program's answers stand for.
+-- What the program's answers mean.
 use Rattle.std.specs.Prelude.{Option}
 use Rattle.std.specs.Option.{option_map}
 use Rattle.moo_value.specs.declared.value.Value.{Value}

@@ -15,10 +15,10 @@ abbrev pub sent : ℕ → List ℕ → Session → Session
 sent n line s = sent_to (client_here n s.connections) line s
 
 -- a line for a player, or for a connection on which nobody is connected, by the number that it goes by
-abbrev pub told : ℤ → List ℕ → Session → Session
-told who line s = sent_to (client_known_as who s.connections) line s
+abbrev pub notified : ℤ → List ℕ → Session → Session
+notified who line s = sent_to (client_known_as who s.connections) line s
 
 -- one line after another
-abbrev pub all_told : ℤ → List (List ℕ) → Session → Session
-all_told who [] s = s
-all_told who (line ∷ lines) s = all_told who lines (told who line s)
+abbrev pub all_notified : ℤ → List (List ℕ) → Session → Session
+all_notified who [] s = s
+all_notified who (line ∷ lines) s = all_notified who lines (notified who line s)

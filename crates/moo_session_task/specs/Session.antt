@@ -28,6 +28,6 @@ in_connections f s = record s { connections = f s.connections }
 abbrev pub with_hooks : List Hook → Session → Session
 with_hooks hooks s = record s { hooks = hooks }
 
--- a hook more, behind those that wait
+-- one more hook, after those that wait
 abbrev pub caused : Hook → Session → Session
 caused h s = with_hooks (s.hooks ++ h ∷ []) s

@@ -20,50 +20,50 @@ impl Session {
         self.connections.join(number, moment)
     }
 
-    /// The number of a connection is free again.
+    /// Frees the number of a connection.
     pub fn free(&mut self, number: u16)
         ensures { self.new ≡ in_connections (freed number) self.old }
     {
         self.connections.free(number);
     }
 
-    /// A player is connected on a connection from this moment on, in seconds; another connection of the player's is
-    /// leaving. `Err` where memory is wanting.
+    /// Connects a player on a connection from this moment on, in seconds. Another connection of the player's is then
+    /// leaving. Fails only if memory runs out.
     pub fn play(&mut self, number: u16, player: i32, moment: u32) -> Result<(), AllocError>
         ensures { OnOk result (self.new ≡ in_connections (played number player moment) self.old) }
     {
         self.connections.play(number, player, moment)
     }
 
-    /// Who goes by this number, if anybody does, is leaving. `Err` where memory is wanting.
+    /// Marks the connection that goes by this number, if there is one, as leaving. Fails only if memory runs out.
     pub fn leave(&mut self, who: i32) -> Result<(), AllocError>
         ensures { OnOk result (self.new ≡ in_connections (left_by who) self.old) }
     {
         self.connections.leave(who)
     }
 
-    /// What goes before the output of commands.
+    /// Sets the line that goes before the output of commands.
     pub fn set_prefix(&mut self, number: u16, text: MooStr)
         ensures { self.new ≡ in_connections (with_changed number (with_prefix text)) self.old }
     {
         self.connections.set_prefix(number, text);
     }
 
-    /// What goes after it.
+    /// Sets the line that goes after the output of commands.
     pub fn set_suffix(&mut self, number: u16, text: MooStr)
         ensures { self.new ≡ in_connections (with_changed number (with_suffix text)) self.old }
     {
         self.connections.set_suffix(number, text);
     }
 
-    /// What the connection gathers lines for, if for anything.
+    /// Sets what the connection gathers lines for, if it gathers any.
     pub fn gather(&mut self, number: u16, gathering: Option<Gathering>)
         ensures { self.new ≡ in_connections (with_changed number (with_gathering gathering)) self.old }
     {
         self.connections.gather(number, gathering);
     }
 
-    /// What the connection gathers lines for, which it then does no more.
+    /// Takes what the connection gathers lines for. It then gathers none.
     pub fn take_gathering(&mut self, number: u16) -> Option<Gathering>
         ensures taken { result ≡ option_and_then (λ c. c.gathering) (client_here number self.old.connections) }
         ensures changed { self.new ≡ in_connections (with_changed number (with_gathering None)) self.old }
@@ -71,8 +71,8 @@ impl Session {
         self.connections.take_gathering(number)
     }
 
-    /// A connection has sent a piece at this moment, in seconds: the lines that it ends, or `None` where the connection
-    /// isn't open or is leaving, which takes no memory. `Err` where memory is wanting.
+    /// Takes a piece of bytes of a connection, at this moment in seconds, and returns the lines that it ends. Returns
+    /// `None`, without taking memory, if the connection isn't open or is leaving. Fails only if memory runs out.
     pub fn receive(
         &mut self,
         number: u16,

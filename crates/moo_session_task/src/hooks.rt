@@ -11,8 +11,8 @@ use crate::{Hook, WorldState};
 use moo_value::{ListLimit, MooList, MooStr, Value};
 use std::alloc::{AllocError, Global};
 
-/// Runs the hooks that wait, from the first on, until none waits, at this moment, in seconds. `Err` where memory is
-/// wanting.
+/// Runs the hooks that wait, from the first on, until none waits, at this moment in seconds. Fails only if memory runs
+/// out.
 #[tactic(none)]
 pub fn run_hooks(alloc: Global, live: &mut WorldState, moment: u32) -> Result<(), AllocError>
     ensures { OnOk result (HooksRun Faults moment live.old live.new) }
@@ -21,7 +21,7 @@ pub fn run_hooks(alloc: Global, live: &mut WorldState, moment: u32) -> Result<()
     Ok(())
 }
 
-// Runs the first hook that waits, and answers whether there was one.
+// Runs the first hook that waits. Returns whether there was one.
 #[tactic(none)]
 fn run_next(alloc: Global, live: &mut WorldState, moment: u32) -> Result<bool, AllocError>
     ensures { IfOk result (λ more. RunsNext Faults moment live.old more live.new) }
@@ -73,7 +73,7 @@ fn player_of(hook: Hook) -> i32
     }
 }
 
-// A list of one object.
+// Returns a list of one object.
 fn one_object(alloc: Global, o: i32) -> Result<MooList, AllocError>
     ensures { IfOk result (λ list. list ≡ object o ∷ []) }
 {

@@ -1,8 +1,8 @@
 //! The laws of tasks.
 ghost use Rattle.moo_session_task.specs.Laws.{OneResultOfCalls, OneResultOfHooks};
 
-/// For one input a call of the server's, and the hooks that wait, have at most one result, whatever is chosen to be told of
-/// texts that are no programs.
+/// Proves that a call of the server and the hooks that wait have at most one result for one input, for each choice of
+/// the faults that texts that are no programs report.
 #[tactic(none)]
 pub fn at_most_one_result()
     ensures calls { OneResultOfCalls }

@@ -10,7 +10,8 @@ use moo_value::MooStr;
 use std::alloc::{AllocError, Global};
 
 impl Session {
-    /// Who goes by this number gets a last line, and the connection is leaving. `Err` where memory is wanting.
+    /// Sends a last line to the connection that goes by this number, and marks it as leaving. Fails only if
+    /// memory runs out.
     pub fn disconnect(&mut self, who: i32, line: &[u8]) -> Result<(), AllocError>
         ensures { OnOk result (self.new ≡ disconnected who line.now self.old) }
     {
@@ -24,7 +25,7 @@ impl Session {
         self.part(player)
     }
 
-    // Where a player was connected, the hook is to run.
+    // Enqueues the hook if a player was connected.
     fn part(&mut self, player: Option<i32>) -> Result<(), AllocError>
         ensures { OnOk result (self.new ≡ parted player self.old) }
     {
@@ -34,7 +35,8 @@ impl Session {
         }
     }
 
-    /// Every connection gets a line and is leaving, and a last checkpoint is asked for. `Err` where memory is wanting.
+    /// Sends a line to every connection, marks each as leaving, and requests a last checkpoint. Fails only if memory
+    /// runs out.
     pub fn shut_down(&mut self, why: &Option<MooStr>) -> Result<(), AllocError>
         ensures { OnOk result (self.new ≡ shut_down why.now self.old) }
     {

@@ -1,27 +1,27 @@
-//! What becomes of what a task asked for.
+//! Applies the effects that a task requested.
 ghost use Rattle.std.specs.Prelude.{◌≡◌, OnOk};
-ghost use Rattle.moo_session_task.specs.Notices.{met, all_met};
+ghost use Rattle.moo_session_task.specs.Notices.{applied, all_applied};
 
 use crate::session::Session;
 use moo_eval_frame::Notice;
 use std::alloc::AllocError;
 
 impl Session {
-    /// Meets what a task asked for, in its order.
-    pub fn meet_all(&mut self, notices: &[Notice]) -> Result<(), AllocError>
-        ensures { OnOk result (self.new ≡ all_met notices.now self.old) }
+    /// Applies what a task asked for, in its order.
+    pub fn apply_notices(&mut self, notices: &[Notice]) -> Result<(), AllocError>
+        ensures { OnOk result (self.new ≡ all_applied notices.now self.old) }
     {
         for notice in notices {
-            self.meet(notice)?;
+            self.apply_notice(notice)?;
         }
         Ok(())
     }
 
-    fn meet(&mut self, notice: &Notice) -> Result<(), AllocError>
-        ensures { OnOk result (self.new ≡ met notice.now self.old) }
+    fn apply_notice(&mut self, notice: &Notice) -> Result<(), AllocError>
+        ensures { OnOk result (self.new ≡ applied notice.now self.old) }
     {
         match notice {
-            Notice::Notify(who, line) => self.tell(*who, line.as_bytes()),
+            Notice::Notify(who, line) => self.notify(*who, line.as_bytes()),
             Notice::BootPlayer(who) => self.disconnect(*who, b"*** Disconnected ***"),
             Notice::SetPlayerFlag(_, true) => Ok(()),
             Notice::SetPlayerFlag(o, false) => self.disconnect(*o, b"*** Disconnected ***"),

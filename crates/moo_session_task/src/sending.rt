@@ -1,15 +1,15 @@
 //! Lines for connections.
 ghost use Rattle.std.specs.Prelude.{◌≡◌, ◌++◌, ◌∷◌, [], OnOk};
 ghost use Rattle.moo_eval_frame.specs.Traceback.{texts};
-ghost use Rattle.moo_session_task.specs.Sending.{sent, told, all_told};
+ghost use Rattle.moo_session_task.specs.Sending.{sent, notified, all_notified};
 
 use crate::session::Session;
 use moo_session_connection::Sent;
 use std::alloc::AllocError;
 
 impl Session {
-    /// Sends a line, without its end, to the connection of this number, where it is open and not leaving. `Err` where
-    /// memory is wanting.
+    /// Sends a line, without its end, to the connection of this number, if it is open and not leaving. Fails only if
+    /// memory runs out.
     pub fn send(&mut self, number: u16, line: &[u8]) -> Result<(), AllocError>
         ensures { OnOk result (self.new ≡ sent number line.now self.old) }
     {
@@ -22,9 +22,9 @@ impl Session {
         }
     }
 
-    /// Sends a line to who goes by this number, if anybody does. `Err` where memory is wanting.
-    pub fn tell(&mut self, who: i32, line: &[u8]) -> Result<(), AllocError>
-        ensures { OnOk result (self.new ≡ told who line.now self.old) }
+    /// Sends a line to the connection that goes by this number, if there is one. Fails only if memory runs out.
+    pub fn notify(&mut self, who: i32, line: &[u8]) -> Result<(), AllocError>
+        ensures { OnOk result (self.new ≡ notified who line.now self.old) }
     {
         match self.connections.client_known_as(who) {
             Some(client) => {
@@ -35,12 +35,12 @@ impl Session {
         }
     }
 
-    /// Sends several lines, in order, to who goes by this number, if anybody does.
-    pub fn tell_all(&mut self, who: i32, lines: &[Vec<u8>]) -> Result<(), AllocError>
-        ensures { OnOk result (self.new ≡ all_told who (texts lines.now) self.old) }
+    /// Sends several lines, in order, to the connection that goes by this number, if there is one.
+    pub fn notify_all(&mut self, who: i32, lines: &[Vec<u8>]) -> Result<(), AllocError>
+        ensures { OnOk result (self.new ≡ all_notified who (texts lines.now) self.old) }
     {
         for line in lines {
-            self.tell(who, line)?;
+            self.notify(who, line)?;
         }
         Ok(())
     }

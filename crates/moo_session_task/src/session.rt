@@ -12,12 +12,12 @@ use std::collections::VecDeque;
 use std::marker::Model;
 use std::mem;
 
-/// The open connections, what waits to be done for them, and what an event has brought so far.
+/// Holds the open connections, the hooks that wait, and what an event has sent so far.
 #[derive(Drop)]
 pub struct Session {
     pub(crate) alloc: Global,
     pub(crate) connections: Connections,
-    // Those that are to run, the first first.
+    // The hooks that are to run, in order.
     pub(crate) hooks: VecDeque<Hook>,
     pub(crate) asked: bool,
     pub(crate) closing: bool,
@@ -41,7 +41,7 @@ impl Model for Session {
 }
 
 impl Session {
-    /// No connection is open, and nothing has happened.
+    /// Returns sessions without a connection, before any event.
     pub fn new(alloc: Global) -> Session
         ensures { result ≡ no_session }
     {
@@ -56,14 +56,14 @@ impl Session {
         }
     }
 
-    /// The open connections.
+    /// Returns the open connections.
     pub fn connections(&self) -> &Connections
         ensures { result.now ≡ self.now.connections }
     {
         &self.connections
     }
 
-    /// A hook is to run behind those that wait. `Err` where memory is wanting.
+    /// Enqueues a hook after those that wait. Fails only if memory runs out.
     pub fn cause(&mut self, hook: Hook) -> Result<(), AllocError>
         ensures { OnOk result (self.new ≡ caused hook self.old) }
     {
@@ -79,14 +79,14 @@ impl Session {
         self.hooks.pop_front()
     }
 
-    /// A checkpoint is asked for.
+    /// Requests a checkpoint.
     pub fn ask(&mut self)
         ensures { self.new ≡ asked_for self.old }
     {
         self.asked = true;
     }
 
-    /// Whether a checkpoint was asked for, which it then is no more.
+    /// Takes the request of a checkpoint. Returns whether there was one.
     pub fn take_asked(&mut self) -> bool
         ensures asked { result ≡ self.old.asked }
         ensures left { self.new ≡ record self.old { asked = false } }
@@ -94,14 +94,14 @@ impl Session {
         mem::replace(&mut self.asked, false)
     }
 
-    /// Whether the server is shutting down.
+    /// Is true if the server is shutting down.
     pub fn is_closing(&self) -> bool
         ensures { result ≡ self.now.closing }
     {
         self.closing
     }
 
-    /// Adds a line to the log. `Err` where memory is wanting.
+    /// Adds a line to the log. Fails only if memory runs out.
     pub fn log(&mut self, line: MooStr) -> Result<(), AllocError>
         ensures { OnOk result (self.new ≡ logged line self.old) }
     {

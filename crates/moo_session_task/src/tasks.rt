@@ -4,7 +4,7 @@ ghost use Rattle.moo_builtin.specs.Telling.{Faults};
 ghost use Rattle.moo_eval_semantics.specs.Task.{TaskEnds};
 ghost use Rattle.moo_eval.specs.Ends.{IfEnded};
 ghost use Rattle.moo_session_connection.specs.Connections.{around};
-ghost use Rattle.moo_session_task.specs.Sending.{all_told};
+ghost use Rattle.moo_session_task.specs.Sending.{all_notified};
 ghost use Rattle.moo_session_task.specs.Tasks.{RunsTask, value_of, account_of};
 ghost use Rattle.moo_session_task.specs.Seen.{seen_answer, EndIs};
 
@@ -14,8 +14,8 @@ use moo_eval_frame::{Frame, Notice, Surroundings, TaskEnv};
 use moo_value::Value;
 use std::alloc::{AllocError, Global};
 
-/// Runs a task that begins with this frame at this moment, in seconds, meets what it asked for, and tells its player how
-/// it ended where it has no value. Answers the value. `Err` where memory is wanting.
+/// Runs a task that begins with this frame at this moment, in seconds, and applies what it asked for. Sends its player
+/// the lines of its end if it has no value, else returns the value. Fails only if memory runs out.
 pub fn run(
     alloc: Global,
     live: &mut WorldState,
@@ -26,11 +26,11 @@ pub fn run(
 {
     let player = start.player;
     let (ended, notices) = run_alone(alloc, live, moment, start);
-    live.session.meet_all(&notices)?;
+    live.session.apply_notices(&notices)?;
     tell_end(&mut live.session, player, ended)
 }
 
-// Runs the task over the row of the connections as they are, and answers what it asked for.
+// Runs the task over the connections as they are, and returns what it asked for.
 fn run_alone(
     alloc: Global,
     live: &mut WorldState,
@@ -51,14 +51,14 @@ fn run_alone(
     (ended, env.notices)
 }
 
-// Tells the player of a task how it ended, where it has no value. Answers the value.
+// Sends the player of a task the lines of its end if it has no value. Returns the value.
 fn tell_end(session: &mut Session, player: i32, ended: Ended) -> Result<Option<Value>, AllocError>
-    ensures { IfOk result (λ v. EndIs ended (λ end. (value_of end ≡ seen_answer v) × (session.new ≡ all_told player (account_of end) session.old))) }
+    ensures { IfOk result (λ v. EndIs ended (λ end. (value_of end ≡ seen_answer v) × (session.new ≡ all_notified player (account_of end) session.old))) }
 {
     match ended {
         Ended::Value(value) => Ok(Some(value)),
         Ended::Uncaught(lines) | Ended::OutOfTicks(lines) => {
-            session.tell_all(player, &lines)?;
+            session.notify_all(player, &lines)?;
             Ok(None)
         }
         Ended::Memory => Err(AllocError),

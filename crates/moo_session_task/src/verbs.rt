@@ -14,9 +14,9 @@ use moo_eval_frame::Frame;
 use moo_value::{MooList, MooStr, Value};
 use std::alloc::{AllocError, Global};
 
-/// Calls a verb of #0 at this moment, in seconds, where there is one by this name that can be executed: with these
-/// arguments, this text behind the command and this player, who needs not be one. Answers the value of its task, if it has
-/// one. `Err` where memory is wanting.
+/// Calls the verb of #0 with this name at this moment, in seconds, if there is one that can be executed. It gets these
+/// arguments, this text as `argstr`, and this player, which need not be one. Returns the value of its task, if it has
+/// one. Fails only if memory runs out.
 pub fn call_server_verb(
     alloc: Global,
     live: &mut WorldState,
@@ -32,7 +32,14 @@ pub fn call_server_verb(
     let Some(found) = called_verb(&live.world, 0, verb) else {
         return Ok(None);
     };
-    let frame = server_frame(alloc, found, name(alloc, verb)?, player, args, argstr)?;
+    let frame = server_frame(
+        alloc,
+        found,
+        MooStr::from_slice(alloc, verb)?,
+        player,
+        args,
+        argstr,
+    )?;
     run(alloc, live, moment, frame)
 }
 
@@ -60,12 +67,4 @@ fn server_frame(
         args,
     };
     verb_frame(alloc, found, call)
-}
-
-// Returns the string of these bytes. Fails only if memory runs out.
-fn name(alloc: Global, bytes: &[u8]) -> Result<MooStr, AllocError>
-    requires { IsString bytes.now }
-    ensures { IfOk result (λ s. s ≡ bytes.now) }
-{
-    MooStr::from_text(alloc, Vec::from_slice(alloc, bytes)?)
 }

@@ -3,7 +3,7 @@
 use crate::session::Session;
 use moo_world::World;
 
-/// What an event changes: the world and its sessions.
+/// Holds what an event changes: the world and its sessions.
 #[derive(Drop)]
 pub struct WorldState {
     pub world: World,

@@ -7,6 +7,7 @@ mod check;
 mod function;
 pub mod laws;
 mod likely;
+mod names;
 mod table;
 
 pub use function::Function;

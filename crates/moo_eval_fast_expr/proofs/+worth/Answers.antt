@@ -93,7 +93,7 @@ pub functions::function_worth-returns-clause-value : goal.functions::function_wo
 functions::function_worth-returns-clause-value t c =
     let world = c.args.sight.now.world.now in
     let active = c.args.sight.now.active.now in
-    map_some c.answered-2.result (λ v h. function_worth world active c.in_ok-take.ensures.taken c.in_ok-args.ensures.value c.in_ok-function.ensures.0 (rw c.deref_mut.ensures.value at h)) c.answered-2.ensures
+    map_some c.answered-2.result (λ v h. function_worth world active c.in_ok-take.ensures.taken c.in_ok-args.ensures.value c.in_ok-function.ensures.0 c.in_ok-function.ensures.1 (rw c.deref_mut.ensures.value at h)) c.answered-2.ensures
 
 pub functions::function_arguments-loop-item-preserved : goal.functions::function_arguments-loop-item-preserved
 functions::function_arguments-loop-item-preserved t c =
@@ -122,13 +122,13 @@ pub functions::function_worth-returns-in-Some-clause-value : goal.functions::fun
 functions::function_worth-returns-in-Some-clause-value t c =
     let world = c.args.sight.now.world.now in
     let active = c.args.sight.now.active.now in
-    rw c.in-Some.ensures (map_some c.answered.result (λ v h. function_worth world active c.in_ok-take.ensures.taken (next_worth c.in_ok-only.ensures.value none_worth) c.in_ok-function.ensures.0 h) c.answered.ensures)
+    rw c.in-Some.ensures (map_some c.answered.result (λ v h. function_worth world active c.in_ok-take.ensures.taken (next_worth c.in_ok-only.ensures.value none_worth) c.in_ok-function.ensures.0 c.in_ok-function.ensures.1 h) c.answered.ensures)
 
 pub functions::function_worth-returns-in-Some-two_elements-clause-value : goal.functions::function_worth-returns-in-Some-two_elements-clause-value
 functions::function_worth-returns-in-Some-two_elements-clause-value t c =
     let world = c.args.sight.now.world.now in
     let active = c.args.sight.now.active.now in
-    rw c.in-Some-two_elements.ensures (map_some c.answered-in-Some-two_elements.result (λ v h. function_worth world active c.in_ok-take.ensures.taken (next_worth c.in_ok-first.ensures.value (next_worth c.in_ok-second.ensures.value none_worth)) c.in_ok-function.ensures.0 h) c.answered-in-Some-two_elements.ensures)
+    rw c.in-Some-two_elements.ensures (map_some c.answered-in-Some-two_elements.result (λ v h. function_worth world active c.in_ok-take.ensures.taken (next_worth c.in_ok-first.ensures.value (next_worth c.in_ok-second.ensures.value none_worth)) c.in_ok-function.ensures.0 c.in_ok-function.ensures.1 h) c.answered-in-Some-two_elements.ensures)
 
 pub elements::place_worth-returns-clause-value : goal.elements::place_worth-returns-clause-value
 elements::place_worth-returns-clause-value t c =

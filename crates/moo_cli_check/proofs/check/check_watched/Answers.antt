@@ -4,5 +4,5 @@ use Rattle.moo_cli_check.proofs.check.check_watched.Goals as goal
 
 pub returns-in-Err : goal.returns-in-Err
 returns-in-Err g c =
-    inr (given_up (g.O.Write.contents c.args.output.now) (g.O.Write.contents c.checked.new.output) (g.O.Write.contents c.told_watched.new.output) c.checked.new.watch c.told_watched.new.watch c.in-Err.refusal c.told_watched.result
-    c.in-Err.ensures.earned c.in-Err.ensures.silent c.told_watched.ensures.status c.told_watched.ensures.told c.told_watched.ensures.remembers)
+    inr (given_up (g.O.Write.contents c.args.output.now) (g.O.Write.contents c.checked.new.output) (g.O.Write.contents c.report_watched.new.output) c.checked.new.watch c.report_watched.new.watch c.in-Err.refusal c.report_watched.result
+    c.in-Err.ensures.earned c.in-Err.ensures.silent c.report_watched.ensures.status c.report_watched.ensures.reported c.report_watched.ensures.remembers)

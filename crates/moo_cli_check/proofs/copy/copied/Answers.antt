@@ -28,7 +28,7 @@ pub returns-in-Err-clause-answered : goal.returns-in-Err-clause-answered
 returns-in-Err-clause-answered g c =
     let known = g.I.Read.remaining c.args.input.now in
     let old = g.O.Write.contents c.args.output.now in
-    let new = g.O.Write.contents c.tell.new.output in
+    let new = g.O.Write.contents c.report_fault.new.output in
     let answer = subst (λ (l : Result stored.Saved DbFault). IfSome known (LoadAnswers l)) c.in-Err.is c.in_ok-loaded.ensures.answer in
-    if_ok (λ (status : ℕ). (status ≡ 1) × (c.in-Err.fault.kind ≢ Memory) × Appends old new (fault_line c.in-Err.fault)) (λ (status : ℕ). IsAnswered canonical known old new status) c.tell.result
-    (λ status h. refused_told canonical known old new c.in-Err.fault status answer h.1 h.0 h.2) c.tell.ensures.told
+    if_ok (λ (status : ℕ). (status ≡ 1) × (c.in-Err.fault.kind ≢ Memory) × Appends old new (fault_line c.in-Err.fault)) (λ (status : ℕ). IsAnswered canonical known old new status) c.report_fault.result
+    (λ status h. refused_told canonical known old new c.in-Err.fault status answer h.1 h.0 h.2) c.report_fault.ensures.reported

@@ -32,10 +32,10 @@ returns-in-Stops-clause-plays g c =
     let before = g.I.Read.remaining c.loop-script.input in
     let behind = g.I.Read.remaining c.next_line.new.input in
     let takes = at_some c.in_ok-line.field-0 c.in-Some.line _ (λ line. TakesLine before behind line.items) c.in-Some.is c.in_ok-line.ensures.line in
-    IfOk-weaker c.tell_stop.result _ _ (λ status told. ended_at g.S.Application.layer c.args.script c.loop-script.script c.loop-script.number c.in-Some.line.items c.as_slice.result.now
+    IfOk-weaker c.report_stop.result _ _ (λ status told. ended_at g.S.Application.layer c.args.script c.loop-script.script c.loop-script.number c.in-Some.line.items c.as_slice.result.now
     c.in-Stops.stop c.in_ok-next.field-0 (g.I.Read.remaining c.args.input.now) before behind (g.O.Write.contents c.args.output.now) (g.O.Write.contents c.loop-script.output)
-    (g.O.Write.contents c.play_line.new.output) (g.O.Write.contents c.tell_stop.new.output) status c.loop-script.invariant.played takes c.as_slice.ensures.value c.in-Stops.is
-    c.in_ok-next.ensures.next told) c.tell_stop.ensures.told
+    (g.O.Write.contents c.play_line.new.output) (g.O.Write.contents c.report_stop.new.output) status c.loop-script.invariant.played takes c.as_slice.ensures.value c.in-Stops.is
+    c.in_ok-next.ensures.next told) c.report_stop.ensures.reported
 
 pub returns-clause-plays : goal.returns-clause-plays
 returns-clause-plays g c =
@@ -58,5 +58,5 @@ returns-in-Stops-clause-grown g c =
     let mid = g.O.Write.contents c.loop-script.output in
     let still = still_at g.S.Application.layer c.loop-script.script c.as_slice.result.now c.in-Stops.stop c.in_ok-next.field-0 old mid (g.O.Write.contents c.play_line.new.output) _
     c.loop-script.invariant.played.grown c.in-Stops.is c.in_ok-next.ensures.next in
-    err_weaker c.tell_stop.result _ _ (grown_silent c.tell_stop.new.watch old (g.O.Write.contents c.play_line.new.output) (g.O.Write.contents c.tell_stop.new.output) _ still)
-    c.tell_stop.ensures.silent
+    err_weaker c.report_stop.result _ _ (grown_silent c.report_stop.new.watch old (g.O.Write.contents c.play_line.new.output) (g.O.Write.contents c.report_stop.new.output) _ still)
+    c.report_stop.ensures.silent

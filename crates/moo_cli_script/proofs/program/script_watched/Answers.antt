@@ -7,6 +7,6 @@ returns-in-Ok g c = inl c.in-Ok.ensures.answered
 
 pub returns-in-Err : goal.returns-in-Err
 returns-in-Err g c =
-    inr (gives_up (g.O.Write.contents c.args.output.now) (g.O.Write.contents c.serve.new.output) (g.O.Write.contents c.told_watched.new.output) c.serve.new.loading c.serve.new.watch
-    c.told_watched.new.watch c.in-Err.refusal c.told_watched.result c.in-Err.ensures.earned c.in-Err.ensures.grown c.told_watched.ensures.remembers c.told_watched.ensures.status
-    c.told_watched.ensures.told)
+    inr (gives_up (g.O.Write.contents c.args.output.now) (g.O.Write.contents c.serve.new.output) (g.O.Write.contents c.report_watched.new.output) c.serve.new.loading c.serve.new.watch
+    c.report_watched.new.watch c.in-Err.refusal c.report_watched.result c.in-Err.ensures.earned c.in-Err.ensures.grown c.report_watched.ensures.remembers c.report_watched.ensures.status
+    c.report_watched.ensures.reported)

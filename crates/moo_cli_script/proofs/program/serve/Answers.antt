@@ -18,9 +18,9 @@ pub returns-in-Err-clause-answered : goal.returns-in-Err-clause-answered
 returns-in-Err-clause-answered g c =
     let l = g.S.Application.layer in
     let holds = held c.in_ok-text.text.items c.new-disk.result c.new.result c.new-disk.ensures.inner c.new.ensures.images c.new.ensures.main c.new-disk.ensures.left in
-    IfOk-weaker c.tell_opening.result _ _ (λ status told. not_served l (g.F.Read.remaining c.args.database.now) (g.I.Read.remaining c.args.input.now) (g.O.Write.contents c.args.output.now)
-    (g.O.Write.contents c.tell_opening.new.output) c.in_ok-text.text.items c.new-disk.result c.in-Err.fault status c.in_ok-text.ensures.text holds c.in-Err.ensures.refused told.0 told.1)
-    c.tell_opening.ensures.told
+    IfOk-weaker c.report_opening.result _ _ (λ status told. not_served l (g.F.Read.remaining c.args.database.now) (g.I.Read.remaining c.args.input.now) (g.O.Write.contents c.args.output.now)
+    (g.O.Write.contents c.report_opening.new.output) c.in_ok-text.text.items c.new-disk.result c.in-Err.fault status c.in_ok-text.ensures.text holds c.in-Err.ensures.refused told.0 told.1)
+    c.report_opening.ensures.reported
 
 pub returns-in_err-text-clause-grown : goal.returns-in_err-text-clause-grown
 returns-in_err-text-clause-grown g c = any_err c.from_residual.result _ (not_grown c.args.watch.now (g.O.Write.contents c.args.output.now))
@@ -35,4 +35,4 @@ returns-in_ok-hand_out-in-Ok-clause-grown g c =
 pub returns-in-Err-clause-grown : goal.returns-in-Err-clause-grown
 returns-in-Err-clause-grown g c =
     let old = g.O.Write.contents c.args.output.now in
-    err_weaker c.tell_opening.result _ _ (grown_silent c.tell_opening.new.watch old old (g.O.Write.contents c.tell_opening.new.output) _ (Appends-nil old)) c.tell_opening.ensures.silent
+    err_weaker c.report_opening.result _ _ (grown_silent c.report_opening.new.watch old old (g.O.Write.contents c.report_opening.new.output) _ (Appends-nil old)) c.report_opening.ensures.silent

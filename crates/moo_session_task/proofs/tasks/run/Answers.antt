@@ -1,8 +1,8 @@
 use Rattle.std.proofs.Common.{◌≡◌, ℤ, List, IfOk, sym, ◌∙◌, ap, subst, to_z, of_z, to_z-of_z, w32, SFits, rules}
 use Rattle.moo_eval_frame.specs.declared.notice.Notice.{Notice}
 use Rattle.moo_session_task.specs.Session.{Session}
-use Rattle.moo_session_task.specs.Notices.{all_met}
-use Rattle.moo_session_task.specs.Sending.{all_told}
+use Rattle.moo_session_task.specs.Notices.{all_applied}
+use Rattle.moo_session_task.specs.Sending.{all_notified}
 use Rattle.moo_session_task.specs.Tasks.{value_of, account_of}
 use Rattle.moo_session_task.specs.Seen.{seen_answer, EndIs}
 use Rattle.moo_session_task.proofs.Steps.{task_answers}
@@ -12,11 +12,11 @@ pub returns : goal.returns
 returns c =
     let same : to_z w32 (of_z w32 c.args.start.player) ≡ c.args.start.player = (let fits : SFits w32 c.args.start.player = search rules in to_z-of_z fits) in
     let along : ℤ → Type 0 = λ p. IfOk c.tell_end.result (λ v. EndIs c.run_alone-ended.result.0 (λ end.
-    (value_of end ≡ seen_answer v) × (c.tell_end.new.session ≡ all_told p (account_of end) c.meet_all.new.self)))
+    (value_of end ≡ seen_answer v) × (c.tell_end.new.session ≡ all_notified p (account_of end) c.apply_notices.new.self)))
     in
-    task_answers c.tell_end.result c.args.moment c.args.start c.args.live.now c.run_alone-ended.new.live.world c.meet_all.new.self c.tell_end.new.session
+    task_answers c.tell_end.result c.args.moment c.args.start c.args.live.now c.run_alone-ended.new.live.world c.apply_notices.new.self c.tell_end.new.session
     c.run_alone-ended.result.0 c.run_alone-ended.result.1.items c.run_alone-ended.ensures.ends
-    (c.in_ok-meet_all.ensures
-    ∙ ap (λ (ns : List Notice). all_met ns c.run_alone-ended.new.live.session) c.deref.ensures.value
-    ∙ ap (λ (s : Session). all_met c.run_alone-ended.result.1.items s) c.run_alone-ended.ensures.kept)
+    (c.in_ok-apply_notices.ensures
+    ∙ ap (λ (ns : List Notice). all_applied ns c.run_alone-ended.new.live.session) c.deref.ensures.value
+    ∙ ap (λ (s : Session). all_applied c.run_alone-ended.result.1.items s) c.run_alone-ended.ensures.kept)
     (subst along same c.tell_end.ensures)

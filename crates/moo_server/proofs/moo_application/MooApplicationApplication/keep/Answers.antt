@@ -1,7 +1,7 @@
 use Rattle.moo_server.proofs.moo_application.MooApplicationApplication.keep.Goals as goal
 
 pub returns-clause-waiting : goal.returns-clause-waiting
-returns-clause-waiting c = let e = c.keep.ensures in λ i. record { sent = λ k. e.sent k i; logged = e.log i }
+returns-clause-waiting c = let e = c.commit.ensures in λ i. record { sent = λ k. e.sent k i; logged = e.log i }
 
 pub returns-clause-under_way : goal.returns-clause-under_way
-returns-clause-under_way c = let e = c.keep.ensures in λ i. record { sent = λ k. e.none k i; logged = e.no_log i }
+returns-clause-under_way c = let e = c.commit.ensures in λ i. record { sent = λ k. e.none k i; logged = e.no_log i }

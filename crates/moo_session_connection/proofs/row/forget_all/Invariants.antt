@@ -1,6 +1,0 @@
-use Rattle.std.proofs.Common.{◌≡◌, drop}
-use Rattle.moo_session_connection.specs.Rows.{forgotten, all_changed}
-use Rattle.moo_session_connection.proofs.row.forget_all.Given as goal
-
-abbrev pub invariant-loop-number : goal.invariant-loop-number
-invariant-loop-number l = all_changed forgotten (drop l.number-index l.numbers) l.rows.items ≡ all_changed forgotten l.numbers l.initial.rows.items

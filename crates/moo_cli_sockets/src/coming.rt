@@ -31,10 +31,21 @@ impl Sockets {
         ensures { IfOk result (λ events. Comes self.old.sockets self.new.sockets events.items) }
     {
         let mut events = Vec::new(self.alloc);
-        let opened = self.accept(rt)?;
+        let opened = self.open_one(rt)?;
         put(&mut events, opened)?;
         self.read_all(&mut events)?;
         Ok(events)
+    }
+
+    // Opens at most one connection: one that waits at the listener, or a WebSocket of a browser.
+    fn open_one<L: Clock + Log>(&mut self, rt: &L) -> Result<Option<Event>, AllocError>
+        ensures { IfOk result (λ event. IsOpening self.old.sockets event × Follow (only event) self.old.sockets self.new.sockets) }
+    {
+        self.serve_web(rt)?;
+        match self.accept(rt)? {
+            Some(event) => Ok(Some(event)),
+            None => self.upgrade(rt),
+        }
     }
 
     // Accepts one new connection, if one waits. After a fault it is tried again later, and the other connections go
@@ -112,7 +123,7 @@ impl Sockets {
         self.arrivals = self.arrivals.wrapping_add(1);
         let age = Age::new(rt, self.arrivals);
         self.sockets
-            .insert_reserved(Socket::new(self.alloc, stream, age, self.telnet));
+            .insert_reserved(Socket::new(self.alloc, stream, age, self.telnet, None));
         Ok(Some(Event::Open(c)))
     }
 
@@ -149,7 +160,11 @@ impl Sockets {
                 }
                 Ok(Some(Event::Bytes(c, piece)))
             }
-            Came::NothingYet => Ok(None),
+            Came::NothingYet => {
+                // The frames of a WebSocket may have come without a payload, and more may wait.
+                self.is_busy = self.is_busy || socket.may_read();
+                Ok(None)
+            }
             Came::End => {
                 self.is_busy = true;
                 self.close(c);

@@ -21,7 +21,8 @@ impl Sockets {
             return Ok(None);
         };
         let waiting = socket.waiting();
-        if count != 0 {
+        let is_ready = socket.may_read() || socket.may_write();
+        if count != 0 || is_ready {
             self.is_busy = true;
         }
         Ok(Some(waiting))

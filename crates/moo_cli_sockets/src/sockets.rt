@@ -8,6 +8,7 @@ use crate::fault::SocketsFault;
 use mio::net::TcpListener;
 use mio::{Events, Interest, Poll, Token};
 use moo_cli_telnet::Telnet;
+use moo_cli_web_listener::WebListener;
 use slab::Slab;
 use std::alloc::{AllocError, Global};
 use std::io::ErrorKind;
@@ -46,6 +47,10 @@ pub struct Sockets {
     pub(crate) sockets: Slab<Socket>,
     /// Whether a connection, bytes or an end came, or bytes were written, since `rest`.
     pub(crate) is_busy: bool,
+    /// The listener for browsers, if there is one.
+    pub(crate) web: Option<WebListener>,
+    /// The second in which WebSockets were last looked at.
+    pub(crate) tended: u64,
 }
 
 impl Sockets {
@@ -79,6 +84,8 @@ impl Sockets {
             telnet,
             sockets: Slab::new(alloc),
             is_busy: false,
+            web: None,
+            tended: 0,
         })
     }
 
@@ -115,14 +122,24 @@ impl Sockets {
         self.sockets.capacity()
     }
 
-    /// Closes a connection's socket, and drops the output that waits for it.
-    #[tactic(auto, using(crate::proofs::Sent::closes))]
+    /// Closes a connection's socket, and drops the output that waits for it. A WebSocket gets a close before.
+    #[tactic(auto, using(crate::proofs::Sent::closes_after))]
     pub fn close(&mut self, c: u16)
         ensures { Closes c self.old.sockets self.new.sockets }
     {
+        self.send_close(c);
         self.sockets.try_remove(usize::from(c));
         self.is_full = false;
         self.shrink();
+    }
+
+    // Sends the close of a WebSocket.
+    fn send_close(&mut self, c: u16)
+        ensures { (k : ℕ) → held self.new.sockets k ≡ held self.old.sockets k }
+    {
+        if let Some(socket) = self.sockets.get_mut(usize::from(c)) {
+            socket.send_close();
+        }
     }
 
     // A round visits all numbers below the capacity. If most are free, this frees those above the highest in use, so
@@ -151,6 +168,9 @@ impl Sockets {
         let keys = self.ready_keys()?;
         if wake(&mut self.sockets, &keys) {
             self.may_accept = true;
+        }
+        if let Some(web) = &mut self.web {
+            web.wake(&keys);
         }
         Ok(())
     }

@@ -6,3 +6,4 @@ pub mod Making
 pub mod Searched
 pub mod Joined
 pub mod NewLists
+pub mod Occurring

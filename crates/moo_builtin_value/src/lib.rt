@@ -10,6 +10,7 @@ mod made;
 mod numbers;
 mod numeral;
 mod place;
+mod search;
 mod strings;
 mod substitution;
 

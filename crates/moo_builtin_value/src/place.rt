@@ -7,6 +7,7 @@ ghost use Rattle.moo_builtin_operator.specs.Comparison.{place_value};
 ghost use Rattle.moo_builtin_value.specs.TextAnswers.{Gives, Finds};
 ghost use Rattle.moo_builtin_value.specs.Texts.{sign, compare, is_exact, index, first_place, last_index, last_place};
 
+use crate::search::{folded_find, is_short};
 use crate::strings::TYPE_MISMATCH;
 use memchr::memmem;
 use moo_builtin_operator::{OperationFault, is_true};
@@ -58,6 +59,9 @@ fn first_place(
 {
     if exact {
         return Ok(place_value(memmem::find(text.as_bytes(), wanted.as_bytes())));
+    }
+    if is_short(text.as_bytes()) {
+        return Ok(place_value(folded_find(text.as_bytes(), wanted.as_bytes(), 0)));
     }
     let text = folded(alloc, text.as_bytes());
     let wanted = folded(alloc, wanted.as_bytes());

@@ -1,5 +1,5 @@
 //! Replaces occurrences of a string.
-ghost use Rattle.std.specs.Prelude.{◌≡◌, ◌<◌, length, IfOk};
+ghost use Rattle.std.specs.Prelude.{◌≡◌, ◌<◌, false, length, IfOk};
 ghost use Rattle.memchr.specs.Find.{matches};
 ghost use Rattle.bstr.specs.Text.{replaced_at};
 ghost use Rattle.moo_value.specs.View.{trees};
@@ -8,6 +8,7 @@ ghost use Rattle.moo_builtin_value.specs.Texts.{substituted, substitution, subst
 ghost use Rattle.moo_builtin_value.specs.Inner.{IsWritten};
 
 use crate::place::folded;
+use crate::search::{folded_find, is_short};
 use crate::strings::{TYPE_MISMATCH, string_answer};
 use memchr::memmem;
 use moo_builtin_operator::{OperationFault, is_true};
@@ -67,10 +68,14 @@ fn substituted(
     other: &[u8],
     exact: bool,
 ) -> Result<Option<Vec<u8>>, AllocError>
+    requires { 0 < length wanted.now }
     ensures { IfOk result (λ made. IsWritten made (substituted exact text.now wanted.now other.now)) }
 {
     if exact {
         return replaced(alloc, text, text, wanted, other);
+    }
+    if is_short(text) {
+        return replaced_folded(alloc, text, wanted, other);
     }
     let searched = folded(alloc, text)?;
     let wanted = folded(alloc, wanted)?;
@@ -93,6 +98,31 @@ fn replaced(
     let mut found = memmem::find_iter(searched, wanted);
     let mut last = 0;
     while let Some(start) = found.next() {
+        if made.len() >= WEIGHT_LIMIT as usize {
+            return Ok(None);
+        }
+        made.extend_from_slice(&text[last..start])?;
+        made.extend_from_slice(other)?;
+        last = start + wanted.len();
+    }
+    made.extend_from_slice(&text[last..])?;
+    Ok(Some(made))
+}
+
+// Returns a text with `other` at each place at which `wanted` occurs, with letters folded, without a copy of the text
+// in lower case. `None` past the limit of weight.
+fn replaced_folded(
+    alloc: Global,
+    text: &[u8],
+    wanted: &[u8],
+    other: &[u8],
+) -> Result<Option<Vec<u8>>, AllocError>
+    requires { 0 < length wanted.now }
+    ensures { IfOk result (λ made. IsWritten made (substituted false text.now wanted.now other.now)) }
+{
+    let mut made = Vec::new(alloc);
+    let mut last = 0;
+    while let Some(start) = folded_find(text, wanted, last) {
         if made.len() >= WEIGHT_LIMIT as usize {
             return Ok(None);
         }

@@ -21,7 +21,7 @@ pub use given::Given;
 pub use limits::{MOST_BRACKETS, MOST_NODES};
 pub use lines::fit_lines;
 pub use name::Name;
-pub use numbering::name_number;
+pub use numbering::{is_code, name_number};
 pub use slots::variable_names;
 pub use target::is_target;
 pub use text::Text;

@@ -1,7 +1,7 @@
 //! String literals in a program.
-ghost use Rattle.std.specs.Prelude.{◌≡◌, ◌≢◌};
+ghost use Rattle.std.specs.Prelude.{◌≡◌};
 ghost use Rattle.moo_value.specs.Compare.{folded};
-ghost use Rattle.moo_syntax_ast.specs.NameNumber.{IsNumberOf};
+ghost use Rattle.moo_syntax_ast.specs.NameNumber.{name_number};
 
 use crate::numbering::name_number;
 use moo_value::MooStr;
@@ -13,21 +13,21 @@ use std::marker::Model;
 #[derive(Drop)]
 pub struct Text {
     string: MooStr,
-    /// A number that encodes the string as a name, or 0 if it has none.
+    /// The number of the string as a name.
     number: u64,
     hint: Cell<u32>,
 }
 
 impl Model for Text {
-    ghost use Rattle.std.specs.Prelude.{◌≢◌, ℕ, List};
+    ghost use Rattle.std.specs.Prelude.{◌≡◌, ℕ, List};
     ghost use Rattle.moo_value.specs.Compare.{folded};
-    ghost use Rattle.moo_syntax_ast.specs.NameNumber.{IsNumberOf};
+    ghost use Rattle.moo_syntax_ast.specs.NameNumber.{name_number};
 
     ghost Value = { List ℕ };
 
     ghost view = { λ text. text.string };
 
-    ghost invariant = { λ text. text.number ≢ 0 → IsNumberOf text.number (folded text.string) };
+    ghost invariant = { λ text. text.number ≡ name_number (folded text.string) };
 }
 
 impl Text {
@@ -51,10 +51,10 @@ impl Text {
         &self.string
     }
 
-    /// Returns a number that only names with the same letters, in any case, have, or 0 if the string has none.
+    /// Returns the number of the string as a name. Names with different numbers differ in more than the case of letters.
     #[inline(always)]
     pub fn number(&self) -> u64
-        ensures { result ≢ 0 → IsNumberOf result (folded self.now) }
+        ensures { result ≡ name_number (folded self.now) }
     {
         self.number
     }

@@ -1,16 +1,15 @@
 //! The cells of properties.
-ghost use Rattle.std.specs.Prelude.{◌≡◌, ◌≢◌, ◌≤◌, IfOk, IfSome, IfNone, IsTrue, None, Some, is_some, true};
+ghost use Rattle.std.specs.Prelude.{◌≡◌, ◌≤◌, IfOk, IfSome, IfNone, None, Some, is_some};
 ghost use Rattle.std.specs.Option.{option_copied, option_map};
 ghost use Rattle.moo_value.specs.Compare.{folded};
 ghost use Rattle.moo_value.specs.View.{tree};
-ghost use Rattle.moo_syntax_ast.specs.NameNumber.{IsNumberOf};
 ghost use Rattle.moo_world_object.specs.BuiltIn.{built_in_of};
 ghost use Rattle.moo_world_object.specs.Cells.{is_key, is_named, key_of, cleared, own_cell, emptied, with_info, renamed};
 
 use crate::bits::{bit, take_bit};
 use crate::built_in_property::built_in;
-use crate::name::{folded_name, same_name};
-use moo_syntax_ast::{Text, name_number};
+use crate::name::{folded_name, same_hashed_name, same_name};
+use moo_syntax_ast::{Text, is_code, name_number};
 use moo_value::{MooStr, Value};
 use std::alloc::{AllocError, Global};
 use std::marker::Model;
@@ -54,7 +53,7 @@ impl PropPerms {
 pub struct PropCell {
     definer: usize,
     name: MooStr,
-    // A number that encodes the name, or one that encodes no name.
+    // The number of the name.
     number: u64,
     owner: i32,
     perms: PropPerms,
@@ -85,22 +84,9 @@ impl Model for PropCell {
       value = option_map tree c.value;
     } };
 
-    ghost use Rattle.std.specs.Prelude.{◌≢◌};
-    ghost use Rattle.moo_syntax_ast.specs.NameNumber.{IsNumberOf};
+    ghost use Rattle.moo_syntax_ast.specs.NameNumber.{name_number};
 
-    ghost invariant = { λ c. (c.is_hidden ≡ is_some (built_in_of (folded c.name))) × (c.number ≢ 0) × (c.number ≢ 38 → IsNumberOf c.number (folded c.name)) };
-}
-
-// A number that encodes no name: its last digit is 0.
-const NO_NAME: u64 = 38;
-
-// Returns the number of a name, or `NO_NAME` if it has none.
-fn known_number(name: &[u8]) -> u64
-    ensures some { result ≢ 0 }
-    ensures known { result ≢ 38 → IsNumberOf result (folded name.now) }
-{
-    let number = name_number(name);
-    if number == 0 { NO_NAME } else { number }
+    ghost invariant = { λ c. (c.is_hidden ≡ is_some (built_in_of (folded c.name))) × (c.number ≡ name_number (folded c.name)) };
 }
 
 impl PropCell {
@@ -115,7 +101,7 @@ impl PropCell {
         ensures { result ≡ record { definer = definer; name = folded name; owner = owner; perms = perms; value = option_map tree value } }
     {
         let is_hidden = built_in(name.as_bytes()).is_some();
-        let number = known_number(name.as_bytes());
+        let number = name_number(name.as_bytes());
         PropCell {
             definer,
             name,
@@ -138,7 +124,7 @@ impl PropCell {
         ensures { result ≡ own_cell definer (folded name) (tree value) owner perms }
     {
         let is_hidden = built_in(name.as_bytes()).is_some();
-        let number = known_number(name.as_bytes());
+        let number = name_number(name.as_bytes());
         PropCell {
             definer,
             name,
@@ -178,12 +164,19 @@ impl PropCell {
         same_name(self.name.as_bytes(), name)
     }
 
-    /// Is true if the numbers prove that the cell has the literal's name. If it is false, the cell may still have it.
+    /// Is true if the cell has the literal's name, in any case. It compares bytes only if the numbers of both are one
+    /// hash.
     #[inline(always)]
-    pub fn is_known_as(&self, name: &Text) -> bool
-        ensures { IsTrue result → is_named (folded name.now) self.now ≡ true }
+    pub fn is_named_as(&self, name: &Text) -> bool
+        ensures { result ≡ is_named (folded name.now) self.now }
     {
-        self.number == name.number()
+        if self.number != name.number() {
+            return false;
+        }
+        if is_code(self.number) {
+            return true;
+        }
+        same_hashed_name(self.name.as_bytes(), name.string().as_bytes())
     }
 
     /// Is true if this and the other are cells of the same definition.
@@ -287,7 +280,7 @@ impl PropCell {
         ensures { self.new ≡ renamed (folded name) self.old }
     {
         self.is_hidden = built_in(name.as_bytes()).is_some();
-        self.number = known_number(name.as_bytes());
+        self.number = name_number(name.as_bytes());
         self.name = name;
     }
 }

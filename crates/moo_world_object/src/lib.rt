@@ -21,6 +21,6 @@ pub use flags::Flags;
 pub use name::{folded_name, same_name};
 pub use object::Object;
 pub use pattern::{fits, fits_names, has_word};
-pub use row::{Row, cell_at, cell_named, note_place, place_known, place_named};
+pub use row::{Row, cell_at, cell_named, note_place, place_known, place_named, place_named_as};
 pub use verb::{Need, Verb, VerbPerms};
 pub use verb_args::{ObjectSpecifier, Preposition, PrepositionSpecifier, VerbArgs};

@@ -21,6 +21,23 @@ pub fn same_name(one: &[u8], other: &[u8]) -> bool
     begin_alike(one, other)
 }
 
+/// Is true if two names of one hash are the same, in any case. Most are, also in case, so it compares the bytes first.
+#[inline]
+pub(crate) fn same_hashed_name(one: &[u8], other: &[u8]) -> bool
+    ensures { result ≡ same_name (folded one.now) (folded other.now) }
+{
+    if has_same_bytes(one, other) {
+        return true;
+    }
+    same_name(one, other)
+}
+
+fn has_same_bytes(one: &[u8], other: &[u8]) -> bool
+    ensures { IsTrue result ↔ (one.now ≡ other.now) }
+{
+    one == other
+}
+
 // Is true if two names of the same length are the same, in any case.
 #[inline]
 fn begin_alike(one: &[u8], other: &[u8]) -> bool

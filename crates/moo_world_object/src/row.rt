@@ -193,14 +193,14 @@ pub fn cell_named<'a>(cells: &'a [PropCell], name: &[u8]) -> Option<&'a PropCell
 }
 
 /// Returns the place of a cell with the literal's name if the literal's hint leads to it: the hint is the distance from
-/// the end of the row. Returns `None` if the numbers do not prove that the cell has the name.
+/// the end of the row.
 #[inline(always)]
 pub fn place_known(cells: &[PropCell], name: &Text) -> Option<usize>
     ensures { IfSome result (λ place. (place < length cells.now) × IfSome (slice_get cells.now place) (λ c. is_named (folded name.now) c ≡ true)) }
 {
     let place = cells.len().checked_sub(name.hint())?;
     let cell = cells.get(place)?;
-    if cell.is_known_as(name) {
+    if cell.is_named_as(name) {
         Some(place)
     } else {
         None
@@ -219,6 +219,14 @@ pub fn place_named(cells: &[PropCell], name: &[u8]) -> Option<usize>
     ensures { result ≡ position (is_named (folded name.now)) cells.now }
 {
     cells.iter().position(|cell| cell.is_named(name))
+}
+
+/// Returns the place of the first cell with the literal's name, in any case.
+#[inline(always)]
+pub fn place_named_as(cells: &[PropCell], name: &Text) -> Option<usize>
+    ensures { result ≡ position (is_named (folded name.now)) cells.now }
+{
+    cells.iter().position(|cell| cell.is_named_as(name))
 }
 
 // Sets the value of the first cell with this name.

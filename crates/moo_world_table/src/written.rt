@@ -13,7 +13,7 @@ ghost use Rattle.moo_world_table.specs.Properties.{value_in, value_at};
 
 use moo_syntax_ast::Text;
 use moo_value::Value;
-use moo_world_object::{Object, PropCell, cell_at, note_place, place_known, place_named};
+use moo_world_object::{Object, PropCell, cell_at, note_place, place_known, place_named_as};
 use moo_world_tree::Forest;
 
 /// Returns the place of the cell of a name. No two cells may have one name.
@@ -28,13 +28,13 @@ pub fn place_written(cells: &[PropCell], name: &Text) -> Option<usize>
     }
 }
 
-// Returns the place of the cell of a name by a linear search. It is a separate function, so that a look-up that needs
-// no search stays short.
+// Returns the place of the cell of a name by a linear search, which compares numbers. It is a separate function, so
+// that a look-up that needs no search stays short.
 #[inline(never)]
 fn place_searched(cells: &[PropCell], name: &Text) -> Option<usize>
     ensures { result ≡ position (is_named (folded name.now)) cells.now }
 {
-    let place = place_named(cells, name.string().as_bytes())?;
+    let place = place_named_as(cells, name)?;
     note_place(cells, name, place);
     Some(place)
 }

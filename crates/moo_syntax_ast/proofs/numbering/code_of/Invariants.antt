@@ -1,0 +1,11 @@
+-- The code is that of the bytes after those that are left.
+use Rattle.std.proofs.Common.{◌≡◌, ℕ, List, ◌++◌, Some, length}
+use Rattle.moo_value.specs.Compare.{folded}
+use Rattle.moo_syntax_ast.specs.NameNumber.{code_of}
+use Rattle.moo_syntax_ast.proofs.numbering.code_of.Given as goal
+
+abbrev pub invariant-loop-last : goal.invariant-loop-last
+invariant-loop-last l = (behind : List ℕ) × (l.name ≡ l.rest ++ behind) × (code_of (folded behind) ≡ Some l.code)
+
+abbrev pub decreases-loop-last : goal.decreases-loop-last
+decreases-loop-last l = length l.rest

@@ -73,10 +73,10 @@ told_more [] (w ∷ verbs) letter v all same tells = absurd (omega (arith, same)
 told_more (l ∷ letters) [] letter v all same tells = absurd all
 told_more (l ∷ letters) (w ∷ verbs) letter v all same tells = (all.0, told_more letters verbs letter v all.1 (omega (arith, same)) tells)
 
--- a verb more, and a letter where there is memory for it
-pub pushed : (old new : List ℕ) (verbs : List Verb) (letter : ℕ) (v : Verb) → AreLetters old verbs → length old ≡ length verbs → IsLetter letter v.names → (new ≡ old ++ letter ∷ []) ⊎ (new ≡ old) → AreLetters new (verbs ++ v ∷ [])
-pushed old new verbs letter v all same tells (inl more) = subst (λ letters. AreLetters letters (verbs ++ v ∷ [])) (sym more) (told_more old verbs letter v all same tells)
-pushed old new verbs letter v all same tells (inr kept) = subst (λ letters. AreLetters letters (verbs ++ v ∷ [])) (sym kept) (more_verbs old verbs v all)
+-- a verb more, and a letter if there is one for each other verb and memory for it
+pub pushed : (old new : List ℕ) (verbs : List Verb) (many letter : ℕ) (v : Verb) → AreLetters old verbs → many ≡ length verbs → IsLetter letter v.names → ((length old ≡ many) × (new ≡ old ++ letter ∷ [])) ⊎ (new ≡ old) → AreLetters new (verbs ++ v ∷ [])
+pushed old new verbs many letter v all same tells (inl (told, more)) = subst (λ letters. AreLetters letters (verbs ++ v ∷ [])) (sym more) (told_more old verbs letter v all (told ∙ same) tells)
+pushed old new verbs many letter v all same tells (inr kept) = subst (λ letters. AreLetters letters (verbs ++ v ∷ [])) (sym kept) (more_verbs old verbs v all)
 
 -- one letter more
 pub more_letters : (letters : List ℕ) (verbs : List Verb) (letter : ℕ) (v : Verb) → AreLetters letters verbs → length letters < length verbs → v ≡ get_or verbs (length letters) v → IsLetter letter v.names →

@@ -13,7 +13,7 @@ begins_is front whole =
     let both = starts_is Decides-eqb (folded whole) (folded front) (begins front whole) refl in
     (λ yes. (drop (length (folded front)) (folded whole), both.0 yes), λ (behind, is). both.1 behind is)
 
-ends_in_star_is : (pattern : List ℕ) → Decides (ends_in_star pattern) (EndsInStar pattern)
+pub ends_in_star_is : (pattern : List ℕ) → Decides (ends_in_star pattern) (EndsInStar pattern)
 ends_in_star_is pattern =
     let both = ends_is Decides-eqb pattern (42 ∷ []) (ends_in_star pattern) refl in
     (λ yes. (take (length pattern - 1) pattern, both.0 yes), λ (front, is). both.1 front is)

@@ -6,5 +6,6 @@ pub mod BuiltIn
 pub mod Patterns
 pub mod Verbs
 pub mod Letters
+pub mod Index
 pub mod Objects
 pub mod Rows

@@ -36,7 +36,7 @@ pub(crate) fn is_star(byte: u8) -> bool
 }
 
 /// Returns the length of the part before the first star, or of the pattern if it has none.
-fn least_length(pattern: &[u8]) -> usize
+pub(crate) fn least_length(pattern: &[u8]) -> usize
     ensures { result ≡ least pattern.now }
 {
     first_star(pattern).unwrap_or(pattern.len())
@@ -48,7 +48,7 @@ fn first_star(pattern: &[u8]) -> Option<usize>
     pattern.iter().position(|byte| is_star(*byte))
 }
 
-fn ends_in_star(pattern: &[u8]) -> bool
+pub(crate) fn ends_in_star(pattern: &[u8]) -> bool
     ensures { IsTrue result ↔ EndsInStar pattern.now }
 {
     match pattern {

@@ -5,10 +5,12 @@ ghost use Rattle.moo_world_object.specs.Patterns.{is_blank};
 ghost use Rattle.moo_world_object.specs.Verbs.{fits_verb, changed_at, with_verb_info, with_args, with_program};
 ghost use Rattle.moo_world_object.specs.declared.verb.Verb.{Verb};
 ghost use Rattle.moo_world_object.specs.Letters.{first_letter, begins_otherwise, may_begin, IsLetter, AreLetters};
+ghost use Rattle.moo_world_object.specs.Index.{hash_of, AreIndexed};
 
 use crate::pattern::{is_blank, is_star};
 use crate::verb::{Need, Verb, VerbPerms, change_args, change_info, change_program};
 use crate::verb_args::VerbArgs;
+use crate::verb_index::{VerbIndex, hash_of};
 use moo_syntax_grammar::Program;
 use moo_value::MooStr;
 use std::alloc::{AllocError, Global};
@@ -20,6 +22,7 @@ use std::marker::Model;
 pub struct VerbList {
     verbs: Vec<Verb>,
     letters: Vec<u8>,
+    index: VerbIndex,
 }
 
 impl Model for VerbList {
@@ -28,6 +31,7 @@ impl Model for VerbList {
     ghost use Rattle.moo_syntax_ast.specs.Code.{block_code};
     ghost use Rattle.moo_world_object.specs.declared.verb.Verb.{Verb};
     ghost use Rattle.moo_world_object.specs.Letters.{AreLetters};
+    ghost use Rattle.moo_world_object.specs.Index.{AreIndexed};
 
     ghost Value = { List Verb };
 
@@ -35,7 +39,7 @@ impl Model for VerbList {
 
     ghost view = { λ l. l.verbs.items };
 
-    ghost invariant = { λ l. AreLetters l.letters.items l.verbs.items };
+    ghost invariant = { λ l. AreLetters l.letters.items l.verbs.items × AreIndexed l.index.buckets.items l.index.mask l.verbs.items };
 }
 
 impl VerbList {
@@ -46,6 +50,7 @@ impl VerbList {
         VerbList {
             verbs: Vec::new(alloc),
             letters: Vec::new(alloc),
+            index: VerbIndex::new(alloc),
         }
     }
 
@@ -54,7 +59,12 @@ impl VerbList {
         ensures { result ≡ verbs.items }
     {
         let letters = letters_of(*verbs.allocator(), &verbs);
-        VerbList { verbs, letters }
+        let index = VerbIndex::from_verbs(*verbs.allocator(), &verbs);
+        VerbList {
+            verbs,
+            letters,
+            index,
+        }
     }
 
     /// Returns the verbs.
@@ -68,8 +78,21 @@ impl VerbList {
     pub fn position(&self, need: Need, name: &[u8]) -> Option<usize>
         ensures { result ≡ position (fits_verb need name.now) self.now }
     {
+        self.position_hashed(need, name, hash_of(name))
+    }
+
+    /// Returns the place of the first verb that a name with this hash matches. For a call only executable verbs count.
+    #[inline]
+    pub fn position_hashed(&self, need: Need, name: &[u8], hash: usize) -> Option<usize>
+        requires { hash ≡ hash_of name.now }
+        ensures { result ≡ position (fits_verb need name.now) self.now }
+    {
+        let (start, last) = self.index.range(hash, self.verbs.len());
         let first = first_letter(name);
-        for i in 0..self.verbs.len() {
+        for i in start..self.verbs.len() {
+            if i > last {
+                return None;
+            }
             if may_begin(self.letter(i), first) && self.verbs[i].fits(need, name) {
                 return Some(i);
             }
@@ -94,12 +117,10 @@ impl VerbList {
         ensures err { OnErr result (self.new ≡ self.old) }
     {
         let letter = letter_of(verb.names.as_bytes());
-        let is_told = self.letters.len() == self.verbs.len();
+        let many = self.verbs.len();
         self.verbs.push(verb)?;
-        if !is_told {
-            return Ok(());
-        }
-        push_letter(&mut self.letters, letter);
+        push_letter(&mut self.letters, many, letter);
+        self.index = VerbIndex::from_verbs(*self.verbs.allocator(), &self.verbs);
         Ok(())
     }
 
@@ -110,6 +131,7 @@ impl VerbList {
     {
         remove_letter(&mut self.letters, index);
         let _verb = self.verbs.remove(index);
+        self.index = VerbIndex::from_verbs(*self.verbs.allocator(), &self.verbs);
     }
 
     /// Sets the names, the owner and the permissions of the verb at a place.
@@ -120,6 +142,7 @@ impl VerbList {
         let letter = letter_of(names.as_bytes());
         set_letter(&mut self.letters, index, letter);
         change_info(&mut self.verbs, index, names, owner, perms);
+        self.index = VerbIndex::from_verbs(*self.verbs.allocator(), &self.verbs);
     }
 
     /// Sets the argument specifiers of the verb at a place.
@@ -159,11 +182,13 @@ fn all_letters(alloc: Global, verbs: &[Verb]) -> Result<Vec<u8>, AllocError>
     Ok(letters)
 }
 
-// Appends a letter if there is memory for it.
-fn push_letter(letters: &mut Vec<u8>, letter: u8)
-    ensures { (letters.new.items ≡ letters.old.items ++ letter ∷ []) ⊎ (letters.new.items ≡ letters.old.items) }
+// Appends a letter if there are `many` and there is memory for it.
+fn push_letter(letters: &mut Vec<u8>, many: usize, letter: u8)
+    ensures { ((length letters.old.items ≡ many) × (letters.new.items ≡ letters.old.items ++ letter ∷ [])) ⊎ (letters.new.items ≡ letters.old.items) }
 {
-    let _pushed = letters.push(letter);
+    if letters.len() == many {
+        let _pushed = letters.push(letter);
+    }
 }
 
 fn remove_letter(letters: &mut Vec<u8>, index: usize)

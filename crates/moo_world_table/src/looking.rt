@@ -7,12 +7,13 @@ ghost use Rattle.moo_value.specs.Compare.{folded};
 ghost use Rattle.moo_value.specs.View.{tree};
 ghost use Rattle.moo_world_tree.specs.Forest.{ancestors};
 ghost use Rattle.moo_world_object.specs.Verbs.{fits_verb};
+ghost use Rattle.moo_world_object.specs.Index.{hash_of};
 ghost use Rattle.moo_world_table.specs.World.{nothing};
 ghost use Rattle.moo_world_table.specs.Verbs.{verb_at};
 ghost use Rattle.moo_world_table.specs.Properties.{value_in, value_at};
 
 use moo_value::Value;
-use moo_world_object::{Need, Object, cell_at};
+use moo_world_object::{Need, Object, cell_at, hash_of};
 use moo_world_tree::Forest;
 
 /// Returns the nearest verb that matches.
@@ -29,7 +30,8 @@ pub fn nearest_verb(
     ensures low { IfSome result (λ found. found.0 < length objects.now) }
 {
     let mut at = x;
-    if let Some(index) = verb_in(&objects[x], name, need) {
+    let hash = hash_of(name);
+    if let Some(index) = verb_in(&objects[x], name, need, hash) {
         return Some((x, index));
     }
     for _ in 0..objects.len() {
@@ -37,20 +39,22 @@ pub fn nearest_verb(
             Some(up) => at = up,
             None => return None,
         }
-        if let Some(index) = verb_in(&objects[at], name, need) {
+        if let Some(index) = verb_in(&objects[at], name, need, hash) {
             return Some((at, index));
         }
     }
     None
 }
 
-/// Returns the place of the first verb that a name matches, of the object at a number. For a call only executable
-/// verbs count.
-pub fn verb_in(slot: &Option<Object>, name: &[u8], need: Need) -> Option<usize>
+// Returns the place of the first verb that a name with this hash matches, of the object at a number. For a call only
+// executable verbs count.
+#[inline]
+fn verb_in(slot: &Option<Object>, name: &[u8], need: Need, hash: usize) -> Option<usize>
+    requires { hash ≡ hash_of name.now }
     ensures { result ≡ position (fits_verb need name.now) (unwrap_or slot.now nothing).verbs }
 {
     match slot {
-        Some(object) => object.verb_position(need, name),
+        Some(object) => object.verb_position_hashed(need, name, hash),
         None => None,
     }
 }

@@ -8,4 +8,4 @@ returns-in-Some c =
     let items = c.deref.ensures.value in
     let low : c.args.index < length c.self.inside.letters.items = ltb-true c.args.index (length c.self.inside.letters.items) (ap (λ ls. ltb c.args.index (length ls)) (sym items) ∙ sym c.in-Some.ensures.lookup.0) in
     let here = c.in-Some.ensures.lookup.1 ∙ ap (λ ls. get_or ls c.args.index c.in-Some.letter.now) items in
-    λ v read. letter_there c.self.inside.letters.items c.self.inside.verbs.items c.args.index c.in-Some.letter.now v c.self.invariant low here (read ∙ ap (λ vs. get_or vs c.args.index v) (sym c.self.view_is))
+    λ v read. letter_there c.self.inside.letters.items c.self.inside.verbs.items c.args.index c.in-Some.letter.now v c.self.invariant.0 low here (read ∙ ap (λ vs. get_or vs c.args.index v) (sym c.self.view_is))

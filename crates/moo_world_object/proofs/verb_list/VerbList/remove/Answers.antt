@@ -2,4 +2,6 @@ use Rattle.moo_world_object.proofs.Letters.{less_letters}
 use Rattle.moo_world_object.proofs.verb_list.VerbList.remove.Goals as goal
 
 pub invariant_of-self : goal.invariant_of-self
-invariant_of-self c = rw (c.remove_letter.ensures, c.remove-verb.ensures.items) (less_letters c.args.index c.self.inside.letters.items c.self.inside.verbs.items c.self.invariant)
+invariant_of-self c =
+    let letters = less_letters c.args.index c.self.inside.letters.items c.self.inside.verbs.items c.self.invariant.0 in
+    (rw (c.remove_letter.ensures, c.remove-verb.ensures.items) letters, rw c.deref.ensures.value at c.from_verbs.ensures)

@@ -10,4 +10,5 @@ pub invariant_of-self : goal.invariant_of-self
 invariant_of-self c =
     let changed = rw (to_z-of_z w32 c.args.owner c.ranges.owner) at c.change_info.ensures in
     let tells = subst (λ names. IsLetter c.letter_of-letter.result names) c.as_bytes.ensures.value c.letter_of-letter.ensures in
-    rw (c.set_letter.ensures, changed) (other_letter c.args.index c.letter_of-letter.result (with_verb_info c.args.names c.args.owner c.args.perms) c.self.inside.letters.items c.self.inside.verbs.items (λ v. tells) c.self.invariant)
+    let letters = other_letter c.args.index c.letter_of-letter.result (with_verb_info c.args.names c.args.owner c.args.perms) c.self.inside.letters.items c.self.inside.verbs.items (λ v. tells) c.self.invariant.0 in
+    (rw (c.set_letter.ensures, changed) letters, rw c.deref.ensures.value at c.from_verbs.ensures)

@@ -1,0 +1,36 @@
+-- The index of the verbs of an object by the hash of a name.
+use Rattle.std.specs.Prelude.{◌≡◌, ℕ, ◌+◌, ◌*◌, ◌-◌, ◌/◌, ◌%◌, ◌<◌, ◌≤◌, true, List, length, slice_index_or, bit_and}
+use Rattle.moo_world_object.specs.Patterns.{fits, fits_names}
+use Rattle.moo_world_object.specs.declared.verb.Verb.{Verb}
+use Rattle.moo_world_object.specs.declared.verb_index.Bucket.{Bucket}
+
+-- the number of a byte of a name, the same for a letter in either case, or 0 past the end
+abbrev pub letter_at : List ℕ → ℕ → ℕ
+letter_at name i = slice_index_or name i 0 % 32
+
+-- the hash of a name: by its length, its middle letter and its last three
+abbrev pub hash_of : List ℕ → ℕ
+hash_of name = length name % 256 + letter_at name (length name / 2) * 50653 + letter_at name (length name - 3) * 1369 + letter_at name (length name - 2) * 37 + letter_at name (length name - 1)
+
+abbrev pub no_verbs : Bucket
+no_verbs = record { first = 65535; last = 0 }
+
+-- the bucket at j, if there is one, holds the place i
+abbrev pub Holds : List Bucket → ℕ → ℕ → Type 0
+Holds buckets j i = j < length buckets → ((slice_index_or buckets j no_verbs).first ≤ i) × (i ≤ (slice_index_or buckets j no_verbs).last)
+
+-- as many buckets, each of which holds what it held
+abbrev pub Grows : List Bucket → List Bucket → Type 0
+Grows buckets later = (length later ≡ length buckets) × ((j i : ℕ) → Holds buckets j i → Holds later j i)
+
+-- the bucket of each name that a pattern matches holds the place i
+abbrev pub CoversPattern : List Bucket → ℕ → List ℕ → ℕ → Type 0
+CoversPattern buckets mask pattern i = (name : List ℕ) → fits pattern name ≡ true → Holds buckets (bit_and (hash_of name) mask) i
+
+-- the bucket of each name that a verb with these names has holds the place i
+abbrev pub Covers : List Bucket → ℕ → List ℕ → ℕ → Type 0
+Covers buckets mask names i = (name : List ℕ) → fits_names names name ≡ true → Holds buckets (bit_and (hash_of name) mask) i
+
+-- each verb is in the buckets of all names that match it
+abbrev pub AreIndexed : List Bucket → ℕ → List Verb → Type 0
+AreIndexed buckets mask verbs = (i : ℕ) (v : Verb) → i < length verbs → v ≡ slice_index_or verbs i v → Covers buckets mask v.names i

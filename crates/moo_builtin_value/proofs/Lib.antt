@@ -1,6 +1,5 @@
 pub mod TextBytes
 pub mod Replacing
-pub mod Digits
 pub mod Spelled
 pub mod Making
 pub mod Searched

@@ -5,7 +5,8 @@ use Rattle.std.specs.List.{AllByRecursion, prefix_len}
 use Rattle.std.proofs.Math.Seq.{take-append_seam, drop-append_seam}
 use Rattle.std.proofs.lemmas.List.{take-append-drop, take_all}
 use Rattle.std.proofs.lemmas.Bool.Decides.{nat_tests}
-use Rattle.moo_builtin_value.specs.Numerals.{is_blank, is_digit, past, begins, past_byte, past_sign, is_blank_text, may_end, with_sign, wrapped, number_at, signed_number, integer_number, object_number}
+use Rattle.moo_value.specs.Digits.{is_digit, wrapped}
+use Rattle.moo_builtin_value.specs.Numerals.{is_blank, past, begins, past_byte, past_sign, is_blank_text, may_end, with_sign, number_at, signed_number, integer_number, object_number}
 use Rattle.moo_builtin_value.specs.Spelling.{AreBlanks, AreDigits, IsSign, minus, plus, no_sign, IsFraction, no_fraction, fraction, IsMark, mark, no_mark, IsSigned, SpellsInteger, ReadsIntegers, ReadsObjects}
 
 abbrev Passes : (ℕ → Bool) → List ℕ → Type 0

@@ -1,13 +1,11 @@
 -- The number that a string spells, or 0.
-use Rattle.std.specs.Prelude.{ℕ, ◌+◌, ◌-◌, ◌*◌, ◌%◌, ◌^◌, ℤ, pos, Bool, true, false, ◌==◌, ◌&&◌, ◌||◌, nat_le, List, [], ◌∷◌, length, take, drop, fold, if◌then◌else◌}
-use Rattle.std.specs.Int.{w32, cast_signed, int_wrapping_neg}
+use Rattle.std.specs.Prelude.{ℕ, ℤ, pos, Bool, true, false, ◌==◌, ◌&&◌, ◌||◌, List, [], ◌∷◌, length, take, drop, if◌then◌else◌}
+use Rattle.std.specs.Int.{w32, int_wrapping_neg}
 use Rattle.std.specs.List.{prefix_len}
+use Rattle.moo_value.specs.Digits.{is_digit, wrapped}
 
 abbrev pub is_blank : ℕ → Bool
 is_blank b = b == 32
-
-abbrev pub is_digit : ℕ → Bool
-is_digit b = nat_le 48 b && nat_le b 57
 
 -- a text without the bytes at its front that pass a test
 abbrev pub past : (ℕ → Bool) → List ℕ → List ℕ
@@ -21,14 +19,6 @@ begins b (c ∷ s) = c == b
 -- a text without this byte at its front
 abbrev pub past_byte : ℕ → List ℕ → List ℕ
 past_byte b s = if begins b s then drop 1 s else s
-
--- the number that digits write
-abbrev pub number : List ℕ → ℕ
-number digits = fold (λ n d. n * 10 + (d - 48)) 0 digits
-
--- that number modulo 2^32, with a sign
-abbrev pub wrapped : List ℕ → ℤ
-wrapped digits = cast_signed w32 (number digits % 2 ^ 32)
 
 -- there are blanks alone
 abbrev pub is_blank_text : List ℕ → Bool

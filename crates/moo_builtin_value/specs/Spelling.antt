@@ -1,7 +1,8 @@
 -- How a string spells a number.
 use Rattle.std.specs.Prelude.{◌≡◌, ◌≢◌, ℕ, ℤ, pos, Bool, true, false, List, [], ◌∷◌, ◌++◌}
 use Rattle.std.specs.List.{AllByRecursion}
-use Rattle.moo_builtin_value.specs.Numerals.{is_blank, is_digit, wrapped, with_sign, integer_number, object_number}
+use Rattle.moo_value.specs.Digits.{is_digit, wrapped}
+use Rattle.moo_builtin_value.specs.Numerals.{is_blank, with_sign, integer_number, object_number}
 
 abbrev pub AreBlanks : List ℕ → Type 0
 AreBlanks s = AllByRecursion (λ b. is_blank b ≡ true) s

@@ -1,7 +1,10 @@
 //! The number that a string spells.
 ghost use Rattle.std.specs.Prelude.{◌≡◌, ◌≤◌, length, IsTrue};
 ghost use Rattle.std.specs.List.{prefix_len};
-ghost use Rattle.moo_builtin_value.specs.Numerals.{is_blank, is_digit, past, begins, past_byte, wrapped, is_blank_text, may_end, past_sign, with_sign, number_at, signed_number, integer_number, object_number};
+ghost use Rattle.moo_value.specs.Digits.{is_digit};
+ghost use Rattle.moo_builtin_value.specs.Numerals.{is_blank, past, begins, past_byte, is_blank_text, may_end, past_sign, with_sign, number_at, signed_number, integer_number, object_number};
+
+use moo_value::wrapping_number;
 
 /// Returns the integer that a text spells, modulo 2^32, or 0. A fraction is dropped.
 pub fn integer_number(text: &[u8]) -> i32
@@ -38,7 +41,7 @@ fn number_at(text: &[u8], point: bool, minus: bool) -> i32
     if !may_end(&text[count..], point) {
         return 0;
     }
-    with_sign(wrapped(&text[..count]), minus)
+    with_sign(wrapping_number(&text[..count]), minus)
 }
 
 fn with_sign(number: i32, minus: bool) -> i32
@@ -100,16 +103,4 @@ fn digits_count(text: &[u8]) -> usize
     ensures fits { result ≤ length text.now }
 {
     text.iter().take_while(|byte| byte.is_ascii_digit()).count()
-}
-
-// Returns the number that digits write, modulo 2^32 with a sign.
-fn wrapped(digits: &[u8]) -> i32
-    ensures { result ≡ wrapped digits.now }
-{
-    let mut number: u32 = 0;
-    for digit in digits {
-        let digit = u32::from(digit.saturating_sub(b'0'));
-        number = number.wrapping_mul(10).wrapping_add(digit);
-    }
-    number.cast_signed()
 }

@@ -7,7 +7,7 @@ use Rattle.moo_value.specs.Compare.{folded}
 use Rattle.moo_world_tree.specs.Forest.{above_of, below_of}
 use Rattle.moo_world_object.specs.Names.{same_name}
 use Rattle.moo_world_object.specs.Patterns.{begins}
-use Rattle.moo_builtin_value.specs.Numerals.{is_digit, number}
+use Rattle.moo_value.specs.Digits.{is_digit, number}
 use Rattle.moo_world_table.specs.World.{World, thing_of}
 use Rattle.moo_world.specs.Calls.{number_of}
 use Rattle.moo_world_table.specs.Properties.{read}

@@ -2,7 +2,7 @@
 ghost use Rattle.std.specs.Prelude.{◌≡◌, ◌≤◌, min, pos};
 ghost use Rattle.std.specs.Option.{option_map};
 ghost use Rattle.std.specs.List.{list_all};
-ghost use Rattle.moo_builtin_value.specs.Numerals.{is_digit, number};
+ghost use Rattle.moo_value.specs.Digits.{is_digit, number};
 ghost use Rattle.moo_world_table.specs.World.{most};
 ghost use Rattle.moo_command.specs.Objects.{are_digits, negative, signed, typed_number, valid_or_none};
 

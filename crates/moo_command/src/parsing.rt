@@ -49,7 +49,7 @@ fn typed_in(alloc: Global, line: &MooStr) -> Result<Option<Typed>, AllocError>
     let Some(verb) = verb_leading(&bytes[at..]) else {
         return read_typed(alloc, line);
     };
-    let verb = MooStr::from_text(alloc, Vec::from_slice(alloc, verb)?)?;
+    let verb = MooStr::from_slice(alloc, verb)?;
     let typed = typed_behind(alloc, verb, line, at + 1)?;
     Ok(Some(typed))
 }

@@ -1,13 +1,12 @@
 //! The lines of a connection, from the pieces in which its bytes come (docs/reference/commands.md, "Lines").
 ghost use Rattle.std.specs.Prelude.{◌≡◌, ◌≤◌, ◌++◌, ℕ, List, length, take, filter, [], IsTrue, IfOk, OnOk, OnErr, All, false, ◌&&◌, ◌==◌};
-ghost use Rattle.moo_value.specs.Size.{IsString};
 ghost use Rattle.moo_session_line.specs.Lines.{lines, rest, is_kept, line_limit};
 ghost use Rattle.moo_session_line.specs.Inner.{is_still_after};
 ghost use Rattle.moo_session_line.specs.Reading.{Reads};
 ghost use Rattle.moo_session_line.specs.Rest.{IsLine};
 
 use memchr::memchr2;
-use moo_value::{MooStr, ValueFault};
+use moo_value::MooStr;
 use std::alloc::{AllocError, Global};
 use std::marker::Model;
 
@@ -65,7 +64,7 @@ impl LineReader {
             let is_second = is_second_byte(after_return, stretch, ending);
             if !is_second {
                 keep(&mut line, stretch)?;
-                lines.push(finished(self.alloc, line)?)?;
+                lines.push(MooStr::from_text(self.alloc, line)?)?;
                 line = Vec::new(self.alloc);
             }
             after_return = ending == b'\r';
@@ -95,17 +94,6 @@ fn is_kept(byte: u8) -> bool
     ensures { result ≡ is_kept byte }
 {
     byte == b'\t' || (b' ' <= byte && byte <= b'~')
-}
-
-fn finished(alloc: Global, line: Vec<u8>) -> Result<MooStr, AllocError>
-    requires { IsString line.items }
-    ensures { IfOk result (λ string. string ≡ line.items) }
-{
-    match MooStr::try_from_vec(alloc, line) {
-        Ok(string) => Ok(string),
-        Err(ValueFault::Memory) => Err(AllocError),
-        Err(ValueFault::BadByte | ValueFault::TooHeavy) => unreachable!(),
-    }
 }
 
 /// Returns whether a line end is the LF of a CR right before the stretch.

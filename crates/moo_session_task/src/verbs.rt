@@ -32,7 +32,14 @@ pub fn call_server_verb(
     let Some(found) = called_verb(&live.world, 0, verb) else {
         return Ok(None);
     };
-    let frame = server_frame(alloc, found, name(alloc, verb)?, player, args, argstr)?;
+    let frame = server_frame(
+        alloc,
+        found,
+        MooStr::from_slice(alloc, verb)?,
+        player,
+        args,
+        argstr,
+    )?;
     run(alloc, live, moment, frame)
 }
 
@@ -60,12 +67,4 @@ fn server_frame(
         args,
     };
     verb_frame(alloc, found, call)
-}
-
-// Returns the string of these bytes. Fails only if memory runs out.
-fn name(alloc: Global, bytes: &[u8]) -> Result<MooStr, AllocError>
-    requires { IsString bytes.now }
-    ensures { IfOk result (λ s. s ≡ bytes.now) }
-{
-    MooStr::from_text(alloc, Vec::from_slice(alloc, bytes)?)
 }

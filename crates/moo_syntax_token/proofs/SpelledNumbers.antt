@@ -12,7 +12,8 @@ use Rattle.std.proofs.lemmas.Int.{to_z_pos, wrapping_neg_is, int_wrap_fits}
 use Rattle.std.proofs.lemmas.Bool.{cases_lt}
 use Rattle.std.proofs.lemmas.Bool.Decides.{nat_tests}
 use Rattle.moo_syntax_token.specs.declared.token.Token.TheVariants as token
-use Rattle.moo_syntax_token.specs.Tokens.{begins_name, is_digit, number, wrapped, begins_fraction, integer_at, number_at, object_at, token_at}
+use Rattle.moo_value.specs.Digits.{is_digit, number, wrapped}
+use Rattle.moo_syntax_token.specs.Tokens.{begins_name, begins_fraction, integer_at, number_at, object_at, token_at}
 use Rattle.moo_syntax_token.specs.Lexing.{begins_comment}
 use Rattle.moo_syntax_token.specs.Spelling.{begins_with}
 use Rattle.moo_syntax_token.proofs.SpelledWords.{both, front_length}

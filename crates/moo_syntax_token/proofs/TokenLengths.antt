@@ -7,7 +7,8 @@ use Rattle.moo_syntax_token.specs.declared.sign.Sign.{Sign}
 use Rattle.moo_syntax_token.specs.declared.token.Token.{Token}
 use Rattle.moo_syntax_token.specs.declared.token.Token.TheVariants as token
 use Rattle.moo_syntax_token.specs.Signs.{sign_of_one, sign_of_two, sign_at}
-use Rattle.moo_syntax_token.specs.Tokens.{is_digit, continues_name, integer_at, object_at, unquoted, token_at}
+use Rattle.moo_value.specs.Digits.{is_digit}
+use Rattle.moo_syntax_token.specs.Tokens.{continues_name, integer_at, object_at, unquoted, token_at}
 use Rattle.moo_syntax_token.proofs.SpelledWords.{begins_continues}
 
 record GivesLength {A : Type 0} (o : Option (A × ℕ)) : Type 0 where

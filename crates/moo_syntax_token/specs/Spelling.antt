@@ -12,7 +12,8 @@ use Rattle.moo_syntax_token.specs.declared.sign.Sign.TheVariants.{LeftParen, Rig
 use Rattle.moo_syntax_token.specs.declared.token.Token.{Token}
 use Rattle.moo_syntax_token.specs.declared.token.Token.TheVariants as token
 use Rattle.moo_syntax_token.specs.Words.{keyword_text, keyword_of}
-use Rattle.moo_syntax_token.specs.Tokens.{begins_name, is_digit, continues_name, begins_fraction}
+use Rattle.moo_value.specs.Digits.{is_digit}
+use Rattle.moo_syntax_token.specs.Tokens.{begins_name, continues_name, begins_fraction}
 
 -- a letter or `_`, and then letters, digits and `_`
 abbrev pub is_word : List ℕ → Bool

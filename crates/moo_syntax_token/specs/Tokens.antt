@@ -1,9 +1,10 @@
 -- The token that bytes begin with.
-use Rattle.std.specs.Prelude.{ℕ, ℤ, List, [], ◌∷◌, ◌+◌, ◌-◌, ◌*◌, ◌%◌, ◌^◌, Bool, true, false, Option, Some, None, nat_eq, nat_le, ◌&&◌, ◌||◌, if◌then◌else◌, not, take, drop, fold}
+use Rattle.std.specs.Prelude.{ℕ, ℤ, List, [], ◌∷◌, ◌+◌, Bool, true, false, Option, Some, None, nat_eq, nat_le, ◌&&◌, ◌||◌, if◌then◌else◌, not, take, drop}
 use Rattle.std.specs.Option.{option_map}
 use Rattle.std.specs.List.{prefix_len}
-use Rattle.std.specs.Int.{w32, cast_signed, int_wrapping_neg}
+use Rattle.std.specs.Int.{w32, int_wrapping_neg}
 use Rattle.moo_value.specs.declared.error_code.ErrorCode.{ErrorCode}
+use Rattle.moo_value.specs.Digits.{is_digit, wrapped}
 use Rattle.moo_value.specs.Errors.{error_named}
 use Rattle.moo_syntax_token.specs.declared.keyword.Keyword.{Keyword}
 use Rattle.moo_syntax_token.specs.declared.token.Token.{Token}
@@ -14,9 +15,6 @@ use Rattle.moo_syntax_token.specs.Signs.{sign_at}
 -- a letter or `_`
 abbrev pub begins_name : ℕ → Bool
 begins_name b = nat_le 65 b && nat_le b 90 || nat_le 97 b && nat_le b 122 || nat_eq b 95
-
-abbrev pub is_digit : ℕ → Bool
-is_digit b = nat_le 48 b && nat_le b 57
 
 -- a letter, `_` or a digit
 abbrev pub continues_name : ℕ → Bool
@@ -30,14 +28,6 @@ named word None None = token.Name word
 
 abbrev pub word : List ℕ → Token
 word bytes = named bytes (keyword_of bytes) (error_named bytes)
-
--- the number that digits write
-abbrev pub number : List ℕ → ℕ
-number digits = fold (λ n d. n * 10 + (d - 48)) 0 digits
-
--- the number modulo 2^32 as a signed number
-abbrev pub wrapped : List ℕ → ℤ
-wrapped digits = cast_signed w32 (number digits % 2 ^ 32)
 
 -- an exponent, or a dot that is not part of `..`: these may not follow an integer
 unfoldable pub begins_fraction : List ℕ → Bool

@@ -2,7 +2,6 @@
 ghost use Rattle.std.specs.Prelude.{◌≡◌, ◌<◌, IfOk};
 ghost use Rattle.moo_value.specs.Size.{IsString};
 
-use crate::scan::copied;
 use moo_value::MooStr;
 use std::alloc::{AllocError, Global};
 
@@ -48,7 +47,7 @@ impl NameInterner {
         requires { IsString name.now }
         ensures { IfOk result (λ s. s ≡ name.now) }
     {
-        let string = copied(alloc, name)?;
+        let string = MooStr::from_slice(alloc, name)?;
         if let Some(place) = self.names.get_mut(number) {
             *place = string.try_clone()?;
         }
@@ -62,7 +61,7 @@ impl NameInterner {
         requires string { IsString name.now }
         ensures { IfOk result (λ s. s ≡ name.now) }
     {
-        let string = copied(alloc, name)?;
+        let string = MooStr::from_slice(alloc, name)?;
         if let Ok(number) = u16::try_from(self.names.len()) {
             self.names.push(string.try_clone()?)?;
             self.rows[row] = number;

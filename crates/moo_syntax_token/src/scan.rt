@@ -3,13 +3,14 @@ ghost use Rattle.std.specs.Prelude.{◌≡◌, ◌<◌, ◌≤◌, ◌+◌, leng
 ghost use Rattle.std.specs.List.{prefix_len, list_all};
 ghost use Rattle.moo_value.specs.Size.{IsString};
 ghost use Rattle.moo_syntax_token.specs.Spelling.{is_word, is_name};
-ghost use Rattle.moo_syntax_token.specs.Tokens.{begins_name, is_digit, continues_name, word, wrapped, begins_fraction, integer_at, number_at, object_at, unquoted, token_at};
+ghost use Rattle.moo_value.specs.Digits.{is_digit};
+ghost use Rattle.moo_syntax_token.specs.Tokens.{begins_name, continues_name, word, begins_fraction, integer_at, number_at, object_at, unquoted, token_at};
 
 use crate::keyword::Keyword;
 use crate::name_interner::NameInterner;
 use crate::sign::sign_at;
 use crate::token::Token;
-use moo_value::{ErrorCode, MooStr, ValueFault};
+use moo_value::{ErrorCode, MooStr, wrapping_number};
 use std::alloc::{AllocError, Global};
 
 fn begins_name(b: u8) -> bool
@@ -64,18 +65,6 @@ fn digits_length(bytes: &[u8]) -> usize
     bytes.iter().take_while(|b| b.is_ascii_digit()).count()
 }
 
-/// Returns the number that the digits write, modulo 2^32 as a signed number.
-fn wrapped(digits: &[u8]) -> i32
-    ensures { result ≡ wrapped digits.now }
-{
-    let mut number: u32 = 0;
-    for digit in digits {
-        let digit = u32::from(digit.saturating_sub(b'0'));
-        number = number.wrapping_mul(10).wrapping_add(digit);
-    }
-    number.cast_signed()
-}
-
 #[tactic(auto, unfolding(crate::specs::Tokens::begins_fraction))]
 fn begins_fraction(bytes: &[u8]) -> bool
     ensures { result ≡ begins_fraction bytes.now }
@@ -99,7 +88,7 @@ fn integer_at(bytes: &[u8]) -> Option<(Token, usize)>
     if begins_fraction(&bytes[length..]) {
         return None;
     }
-    Some((Token::Integer(wrapped(&bytes[..length])), length))
+    Some((Token::Integer(wrapping_number(&bytes[..length])), length))
 }
 
 /// Returns the object number after a `#`, and its length.
@@ -126,31 +115,7 @@ fn number_at(bytes: &[u8]) -> Option<(i32, usize)>
     if length == 0 {
         return None;
     }
-    Some((wrapped(&bytes[..length]), length))
-}
-
-/// Returns a string of a copy of these bytes, which are part of a string.
-pub(crate) fn copied(alloc: Global, bytes: &[u8]) -> Result<MooStr, AllocError>
-    requires { IsString bytes.now }
-    ensures { IfOk result (λ s. s ≡ bytes.now) }
-{
-    match MooStr::try_from_bytes(alloc, bytes) {
-        Ok(string) => Ok(string),
-        Err(ValueFault::Memory) => Err(AllocError),
-        Err(ValueFault::BadByte | ValueFault::TooHeavy) => unreachable!(),
-    }
-}
-
-/// Returns a string of these bytes without a copy.
-fn owned(alloc: Global, bytes: Vec<u8>) -> Result<MooStr, AllocError>
-    requires { IsString bytes.items }
-    ensures { IfOk result (λ s. s ≡ bytes.items) }
-{
-    match MooStr::try_from_vec(alloc, bytes) {
-        Ok(string) => Ok(string),
-        Err(ValueFault::Memory) => Err(AllocError),
-        Err(ValueFault::BadByte | ValueFault::TooHeavy) => unreachable!(),
-    }
+    Some((wrapping_number(&bytes[..length]), length))
 }
 
 /// Returns the token of a word: a keyword, an error or a name.
@@ -193,7 +158,7 @@ fn unquoted(alloc: Global, bytes: &[u8]) -> Result<Option<(MooStr, usize)>, Allo
     let Some(length) = plain_length(bytes) else {
         return unescaped(alloc, bytes);
     };
-    let text = copied(alloc, &bytes[..length])?;
+    let text = MooStr::from_slice(alloc, &bytes[..length])?;
     Ok(Some((text, length + 1)))
 }
 
@@ -213,7 +178,7 @@ fn unescaped(alloc: Global, bytes: &[u8]) -> Result<Option<(MooStr, usize)>, All
             text.push(byte)?;
             taken = false;
         } else if byte == b'"' {
-            return Ok(Some((owned(alloc, text)?, index)));
+            return Ok(Some((MooStr::from_text(alloc, text)?, index)));
         } else if byte == b'\\' {
             taken = true;
         } else {

@@ -15,7 +15,8 @@ use Rattle.moo_syntax_token.specs.declared.keyword.Keyword.TheVariants as keywor
 use Rattle.moo_syntax_token.specs.declared.token.Token.{Token}
 use Rattle.moo_syntax_token.specs.declared.token.Token.TheVariants as token
 use Rattle.moo_syntax_token.specs.declared.token.Spot.{Spot}
-use Rattle.moo_syntax_token.specs.Tokens.{begins_name, is_digit, continues_name, number, wrapped, begins_fraction, integer_at, token_at}
+use Rattle.moo_value.specs.Digits.{is_digit, number, wrapped}
+use Rattle.moo_syntax_token.specs.Tokens.{begins_name, continues_name, begins_fraction, integer_at, token_at}
 use Rattle.moo_syntax_token.specs.Lexing.{begins_comment, Lexes, outside, complete, text_end, line_end}
 use Rattle.moo_syntax_token.specs.Lexing
 use Rattle.moo_syntax_token.specs.Spelling.{spell as spelling, HasSpelling, joins, joins_sign, begins_with, sign_text, is_word, is_name}

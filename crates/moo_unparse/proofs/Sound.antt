@@ -14,7 +14,8 @@ use Rattle.moo_syntax_token.specs.declared.token.Token.TheVariants as token
 use Rattle.moo_syntax_token.specs.declared.token.Spot.{Spot}
 use Rattle.moo_syntax_token.specs.Words.{keyword_of}
 use Rattle.moo_syntax_token.specs.Signs.{sign_at}
-use Rattle.moo_syntax_token.specs.Tokens.{begins_name, is_digit, continues_name, begins_fraction, word, named, wrapped, integer_at, number_at, object_at, unquoted, token_at}
+use Rattle.moo_value.specs.Digits.{is_digit, wrapped}
+use Rattle.moo_syntax_token.specs.Tokens.{begins_name, continues_name, begins_fraction, word, named, integer_at, number_at, object_at, unquoted, token_at}
 use Rattle.moo_syntax_token.specs.Lexing
 use Rattle.moo_syntax_token.specs.Lexing.{Ending, Place, Lexes, IsTokens, complete}
 use Rattle.moo_syntax_token.specs.Spelling.{HoldsName}

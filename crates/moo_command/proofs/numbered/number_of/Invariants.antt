@@ -1,5 +1,5 @@
 use Rattle.std.proofs.Common.{◌≡◌, min, take}
-use Rattle.moo_builtin_value.specs.Numerals.{number}
+use Rattle.moo_value.specs.Digits.{number}
 use Rattle.moo_world_table.specs.World.{most}
 use Rattle.moo_command.proofs.numbered.number_of.Given as goal
 

@@ -42,7 +42,7 @@ returns-clause-some c =
     let whole = rest_whole bytes at c.skip_blanks-at.ensures.inside in
     let inside : at < length bytes = omega (arith, c.in-Some.ensures.behind, ap length whole, length-drop at bytes) in
     let leads : verb_leading (drop at bytes) ≡ Some c.in-Some.verb.now = sym (ap verb_leading whole) ∙ sym c.in-Some.ensures.value in
-    let verb : c.in_ok-typed.typed.verb ≡ c.in-Some.verb.now = c.in_ok-typed.ensures.verb ∙ c.in_ok-verb.ensures ∙ c.in_ok-from_slice.ensures.items in
+    let verb : c.in_ok-typed.typed.verb ≡ c.in-Some.verb.now = c.in_ok-typed.ensures.verb ∙ c.in_ok-verb.ensures in
     rw verb (
     signed_typed c.args.line.now at c.in-Some.verb.now c.in_ok-typed.typed.rest c.in_ok-typed.typed.args.items
     (subst (λ (ts : List ℕ). drop at ts ≡ unindented ts) same c.skip_blanks-at.ensures.rest)

@@ -16,6 +16,6 @@ returns c =
     (found_of c.in-Some.found) c.in_ok-frame.frame
     (sym c.called_verb.ensures ∙ ap (λ (o : Option Found). option_map found_of o) c.in-Some.is)
     (c.in_ok-frame.ensures
-    ∙ ap (λ (p : ℤ). server_frame (found_of c.in-Some.found) c.in_ok-name.field-0 p c.args.args c.args.argstr) (let fits : SFits w32 c.args.player = search rules in to_z-of_z fits)
-    ∙ ap (λ (n : List ℕ). server_frame (found_of c.in-Some.found) n c.args.player c.args.args c.args.argstr) c.in_ok-name.ensures)
+    ∙ ap (λ (p : ℤ). server_frame (found_of c.in-Some.found) c.in_ok-from_slice.field-0 p c.args.args c.args.argstr) (let fits : SFits w32 c.args.player = search rules in to_z-of_z fits)
+    ∙ ap (λ (n : List ℕ). server_frame (found_of c.in-Some.found) n c.args.player c.args.args c.args.argstr) c.in_ok-from_slice.ensures)
     c.run.ensures

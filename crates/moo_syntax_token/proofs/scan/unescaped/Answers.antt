@@ -11,11 +11,11 @@ loop-index-preserved-then-taken c = (
   keeps _ _ _ _ c.requires c.loop-index-test.true c.in_ok-push.ensures.items c.loop-index.invariant.1,
 )
 
-pub owned-requires : goal.owned-requires
-owned-requires c = string_of_kept _ _ _ c.requires c.loop-index-test.true c.loop-index.invariant.1
+pub from_text-requires : goal.from_text-requires
+from_text-requires c = string_of_kept _ _ _ c.requires c.loop-index-test.true c.loop-index.invariant.1
 
 pub returns-then-byte-eq34-clause-is : goal.returns-then-byte-eq34-clause-is
-returns-then-byte-eq34-clause-is c = closes _ _ _ _ _ c.loop-index-test.true c.if-taken.false c.if-byte-eq34.true c.in_ok-owned.ensures c.loop-index.invariant.0
+returns-then-byte-eq34-clause-is c = closes _ _ _ _ _ c.loop-index-test.true c.if-taken.false c.if-byte-eq34.true c.in_ok-from_text.ensures c.loop-index.invariant.0
 
 pub loop-index-preserved-then-byte-eq92 : goal.loop-index-preserved-then-byte-eq92
 loop-index-preserved-then-byte-eq92 c = (

@@ -4,11 +4,11 @@ use Rattle.moo_session_line.specs.Inner.{is_still_after}
 use Rattle.moo_session_line.specs.Lines.{lines, rest}
 use Rattle.moo_session_line.proofs.Streams.{held, same_rest, lines_of, rest_of, lines-append, rest-append, NoEnds, line_with}
 use Rattle.moo_session_line.proofs.Pieces.{second_read, end_read, piece_lines, piece_rest, kept_is_line, line_is_string, cut_at, none_before, end_found, none_found, same_read, answer_is_lines}
-use Rattle.moo_session_line.proofs.line_reader.LineReader.feed.Goals.{then-not-is_second+in_ok-keep+in_ok-finished+in_ok-push, else-not-is_second}
+use Rattle.moo_session_line.proofs.line_reader.LineReader.feed.Goals.{then-not-is_second+in_ok-keep+in_ok-from_text+in_ok-push, else-not-is_second}
 use Rattle.moo_session_line.proofs.line_reader.LineReader.feed.Goals as goal
 
-pub finished-requires : goal.finished-requires
-finished-requires c =
+pub from_text-requires : goal.from_text-requires
+from_text-requires c =
     line_is_string c.keep.new.line.items (
     kept_is_line c.loop-end.line.items c.split_at.result.0.now c.keep.new.line.items c.in_ok-keep.ensures c.loop-end.invariant.is_line
     )
@@ -20,10 +20,10 @@ loop-end-preserved c =
     let ended : List ℕ = c.split_at.result.1.now in
     let cut = cut_at left xs ended c.in-Some.end c.in-Some.ensures.0.high c.split_at.ensures.front c.split_at.ensures.back in
     elim c.if-not-is_second.branch [
-      | then-not-is_second+in_ok-keep+in_ok-finished+in_ok-push w ↦
+      | then-not-is_second+in_ok-keep+in_ok-from_text+in_ok-push w ↦
           let lines_are : c.if-not-is_second.lines.items ≡ c.loop-end.lines.items ++ line_with c.loop-end.line.items xs ∷ [] =
           ap (λ v. v.items) w.lines-is ∙ w.in_ok-push.ensures.items
-          ∙ ap (λ (s : List ℕ). c.loop-end.lines.items ++ s ∷ []) (w.in_ok-finished.ensures ∙ w.in_ok-keep.ensures)
+          ∙ ap (λ (s : List ℕ). c.loop-end.lines.items ++ s ∷ []) (w.in_ok-from_text.ensures ∙ w.in_ok-keep.ensures)
           in
           let line_is : c.if-not-is_second.line.items ≡ [] = ap (λ v. v.items) w.line-is ∙ w.new-line.ensures.items in
           let no_second : (is_still_after c.loop-end.after_return xs && eqb (get_or ended 0 0) 10) ≡ false =

@@ -1,7 +1,7 @@
 -- The number that digits write, modulo 2^32.
 use Rattle.std.proofs.Common.{ℕ, List, ◌≡◌, ◌+◌, ◌*◌, ◌-◌, ◌%◌, ◌<◌, length, get_or, take, arith}
 use Rattle.std.proofs.lemmas.List.Sums.{fold_more}
-use Rattle.moo_builtin_value.specs.Numerals.{number}
+use Rattle.moo_value.specs.Digits.{number}
 
 step : (n d : ℕ) → ((n % 4294967296) * 10 % 4294967296 + d) % 4294967296 ≡ (n * 10 + d) % 4294967296
 step n d = omega arith

@@ -1,6 +1,0 @@
-use Rattle.std.proofs.Common.{◌≡◌, take, ◌%◌, ◌^◌}
-use Rattle.moo_builtin_value.specs.Numerals.{number}
-use Rattle.moo_builtin_value.proofs.numeral.wrapped.Given as goal
-
-abbrev pub invariant-loop-digit : goal.invariant-loop-digit
-invariant-loop-digit l = l.number ≡ number (take l.digit-index l.digits) % 2 ^ 32

@@ -8,6 +8,7 @@ import subprocess
 import tempfile
 from functools import partial
 
+from crowd_cases import a_line_next_to_a_crowd
 from outcome import Outcome, Result, Skipped
 from serving import DATA, FILE, Server, Unlike, reset, rest, same, sees, sees_last, starting
 
@@ -161,6 +162,7 @@ CASES = [
     (the_next_one_under_a_number_starts_clean, ()),
     (a_clock_that_is_set_back_is_not_shown, ()),
     (a_shutdown_is_written_and_the_server_closes, ()),
+    (a_line_next_to_a_crowd, ()),
 ]
 
 

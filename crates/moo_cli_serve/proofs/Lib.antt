@@ -1,5 +1,7 @@
+pub mod Carrying
 pub mod Coursing
 mod Finding
+pub mod Idling
 pub mod Rounding
 pub mod Serviced
 pub mod Writing

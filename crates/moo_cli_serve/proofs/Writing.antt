@@ -1,13 +1,13 @@
 -- Writes to sockets, one number after another.
 use Rattle.std.proofs.Common.{◌≡◌, ◌≢◌, ℕ, ◌+◌, ◌<◌, ◌≤◌, List, ◌++◌, length, Option, Some, None, Bool, false, refl, sym, ◌∙◌, ap, subst, arith}
-use Rattle.std.specs.Prelude.{◌⊎◌, IfSome, All, true, if◌then◌else◌}
+use Rattle.std.specs.Prelude.{◌⊎◌, IfSome, All, true, eqb, nat_lt, ◌&&◌, ◌||◌, if◌then◌else◌}
 use Rattle.std.proofs.Common.{[], inl, inr}
-use Rattle.std.proofs.lemmas.Bool.{true≢false}
+use Rattle.std.proofs.lemmas.Bool.{cases_eq, cases_lt, ltb-false, true≢false}
 use Rattle.slab.specs.Slab.{Slab}
 use Rattle.moo_cli_sockets.specs.declared.socket.Socket.{Socket}
 use Rattle.moo_cli_sockets.specs.Coming.{Each, held, only}
 use Rattle.moo_cli_sockets.specs.Sending.{Sends}
-use Rattle.moo_cli_sockets.proofs.Counting.{each_map, each_more}
+use Rattle.moo_cli_sockets.proofs.Counting.{each_gap, each_map, each_more}
 use Rattle.moo_dbtext_read.specs.Saved.{Saved}
 use Rattle.moo_server_core.specs.Application.{Layer, Output}
 use Rattle.moo_server_core.specs.Server.{Hands, state_of, waiting_of}
@@ -15,18 +15,11 @@ use Rattle.moo_server_core.specs.declared.event.Event.{Event}
 use Rattle.moo_server_core.specs.declared.event.Event.TheVariants as the
 use Rattle.moo_server_core.specs.declared.server_core.ServerCore.{ServerCore}
 use Rattle.moo_cli_serve.specs.Strangers.{is_stranger, leaves}
+use Rattle.moo_cli_serve.specs.Idle.{IsIdle}
+use Rattle.moo_cli_serve.specs.Room.{HaveRoom, HasRoom, bytes_held}
 use Rattle.moo_cli_serve.specs.Writing.{IsLeft, IsWritten, IsWrittenTo, Writes, is_among, is_parted}
-
--- the same, said of values that are equal
-carried : (most : ℕ) (late leaving leaving' : Bool) (bytes bytes' left left' : List ℕ) (was was' is is' : Option (List ℕ)) (c : ℕ) (e : Option Event)
-    → leaving' ≡ leaving → bytes' ≡ bytes → left' ≡ left → was' ≡ was → is' ≡ is
-    → IsWritten most leaving late bytes left was is c e → IsWritten most leaving' late bytes' left' was' is' c e
-carried most late leaving leaving' bytes bytes' left left' was was' is is' c e a b d f g written =
-    subst (λ (x : Bool). IsWritten most x late bytes' left' was' is' c e) (sym a)
-    (subst (λ (x : List ℕ). IsWritten most leaving late x left' was' is' c e) (sym b)
-    (subst (λ (x : List ℕ). IsWritten most leaving late bytes x was' is' c e) (sym d)
-    (subst (λ (x : Option (List ℕ)). IsWritten most leaving late bytes left x is' c e) (sym f)
-    (subst (λ (x : Option (List ℕ)). IsWritten most leaving late bytes left was x c e) (sym g) written))))
+use Rattle.moo_cli_serve.proofs.Carrying.{carried}
+use Rattle.moo_cli_serve.proofs.Idling.{idle_room, idle_writes}
 
 -- a connection that was written to and goes on
 pub stays : (most : ℕ) (late leaving leaving' : Bool) (output bytes left : List ℕ) (was is : Option (List ℕ)) (c : ℕ) (waiting : Option ℕ) → leaving ≡ leaving' → output ≡ bytes → left ≡ []
@@ -45,6 +38,19 @@ stays most late leaving leaving' output bytes left was is c (Some w) same all no
   where
     goes_on : is_parted most leaving late (Some (length sent.rest)) ≡ false
     goes_on = ap (λ (n : ℕ). is_parted most leaving late (Some n)) (sym sent.count) ∙ goes
+
+third_false : (a b d : Bool) → ((a || b) || d) ≡ false → b ≡ false
+third_false true b d e = absurd (true≢false e)
+third_false false true d e = absurd (true≢false e)
+third_false false false d e = refl
+
+-- a connection that was written to and goes on has room
+pub stays_room : (most : ℕ) (late leaving : Bool) (output : List ℕ) (was is : Option (List ℕ)) (waiting : Option ℕ)
+    → is_parted most leaving late waiting ≡ false → IfSome waiting (λ w. Sends output was is w) → length (bytes_held is) ≤ most
+stays_room most late leaving output was is None goes sent = absurd (true≢false goes)
+stays_room most late leaving output was is (Some w) goes sent =
+    subst (λ (o : Option (List ℕ)). length (bytes_held o) ≤ most) (sym sent.has)
+    (subst (λ (n : ℕ). n ≤ most) sent.count (ltb-false most w (third_false (leaving && eqb w 0) (nat_lt most w) late goes)))
 
 module _ {S Application : Type 0} (l : Layer S Application Saved) where
   -- who leaves does so still where something was handed out
@@ -87,6 +93,46 @@ module _ {S Application : Type 0} (l : Layer S Application Saved) where
           let left = so_far.left n (omega arith) in
           carried most (is_among late n) (leaves l mid n) (leaves l before n) ((waiting_of l mid).sent n) ((waiting_of l before).sent n) ((waiting_of l after).sent n) ((waiting_of l after).sent n)
           (held between n) (held old n) (held new n) (held new n) n event (sym (leaves_on so_far.handed.0 before mid n so_far.handed.1)) (sym left.waiting) refl (sym left.socket) refl now
+
+  -- idle numbers up to a higher one count as written to
+  pub written_gap : (most : ℕ) (settled : Bool) (late : List ℕ) (n m : ℕ) (before after : ServerCore S) (old new : Slab Socket) (events : List Event) → n ≤ m → m ≤ 65536
+      → ((c : ℕ) → n ≤ c → c < m → IsIdle l settled late before old c) → (settled ≡ true → HaveRoom most old)
+      → AreWritten most late n before after old new events → AreWritten most late m before after old new events
+  written_gap most settled late n m before after old new events up end idle room are = record {
+    handed = are.handed;
+    each = each_gap (λ c e. IsWrittenTo l most (is_among late c) before after old new c e) n m events up
+        (λ c from below. idle_writes l most settled late before after old new c (omega (arith, end, below)) (idle c from below) room (are.left c from)) are.each;
+    left = λ c from. are.left c (omega (arith, up, from));
+    log = are.log;
+  }
+
+  -- All below a number that was written to have room, and so does it.
+  pub room_more : (most : ℕ) (settled : Bool) (late : List ℕ) (n number : ℕ) (before mid after : ServerCore S) (old between new : Slab Socket) → number < 65536
+      → ((c : ℕ) → n ≤ c → c < number → IsIdle l settled late before old c) → (settled ≡ true → HaveRoom most old)
+      → ((c : ℕ) → n ≤ c → IsLeft l c before mid old between) → ((c : ℕ) → c ≢ number → IsLeft l c mid after between new)
+      → HasRoom most new number → ((c : ℕ) → c < n → HasRoom most between c) → (c : ℕ) → c < number + 1 → HasRoom most new c
+  room_more most settled late n number before mid after old between new small idle room left others here below c less = by_number (cases_eq c number)
+    where
+      was : c ≢ number → (c < n) ⊎ (n ≤ c) → HasRoom most between c
+      was differs (inl lower) = below c lower
+      was differs (inr from) =
+          subst (λ (w : Option (List ℕ)). length (bytes_held w) ≤ most) (sym (left c from).socket)
+          (idle_room l most settled late before old c (omega (arith, less, small, differs)) (idle c from (omega (arith, less, differs))) room)
+
+      by_number : (c ≡ number) ⊎ (c ≢ number) → HasRoom most new c
+      by_number (inl same) = subst (λ (k : ℕ). HasRoom most new k) (sym same) here
+      by_number (inr differs) = subst (λ (w : Option (List ℕ)). length (bytes_held w) ≤ most) (sym (others c differs).socket) (was differs (cases_lt c n))
+
+  -- All have room once no other is due.
+  pub room_all : (most : ℕ) (settled : Bool) (late : List ℕ) (n : ℕ) (before after : ServerCore S) (old new : Slab Socket)
+      → ((c : ℕ) → n ≤ c → c < 65536 → IsIdle l settled late before old c) → (settled ≡ true → HaveRoom most old)
+      → ((c : ℕ) → n ≤ c → IsLeft l c before after old new) → ((c : ℕ) → c < n → HasRoom most new c) → HaveRoom most new
+  room_all most settled late n before after old new idle room left below c small = by_order (cases_lt c n)
+    where
+      by_order : (c < n) ⊎ (n ≤ c) → HasRoom most new c
+      by_order (inl lower) = below c lower
+      by_order (inr from) =
+          subst (λ (w : Option (List ℕ)). length (bytes_held w) ≤ most) (sym (left c from).socket) (idle_room l most settled late before old c small (idle c from small) room)
 
   -- in the end all are, up to the last number, or where no socket has one from n on
   pub written_all : (most : ℕ) (late : List ℕ) (n : ℕ) (before after : ServerCore S) (old new : Slab Socket) (events : List Event)

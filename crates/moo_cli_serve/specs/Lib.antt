@@ -2,7 +2,9 @@
 pub mod Console
 pub mod Course
 pub mod Found
+pub mod Idle
 pub mod Program
+pub mod Room
 pub mod Rounds
 pub mod Service
 pub mod Status

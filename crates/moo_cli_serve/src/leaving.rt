@@ -1,5 +1,9 @@
 //! The output of a round, and the connections that it closes.
-ghost use Rattle.std.specs.Prelude.{◌≡◌, ◌≢◌, ℕ, List, IfOk, OnOk};
+ghost use Rattle.std.specs.Prelude.{◌≡◌, ◌≢◌, ◌<◌, ℕ, List, None, Contains, false, true, IfOk, OnOk};
+ghost use Rattle.std.specs.List.{AllPairs};
+ghost use Rattle.moo_cli_sockets.specs.Coming.{held};
+ghost use Rattle.moo_cli_serve.specs.Idle.{IsIdle};
+ghost use Rattle.moo_cli_serve.specs.Room.{HasRoom, HaveRoom};
 ghost use Rattle.moo_server_core.specs.Application.{Output};
 ghost use Rattle.moo_server_core.specs.Server.{Hands, waiting_of};
 ghost use Rattle.moo_cli_serve.specs.Rounds.{Logs};
@@ -8,33 +12,72 @@ ghost use Rattle.moo_cli_serve.specs.Writing.{IsLeft, IsWrittenTo, Writes, is_am
 use crate::console::Console;
 use crate::strangers::Strangers;
 use log::{Log, info, warn};
-use moo_cli_sockets::{Sockets, put};
+use moo_cli_sockets::{Sockets, put, sort_numbers};
 use moo_server_core::{Event, ServerCore, StartApplication};
 use std::alloc::{AllocError, Global};
 use std::rt::Clock;
 
-/// Writes once to each socket what waits for its connection. Returns the hang-ups of the connections that it closes. Fails only
-/// if memory runs out.
+/// Writes once to each socket for which output came since the last round, or which can take more of what waits for it.
+/// Returns the hang-ups of the connections that it closes. Nothing happens to the other sockets, so they cost no time: if the
+/// last round ended well, none of them has more waiting than may. Fails only if memory runs out.
 pub fn write_all<S: StartApplication, L: Clock + Log>(
     rt: &L,
     alloc: Global,
     server: &mut ServerCore<S>,
     sockets: &mut Sockets,
     most_waiting: usize,
+    is_settled: bool,
     strangers: &mut Strangers,
 ) -> Result<Vec<Event>, AllocError>
+    requires { is_settled ≡ true → HaveRoom most_waiting sockets.old.sockets }
     ensures handed { (handed : Output) × Hands S.layer handed server.old server.new }
     ensures written { IfOk result (λ events. Writes S.layer most_waiting server.old server.new sockets.old.sockets sockets.new.sockets events.items) }
+    ensures room { OnOk result (HaveRoom most_waiting sockets.new.sockets) }
 {
     let late = strangers.find_late(rt, alloc, server, sockets)?;
+    let due = due(alloc, server, sockets, &late, is_settled)?;
     let mut parted = Vec::new(alloc);
-    for key in 0..sockets.capacity() {
-        let Ok(c) = u16::try_from(key) else { break };
-        let is_late = is_among(&late, c);
-        let event = write(rt, server, sockets, c, most_waiting, is_late)?;
+    for c in &due {
+        let is_late = is_among(&late, *c);
+        let event = write(rt, server, sockets, *c, most_waiting, is_late)?;
         put(&mut parted, event)?;
     }
     Ok(parted)
+}
+
+// Returns the numbers of the connections to which something may happen, by rising number.
+fn due<S: StartApplication>(
+    alloc: Global,
+    server: &ServerCore<S>,
+    sockets: &mut Sockets,
+    late: &[u16],
+    is_settled: bool,
+) -> Result<Vec<u16>, AllocError>
+    ensures rising { IfOk result (λ due. AllPairs (λ a b. a < b) due.items) }
+    ensures rest { IfOk result (λ due. (c : ℕ) → c < 65536 → (Contains due.items c → ⊥) → IsIdle S.layer is_settled late.now server.now sockets.new.sockets c) }
+    ensures same { sockets.new.sockets ≡ sockets.old.sockets }
+{
+    let mut due = server.pending()?;
+    due.extend_from_slice(late)?;
+    due.extend_from_slice(&sockets.take_writable())?;
+    due.extend_from_slice(&unsettled(alloc, sockets, is_settled)?)?;
+    sort_numbers(&mut due);
+    Ok(due)
+}
+
+// Returns the numbers of all sockets, perhaps with others, unless the last round ended well.
+fn unsettled(alloc: Global, sockets: &Sockets, is_settled: bool) -> Result<Vec<u16>, AllocError>
+    ensures { IfOk result (λ numbers. is_settled ≡ false → (c : ℕ) → c < 65536 → (Contains numbers.items c → ⊥) → held sockets.now.sockets c ≡ None) }
+{
+    let mut numbers = Vec::new(alloc);
+    if is_settled {
+        return Ok(numbers);
+    }
+    for key in 0..sockets.capacity() {
+        let Ok(c) = u16::try_from(key) else { break };
+        numbers.push(c)?;
+    }
+    Ok(numbers)
 }
 
 // Writes once to a connection's socket, if it has one. Returns its hang-up if the connection is closed.
@@ -49,6 +92,7 @@ fn write<S: StartApplication, L: Log>(
     ensures handed { (handed : Output) × Hands S.layer handed server.old server.new }
     ensures written { IfOk result (λ event. IsWrittenTo S.layer most_waiting is_late server.old server.new sockets.old.sockets sockets.new.sockets c event) }
     ensures others { OnOk result ((k : ℕ) → k ≢ c → IsLeft S.layer k server.old server.new sockets.old.sockets sockets.new.sockets) }
+    ensures room { OnOk result (HasRoom most_waiting sockets.new.sockets c) }
     ensures log { (waiting_of S.layer server.new).logged ≡ (waiting_of S.layer server.old).logged }
 {
     if !sockets.contains(c) {
@@ -58,6 +102,7 @@ fn write<S: StartApplication, L: Log>(
     let output = server.take_output(c);
     let waiting = sockets.write(c, output)?;
     if !is_parted(most_waiting, is_leaving, is_late, waiting) {
+        sockets.keep_writable(c)?;
         return Ok(None);
     }
     tell_waiting(rt, c, most_waiting, waiting);

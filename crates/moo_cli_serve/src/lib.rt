@@ -2,6 +2,7 @@
 //! An internal crate of `moo`.
 #![tactic(auto)]
 
+mod beginning;
 mod coming;
 mod console;
 mod fault;

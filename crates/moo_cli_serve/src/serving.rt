@@ -1,24 +1,23 @@
 //! Rounds of non-blocking calls between the sockets of connections and a server.
-ghost use Rattle.std.specs.Prelude.{◌≡◌, ◌⊎◌, ◌↔◌, List, IfErr, IfOk, IsTrue, OnOk, false, true};
-ghost use Rattle.moo_server_core.specs.Server.{Follows};
-ghost use Rattle.moo_server_core.specs.declared.event.Event as given;
-ghost use Rattle.moo_cli_serve.specs.Course.{Course};
-ghost use Rattle.moo_cli_serve.specs.Rounds.{IsClosed, Rounds};
-ghost use Rattle.moo_cli_serve.specs.Service.{Begun, BreaksOff, EndsFor, IsBegunFrom, IsOutside, IsServed, LeavesUnbegun, NotStarted, Steps, Turns, Waits};
+ghost use Rattle.std.specs.Prelude.{◌≡◌, true};
+ghost use Rattle.std.proofs.Props.{props};
+ghost use Rattle.moo_cli_serve.specs.Room.{HaveRoom};
 
+use crate::beginning::{begin, tell_checkpoint};
 use crate::coming::{come, now};
 use crate::console::Console;
 use crate::fault::ServeFault;
 use crate::giving::{give, give_if_open};
 use crate::leaving::{log_lines, write_all};
 use crate::strangers::{LoginLimits, Strangers};
-use log::{Log, info, warn};
+use log::Log;
 use moo_cli_file_disk::{News, Watched};
 use moo_cli_sockets::Sockets;
 use moo_cli_telnet::Telnet;
 use moo_disk::Disk;
 use moo_server_core::{Phase, ServerCore as Server, StartApplication};
 use std::alloc::Global;
+use std::mem;
 use std::net::{IpAddr, Net, SocketAddr};
 use std::rt::Clock;
 
@@ -47,13 +46,23 @@ pub struct Serving<S: StartApplication, D: Disk> {
     moment: u32,
     /// The number of waiting bytes past which a connection is hung up.
     most_waiting: usize,
+    /// Whether the last round ended without a fault.
+    is_settled: bool,
     strangers: Strangers,
     console: Console,
     /// Whether the clock is before the last reported moment.
     is_late: bool,
+    ghost room: { is_settled ≡ true → HaveRoom most_waiting sockets.sockets } by { Prim.hlevel props },
 }
 
 impl<S: StartApplication, D: Disk + Watched> Serving<S, D> {
+    ghost use Rattle.std.specs.Prelude.{◌⊎◌, ◌↔◌, List, IfErr, IfOk, IsTrue, OnOk, false};
+    ghost use Rattle.moo_server_core.specs.Server.{Follows};
+    ghost use Rattle.moo_server_core.specs.declared.event.Event as given;
+    ghost use Rattle.moo_cli_serve.specs.Course.{Course};
+    ghost use Rattle.moo_cli_serve.specs.Rounds.{IsClosed, Rounds};
+    ghost use Rattle.moo_cli_serve.specs.Service.{Begun, BreaksOff, EndsFor, IsOutside, IsServed, NotStarted, Steps, Turns, Waits};
+
     /// Opens a server over a disk, and listens on a port of an address. Port 0 takes any that is free. If the disk can't be read,
     /// logs the reason and returns the fault.
     pub fn open<N: Net + Clock + Log>(
@@ -84,6 +93,7 @@ impl<S: StartApplication, D: Disk + Watched> Serving<S, D> {
             disk,
             moment,
             most_waiting,
+            is_settled: true,
             strangers: Strangers::new(login),
             console: Console::new(has_console),
             is_late: false,
@@ -169,8 +179,9 @@ impl<S: StartApplication, D: Disk + Watched> Serving<S, D> {
         ensures most { self.new.most_waiting ≡ self.old.most_waiting }
         ensures ended { IfErr result (λ fault. EndsFor S.layer D.view D.honest D.failures fault self.old self.new) }
     {
+        let is_settled = mem::replace(&mut self.is_settled, false);
         self.sockets.rest();
-        self.sockets.look(0)?;
+        self.sockets.look()?;
         let came = come(
             rt,
             self.alloc,
@@ -189,8 +200,10 @@ impl<S: StartApplication, D: Disk + Watched> Serving<S, D> {
             &mut self.server,
             &mut self.sockets,
             self.most_waiting,
+            is_settled,
             &mut self.strangers,
         )?;
+        self.is_settled = true;
         give_if_open(&mut self.server, &mut self.disk, &parted)?;
         Ok(())
     }
@@ -224,47 +237,7 @@ impl<S: StartApplication, D: Disk + Watched> Serving<S, D> {
         ensures waits { Waits self.old self.new }
         ensures outside { IfErr result IsOutside }
     {
-        self.sockets.look(WAIT_SECONDS)?;
+        self.sockets.wait(WAIT_SECONDS)?;
         Ok(())
-    }
-}
-
-// Opens a server over a disk. Logs the reason if the disk can't be read.
-fn begin<S: StartApplication, D: Disk + Watched, L: Log>(
-    rt: &L,
-    alloc: Global,
-    disk: &mut D,
-    moment: u32,
-) -> Result<Server<S>, ServeFault>
-    ensures begun { IfOk result (λ server. IsBegunFrom S.layer D.view D.honest disk.old moment server disk.new) }
-    ensures follows { IfOk result (λ server. Follows S.layer D.view D.honest D.stands server disk.new) }
-    ensures refused { IfErr result (LeavesUnbegun D.view D.honest D.failures disk.old disk.new) }
-{
-    match Server::<S>::open(alloc, disk, moment) {
-        Ok(server) => Ok(server),
-        Err(fault) => {
-            tell_failure(rt, disk);
-            Err(ServeFault::Open(fault))
-        }
-    }
-}
-
-// Logs the end of a checkpoint, if the last call of the disk ended one. Before the round the disk had made so many calls.
-fn tell_checkpoint<D: Watched, L: Log>(rt: &L, disk: &D, calls: u64) {
-    if disk.calls() == calls {
-        return;
-    }
-    if let News::Written(bytes) = disk.news() {
-        info!(rt; target: "moo::serve", "checkpoint done: {bytes} bytes");
-    }
-    if let News::Failed(file, error) = disk.news() {
-        warn!(rt; target: "moo::serve", "checkpoint failed: {file}: {error}");
-    }
-}
-
-// Logs why the disk failed, if it did.
-fn tell_failure<D: Watched, L: Log>(rt: &L, disk: &D) {
-    if let News::Failed(file, error) = disk.news() {
-        warn!(rt; target: "moo::serve", "{file}: {error}");
     }
 }

@@ -25,6 +25,8 @@ pub struct Strangers {
     second: u64,
     /// The number of connections that had been accepted at the last search.
     arrivals: u64,
+    /// The number of strangers at the last search. More of them come only by new connections.
+    count: usize,
     /// The second of the last line of the log.
     told: Option<u64>,
     /// The number of hang-ups since then, which the next line counts.
@@ -37,14 +39,15 @@ impl Strangers {
             limits,
             second: 0,
             arrivals: 0,
+            count: 0,
             told: None,
             untold: 0,
         }
     }
 
     /// Returns the strangers that are hung up now, and logs it. These are all that are past the seconds of the limits,
-    /// and the oldest one if there are too many. Without limits there are none. Searches only in a new second or after
-    /// a new connection. Fails only if memory runs out.
+    /// and the oldest one if there are too many. Without limits there are none. Searches only in a new second, or after
+    /// new connections with which there may be too many. Fails only if memory runs out.
     pub fn find_late<S: StartApplication, L: Clock + Log>(
         &mut self,
         rt: &L,
@@ -62,7 +65,8 @@ impl Strangers {
         self.arrivals = sockets.arrivals();
         let mut late = overdue(alloc, server, sockets, now, self.limits.seconds)?;
         let most = self.limits.most;
-        if most != 0 && count_strangers(server, sockets) > most {
+        self.count = count_strangers(server, sockets);
+        if most != 0 && self.count > most {
             if let Some(c) = oldest(server, sockets) {
                 late.push(c)?;
             }
@@ -71,10 +75,17 @@ impl Strangers {
         Ok(late)
     }
 
-    // Returns whether there are limits, and a second has passed or a connection was accepted since the last search.
+    // Returns whether there are limits, and a second has passed since the last search or there may be too many strangers.
     fn is_due(&self, now: u64, arrivals: u64) -> bool {
         let is_limited = self.limits.seconds != 0 || self.limits.most != 0;
-        is_limited && (now != self.second || arrivals != self.arrivals)
+        is_limited && (now != self.second || self.may_exceed(arrivals))
+    }
+
+    // Returns whether the connections since the last search may have brought too many strangers.
+    fn may_exceed(&self, arrivals: u64) -> bool {
+        let new = arrivals.wrapping_sub(self.arrivals);
+        let count = (self.count as u64).saturating_add(new);
+        self.limits.most != 0 && new != 0 && count > self.limits.most as u64
     }
 
     // Logs a hang-up, at most once a second. The next line counts those between.

@@ -1,7 +1,8 @@
 -- Events by rising number.
-use Rattle.std.proofs.Common.{◌≡◌, ℕ, zero, suc, ◌+◌, ◌<◌, ◌≤◌, List, [], ◌∷◌, ◌++◌, Option, Some, None, Bool, true, false, refl, sym, ◌∙◌, ap, subst, add-one, arith}
+use Rattle.std.proofs.Common.{◌≡◌, ℕ, zero, suc, ◌+◌, ◌-◌, ◌<◌, ◌≤◌, List, [], ◌∷◌, ◌++◌, Option, Some, None, Bool, true, false, refl, sym, ◌∙◌, ap, subst, add-one, add-zero, arith}
 use Rattle.std.specs.Prelude.{eqb, if◌then◌else◌}
 use Rattle.std.proofs.lemmas.Bool.{eqb-true}
+use Rattle.std.proofs.lemmas.List.{append-nil}
 use Rattle.moo_server_core.specs.declared.event.Event.{Event}
 use Rattle.moo_server_core.specs.declared.event.Event.TheVariants as the
 use Rattle.moo_cli_sockets.specs.Coming.{Each, IsRead, held_after, held_through, only}
@@ -12,6 +13,20 @@ module _ (P : ℕ → Option Event → Type 0) where
 
   pub each_more : (n : ℕ) (events all : List Event) (event : Option Event) → Each P n events → P n event → all ≡ events ++ only event → Each P (n + 1) all
   each_more n events all event each is all_is = subst (λ (k : ℕ). Each P k all) (sym (add-one n)) (events, event, each, is, all_is)
+
+  -- nothing comes of k numbers more
+  each_on : (n k : ℕ) (events : List Event) → ((c : ℕ) → n ≤ c → c < n + k → P c None) → Each P n events → Each P (n + k) events
+  each_on n zero events none each = subst (λ (m : ℕ). Each P m events) (sym (add-zero n)) each
+  each_on n (suc k) events none each =
+      let more : n + k + 1 ≡ n + suc k = omega arith in
+      subst (λ (m : ℕ). Each P m events) more
+      (each_more (n + k) events events None (each_on n k events (λ c from below. none c from (omega (arith, below))) each) (none (n + k) (omega arith) (omega arith)) (sym (append-nil events)))
+
+  -- nothing comes of the numbers up to a higher one
+  pub each_gap : (n m : ℕ) (events : List Event) → n ≤ m → ((c : ℕ) → n ≤ c → c < m → P c None) → Each P n events → Each P m events
+  each_gap n m events up none each =
+      let end : n + (m - n) ≡ m = omega (arith, up) in
+      subst (λ (k : ℕ). Each P k events) end (each_on n (m - n) events (λ c from below. none c from (omega (arith, up, below))) each)
 
   -- what holds of each implies another thing of it
   pub each_map : (Q : ℕ → Option Event → Type 0) (n : ℕ) (events : List Event) → ((c : ℕ) → c < n → (event : Option Event) → P c event → Q c event)

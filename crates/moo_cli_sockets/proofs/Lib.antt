@@ -1,2 +1,6 @@
 pub mod Counting
+pub mod Elements
+pub mod Listing
+pub mod Pieces
+pub mod Rising
 pub mod Sent

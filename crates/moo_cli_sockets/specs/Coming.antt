@@ -1,8 +1,8 @@
 -- The input of the sockets of connections, as events of a server.
-use Rattle.std.specs.Prelude.{◌≡◌, ℕ, zero, suc, ◌<◌, ◌≤◌, List, [], ◌∷◌, ◌++◌, Option, Some, None, IsSome, eqb, if◌then◌else◌, vec_len}
+use Rattle.std.specs.Prelude.{◌≡◌, ℕ, zero, suc, ◌<◌, ◌≤◌, List, [], ◌∷◌, ◌++◌, Option, Some, None, IsSome, eqb, if◌then◌else◌, vec_len, count_by, true, IfSome, Contains}
 use Rattle.std.specs.Option.{option_map}
 use Rattle.slab.specs.Slab.{Slab, get}
-use Rattle.moo_cli_sockets.specs.Waiting.{waits_of}
+use Rattle.moo_cli_sockets.specs.Waiting.{is_end, is_readable, waits_of}
 use Rattle.moo_server_core.specs.declared.event.Event.{Event}
 use Rattle.moo_server_core.specs.declared.event.Event.TheVariants as the
 use Rattle.moo_cli_sockets.specs.declared.socket.Socket.{Socket}
@@ -22,11 +22,11 @@ IsOpening sockets None = Unit {0}
 IsOpening sockets (Some (the.Open c)) = held sockets c ≡ None
 IsOpening sockets (Some event) = ⊥
 
--- The result of one read of connection c's socket, while `was` waits for it: nothing yet, at most 4,096 bytes, or its
--- end. Without a socket there is none.
+-- The result of one read of connection c's socket, while `was` waits for it: nothing yet, at most 4,096 bytes with at
+-- most 128 line ends, or its end. Without a socket there is none.
 abbrev pub IsRead : Option (List ℕ) → ℕ → Option Event → Type 0
 IsRead was c None = Unit {0}
-IsRead was c (Some (the.Bytes k piece)) = IsSome was × (k ≡ c) × (0 < vec_len piece) × (vec_len piece ≤ 4096)
+IsRead was c (Some (the.Bytes k piece)) = IsSome was × (k ≡ c) × (0 < vec_len piece) × (vec_len piece ≤ 4096) × (count_by is_end piece.items ≤ 128)
 IsRead was c (Some (the.Hangup k)) = IsSome was × (k ≡ c)
 IsRead was c (Some event) = ⊥
 
@@ -53,6 +53,14 @@ Follow events old new = (c : ℕ) → held new c ≡ held_after c (held old c) e
 -- connection c's socket is closed
 abbrev pub Closes : ℕ → Slab Socket → Slab Socket → Type 0
 Closes c old new = Follow (the.Hangup c ∷ []) old new
+
+-- If a read of connection c's socket may return something, c is one of these numbers.
+abbrev pub IsListed : List ℕ → Slab Socket → ℕ → Type 0
+IsListed numbers sockets c = IfSome (get sockets c) (λ socket. is_readable socket ≡ true → Contains numbers c)
+
+-- If connection c has a socket, it is among those that are read from and among those that are written to.
+abbrev pub IsNamed : ℕ → Slab Socket → List ℕ → List ℕ → Type 0
+IsNamed c sockets readable writable = IsSome (get sockets c) → (c < 65536) → Contains readable c × Contains writable c
 
 -- The input of one round: at most one new connection, and then the result of one read of each socket.
 pub record Comes (old new : Slab Socket) (events : List Event) : Type 0 where

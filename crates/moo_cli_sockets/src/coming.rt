@@ -1,10 +1,12 @@
 //! The input of sockets: new connections, bytes and ends.
-ghost use Rattle.std.specs.Prelude.{◌≡◌, ℕ, List, ◌++◌, IfOk, OnOk};
+ghost use Rattle.std.specs.Prelude.{◌≡◌, ◌≢◌, ℕ, List, ◌++◌, Contains, IfOk, OnOk};
+ghost use Rattle.slab.specs.Slab.{get};
 ghost use Rattle.moo_server_core.specs.declared.event.Event as given;
-ghost use Rattle.moo_cli_sockets.specs.Coming.{Comes, Each, Follow, IsOpening, IsRead, held, only};
+ghost use Rattle.moo_cli_sockets.specs.Coming.{Comes, Each, Follow, IsListed, IsOpening, IsRead, held, only};
 
 use crate::age::{Age, seconds};
 use crate::descriptors::is_at;
+use crate::numbers::sort_numbers;
 use crate::sockets::{CONSOLE, Sockets};
 use crate::{Came, Socket};
 use log::{Log, warn};
@@ -12,21 +14,17 @@ use mio::net::TcpStream;
 use mio::{Interest, Token};
 use moo_server_core::Event;
 use std::alloc::AllocError;
-use std::io;
 use std::io::ErrorKind;
 use std::rt::Clock;
-
-/// The greatest number of bytes in one read. One read is one event, and all its lines are done before the next turn.
-/// This is few enough for short turns, and enough for most lines that people type.
-const READ_MOST: usize = 256;
+use std::{io, mem};
 
 /// The least number of seconds between two lines of the log which say that no descriptor is left for a connection.
 const FULL_TOLD_SECONDS: u64 = 60;
 
 impl Sockets {
-    /// Takes the input of one round: at most one new connection, and then one read of each socket that may have
-    /// bytes, by rising number. Closes at once a connection for which no number is left, and any socket that ended or
-    /// failed. Fails only if memory runs out.
+    /// Takes the input of one round: at most one new connection, and then one piece of each socket that may have
+    /// bytes, by rising number. No other socket costs time. Closes at once a connection for which no number is left,
+    /// and any socket that ended or failed. Fails only if memory runs out.
     pub fn take<L: Clock + Log>(&mut self, rt: &L) -> Result<Vec<Event>, AllocError>
         ensures { IfOk result (λ events. Comes self.old.sockets self.new.sockets events.items) }
     {
@@ -116,46 +114,56 @@ impl Sockets {
         Ok(Some(Event::Open(c)))
     }
 
-    // Reads once from each socket that may have bytes.
+    // Reads once from each socket that may have bytes. Those that may have more are read from in the next round.
     fn read_all(&mut self, events: &mut Vec<Event>) -> Result<(), AllocError>
-        ensures { OnOk result ((n : ℕ) × (reads : List given.Event) × Each (λ c event. IsRead (held self.old.sockets c) c event) n reads × Follow reads self.old.sockets self.new.sockets
+        ensures read { OnOk result ((n : ℕ) × (reads : List given.Event) × Each (λ c event. IsRead (held self.old.sockets c) c event) n reads × Follow reads self.old.sockets self.new.sockets
             × (events.new.items ≡ events.old.items ++ reads)) }
+        ensures listed { OnOk result ((c : ℕ) → Contains self.old.readable.items c → IsListed self.new.readable.items self.new.sockets c) }
     {
-        for key in 0..self.sockets.capacity() {
-            let Ok(c) = u16::try_from(key) else { break };
-            let event = self.read(c)?;
+        let mut numbers = mem::replace(&mut self.readable, Vec::new(self.alloc));
+        sort_numbers(&mut numbers);
+        for c in &numbers {
+            let event = self.read(*c)?;
             put(events, event)?;
+            self.keep_readable(*c)?;
         }
         Ok(())
     }
 
     // Reads once from a socket. Its end or a fault is a hang-up.
     fn read(&mut self, c: u16) -> Result<Option<Event>, AllocError>
-        ensures { IfOk result (λ event. IsRead (held self.old.sockets c) c event × Follow (only event) self.old.sockets self.new.sockets) }
+        ensures read { IfOk result (λ event. IsRead (held self.old.sockets c) c event × Follow (only event) self.old.sockets self.new.sockets) }
+        ensures others { (k : ℕ) → k ≢ c → get self.new.sockets k ≡ get self.old.sockets k }
+        ensures listed { self.new.readable ≡ self.old.readable }
     {
         let Some(socket) = self.sockets.get_mut(usize::from(c)) else {
             return Ok(None);
         };
-        if !socket.may_read() {
+        if !socket.is_readable() {
             return Ok(None);
         }
-        let mut buffer = [0u8; READ_MOST];
-        match socket.read(&mut buffer) {
-            Came::Bytes(count) => {
-                self.is_busy = true;
-                let piece = socket.text(self.alloc, &buffer[..count])?;
-                if piece.is_empty() {
-                    return Ok(None);
-                }
-                Ok(Some(Event::Bytes(c, piece)))
-            }
+        match socket.read(self.alloc)? {
+            Came::Bytes(piece) => Ok(Some(Event::Bytes(c, piece))),
             Came::NothingYet => Ok(None),
             Came::End => {
-                self.is_busy = true;
                 self.close(c);
                 Ok(Some(Event::Hangup(c)))
             }
         }
+    }
+
+    // Lists a socket again if a read of it may return something.
+    fn keep_readable(&mut self, c: u16) -> Result<(), AllocError>
+        ensures listed { OnOk result (IsListed self.new.readable.items self.new.sockets c) }
+        ensures others { OnOk result ((k : ℕ) → Contains self.old.readable.items k → Contains self.new.readable.items k) }
+        ensures same { self.new.sockets ≡ self.old.sockets }
+    {
+        if let Some(socket) = self.sockets.get(usize::from(c)) {
+            if socket.is_readable() {
+                self.readable.push(c)?;
+            }
+        }
+        Ok(())
     }
 }
 

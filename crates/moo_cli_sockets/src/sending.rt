@@ -5,6 +5,7 @@ ghost use Rattle.moo_cli_sockets.specs.Sending.{Sends};
 
 use crate::sockets::Sockets;
 use std::alloc::AllocError;
+use std::mem;
 
 impl Sockets {
     /// Appends this output to what waits for a connection's socket, and writes once. Returns the number of bytes that
@@ -17,13 +18,30 @@ impl Sockets {
             return Ok(None);
         };
         socket.give(output)?;
-        let Ok(count) = socket.write() else {
+        let Ok(_count) = socket.write() else {
             return Ok(None);
         };
         let waiting = socket.waiting();
-        if count != 0 {
-            self.is_busy = true;
-        }
         Ok(Some(waiting))
+    }
+
+    /// Lists a socket as one to which more may be written, if output waits for it and the system may take some. Fails
+    /// only if memory runs out.
+    pub fn keep_writable(&mut self, c: u16) -> Result<(), AllocError>
+        ensures { self.new.sockets ≡ self.old.sockets }
+    {
+        if let Some(socket) = self.sockets.get(usize::from(c)) {
+            if socket.waiting() != 0 && socket.may_write() {
+                self.writable.push(c)?;
+            }
+        }
+        Ok(())
+    }
+
+    /// Returns the numbers of the sockets to which more may be written, and clears the list.
+    pub fn take_writable(&mut self) -> Vec<u16>
+        ensures { self.new.sockets ≡ self.old.sockets }
+    {
+        mem::replace(&mut self.writable, Vec::new(self.alloc))
     }
 }

@@ -1,33 +1,40 @@
 //! A connection's socket.
-ghost use Rattle.std.specs.Prelude.{◌≡◌, ◌≤◌, ◌++◌, [], length, drop, IfOk, OnOk, OnErr};
-ghost use Rattle.moo_cli_sockets.specs.Waiting.{IsCame, waits_of};
+ghost use Rattle.std.specs.Prelude.{◌≡◌, ◌≤◌, ◌<◌, ◌++◌, [], length, drop, false, true, IfOk, OnOk, OnErr};
+ghost use Rattle.moo_cli_sockets.specs.Waiting.{IsCame, IsPiece, is_readable, waits_of};
 
 use crate::age::Age;
+use crate::piece::{READ_MOST, piece_length};
 use crate::waiting::Waiting;
+use mio::event::Event;
 use mio::net::TcpStream;
 use moo_cli_telnet::Telnet;
 use std::alloc::{AllocError, Global};
-use std::io;
 use std::io::{ErrorKind, Read, Write};
+use std::{io, mem};
 
 /// The result of a read.
-#[derive(Clone, Copy, Debug, PartialEq, Eq)]
+#[derive(Debug, Drop)]
 pub enum Came {
-    /// The number of bytes that were read.
-    Bytes(usize),
+    /// The bytes that came next.
+    Bytes(Vec<u8>),
     /// No bytes have come yet.
     NothingYet,
     /// The other side has closed the connection, or the socket failed.
     End,
 }
 
-/// A socket, and the output that waits for it. A call that would block is made again once the system reports that the
-/// socket is ready.
+/// A socket, the output that waits for it, and the input that was read from it. A call that would block is made again
+/// once the system reports that the socket is ready.
 #[derive(Drop)]
 pub struct Socket {
     stream: TcpStream,
     waiting: Waiting,
-    may_read: bool,
+    /// The bytes that were read and not returned yet.
+    pub(crate) input: Vec<u8>,
+    /// Whether the system may have bytes.
+    pub(crate) may_read: bool,
+    /// Whether the system reported that no bytes come after those that it has, or a fault.
+    is_ending: bool,
     may_write: bool,
     age: Age,
     /// Drops the commands of telnet, if they are to be dropped.
@@ -35,14 +42,16 @@ pub struct Socket {
 }
 
 impl Socket {
-    /// Returns a socket that was just accepted.
+    /// Returns a socket that was just accepted. The system reports later that bytes came.
     pub fn new(alloc: Global, stream: TcpStream, age: Age, telnet: Option<Telnet>) -> Socket
         ensures { waits_of result ≡ [] }
     {
         Socket {
             stream,
             waiting: Waiting::new(alloc),
-            may_read: true,
+            input: Vec::new(alloc),
+            may_read: false,
+            is_ending: false,
             may_write: true,
             age,
             telnet,
@@ -54,17 +63,31 @@ impl Socket {
         self.age
     }
 
-    /// Records that the system reports the socket as ready.
-    pub fn wake(&mut self)
+    /// Records what the system reports of the socket.
+    pub fn wake(&mut self, event: &Event)
         ensures { waits_of self.new ≡ waits_of self.old }
     {
-        self.may_read = true;
-        self.may_write = true;
+        if event.is_read_closed() || event.is_error() {
+            self.is_ending = true;
+        }
+        if event.is_readable() || self.is_ending {
+            self.may_read = true;
+        }
+        if event.is_writable() || event.is_write_closed() || event.is_error() {
+            self.may_write = true;
+        }
     }
 
-    /// Returns whether a read may give something.
-    pub fn may_read(&self) -> bool {
-        self.may_read
+    /// Returns whether a read may return something.
+    pub fn is_readable(&self) -> bool
+        ensures { result ≡ is_readable self.now }
+    {
+        self.may_read || !self.input.is_empty()
+    }
+
+    /// Returns whether a write may succeed.
+    pub fn may_write(&self) -> bool {
+        self.may_write
     }
 
     /// Returns the number of bytes that wait for it.
@@ -82,26 +105,55 @@ impl Socket {
         self.waiting.add(output)
     }
 
-    /// Reads once into the front of the buffer.
-    pub fn read(&mut self, buffer: &mut [u8]) -> Came
-        ensures came { IsCame result (length buffer.new) }
+    /// Returns the next piece of the input. Reads once from the system if all that was read before was returned. Fails
+    /// only if memory runs out.
+    pub fn read(&mut self, alloc: Global) -> Result<Came, AllocError>
+        ensures came { IfOk result IsCame }
         ensures waits { waits_of self.new ≡ waits_of self.old }
     {
-        match self.stream.read(buffer) {
-            Ok(0) => Came::End,
-            Ok(count) => Came::Bytes(count),
-            Err(error) if error.kind() == ErrorKind::WouldBlock => {
-                self.may_read = false;
-                Came::NothingYet
-            }
-            Err(error) if error.kind() == ErrorKind::Interrupted => Came::NothingYet,
-            Err(_) => Came::End,
+        if self.input.is_empty() && !self.receive(alloc)? {
+            return Ok(Came::End);
         }
+        if self.input.is_empty() {
+            return Ok(Came::NothingYet);
+        }
+        let piece = self.take_piece(alloc)?;
+        Ok(Came::Bytes(piece))
     }
 
-    /// Returns what these bytes of the client are without the commands of telnet, or all of them if none are dropped.
-    /// Fails only if memory runs out.
-    pub fn text(&mut self, alloc: Global, piece: &[u8]) -> Result<Vec<u8>, AllocError>
+    // Reads once from the system. Returns false at the end and after a fault. A read that doesn't fill the buffer has
+    // emptied the system's, and the system reports what comes later. But an end may have been reported before the read.
+    fn receive(&mut self, alloc: Global) -> Result<bool, AllocError>
+        ensures { waits_of self.new ≡ waits_of self.old }
+    {
+        let mut buffer = [0u8; READ_MOST];
+        match self.stream.read(&mut buffer) {
+            Ok(0) => return Ok(false),
+            Ok(count) => {
+                self.may_read = self.is_ending || count == READ_MOST;
+                self.input = self.text(alloc, &buffer[..count])?;
+            }
+            Err(error) if error.kind() == ErrorKind::WouldBlock => self.may_read = false,
+            Err(error) if error.kind() == ErrorKind::Interrupted => {}
+            Err(_) => return Ok(false),
+        }
+        Ok(true)
+    }
+
+    // Removes the first piece from the input.
+    fn take_piece(&mut self, alloc: Global) -> Result<Vec<u8>, AllocError>
+        requires { 0 < length self.old.input.items }
+        ensures piece { IfOk result IsPiece }
+        ensures waits { waits_of self.new ≡ waits_of self.old }
+    {
+        let count = piece_length(&self.input);
+        let rest = self.input[count..].to_vec(alloc)?;
+        self.input.truncate(count);
+        Ok(mem::replace(&mut self.input, rest))
+    }
+
+    // Returns what these bytes of the client are without the commands of telnet, or all of them if none are dropped.
+    fn text(&mut self, alloc: Global, piece: &[u8]) -> Result<Vec<u8>, AllocError>
         ensures most { IfOk result (λ text. length text.items ≤ length piece.now) }
         ensures waits { waits_of self.new ≡ waits_of self.old }
     {

@@ -1,20 +1,24 @@
 //! The listener, and the sockets of connections.
-ghost use Rattle.std.specs.Prelude.{◌≡◌, ◌≤◌, ◌↔◌, ℕ, IfOk, IsSome, IsTrue, None};
-ghost use Rattle.moo_cli_sockets.specs.Coming.{Closes, held};
+ghost use Rattle.std.specs.Prelude.{◌≡◌, ◌≢◌, ◌≤◌, ◌↔◌, ℕ, All, Contains, IfOk, OnOk, IsSome, IsTrue, None};
+ghost use Rattle.mio.specs.Event.{event_token};
+ghost use Rattle.slab.specs.Slab.{get};
+ghost use Rattle.moo_cli_sockets.specs.Coming.{Closes, IsNamed, held};
 
 use crate::Socket;
 use crate::descriptors::most_descriptors;
 use crate::fault::SocketsFault;
+use mio::event::Event;
 use mio::net::TcpListener;
 use mio::{Events, Interest, Poll, Token};
 use moo_cli_telnet::Telnet;
 use slab::Slab;
 use std::alloc::{AllocError, Global};
 use std::io::ErrorKind;
+use std::mem;
 use std::net::{IpAddr, Net, SocketAddr};
 use std::time::Duration;
 
-/// The number of ready sockets that one call of `look` reports. The next call reports more.
+/// The number of ready sockets that one call of the system reports. The next call reports more.
 const REPORTED: usize = 256;
 
 /// The number of the operator's own connection. No socket gets it.
@@ -44,7 +48,13 @@ pub struct Sockets {
     /// The filter of each new connection that drops the commands of telnet, if they are to be dropped.
     pub(crate) telnet: Option<Telnet>,
     pub(crate) sockets: Slab<Socket>,
-    /// Whether a connection, bytes or an end came, or bytes were written, since `rest`.
+    /// The numbers of the sockets of which a read may return something. Some may be there twice.
+    pub(crate) readable: Vec<u16>,
+    /// The numbers of the sockets to which more may be written since the last `take_writable`. Some may be there twice.
+    pub(crate) writable: Vec<u16>,
+    /// Whether `wait` has marked the ready sockets since the last `look`.
+    has_waited: bool,
+    /// Whether a connection was accepted or closed since `rest`.
     pub(crate) is_busy: bool,
 }
 
@@ -78,6 +88,9 @@ impl Sockets {
             arrivals: 0,
             telnet,
             sockets: Slab::new(alloc),
+            readable: Vec::new(alloc),
+            writable: Vec::new(alloc),
+            has_waited: false,
             is_busy: false,
         })
     }
@@ -88,16 +101,17 @@ impl Sockets {
         Ok(address)
     }
 
-    /// Resets `is_busy`.
+    /// Begins a round, of which `is_busy` reports.
     pub fn rest(&mut self)
         ensures { (c : ℕ) → held self.new.sockets c ≡ held self.old.sockets c }
     {
         self.is_busy = false;
     }
 
-    /// Returns whether a connection, bytes or an end came, or bytes were written, since `rest`.
+    /// Returns whether more can be done at once: a connection was accepted or closed since `rest`, or a socket may be
+    /// read from or written to.
     pub fn is_busy(&self) -> bool {
-        self.is_busy
+        self.is_busy || !self.readable.is_empty() || !self.writable.is_empty()
     }
 
     /// Returns whether a connection has a socket.
@@ -118,26 +132,50 @@ impl Sockets {
     /// Closes a connection's socket, and drops the output that waits for it.
     #[tactic(auto, using(crate::proofs::Sent::closes))]
     pub fn close(&mut self, c: u16)
-        ensures { Closes c self.old.sockets self.new.sockets }
+        ensures closes { Closes c self.old.sockets self.new.sockets }
+        ensures others { (k : ℕ) → k ≢ c → get self.new.sockets k ≡ get self.old.sockets k }
+        ensures readable { self.new.readable ≡ self.old.readable }
     {
         self.sockets.try_remove(usize::from(c));
+        self.is_busy = true;
         self.is_full = false;
         self.shrink();
     }
 
-    // A round visits all numbers below the capacity. If most are free, this frees those above the highest in use, so
-    // that past connections cost no time.
+    // The search for strangers visits all numbers below the capacity. If most are free, this frees those above the
+    // highest in use, so that past connections cost no time.
     fn shrink(&mut self)
-        ensures { (c : ℕ) → held self.new.sockets c ≡ held self.old.sockets c }
+        ensures held { (c : ℕ) → held self.new.sockets c ≡ held self.old.sockets c }
+        ensures same { (c : ℕ) → get self.new.sockets c ≡ get self.old.sockets c }
+        ensures readable { self.new.readable ≡ self.old.readable }
     {
         if self.sockets.len() < self.sockets.capacity() / 4 {
             self.sockets.shrink_to_fit();
         }
     }
 
+    /// Marks the sockets that are ready now, unless `wait` has done so since the last call. Fails if the system can't
+    /// report them, or if memory runs out.
+    pub fn look(&mut self) -> Result<(), SocketsFault>
+        ensures { (c : ℕ) → held self.new.sockets c ≡ held self.old.sockets c }
+    {
+        if mem::replace(&mut self.has_waited, false) {
+            return Ok(());
+        }
+        self.poll(0)
+    }
+
     /// Waits for ready sockets, at most for so many seconds, and marks them. Fails if the system can't report them,
     /// or if memory runs out.
-    pub fn look(&mut self, seconds: u64) -> Result<(), SocketsFault>
+    pub fn wait(&mut self, seconds: u64) -> Result<(), SocketsFault>
+        ensures { (c : ℕ) → held self.new.sockets c ≡ held self.old.sockets c }
+    {
+        self.has_waited = true;
+        self.poll(seconds)
+    }
+
+    // Marks the sockets that are ready within so many seconds.
+    fn poll(&mut self, seconds: u64) -> Result<(), SocketsFault>
         ensures { (c : ℕ) → held self.new.sockets c ≡ held self.old.sockets c }
     {
         match self
@@ -148,35 +186,48 @@ impl Sockets {
             Err(error) if error.kind() == ErrorKind::Interrupted => return Ok(()),
             Err(error) => return Err(SocketsFault::from(error)),
         }
-        let keys = self.ready_keys()?;
-        if wake(&mut self.sockets, &keys) {
-            self.may_accept = true;
+        let events = self.ready_events()?;
+        self.wake_all(&events)?;
+        Ok(())
+    }
+
+    fn ready_events(&self) -> Result<Vec<Event>, AllocError> {
+        let mut events = Vec::new(self.alloc);
+        for event in self.ready.iter() {
+            events.push(*event)?;
+        }
+        Ok(events)
+    }
+
+    // Marks the sockets that these events name.
+    fn wake_all(&mut self, events: &[Event]) -> Result<(), AllocError>
+        ensures held { (c : ℕ) → held self.new.sockets c ≡ held self.old.sockets c }
+        ensures named { OnOk result (All (λ event. IsNamed (event_token event).0 self.new.sockets self.new.readable.items self.new.writable.items) events.now) }
+    {
+        for event in events {
+            self.wake(event)?;
         }
         Ok(())
     }
 
-    // Returns the keys of the ready sockets, perhaps with the listener's.
-    fn ready_keys(&self) -> Result<Vec<usize>, AllocError> {
-        let mut keys = Vec::new(self.alloc);
-        for event in self.ready.iter() {
-            keys.push(event.token().0)?;
+    // Marks the socket or the listener that an event names.
+    fn wake(&mut self, event: &Event) -> Result<(), AllocError>
+        ensures held { (c : ℕ) → held self.new.sockets c ≡ held self.old.sockets c }
+        ensures named { OnOk result (IsNamed (event_token event.now).0 self.new.sockets self.new.readable.items self.new.writable.items) }
+        ensures others { OnOk result ((c : ℕ) → IsNamed c self.old.sockets self.old.readable.items self.old.writable.items → IsNamed c self.new.sockets self.new.readable.items self.new.writable.items) }
+    {
+        let Token(key) = event.token();
+        if key == LISTENER.0 {
+            self.may_accept = true;
         }
-        Ok(keys)
+        let Some(socket) = self.sockets.get_mut(key) else {
+            return Ok(());
+        };
+        socket.wake(event);
+        if let Ok(c) = u16::try_from(key) {
+            self.readable.push(c)?;
+            self.writable.push(c)?;
+        }
+        Ok(())
     }
-}
-
-// Marks the sockets of these keys, and returns whether the listener's is among them.
-fn wake(sockets: &mut Slab<Socket>, keys: &[usize]) -> bool
-    ensures { (c : ℕ) → held sockets.new c ≡ held sockets.old c }
-{
-    let mut has_listener = false;
-    for key in keys {
-        if *key == LISTENER.0 {
-            has_listener = true;
-        }
-        if let Some(socket) = sockets.get_mut(*key) {
-            socket.wake();
-        }
-    }
-    has_listener
 }

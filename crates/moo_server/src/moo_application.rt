@@ -65,6 +65,12 @@ impl Application for MooApplication {
         moo_session::interval(&self.live.world)
     }
 
+    fn pending(&self) -> Result<Vec<u16>, AllocError> {
+        let mut numbers = self.outbox.numbers()?;
+        numbers.extend_from_slice(self.live.session.connections().leaving())?;
+        Ok(numbers)
+    }
+
     fn take_output(&mut self, c: u16) -> Vec<u8> {
         self.outbox.take(c)
     }

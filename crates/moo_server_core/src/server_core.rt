@@ -1,5 +1,5 @@
 //! The server: its application, and the checkpoint that is open.
-ghost use Rattle.std.specs.Prelude.{All, ℕ, [], Err, ◌≡◌, ◌≢◌, ◌↔◌, ◌||◌, None, false, true, length, IfOk, if◌then◌else◌};
+ghost use Rattle.std.specs.Prelude.{All, Contains, ℕ, [], Err, ◌≡◌, ◌≢◌, ◌↔◌, ◌||◌, None, false, true, length, IfOk, if◌then◌else◌};
 ghost use Rattle.moo_dbtext_read.specs.Saved.{Saved};
 ghost use Rattle.moo_server_core.specs.Application.{silence, then_out};
 ghost use Rattle.moo_server_core.specs.Courses.{phase_of};
@@ -11,6 +11,7 @@ use crate::{Application, Cause, Event, Phase, Requests, RunFault};
 use moo_checkpoint::Checkpoint;
 use moo_disk::Disk;
 use moo_value::MooStr;
+use std::alloc::AllocError;
 
 #[derive(Drop)]
 pub(crate) struct Open {
@@ -101,6 +102,15 @@ impl<S: Application> ServerCore<S> {
             return false;
         }
         self.sessions.has_player(c)
+    }
+
+    /// Returns the numbers of the connections for which bytes wait or that are leaving, perhaps with others. Fails only if
+    /// memory runs out.
+    pub fn pending(&self) -> Result<Vec<u16>, AllocError>
+        ensures { IfOk result (λ numbers. (c : ℕ) → (Contains numbers.items c → ⊥) → ((waiting_of S.layer self.now).sent c ≡ [])
+            × ((if self.now.halted then false else S.layer.meaning.is_leaving (state_of S.layer self.now).sessions c) ≡ false)) }
+    {
+        self.sessions.pending()
     }
 
     /// Removes and returns the bytes that wait for a connection's number. Needs no memory.

@@ -5,3 +5,4 @@ pub mod Rows
 pub mod Search
 pub mod Numbers
 pub mod OutboxRows
+pub mod Filled

@@ -74,6 +74,17 @@ rolled_back_waits ns rows c = whole (λ b. b.waiting) rolled_back refl (λ b. re
 pub rolled_back_none : (ns : List ℕ) (rows : List Bytes) → OnlyTouched rows ns → (c : ℕ) → (row (all_changed rolled_back ns rows) c).under_way ≡ []
 rolled_back_none ns rows only c = none_under_way rolled_back refl (λ b. refl) ns rows only c
 
+none_step : (f : Bytes → Bytes) → f no_bytes ≡ no_bytes → (n : ℕ) (rows : List Bytes) (c : ℕ) (b : Bool) → (n == c) ≡ b → row rows c ≡ no_bytes → row (changed_at f n rows) c ≡ no_bytes
+none_step f e n rows c true i none =
+    let at : n ≡ c = here n c true i refl in
+    subst (λ k. row (changed_at f n rows) k ≡ no_bytes) at (same_at f e rows n ∙ ap f (ap (row rows) at ∙ none) ∙ e)
+none_step f e n rows c false i none = other_at (f (row rows n)) rows n c i ∙ none
+
+-- a number without bytes gets none
+pub still_none : (f : Bytes → Bytes) → f no_bytes ≡ no_bytes → (ns : List ℕ) (rows : List Bytes) (c : ℕ) → row rows c ≡ no_bytes → row (all_changed f ns rows) c ≡ no_bytes
+still_none f e [] rows c none = none
+still_none f e (n ∷ ns) rows c none = still_none f e ns (changed_at f n rows) c (none_step f e n rows c (n == c) refl none)
+
 -- one line
 stream_step : (b : Bool) (c : ℕ) (s : Sent) (ss : List Sent) → (s.to == c) ≡ b → stream c (s ∷ ss) ≡ cond b (ended s.line) [] ++ stream c ss
 stream_step true c s ss e =

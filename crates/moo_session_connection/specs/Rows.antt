@@ -1,12 +1,18 @@
 -- Rows of bytes of which some are touched.
 use Rattle.std.specs.Prelude.{◌≡◌, ℕ, ◌==◌, false, List, [], ◌∷◌, ◌++◌, slice_index_or, slice_set, if◌then◌else◌}
+use Rattle.std.specs.BTreeSet.{BTreeSet, contains}
 use Rattle.std.specs.List.{list_any}
+use Rattle.std.specs.Ordering.{nat_cmp}
 use Rattle.moo_session_connection.specs.Streams.{ended}
 use Rattle.moo_session_connection.specs.Outbox.{Bytes, no_bytes}
 
 -- only touched numbers have bytes under way
 abbrev pub OnlyTouched : List Bytes → List ℕ → Type 0
 OnlyTouched rows touched = (c : ℕ) → list_any (λ n. n == c) touched ≡ false → (slice_index_or rows c no_bytes).under_way ≡ []
+
+-- only these numbers have bytes
+abbrev pub OnlyFilled : List Bytes → BTreeSet ℕ → Type 0
+OnlyFilled rows filled = (c : ℕ) → contains nat_cmp filled c ≡ false → slice_index_or rows c no_bytes ≡ no_bytes
 
 -- the bytes that are under way wait
 abbrev pub committed : Bytes → Bytes

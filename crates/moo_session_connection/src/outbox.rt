@@ -1,5 +1,5 @@
 //! The output that waits to be taken.
-ghost use Rattle.std.specs.Prelude.{◌≡◌, ◌≢◌, ◌≤◌, ◌++◌, ℕ, [], length, take, OnOk};
+ghost use Rattle.std.specs.Prelude.{◌≡◌, ◌≢◌, ◌≤◌, ◌++◌, ℕ, [], length, take, Contains, IfOk, OnOk};
 ghost use Rattle.moo_session_connection.specs.Streams.{stream};
 ghost use Rattle.moo_session_connection.specs.Outbox.{empty, bytes_of, sent_waiting, sent_under_way, log_waiting, log_under_way};
 ghost use Rattle.moo_session_connection.specs.Rows.{sent_for};
@@ -8,6 +8,7 @@ use crate::Sent;
 use crate::row::{Row, commit_all, grow, rollback_all};
 use moo_value::MooStr;
 use std::alloc::{AllocError, Global};
+use std::collections::BTreeSet;
 use std::marker::Model;
 use std::mem;
 
@@ -20,6 +21,8 @@ pub struct Outbox {
     rows: Vec<Row>,
     // The numbers for which bytes may be under way.
     touched: Vec<u16>,
+    // The numbers for which there are bytes, under way or not.
+    filled: BTreeSet<u16>,
     log: Vec<MooStr>,
     // The number of log lines that wait.
     settled: usize,
@@ -28,13 +31,13 @@ pub struct Outbox {
 impl Model for Outbox {
     ghost use Rattle.std.specs.Prelude.{◌≤◌, length, take, drop};
     ghost use Rattle.moo_session_connection.specs.Outbox.{Outbox as Contents};
-    ghost use Rattle.moo_session_connection.specs.Rows.{OnlyTouched};
+    ghost use Rattle.moo_session_connection.specs.Rows.{OnlyFilled, OnlyTouched};
 
     ghost Value = { Contents };
 
     ghost view = { λ o. record { bytes = o.rows.items; log = take o.settled o.log.items; log_under_way = drop o.settled o.log.items } };
 
-    ghost invariant = { λ o. (o.settled ≤ length o.log.items) × OnlyTouched o.rows.items o.touched.items };
+    ghost invariant = { λ o. (o.settled ≤ length o.log.items) × OnlyTouched o.rows.items o.touched.items × OnlyFilled o.rows.items o.filled };
 }
 
 impl Outbox {
@@ -46,6 +49,7 @@ impl Outbox {
             alloc,
             rows: Vec::new(alloc),
             touched: Vec::new(alloc),
+            filled: BTreeSet::new(alloc),
             log: Vec::new(alloc),
             settled: 0,
         }
@@ -81,6 +85,7 @@ impl Outbox {
     {
         grow(self.alloc, &mut self.rows, usize::from(number))?;
         self.touched.push(number)?;
+        self.filled.insert(number)?;
         self.rows[usize::from(number)].push(line)
     }
 
@@ -116,6 +121,18 @@ impl Outbox {
         self.log.truncate(self.settled);
     }
 
+    /// Returns the numbers for which bytes wait, perhaps with others, by rising number. The time depends only on their
+    /// count. Fails only if memory runs out.
+    pub fn numbers(&self) -> Result<Vec<u16>, AllocError>
+        ensures { IfOk result (λ numbers. (c : ℕ) → (Contains numbers.items c → ⊥) → sent_waiting self.now c ≡ []) }
+    {
+        let mut numbers = Vec::new(self.alloc);
+        for number in &self.filled {
+            numbers.push(*number)?;
+        }
+        Ok(numbers)
+    }
+
     /// Takes the bytes that wait for a number, and drops those under way for it. Allocates no memory.
     pub fn take(&mut self, number: u16) -> Vec<u8>
         ensures taken { result.items ≡ sent_waiting self.old number }
@@ -124,6 +141,7 @@ impl Outbox {
         ensures others { (c : ℕ) → c ≢ number → bytes_of self.new c ≡ bytes_of self.old c }
         ensures log { (self.new.log ≡ self.old.log) × (self.new.log_under_way ≡ self.old.log_under_way) }
     {
+        self.filled.remove(&number);
         let place = usize::from(number);
         if place < self.rows.len() {
             self.rows[place].take()

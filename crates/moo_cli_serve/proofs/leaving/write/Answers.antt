@@ -1,10 +1,14 @@
-use Rattle.std.proofs.Common.{◌≡◌, false, sym, ◌∙◌, rules}
+use Rattle.std.proofs.Common.{◌≡◌, None, false, sym, ◌∙◌, subst, rules}
+use Rattle.slab.specs.Slab.{Slab}
+use Rattle.moo_cli_sockets.specs.declared.socket.Socket.{Socket}
 use Rattle.moo_server_core.specs.Application.{silence}
 use Rattle.moo_server_core.specs.Server.{waiting_of}
 use Rattle.moo_cli_sockets.specs.Coming.{held}
+use Rattle.moo_cli_serve.specs.Room.{HasRoom}
 use Rattle.moo_cli_serve.specs.Strangers.{leaves}
+use Rattle.moo_cli_serve.specs.Writing.{IsWrittenTo}
 use Rattle.moo_cli_serve.proofs.Coursing.{hands_none}
-use Rattle.moo_cli_serve.proofs.Writing.{stays}
+use Rattle.moo_cli_serve.proofs.Writing.{stays, stays_room}
 use Rattle.moo_cli_serve.proofs.leaving.write.Goals as goal
 
 pub returns-then-not-contains-clause-handed : goal.returns-then-not-contains-clause-handed
@@ -13,7 +17,16 @@ returns-then-not-contains-clause-handed g c = (silence, hands_none g.S.Applicati
 pub returns-then-not-is_parted-clause-written : goal.returns-then-not-is_parted-clause-written
 returns-then-not-is_parted-clause-written g c =
     let no : c.is_parted.result ≡ false = search rules in
-    stays c.args.most_waiting c.args.is_late c.is_leaving-is_leaving.result (leaves g.S.Application.layer c.args.server.now c.args.c)
+    subst (λ (s : Slab Socket). IsWrittenTo g.S.Application.layer c.args.most_waiting c.args.is_late c.args.server.now c.take_output-output.new.self c.args.sockets.now.sockets s c.args.c None)
+    (sym c.keep_writable.ensures)
+    (stays c.args.most_waiting c.args.is_late c.is_leaving-is_leaving.result (leaves g.S.Application.layer c.args.server.now c.args.c)
     c.take_output-output.result.items ((waiting_of g.S.Application.layer c.args.server.now).sent c.args.c) ((waiting_of g.S.Application.layer c.take_output-output.new.self).sent c.args.c)
     (held c.args.sockets.now.sockets c.args.c) (held c.write.new.self.sockets c.args.c) c.args.c c.in_ok-waiting.waiting
-    c.is_leaving-is_leaving.ensures c.take_output-output.ensures.all c.take_output-output.ensures.nothing (sym c.is_parted.ensures ∙ no) c.in_ok-waiting.ensures.sent
+    c.is_leaving-is_leaving.ensures c.take_output-output.ensures.all c.take_output-output.ensures.nothing (sym c.is_parted.ensures ∙ no) c.in_ok-waiting.ensures.sent)
+
+pub returns-then-not-is_parted-clause-room : goal.returns-then-not-is_parted-clause-room
+returns-then-not-is_parted-clause-room g c =
+    let no : c.is_parted.result ≡ false = search rules in
+    subst (λ (s : Slab Socket). HasRoom c.args.most_waiting s c.args.c) (sym c.keep_writable.ensures)
+    (stays_room c.args.most_waiting c.args.is_late c.is_leaving-is_leaving.result c.take_output-output.result.items
+    (held c.args.sockets.now.sockets c.args.c) (held c.write.new.self.sockets c.args.c) c.in_ok-waiting.waiting (sym c.is_parted.ensures ∙ no) c.in_ok-waiting.ensures.sent)

@@ -1,43 +1,118 @@
-use Rattle.std.proofs.Common.{◌≡◌, ℕ, Bool, refl, ◌∙◌, subst, rules}
+use Rattle.std.proofs.Common.{◌≡◌, ℕ, ◌+◌, ◌<◌, ◌≤◌, Bool, List, length, get_or, Contains, refl, sym, ◌∙◌, ap, subst, arith, rules}
+use Rattle.std.proofs.Common.{inl, inr}
+use Rattle.std.specs.List.{AllPairs}
+use Rattle.std.proofs.lemmas.List.{get_or_default}
+use Rattle.slab.specs.Slab.{Slab}
+use Rattle.moo_cli_sockets.specs.declared.socket.Socket.{Socket}
+use Rattle.moo_cli_sockets.specs.Coming.{held}
+use Rattle.moo_cli_sockets.proofs.Elements.{visited_more}
 use Rattle.moo_server_core.specs.Application.{silence, then_out}
+use Rattle.moo_cli_serve.specs.Idle.{IsIdle}
 use Rattle.moo_cli_serve.specs.Writing.{IsWrittenTo, is_among}
 use Rattle.moo_cli_serve.proofs.Coursing.{hands_join, hands_none}
-use Rattle.moo_cli_serve.proofs.Writing.{written_more}
+use Rattle.moo_cli_serve.proofs.Idling.{between_due, past_due}
+use Rattle.moo_cli_serve.proofs.Writing.{room_all, room_more, written_all, written_gap, written_more}
 use Rattle.moo_cli_serve.proofs.leaving.write_all.Goals as goal
 
-pub loop-key-init : goal.loop-key-init
-loop-key-init g c = record {
-  handed = (silence, hands_none g.S.Application.layer c.args.server.now);
-  each = c.new-parted.ensures.items;
-  left = λ k from. record { socket = refl; waiting = refl };
-  log = refl;
-}
+pub loop-c-init : goal.loop-c-init
+loop-c-init g c = (
+  0,
+  record {
+    handed = (silence, hands_none g.S.Application.layer c.args.server.now);
+    each = c.new-parted.ensures.items;
+    left = λ k from. record { socket = ap (λ (s : Slab Socket). held s k) c.due-due.ensures.same; waiting = refl };
+    log = refl;
+  },
+  omega arith,
+  λ j d less. absurd (omega (arith, less)),
+  λ j d from below. omega arith,
+  λ k less. absurd (omega (arith, less)),
+)
 
 pub returns-in_err-late-clause-handed : goal.returns-in_err-late-clause-handed
 returns-in_err-late-clause-handed g c = (silence, hands_none g.S.Application.layer c.args.server.now)
 
+pub returns-in_err-due-clause-handed : goal.returns-in_err-due-clause-handed
+returns-in_err-due-clause-handed g c = (silence, hands_none g.S.Application.layer c.args.server.now)
+
 pub returns-in_err-event-clause-handed : goal.returns-in_err-event-clause-handed
 returns-in_err-event-clause-handed g c =
-    let so_far = c.loop-key.invariant.handed in
+    let so_far = c.loop-c.invariant.1.handed in
     let now = c.in_err-event.ensures.handed in
-    (then_out so_far.0 now.0, hands_join g.S.Application.layer so_far.0 now.0 c.args.server.now c.loop-key.server c.write.new.server so_far.1 now.1)
+    (then_out so_far.0 now.0, hands_join g.S.Application.layer so_far.0 now.0 c.args.server.now c.loop-c.server c.write.new.server so_far.1 now.1)
 
 pub returns-in_err-put-clause-handed : goal.returns-in_err-put-clause-handed
 returns-in_err-put-clause-handed g c =
-    let so_far = c.loop-key.invariant.handed in
+    let so_far = c.loop-c.invariant.1.handed in
     let now = c.in_ok-event.ensures.handed in
-    (then_out so_far.0 now.0, hands_join g.S.Application.layer so_far.0 now.0 c.args.server.now c.loop-key.server c.write.new.server so_far.1 now.1)
+    (then_out so_far.0 now.0, hands_join g.S.Application.layer so_far.0 now.0 c.args.server.now c.loop-c.server c.write.new.server so_far.1 now.1)
 
-pub loop-key-preserved : goal.loop-key-preserved
-loop-key-preserved g c =
-    let so_far = c.loop-key.invariant.handed in
+pub loop-c-preserved : goal.loop-c-preserved
+loop-c-preserved g c =
+    let numbers : List ℕ = c.deref-c-items.result.now in
+    let i = c.loop-c.c-index in
+    let number : ℕ = get_or numbers i 0 in
+    let so_far = c.loop-c.invariant in
+    let late : List ℕ = c.in_ok-late.late.items in
+    let old : Slab Socket = c.args.sockets.now.sockets in
+    let within : i < length numbers = c.loop-c-test.true in
+    let rising : AllPairs (λ (a b : ℕ). a < b) numbers = subst (λ (ns : List ℕ). AllPairs (λ (a b : ℕ). a < b) ns) (sym c.deref-c-items.ensures.value) c.in_ok-due.ensures.rising in
+    let up : so_far.0 ≤ number = so_far.4 i 0 (omega arith) within in
+    let small : number < 65536 = search rules in
+    let idle : (k : ℕ) → so_far.0 ≤ k → k < number → IsIdle g.S.Application.layer c.args.is_settled late c.args.server.now old k =
+    λ k from below.
+    subst (λ (s : Slab Socket). IsIdle g.S.Application.layer c.args.is_settled late c.args.server.now s k) c.due.ensures.same
+    (c.in_ok-due.ensures.rest k (omega (arith, below, small))
+    (λ there. between_due numbers i so_far.0 k rising so_far.3 within from (omega (arith, below, get_or_default numbers i 0 k within))
+    (subst (λ (ns : List ℕ). Contains ns k) (sym c.deref-c-items.ensures.value) there))) in
+    let before = so_far.1.handed in
     let now = c.in_ok-event.ensures.handed in
-    let same : c.in-Ok.c ≡ c.loop-key.key = search rules in
-    let flag : c.is_among-is_late.result ≡ is_among c.in_ok-late.late.items c.in-Ok.c = search rules in
-    written_more g.S.Application.layer c.args.most_waiting c.in_ok-late.late.items c.loop-key.key c.args.server.now c.loop-key.server c.write.new.server
-    c.args.sockets.now.sockets c.loop-key.sockets.sockets c.write.new.sockets.sockets c.loop-key.parted.items c.put.new.events.items c.in_ok-event.event
-    c.loop-key.invariant (then_out so_far.0 now.0, hands_join g.S.Application.layer so_far.0 now.0 c.args.server.now c.loop-key.server c.write.new.server so_far.1 now.1)
-    (subst (λ (k : ℕ). IsWrittenTo g.S.Application.layer c.args.most_waiting (is_among c.in_ok-late.late.items k) c.loop-key.server c.write.new.server c.loop-key.sockets.sockets c.write.new.sockets.sockets k c.in_ok-event.event) same
-    (subst (λ (b : Bool). IsWrittenTo g.S.Application.layer c.args.most_waiting b c.loop-key.server c.write.new.server c.loop-key.sockets.sockets c.write.new.sockets.sockets c.in-Ok.c c.in_ok-event.event) flag
-    c.in_ok-event.ensures.written))
-    (λ k differs. c.in_ok-event.ensures.others k (λ e. differs (e ∙ same))) c.in_ok-event.ensures.log c.in_ok-put.ensures
+    let flag : c.is_among-is_late.result ≡ is_among late number = search rules in (
+      number + 1,
+      written_more g.S.Application.layer c.args.most_waiting late number c.args.server.now c.loop-c.server c.write.new.server
+          old c.loop-c.sockets.sockets c.write.new.sockets.sockets c.loop-c.parted.items c.put.new.events.items c.in_ok-event.event
+          (written_gap g.S.Application.layer c.args.most_waiting c.args.is_settled late so_far.0 number c.args.server.now c.loop-c.server old c.loop-c.sockets.sockets c.loop-c.parted.items
+          up (omega (arith, small)) idle c.requires so_far.1)
+          (then_out before.0 now.0, hands_join g.S.Application.layer before.0 now.0 c.args.server.now c.loop-c.server c.write.new.server before.1 now.1)
+          (subst (λ (b : Bool). IsWrittenTo g.S.Application.layer c.args.most_waiting b c.loop-c.server c.write.new.server c.loop-c.sockets.sockets c.write.new.sockets.sockets number c.in_ok-event.event) flag
+          c.in_ok-event.ensures.written)
+          c.in_ok-event.ensures.others c.write.ensures.log c.in_ok-put.ensures,
+      omega (arith, small),
+      visited_more (λ (k : ℕ). k < number + 1) numbers i number within (get_or_default numbers i 0 number within) (λ j d less. omega (arith, so_far.3 j d less, up)) (omega arith),
+      λ j d from below. omega (arith, rising i j d (omega (arith, from)) below, get_or_default numbers i 0 d within),
+      room_more g.S.Application.layer c.args.most_waiting c.args.is_settled late so_far.0 number c.args.server.now c.loop-c.server c.write.new.server
+          old c.loop-c.sockets.sockets c.write.new.sockets.sockets small idle c.requires so_far.1.left c.in_ok-event.ensures.others c.in_ok-event.ensures.room so_far.5,
+    )
+
+pub returns-clause-handed : goal.returns-clause-handed
+returns-clause-handed g c = c.loop-c.invariant.1.handed
+
+pub returns-clause-written : goal.returns-clause-written
+returns-clause-written g c =
+    let numbers : List ℕ = c.deref-c-items.result.now in
+    let so_far = c.loop-c.invariant in
+    let late : List ℕ = c.in_ok-late.late.items in
+    let old : Slab Socket = c.args.sockets.now.sockets in
+    let idle : (k : ℕ) → so_far.0 ≤ k → k < 65536 → IsIdle g.S.Application.layer c.args.is_settled late c.args.server.now old k =
+    λ k from below.
+    subst (λ (s : Slab Socket). IsIdle g.S.Application.layer c.args.is_settled late c.args.server.now s k) c.due.ensures.same
+    (c.in_ok-due.ensures.rest k below
+    (λ there. past_due numbers c.loop-c.c-index so_far.0 k so_far.3 (omega (arith, c.loop-c-test.false)) from
+    (subst (λ (ns : List ℕ). Contains ns k) (sym c.deref-c-items.ensures.value) there))) in
+    written_all g.S.Application.layer c.args.most_waiting late 65536 c.args.server.now c.loop-c.server old c.loop-c.sockets.sockets c.loop-c.parted.items (inl (omega arith)) c.in_ok-late.ensures
+    (written_gap g.S.Application.layer c.args.most_waiting c.args.is_settled late so_far.0 65536 c.args.server.now c.loop-c.server old c.loop-c.sockets.sockets c.loop-c.parted.items
+    so_far.2 (omega arith) idle c.requires so_far.1)
+
+pub returns-clause-room : goal.returns-clause-room
+returns-clause-room g c =
+    let numbers : List ℕ = c.deref-c-items.result.now in
+    let so_far = c.loop-c.invariant in
+    let late : List ℕ = c.in_ok-late.late.items in
+    let old : Slab Socket = c.args.sockets.now.sockets in
+    room_all g.S.Application.layer c.args.most_waiting c.args.is_settled late so_far.0 c.args.server.now c.loop-c.server old c.loop-c.sockets.sockets
+    (λ k from below.
+    subst (λ (s : Slab Socket). IsIdle g.S.Application.layer c.args.is_settled late c.args.server.now s k) c.due.ensures.same
+    (c.in_ok-due.ensures.rest k below
+    (λ there. past_due numbers c.loop-c.c-index so_far.0 k so_far.3 (omega (arith, c.loop-c-test.false)) from
+    (subst (λ (ns : List ℕ). Contains ns k) (sym c.deref-c-items.ensures.value) there))))
+    c.requires so_far.1.left so_far.5

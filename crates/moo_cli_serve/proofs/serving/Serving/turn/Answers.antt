@@ -1,9 +1,11 @@
-use Rattle.std.proofs.Common.{List, [], inl, inr, ◌∙◌, subst, rules}
+use Rattle.std.proofs.Common.{◌≡◌, List, [], inl, inr, true, sym, ◌∙◌, subst, rules}
 use Rattle.std.proofs.lemmas.Result.{err_from_is_err_and}
 use Rattle.moo_server_core.specs.declared.event.Event.{Event}
 use Rattle.moo_cli_serve.specs.Course.{Given}
+use Rattle.moo_cli_serve.specs.Room.{HaveRoom}
 use Rattle.moo_cli_serve.specs.Rounds.{GivenIfOpen}
 use Rattle.moo_cli_serve.proofs.Coursing.{course_none}
+use Rattle.moo_cli_serve.proofs.Idling.{room_follows, room_same}
 use Rattle.moo_cli_serve.proofs.Serviced.{refused_of}
 use Rattle.moo_cli_serve.proofs.Rounding.{begins_on, course_end, course_round, follows_end}
 use Rattle.moo_cli_serve.proofs.serving.Serving.turn.Goals as goal
@@ -37,6 +39,13 @@ returns-in_err-given-clause-course g c = c.in_err-given.ensures.course
 
 pub returns-in_err-given-clause-round : goal.returns-in_err-given-clause-round
 returns-in_err-given-clause-round g c = search rules
+
+pub write_all-requires : goal.write_all-requires
+write_all-requires g c settled =
+    let was : c.args.self.now.is_settled ≡ true = sym c.replace-is_settled.ensures.value ∙ settled in
+    let looked : HaveRoom c.args.self.now.most_waiting c.look.new.self.sockets =
+    room_same c.args.self.now.most_waiting c.args.self.now.sockets.sockets c.look.new.self.sockets (c.args.self.now.room was) (λ k. c.look.ensures k ∙ c.rest.ensures k) in
+    room_follows c.args.self.now.most_waiting c.in_ok-came.ensures.came c.look.new.self.sockets c.come.new.sockets.sockets looked c.in_ok-came.ensures.comes.follow
 
 pub returns-in_err-parted-clause-follows : goal.returns-in_err-parted-clause-follows
 returns-in_err-parted-clause-follows g c =

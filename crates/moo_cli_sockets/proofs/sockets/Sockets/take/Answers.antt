@@ -7,7 +7,7 @@ use Rattle.moo_cli_sockets.proofs.sockets.Sockets.take.Goals as goal
 
 pub returns : goal.returns
 returns g c =
-    let read = c.in_ok-read_all.ensures in
+    let read = c.in_ok-read_all.ensures.read in
     let opened = c.in_ok-opened.opened in
     let all = read.4 ∙ ap (λ (es : List Event). es ++ read.1) (c.in_ok-put.ensures ∙ ap (λ (es : List Event). es ++ only opened) c.new-events.ensures.items) in
     record {

@@ -1,7 +1,7 @@
-use Rattle.std.proofs.Common.{rules, ◌≡◌, ℕ, ◌≤◌, length, List, [], sym, ◌∙◌, ap, subst}
-use Rattle.moo_session_connection.specs.Outbox.{Bytes, Outbox, sent_waiting}
+use Rattle.std.proofs.Common.{rules, refl, ◌≡◌, ℕ, ◌≤◌, length, List, [], sym, ◌∙◌, ap, subst}
+use Rattle.moo_session_connection.specs.Outbox.{Bytes, Outbox, no_bytes, sent_waiting}
 use Rattle.moo_session_connection.specs.Rows.{rolled_back, all_changed, OnlyTouched}
-use Rattle.moo_session_connection.proofs.OutboxRows.{row, rolled_back_waits, rolled_back_none}
+use Rattle.moo_session_connection.proofs.OutboxRows.{row, rolled_back_waits, rolled_back_none, still_none}
 use Rattle.moo_session_connection.proofs.outbox.Outbox.rollback.Goals as goal
 
 pub invariant_of-self : goal.invariant_of-self
@@ -10,8 +10,11 @@ invariant_of-self c =
     let touched : List ℕ = c.self.inside.touched.items in
     let only : OnlyTouched rows touched = c.self.invariant.1 in
     let e : c.rollback_all.new.rows.items ≡ all_changed rolled_back touched rows = c.rollback_all.ensures ∙ ap (λ (ns : List ℕ). all_changed rolled_back ns rows) c.deref.ensures.value in
-    let fits : c.self.inside.settled ≤ length c.truncate.new.self.items = search rules in
-    (fits, λ n nowhere. subst (λ (rs : List Bytes). (row rs n).under_way ≡ []) (sym e) (rolled_back_none touched rows only n))
+    let fits : c.self.inside.settled ≤ length c.truncate.new.self.items = search rules in (
+      fits,
+      λ n nowhere. subst (λ (rs : List Bytes). (row rs n).under_way ≡ []) (sym e) (rolled_back_none touched rows only n),
+      λ n none. subst (λ (rs : List Bytes). row rs n ≡ no_bytes) (sym e) (still_none rolled_back refl touched rows n (c.self.invariant.2 n none)),
+    )
 
 pub returns-clause-sent : goal.returns-clause-sent
 returns-clause-sent c =

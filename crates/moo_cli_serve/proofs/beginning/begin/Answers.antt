@@ -1,4 +1,4 @@
-use Rattle.moo_cli_serve.proofs.serving.begin.Goals as goal
+use Rattle.moo_cli_serve.proofs.beginning.begin.Goals as goal
 
 pub returns-in-Ok-clause-begun : goal.returns-in-Ok-clause-begun
 returns-in-Ok-clause-begun g c =

@@ -1,0 +1,51 @@
+//! The begin of a server over a disk, and what is logged of the disk.
+ghost use Rattle.std.specs.Prelude.{IfErr, IfOk};
+ghost use Rattle.moo_server_core.specs.Server.{Follows};
+ghost use Rattle.moo_cli_serve.specs.Service.{IsBegunFrom, LeavesUnbegun};
+
+use crate::fault::ServeFault;
+use log::{Log, info, warn};
+use moo_cli_file_disk::{News, Watched};
+use moo_disk::Disk;
+use moo_server_core::{ServerCore as Server, StartApplication};
+use std::alloc::Global;
+
+// Opens a server over a disk. Logs the reason if the disk can't be read.
+pub(crate) fn begin<S: StartApplication, D: Disk + Watched, L: Log>(
+    rt: &L,
+    alloc: Global,
+    disk: &mut D,
+    moment: u32,
+) -> Result<Server<S>, ServeFault>
+    ensures begun { IfOk result (λ server. IsBegunFrom S.layer D.view D.honest disk.old moment server disk.new) }
+    ensures follows { IfOk result (λ server. Follows S.layer D.view D.honest D.stands server disk.new) }
+    ensures refused { IfErr result (LeavesUnbegun D.view D.honest D.failures disk.old disk.new) }
+{
+    match Server::<S>::open(alloc, disk, moment) {
+        Ok(server) => Ok(server),
+        Err(fault) => {
+            tell_failure(rt, disk);
+            Err(ServeFault::Open(fault))
+        }
+    }
+}
+
+// Logs the end of a checkpoint, if the last call of the disk ended one. Before the round the disk had made so many calls.
+pub(crate) fn tell_checkpoint<D: Watched, L: Log>(rt: &L, disk: &D, calls: u64) {
+    if disk.calls() == calls {
+        return;
+    }
+    if let News::Written(bytes) = disk.news() {
+        info!(rt; target: "moo::serve", "checkpoint done: {bytes} bytes");
+    }
+    if let News::Failed(file, error) = disk.news() {
+        warn!(rt; target: "moo::serve", "checkpoint failed: {file}: {error}");
+    }
+}
+
+// Logs why the disk failed, if it did.
+fn tell_failure<D: Watched, L: Log>(rt: &L, disk: &D) {
+    if let News::Failed(file, error) = disk.news() {
+        warn!(rt; target: "moo::serve", "{file}: {error}");
+    }
+}

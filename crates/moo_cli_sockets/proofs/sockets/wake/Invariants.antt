@@ -1,6 +1,0 @@
-use Rattle.std.proofs.Common.{◌≡◌, ℕ}
-use Rattle.moo_cli_sockets.specs.Coming.{held}
-use Rattle.moo_cli_sockets.proofs.sockets.wake.Given as goal
-
-abbrev pub invariant-loop-key : goal.invariant-loop-key
-invariant-loop-key l = (c : ℕ) → held l.sockets c ≡ held l.initial.sockets c

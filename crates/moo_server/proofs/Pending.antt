@@ -1,0 +1,30 @@
+-- Connections for which nothing is pending.
+use Rattle.std.proofs.Common.{◌≡◌, ℕ, suc, Bool, true, false, List, [], ◌∷◌, ◌++◌, Contains, refl, sym, ◌∙◌, ap, subst, arith}
+use Rattle.std.specs.Prelude.{◌==◌, ◌||◌}
+use Rattle.std.specs.List.{list_any}
+use Rattle.std.proofs.lemmas.Bool.{eqb-true, true≢false}
+use Rattle.std.proofs.lemmas.List.Elements.{Contains-append_left, Contains-append_right}
+use Rattle.moo_session_connection.specs.Clients.{is_number}
+
+-- a number that is found is in the list
+found : (numbers : List ℕ) (c : ℕ) → list_any (is_number c) numbers ≡ true → Contains numbers c
+found [] c is = absurd (true≢false (sym is))
+found (k ∷ numbers) c is = by_test (k == c) refl
+  where
+    by_test : (b : Bool) → (k == c) ≡ b → Contains (k ∷ numbers) c
+    by_test true here = (0, omega arith, eqb-true k c here)
+    by_test false other =
+        let rest = found numbers c (sym (ap (λ (b : Bool). b || list_any (is_number c) numbers) other) ∙ is) in
+        (suc rest.0, omega (arith, rest.1), rest.2)
+
+-- a number that is in neither part isn't leaving
+pub none_leaves : (numbers leaving all : List ℕ) (c : ℕ) → all ≡ numbers ++ leaving → (Contains all c → ⊥) → list_any (is_number c) leaving ≡ false
+none_leaves numbers leaving all c is none = by_test (list_any (is_number c) leaving) refl
+  where
+    by_test : (b : Bool) → list_any (is_number c) leaving ≡ b → b ≡ false
+    by_test true there = absurd (none (subst (λ (ns : List ℕ). Contains ns c) (sym is) (Contains-append_right numbers leaving c (found leaving c there))))
+    by_test false other = refl
+
+-- nor is it in the first part
+pub none_first : (numbers leaving all : List ℕ) (c : ℕ) → all ≡ numbers ++ leaving → (Contains all c → ⊥) → Contains numbers c → ⊥
+none_first numbers leaving all c is none there = none (subst (λ (ns : List ℕ). Contains ns c) (sym is) (Contains-append_left numbers leaving c there))

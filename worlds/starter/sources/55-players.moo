@@ -261,14 +261,14 @@ text = $string:trim(argstr[i..$]);
 o = $match:player(args[1]);
 if (!$match:found_player(o, args[1], player) || !player:may_speak(o, "pages"))
   return;
-elseif (!(o in connected_players()))
+elseif ((idle = `idle_seconds(o) ! E_INVARG => -1') < 0)
   player:tell(o.name, " isn't connected.", $isa(player, $builder) && $isa(o, $builder) ? tostr(" To leave a letter:  @send ", o.name, " ", text[1..min(30, length(text))], length(text) > 30 ? ".." | "") | "");
 else
   here = player.location;
   notify(o, tostr(player.name, " pages you", valid(here) ? " from " + here.name | "", ": ", text));
   player:tell("You page ", o.name, ".");
-  if (idle_seconds(o) >= 300)
-    player:tell(o.name, " has been idle for ", $time:span(idle_seconds(o)), ".");
+  if (idle >= 300)
+    player:tell(o.name, " has been idle for ", $time:span(idle), ".");
   endif
 endif
 .

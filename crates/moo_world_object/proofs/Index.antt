@@ -220,8 +220,8 @@ pub last_indexed : (buckets later : List Bucket) (mask : ℕ) (front : List Verb
 last_indexed buckets later mask front v w verbs n is many indexed grows here covers =
     let long : length front ≡ n = omega (arith, many, ap length is, length-append front (v ∷ [])) in
     let below = λ (k : ℕ) (u : Verb) (low : k < n) (read : u ≡ get_or verbs k u).
-        let inside : k < length front = omega (arith, low, long) in
-        indexed k u inside (read ∙ ap (λ vs. get_or vs k u) is ∙ get_or_append_left front (v ∷ []) u k inside) in
+    let inside : k < length front = omega (arith, low, long) in
+    indexed k u inside (read ∙ ap (λ vs. get_or vs k u) is ∙ get_or_append_left front (v ∷ []) u k inside) in
     λ k u low read. verbs_more buckets later mask verbs n w grows below here (omega (arith, many)) covers k u (omega (arith, low, many)) read
 
 -- a slice that is written back over a vector of its length

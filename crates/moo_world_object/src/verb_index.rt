@@ -221,7 +221,8 @@ fn add_pattern(
         add_open(buckets, pattern, place);
         return Ok(());
     }
-    add_prefixes(buckets, alloc, mask, pattern, place)
+    add_prefixes(buckets, alloc, mask, pattern, place)?;
+    Ok(())
 }
 
 // Adds a place to the buckets of all names that may begin as the pattern does.

@@ -120,8 +120,7 @@ impl VerbList {
         let many = self.verbs.len();
         self.verbs.push(verb)?;
         push_letter(&mut self.letters, many, letter);
-        self.index
-            .add_last(*self.verbs.allocator(), &self.verbs);
+        self.index.add_last(*self.verbs.allocator(), &self.verbs);
         Ok(())
     }
 

@@ -77,7 +77,11 @@ elseif (argstr)
   this.pagelength = n;
 endif
 n = verb == "@linelength" ? this.linelength | this.pagelength;
-player:tell(verb == "@linelength" ? "Lines are broken at " | "Pages end after ", n ? tostr(n, verb == "@linelength" ? " characters." | " lines.") | "no line.");
+if (verb == "@linelength")
+  player:tell(n == 20000 ? "Your lines aren't broken." | tostr("Lines are broken at ", n, " characters."));
+else
+  player:tell(n ? tostr("Pages end after ", n, " lines.") | "Your texts come whole, however long they are.");
+endif
 .
 
 // May this one speak, to WHO (or to all)? Else it reads why not. KIND is what WHO may refuse.
@@ -232,8 +236,17 @@ names = $string:names(player.contents);
 player:tell_lines(names ? $string:flow("You carry:", names) | {"You carry nothing."});
 .
 
+// @who, or @who NAME NAME
 @program $player:"@who who" any any any rd
-$login:who(player);
+names = args[1..min(20, length(args))];
+people = {};
+for n in (names)
+  o = $match:player(n);
+  people = $match:found_player(o, n, player) ? setadd(people, o) | people;
+endfor
+if (people || !names)
+  $login:who(player, people);
+endif
 .
 
 @program $player:eval any any any rd

@@ -37,13 +37,14 @@ refused_of stopping = stopping.refused
 abbrev pub failures_of : StopAt → ℕ
 failures_of stopping = memory_failures stopping.disk + stopping.refused
 
--- It is honest, and a spare exists exactly if its view has one.
+-- It is honest, a spare exists exactly if its view has one, and each call is counted.
 abbrev pub stopping_kind : DiskKind StopAt
 stopping_kind = record {
   view = view_of;
   honest = λ stopping. Unit {0};
   stands = λ stopping. IsSome (view_of stopping).spare;
   failures = failures_of;
+  made = λ call old new. left_of new ≡ left_of old - 1;
 }
 
 -- the next call is the one that it stops within

@@ -27,22 +27,22 @@ impl<S: StartApplication> ServerCore<S> {
         moment: u32,
     ) -> Result<ServerCore<S>, OpenFault>
         // It begins from a saved world that main spells within the limits of database texts.
-        ensures opened { IfOk result (λ server. (s : saving.Saved) × (D.honest disk.old → SpellsSavedWithin (D.view disk.old).main_text s)
-            × Opened S.layer D.view D.honest server disk.old disk.new s moment) }
-        ensures follows { IfOk result (λ server. Follows S.layer D.view D.honest D.stands server disk.new) }
+        ensures opened { IfOk result (λ server. (s : saving.Saved) × (D.kind.honest disk.old → SpellsSavedWithin (D.kind.view disk.old).main_text s)
+            × Opened S.layer D.kind server disk.old disk.new s moment) }
+        ensures follows { IfOk result (λ server. Follows S.layer D.kind server disk.new) }
         // If the text is refused, the fault says why. Running out of memory is a fault of its own.
-        ensures refused { D.honest disk.old → IfErr result (λ e. (f : DbFault) → e ≡ OpenFault.Db f
-            → RefusesText (D.view disk.old).main_text f × (f.kind ≢ kind.Memory)) }
+        ensures refused { D.kind.honest disk.old → IfErr result (λ e. (f : DbFault) → e ≡ OpenFault.Db f
+            → RefusesText (D.kind.view disk.old).main_text f × (f.kind ≢ kind.Memory)) }
         // A text that spells a saved world within the limits is refused only if the device fails or memory runs out.
-        ensures accepted { D.honest disk.old → (s : saving.Saved) → SpellsSavedWithin (D.view disk.old).main_text s
+        ensures accepted { D.kind.honest disk.old → (s : saving.Saved) → SpellsSavedWithin (D.kind.view disk.old).main_text s
             → IfErr result (λ e. (f : DbFault) → e ≢ OpenFault.Db f) }
         // The fault is the device's exactly if the device failed in this call.
-        ensures device { CountsDevice (D.honest disk.old) (D.failures disk.old) (D.failures disk.new) result }
+        ensures device { CountsDevice (D.kind.honest disk.old) (D.kind.failures disk.old) (D.kind.failures disk.new) result }
         // Nothing is written.
-        ensures main { D.honest disk.old → KeepsMain (D.view disk.old) (D.view disk.new) }
-        ensures spare { D.honest disk.old → KeepsSpare (D.view disk.old) (D.view disk.new) }
-        ensures stands { D.stands disk.old → D.stands disk.new }
-        ensures honest { D.honest disk.old ↔ D.honest disk.new }
+        ensures main { D.kind.honest disk.old → KeepsMain (D.kind.view disk.old) (D.kind.view disk.new) }
+        ensures spare { D.kind.honest disk.old → KeepsSpare (D.kind.view disk.old) (D.kind.view disk.new) }
+        ensures stands { D.kind.stands disk.old → D.kind.stands disk.new }
+        ensures honest { D.kind.honest disk.old ↔ D.kind.honest disk.new }
     {
         let saved = recover(alloc, disk)?;
         let server = ServerCore::<S>::start(alloc, saved, moment)?;

@@ -129,18 +129,18 @@ impl<S: Application> ServerCore<S> {
 
     // Gives the open checkpoint a turn.
     fn flush<D: Disk>(&mut self, disk: &mut D) -> Result<(), AllocError>
-        requires { OpenFollows D.view D.honest D.stands self.old.writing disk.old }
+        requires { OpenFollows D.kind self.old.writing disk.old }
         ensures turns { OnOk result ((report : _) × (out : Output)
-            × Turns S.layer.meaning D.view D.honest D.failures (state_of S.layer self.old) (state_of S.layer self.new)
+            × Turns S.layer.meaning D.kind (state_of S.layer self.old) (state_of S.layer self.new)
             self.old.writing self.new.writing disk.old disk.new report out
             × (under_way_of S.layer self.new ≡ then_out (under_way_of S.layer self.old) out)) }
         ensures waiting { waiting_of S.layer self.new ≡ waiting_of S.layer self.old }
         ensures halted { self.new.halted ≡ self.old.halted }
-        ensures follows { OnOk result (OpenFollows D.view D.honest D.stands self.new.writing disk.new) }
-        ensures gains { D.honest disk.old → Gains (IsOneOf (on_its_way self.old)) (D.view disk.old) (D.view disk.new) }
-        ensures at_most_once { FailsAtMostOnce (D.failures disk.old) (D.failures disk.new) }
+        ensures follows { OnOk result (OpenFollows D.kind self.new.writing disk.new) }
+        ensures gains { D.kind.honest disk.old → Gains (IsOneOf (on_its_way self.old)) (D.kind.view disk.old) (D.kind.view disk.new) }
+        ensures at_most_once { FailsAtMostOnce (D.kind.failures disk.old) (D.kind.failures disk.new) }
         ensures idle { self.old.writing ≡ None → disk.new ≡ disk.old }
-        ensures honest { D.honest disk.old ↔ D.honest disk.new }
+        ensures honest { D.kind.honest disk.old ↔ D.kind.honest disk.new }
     {
         let Some(mut open) = self.writing.take() else {
             return Ok(());
@@ -199,22 +199,22 @@ impl<S: Application> ServerCore<S> {
 
     // Takes an event that isn't refused.
     fn try_take<D: Disk>(&mut self, disk: &mut D, event: &Event) -> Result<(), AllocError>
-        requires follows { Follows S.layer D.view D.honest D.stands self.old disk.old }
+        requires follows { Follows S.layer D.kind self.old disk.old }
         requires accepted { refusal S.layer.meaning (state_of S.layer self.old) (seen event.now) ≡ None }
         requires counts { is_passed_over S.layer.meaning (state_of S.layer self.old) (seen event.now) ≡ false }
         ensures takes { OnOk result ((entry : Entry Saved) × (entry.event ≡ seen event.now)
-            × Does S.layer.meaning D.view D.honest (state_of S.layer self.old) (state_of S.layer self.new)
+            × Does S.layer.meaning D.kind (state_of S.layer self.old) (state_of S.layer self.new)
             self.old.writing self.new.writing disk.old disk.new entry
-            × CountsReport entry.report (D.failures disk.old) (D.failures disk.new)
+            × CountsReport entry.report (D.kind.failures disk.old) (D.kind.failures disk.new)
             × (under_way_of S.layer self.new ≡ entry.out)) }
         ensures waiting { waiting_of S.layer self.new ≡ waiting_of S.layer self.old }
         ensures halted { self.new.halted ≡ self.old.halted }
-        ensures follows { OnOk result (OpenFollows D.view D.honest D.stands self.new.writing disk.new) }
-        ensures gains { D.honest disk.old → Gains (IsOneOf (on_its_way self.old)) (D.view disk.old) (D.view disk.new) }
-        ensures at_most_once { FailsAtMostOnce (D.failures disk.old) (D.failures disk.new) }
+        ensures follows { OnOk result (OpenFollows D.kind self.new.writing disk.new) }
+        ensures gains { D.kind.honest disk.old → Gains (IsOneOf (on_its_way self.old)) (D.kind.view disk.old) (D.kind.view disk.new) }
+        ensures at_most_once { FailsAtMostOnce (D.kind.failures disk.old) (D.kind.failures disk.new) }
         ensures idle { self.old.writing ≡ None → disk.new ≡ disk.old }
         ensures still { seen event.now ≢ Flush → disk.new ≡ disk.old }
-        ensures honest { D.honest disk.old ↔ D.honest disk.new }
+        ensures honest { D.kind.honest disk.old ↔ D.kind.honest disk.new }
         ensures memory { IfErr result (λ _. MayWant S.layer.meaning (state_of S.layer self.old) (seen event.now)) }
     {
         if event.is_flush() {
@@ -227,25 +227,25 @@ impl<S: Application> ServerCore<S> {
 
     // Takes one event. If memory runs out, the server halts. A refused event changes nothing.
     pub(crate) fn take<D: Disk>(&mut self, disk: &mut D, event: &Event) -> Result<(), Cause>
-        requires follows { Follows S.layer D.view D.honest D.stands self.old disk.old }
+        requires follows { Follows S.layer D.kind self.old disk.old }
         requires alive { IsAlive self.old }
         ensures takes { OnOk result ((entry : Entry Saved) × (entry.event ≡ seen event.now)
-            × Does S.layer.meaning D.view D.honest (state_of S.layer self.old) (state_of S.layer self.new)
+            × Does S.layer.meaning D.kind (state_of S.layer self.old) (state_of S.layer self.new)
             self.old.writing self.new.writing disk.old disk.new entry
-            × CountsReport entry.report (D.failures disk.old) (D.failures disk.new)
+            × CountsReport entry.report (D.kind.failures disk.old) (D.kind.failures disk.new)
             × (waiting_of S.layer self.new ≡ then_out (waiting_of S.layer self.old) entry.out)
             × IsAlive self.new) }
         ensures memory { result ≡ Err Cause.Memory → (self.new.halted ≡ true)
             × (waiting_of S.layer self.new ≡ waiting_of S.layer self.old)
-            × (D.honest disk.old → Survives D.view disk.old disk.new (on_its_way self.old) (on_its_way self.new) []) }
+            × (D.kind.honest disk.old → Survives D.kind disk.old disk.new (on_its_way self.old) (on_its_way self.new) []) }
         ensures wanting { result ≡ Err Cause.Memory → MayWant S.layer.meaning (state_of S.layer self.old) (seen event.now) }
         ensures refused { IfErr result (λ cause. cause ≢ Cause.Memory
             → (refusal S.layer.meaning (state_of S.layer self.old) (seen event.now) ≡ Some cause) × (self.new ≡ self.old) × (disk.new ≡ disk.old)) }
-        ensures follows { Follows S.layer D.view D.honest D.stands self.new disk.new }
-        ensures at_most_once { FailsAtMostOnce (D.failures disk.old) (D.failures disk.new) }
+        ensures follows { Follows S.layer D.kind self.new disk.new }
+        ensures at_most_once { FailsAtMostOnce (D.kind.failures disk.old) (D.kind.failures disk.new) }
         ensures idle { self.old.writing ≡ None → disk.new ≡ disk.old }
         ensures still { seen event.now ≢ Flush → disk.new ≡ disk.old }
-        ensures honest { D.honest disk.old ↔ D.honest disk.new }
+        ensures honest { D.kind.honest disk.old ↔ D.kind.honest disk.new }
     {
         if let Some(cause) = self.refusal(event) {
             return Err(cause);

@@ -11,11 +11,11 @@ returns-in-Ok-clause-lived g c =
     let l = g.S.Application.layer in
     let o = c.in-Ok.ensures.opened in
     let events = c.args.life.now.events.items in
-    let runs = subst (λ (es : List given.Event). Runs l g.D.Disk.view g.D.Disk.honest g.D.Disk.failures c.in-Ok.server c.run.new.self c.open.new.disk c.run.new.disk es c.run.result)
+    let runs = subst (λ (es : List given.Event). Runs l g.D.Disk.kind c.in-Ok.server c.run.new.self c.open.new.disk c.run.new.disk es c.run.result)
     c.deref.ensures.value c.run.ensures.ran in
     record {
       run = record {
-        main = (g.D.Disk.view c.args.disk.now).main_text;
+        main = (g.D.Disk.kind.view c.args.disk.now).main_text;
         saved = o.saved;
         moment = c.args.life.now.moment;
         events = events;

@@ -7,9 +7,9 @@ use Rattle.moo_server_core.proofs.server_core.ServerCore.run.Given as goal
 
 abbrev pub invariant-loop-done : goal.invariant-loop-done
 invariant-loop-done g l = record {
-  goes : Goes g.S.Application.layer g.D.Disk.view g.D.Disk.honest g.D.Disk.failures l.fn.self l.self l.fn.disk l.disk l.events l.done;
-  follows : Follows g.S.Application.layer g.D.Disk.view g.D.Disk.honest g.D.Disk.stands l.self l.disk;
+  goes : Goes g.S.Application.layer g.D.Disk.kind l.fn.self l.self l.fn.disk l.disk l.events l.done;
+  follows : Follows g.S.Application.layer g.D.Disk.kind l.self l.disk;
   alive : IsAlive l.self;
   still : All (λ event. seen event ≢ Flush) l.events → l.disk ≡ l.fn.disk;
-  honest : g.D.Disk.honest l.fn.disk ↔ g.D.Disk.honest l.disk;
+  honest : g.D.Disk.kind.honest l.fn.disk ↔ g.D.Disk.kind.honest l.disk;
 }

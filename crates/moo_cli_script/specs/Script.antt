@@ -1,8 +1,8 @@
 -- What a step of a script does to a server over a disk in memory, and what is printed of it.
-use Rattle.std.specs.Prelude.{◌≡◌, ◌≢◌, ℕ, zero, suc, ◌+◌, ◌<◌, ◌≤◌, max, Bool, List, [], ◌∷◌, ◌++◌, codes, length, slice_get, Option, Some, None, Result, Ok, Err, IsSome, MatchOption}
-use Rattle.moo_disk.specs.Disk.{DiskView}
-use Rattle.moo_disk.specs.FailAt.{failures_of as failures_with, has_effect, inner_of, left_of}
-use Rattle.moo_disk.specs.Memory.{failures_of, images, view_of}
+use Rattle.std.specs.Prelude.{◌≡◌, ◌≢◌, ℕ, zero, suc, ◌+◌, ◌<◌, ◌≤◌, max, Bool, List, [], ◌∷◌, ◌++◌, codes, length, slice_get, Option, Some, None, Result, Ok, Err, MatchOption}
+use Rattle.moo_disk.specs.Disk.{DiskKind, DiskView}
+use Rattle.moo_disk.specs.FailAt.{failing_kind, has_effect, inner_of, left_of}
+use Rattle.moo_disk.specs.Memory.{images, memory_kind}
 use Rattle.moo_disk.specs.declared.fail_at.FailAt.{FailAt}
 use Rattle.moo_disk.specs.declared.memory.MemoryDisk.{MemoryDisk}
 use Rattle.moo_dbtext_record.specs.declared.fault.DbFault.{DbFault}
@@ -29,17 +29,11 @@ use Rattle.moo_cli_script.specs.declared.script.Script.{Script}
 abbrev pub ScriptDisk : Type 0
 ScriptDisk = FailAt MemoryDisk
 
+abbrev pub script_kind : DiskKind ScriptDisk
+script_kind = failing_kind memory_kind
+
 abbrev pub disk_view : ScriptDisk → DiskView
-disk_view disk = view_of (inner_of disk)
-
-abbrev pub disk_honest : ScriptDisk → Type 0
-disk_honest disk = Unit {0}
-
-abbrev pub disk_stands : ScriptDisk → Type 0
-disk_stands disk = IsSome (disk_view disk).spare
-
-abbrev pub disk_failures : ScriptDisk → ℕ
-disk_failures disk = failures_with failures_of disk
+disk_view disk = script_kind.view disk
 
 -- from now on its k-th call fails, with or without its effect
 pub record FailsAt (k : ℕ) (effect : Bool) (old new : ScriptDisk) : Type 0 where
@@ -83,7 +77,7 @@ top_behind event top = top
 module _ {S Application : Type 0} (l : Layer S Application Saved) where
   -- the server isn't halted and goes on with its disk, and its moment is known
   pub record Fits (script : Script S) : Type 0 where
-    pub follows : Follows l disk_view disk_honest disk_stands script.server script.disk
+    pub follows : Follows l script_kind script.server script.disk
     pub alive : IsAlive script.server
     pub moment_is : script.moment ≡ script.server.moment
     pub top_fits : script.top ≤ 65536
@@ -92,7 +86,7 @@ module _ {S Application : Type 0} (l : Layer S Application Saved) where
   pub record IsRun (event : Event) (old new : Script S) (result : Result ℕ RunFault) : Type 0 where
     pub given_event : given.Event
     pub event_is : seen given_event ≡ event
-    pub runs : Runs l disk_view disk_honest disk_failures old.server new.server old.disk new.disk (given_event ∷ []) result
+    pub runs : Runs l script_kind old.server new.server old.disk new.disk (given_event ∷ []) result
     pub still : event ≢ Flush → new.disk ≡ old.disk
 
   -- an event was taken
@@ -112,7 +106,7 @@ module _ {S Application : Type 0} (l : Layer S Application Saved) where
   pub record OpensServer (disk : ScriptDisk) (at : ℕ) (new : Script S) : Type 0 where
     pub saved : Saved
     pub spelled : SpellsSavedWithin (disk_view disk).main_text saved
-    pub opened : Opened l disk_view disk_honest new.server disk new.disk saved at
+    pub opened : Opened l script_kind new.server disk new.disk saved at
     pub top : new.top ≡ 0
 
   -- another one was opened over what a crash left, at the same moment

@@ -37,7 +37,7 @@ fn in_turn<S: StartApplication, D: Disk + Watched, C: Read>(
     client: &mut C,
     count: usize,
 ) -> Result<Vec<u8>, Fail>
-    requires { Follows S.layer D.view D.honest D.stands serving.old.server serving.old.disk }
+    requires { Follows S.layer D.kind serving.old.server serving.old.disk }
 {
     let mut seen = Vec::new(rt.alloc());
     for _made in 0..ROUNDS {

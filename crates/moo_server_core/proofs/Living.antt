@@ -23,7 +23,7 @@ use Rattle.moo_server_core.specs.declared.life.LifeStop.TheVariants.{Crash, Serv
 use Rattle.moo_server_core.specs.declared.life.LivesCause.{LivesCause}
 use Rattle.moo_server_core.specs.declared.life.LivesCause.TheVariants.{NoSuchImage, Memory}
 use Rattle.moo_server_core.specs.declared.life.LivesCause.TheVariants.{Open as not_open}
-use Rattle.moo_server_core.specs.Lives.{AreTold, EndsBefore, HasLived, HasNoImage, IsLeft, IsLife, IsMet, IsStopped, IsTold, LifeRun, Lives, NextMeets, RanAll, SoFar}
+use Rattle.moo_server_core.specs.Lives.{AreTold, EndsBefore, HasLived, HasNoImage, IsLeft, IsLife, IsMet, IsStopped, IsTold, LifeRun, Lives, RanAll, SoFar}
 
 pub ran_all : {S : Type 0} (result : Result ℕ RunFault) (events told : List given.Event) (end : ServerCore S) → events ≡ told
     → IfOk result (λ n. (n ≡ length events) × IsAlive end) → RanAll result told end
@@ -180,13 +180,6 @@ module _ {S Application : Type 0} (l : Layer S Application Saved) where
       within = λ c left. inl (only c left);
       spelled = λ c is. ⊎_elim (λ same. (s, subst (λ (t : List ℕ). l.meaning.Spells t s) (sym same) spells)) (λ none. absurd none) is;
     }
-
-    -- what the next life met, by what it is
-    pub meets_of : (lives : List Life) (place : ℕ) (life : Life) (disk : D) (cause : LivesCause) → slice_get lives place ≡ Some life
-        → EndsBefore l kind images life disk cause → NextMeets l kind images lives place cause disk
-    meets_of lives place life disk (not_open fault) is ends = (life, is, ends)
-    meets_of lives place life disk NoSuchImage is ends = (life, is, ends)
-    meets_of lives place life disk Memory is ends = absurd ends
 
     -- a life that didn't begin
     pub live_met : (life : Life) (old new : D) (cause : LivesCause) → IsMet l kind old new cause → EndsBefore l kind images life old cause

@@ -3,10 +3,10 @@ use Rattle.std.proofs.Common.{◌≡◌, ◌≢◌, ◌⊎◌, inl, inr, ⊎_eli
 use Rattle.std.specs.Prelude.{slice_get}
 use Rattle.std.proofs.lemmas.List.{append-nil, map-append, map_more, take_all}
 use Rattle.std.proofs.lemmas.Option.{slice_get-get_or}
-use Rattle.moo_disk.specs.Disk.{DiskKind, Gains}
+use Rattle.moo_disk.specs.Disk.{DiskKind, Gains, MakesOneCall}
 use Rattle.moo_server_core.specs.Traces.{Done, Trace}
 use Rattle.moo_server_core.specs.Crash.{IsOneOf, Survives}
-use Rattle.moo_server_core.specs.Turns.{CountsReport, FailsAtMostOnce, IsInTime, turns_after, turns_left_after}
+use Rattle.moo_server_core.specs.Turns.{CallsAtMostOnce, CountsReport, FailsAtMostOnce, IsInTime, turns_after, turns_left_after}
 use Rattle.moo_server_core.specs.Seen.{Event, Flush, seen}
 use Rattle.moo_server_core.specs.Application.{Layer, Output, then_out}
 use Rattle.moo_server_core.specs.Meaning.{State, Entry, Run, MayWant, out_of, refusal, trace_of}
@@ -257,16 +257,17 @@ module _ {S Application Saved : Type 0} (l : Layer S Application Saved) where
     goes_none server disk events = record { taken = []; events_are = refl; each = (refl, refl); fails = tt }
 
     pub goes_more : (before mid after : ServerCore S) (old between new : D) (events : List given.Event) (done : ℕ) (d : given.Event) → done < length events → d ≡ get_or events done d
-        → IsAlive mid → ((seen d ≢ Flush) ⊎ (mid.writing ≡ None) → new ≡ between) → (kind.honest between → kind.honest new) → Goes before mid old between events done
+        → IsAlive mid → ((seen d ≢ Flush) ⊎ (mid.writing ≡ None) → new ≡ between) → (seen d ≡ Flush → mid.writing ≢ None → MakesOneCall kind between new)
+        → (kind.honest between → kind.honest new) → Goes before mid old between events done
         → Took mid after between new (seen d) → Goes before after old new events (done + 1)
-    goes_more before mid after old between new events done d lt event_is alive still keeps goes took =
+    goes_more before mid after old between new events done d lt event_is alive still call keeps goes took =
         let one : TakenEvent S Saved D = record { entry = took.0; server = after; disk = new } in
         record {
           taken = goes.taken ++ one ∷ [];
           events_are = ap (map (λ (e : Entry Saved). e.event)) (map-append (λ (t : TakenEvent S Saved D). t.entry) goes.taken (one ∷ []))
               ∙ map-append (λ (e : Entry Saved). e.event) (entries_of goes.taken) (one.entry ∷ []) ∙ (λ i. goes.events_are i ++ (took.1 ∙ ap seen event_is) i ∷ []) ∙ sym (map_more seen events done d lt);
           each = each_more goes.taken before mid old between one goes.each
-              (record { alive_before = alive; alive_after = took.5; does = took.2; waiting = took.4; still = λ nothing. still (⊎_elim (λ other. inl (λ flush. other (took.1 ∙ flush))) (λ none. inr none) nothing); honest_still = keeps });
+              (record { alive_before = alive; alive_after = took.5; does = took.2; waiting = took.4; still = λ nothing. still (⊎_elim (λ other. inl (λ flush. other (took.1 ∙ flush))) (λ none. inr none) nothing); call = λ flush. call (sym took.1 ∙ flush); honest_still = keeps });
           fails = fails_more goes.taken before mid old between one goes.each goes.fails took.3;
         }
 
@@ -306,13 +307,13 @@ module _ {S Application Saved : Type 0} (l : Layer S Application Saved) where
 
     -- a refused event leaves the run as it was, and a halt all that a crash may leave
     pub run_stops : (cause : Cause) → done < length events → d ≡ get_or events done d → IsAlive before → IsAlive mid
-        → FailsAtMostOnce (kind.failures between) (kind.failures new) → ((seen d ≢ Flush) ⊎ (mid.writing ≡ None) → new ≡ between)
+        → FailsAtMostOnce (kind.failures between) (kind.failures new) → CallsAtMostOnce kind between new → ((seen d ≢ Flush) ⊎ (mid.writing ≡ None) → new ≡ between)
         → (cause ≡ Memory → (after.halted ≡ true) × (waiting_of l after ≡ waiting_of l mid)
         × (kind.honest between → Survives kind between new (on_its_way mid) (on_its_way after) []))
         → (cause ≡ Memory → MayWant l.meaning (state_of l mid) (seen d))
         → (cause ≢ Memory → (refusal l.meaning (state_of l mid) (seen d) ≡ Some cause) × (after ≡ mid) × (new ≡ between))
         → Goes kind before mid old between events done → Ends cause
-    run_stops cause lt event_is began alive at_most_once still memory wanting other goes = by_cause cause memory wanting other
+    run_stops cause lt event_is began alive at_most_once calls still memory wanting other goes = by_cause cause memory wanting other
       where
         next : slice_get events done ≡ Some d
         next = slice_get-get_or events done d lt ∙ ap Some (sym event_is)
@@ -337,7 +338,7 @@ module _ {S Application Saved : Type 0} (l : Layer S Application Saved) where
             → Ends cause
         by_cause Memory memory wanting other =
             let facts = memory refl in
-            ended Memory (inr (record { alive_before = alive; halted = facts.0; waiting = facts.1; survives = facts.2 }))
+            ended Memory (inr (record { alive_before = alive; halted = facts.0; waiting = facts.1; survives = facts.2; calls = calls }))
             (wants_memory d began facts.0 (wanting refl))
         by_cause halted_cause memory wanting other = refused halted_cause (other (λ is. cc))
         by_cause NoSuchConnection memory wanting other = refused NoSuchConnection (other (λ is. cc))

@@ -1,6 +1,6 @@
 -- Calls of a server, one after another, and a stop at any moment.
 use Rattle.std.specs.Prelude.{◌≡◌, ◌≢◌, ◌⊎◌, ℕ, ◌≤◌, List, [], ◌∷◌, ◌++◌, length, Some, None}
-use Rattle.moo_disk.specs.Disk.{DiskCall, DiskKind, DiskView, KeepsMain}
+use Rattle.moo_disk.specs.Disk.{DiskCall, DiskKind, DiskView, KeepsMain, OnlyReads}
 use Rattle.moo_dbtext_read.specs.Saved.{Saved, SpellsSavedWithin}
 use Rattle.moo_checkpoint.specs.Recovering.{IsRecovered}
 use Rattle.moo_server_core.specs.Crash.{IsDoneNext, IsOneOf, texts_of_marks, since_done, NoneDone}
@@ -65,7 +65,7 @@ handed_in [] = silence
 handed_in (call ∷ calls) = then_out call.handed (handed_in calls)
 
 module _ {S Application : Type 0} (l : Layer S Application Saved) where
-  -- A server was opened from a saved world at a moment. The disk was read, and nothing was written.
+  -- A server was opened from a saved world at a moment. The disk was read, no other call was made, and nothing was written.
   pub record Opened {D : Type 0} (kind : DiskKind D) (server : ServerCore S) (old new : D) (saved : Saved) (moment : ℕ) : Type 0 where
     pub alive : IsAlive server
     pub no_checkpoint : server.writing ≡ None
@@ -73,6 +73,7 @@ module _ {S Application : Type 0} (l : Layer S Application Saved) where
     -- main spells no other world within the limits than the one that it began from
     pub only : kind.honest old → (s : Saved) → l.meaning.Spells (kind.view old).main_text s → s ≡ saved
     pub main : kind.honest old → KeepsMain (kind.view old) (kind.view new)
+    pub reads : OnlyReads kind old new
     pub honest_still : kind.honest old → kind.honest new
 
   -- the call was a run over such a disk

@@ -1,6 +1,6 @@
 -- Lives of a server over one disk. Each ends by a crash, or by an end of the server alone.
 use Rattle.std.specs.Prelude.{◌≡◌, ◌≢◌, ◌⊎◌, ◌<◌, ◌≤◌, ℕ, List, [], ◌∷◌, length, take, slice_get, All, Some, Result, Ok, Err}
-use Rattle.moo_disk.specs.Disk.{DiskKind, IsLeftBy, KeepsMain, KeepsSpare}
+use Rattle.moo_disk.specs.Disk.{DiskKind, IsLeftBy, KeepsMain, KeepsSpare, OnlyReads}
 use Rattle.moo_checkpoint.specs.Recovering.{CountsFault}
 use Rattle.moo_checkpoint.specs.declared.open_fault.OpenFault.{OpenFault}
 use Rattle.moo_checkpoint.specs.declared.open_fault.OpenFault.TheVariants.{Device, Memory as no_memory}
@@ -111,24 +111,26 @@ module _ {S Application : Type 0} (l : Layer S Application Saved) where
       pub is : IsLife run
       pub told : IsTold life run begin
 
-    -- A life that didn't begin, since no server was opened. Nothing was written. The device is reported if it failed, and where main
+    -- A life that didn't begin, since no server was opened. The disk was read, no other call was made, and nothing was written. The device is reported if it failed, and where main
     -- spells a saved world within the limits, either it failed or memory ran out.
     pub record NotBegun (old new : D) (fault : OpenFault) : Type 0 where
       pub sound : kind.honest old → (s : Saved) → l.meaning.Spells (kind.view old).main_text s → IsSound fault
       pub device : CountsFault (kind.honest old) (kind.failures old) (kind.failures new) fault
       pub main : kind.honest old → KeepsMain (kind.view old) (kind.view new)
       pub spare : kind.honest old → KeepsSpare (kind.view old) (kind.view new)
+      pub reads : OnlyReads kind old new
 
     abbrev pub IsMet : D → D → LivesCause → Type 0
     IsMet old new (not_open fault) = NotBegun old new fault
     IsMet old new cause = ⊥
 
     module _ (images : D → List (List ℕ)) where
-      -- a life that didn't begin, or whose crash leaves no such text
+      -- a life that didn't begin, or whose crash leaves no such text, or that ended before memory ran out for what is returned of it
       abbrev pub EndsBefore : Life → D → LivesCause → Type 0
       EndsBefore life old (not_open fault) = (new : D) × IsMet old new (not_open fault)
       EndsBefore life old NoSuchImage = (new : D) × (begin : LifeBegin) × HasLived life old new begin × HasNoImage images life.stop new
-      EndsBefore life old Memory = ⊥
+      EndsBefore life old Memory =
+          (end : D) × (new : D) × (begin : LifeBegin) × HasLived life old end begin × IsStopped kind images life.stop end new
 
       -- One life, over the disk that the one before it left. One of `texts` is under main before it, and one of `after` afterwards.
       pub record LivesOnce (disk : D) (texts : List (List ℕ)) (life : LifeRun S D) (after : List (List ℕ)) (next : D) : Type 0 where
@@ -163,15 +165,12 @@ module _ {S Application : Type 0} (l : Layer S Application Saved) where
       abbrev pub LivesSoFar : List Life → List LifeBegin → D → Type 0
       LivesSoFar lives begins first = (disk : D) × SoFar lives begins first disk
 
-      -- what the next life met, if there is one
-      abbrev pub NextMeets : List Life → ℕ → LivesCause → D → Type 0
-      NextMeets lives place Memory disk = Unit {0}
-      NextMeets lives place cause disk = (life : Life) × (slice_get lives place ≡ Some life) × EndsBefore life disk cause
-
       -- the lives before the one that the fault names, and what that one met
       pub record EndsAt (lives : List Life) (first : D) (fault : LivesFault) : Type 0 where
         pub place : fault.life < length lives
         pub begins : List LifeBegin
         pub disk : D
         pub so_far : SoFar (take fault.life lives) begins first disk
-        pub meets : NextMeets lives fault.life fault.cause disk
+        pub life : Life
+        pub life_is : slice_get lives fault.life ≡ Some life
+        pub meets : EndsBefore life disk fault.cause

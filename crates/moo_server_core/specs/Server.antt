@@ -1,11 +1,11 @@
 -- The state of a server, and what a run does to it and to its disk.
 use Rattle.std.specs.Prelude.{◌≡◌, ◌≢◌, ◌⊎◌, ◌-◌, ℕ, List, [], ◌∷◌, take, map, slice_get, Result, Ok, Err, IfErr, Option, Some, None, Bool, true, false, eqb, if◌then◌else◌}
 use Rattle.std.specs.Option.{option_map}
-use Rattle.moo_disk.specs.Disk.{DiskKind}
+use Rattle.moo_disk.specs.Disk.{DiskKind, MakesOneCall}
 use Rattle.moo_checkpoint.specs.Checkpoint.{Continues, IsFresh, text_of, turns_left}
 use Rattle.moo_server_core.specs.Traces.{Report, Done, Trace}
 use Rattle.moo_server_core.specs.Crash.{IsOneOf, Survives}
-use Rattle.moo_server_core.specs.Turns.{CountsReport, FailsAtMostOnce, IsInTime, turns_after, turns_left_after, turns_for}
+use Rattle.moo_server_core.specs.Turns.{CallsAtMostOnce, CountsReport, FailsAtMostOnce, IsInTime, turns_after, turns_left_after, turns_for}
 use Rattle.moo_server_core.specs.Seen.{Flush, seen}
 use Rattle.moo_server_core.specs.Application.{Layer, Meaning, Output, silence, then_out}
 use Rattle.moo_server_core.specs.Meaning.{State, Entry, Reports, Takes, Run, MayWant, refusal, trace_of, traces_of}
@@ -158,8 +158,9 @@ module _ {S Application Saved : Type 0} (l : Layer S Application Saved) where
       pub does : Does l.meaning kind (state_of before) (state_of one.server) before.writing one.server.writing old one.disk one.entry
       -- what it sent waits, after what waited before, and nothing else does
       pub waiting : waiting_of one.server ≡ then_out (waiting_of before) one.entry.out
-      -- only a `Flush` makes a call of the disk, and only while a checkpoint is open
+      -- only a `Flush` makes a call of the disk, and only while a checkpoint is open; then it makes one
       pub still : (one.entry.event ≢ Flush) ⊎ (before.writing ≡ None) → one.disk ≡ old
+      pub call : one.entry.event ≡ Flush → before.writing ≢ None → MakesOneCall kind old one.disk
       pub honest_still : kind.honest old → kind.honest one.disk
 
     -- Each of these events did so, one after another: they lead from a server and its disk to another state of both.
@@ -167,12 +168,13 @@ module _ {S Application Saved : Type 0} (l : Layer S Application Saved) where
     EachDoes before old [] after new = (after ≡ before) × (new ≡ old)
     EachDoes before old (one ∷ taken) after new = DoesTo before old one × EachDoes one.server one.disk taken after new
 
-    -- An event halted the server. Nothing of what it sent waits, and its turn may have changed the disk.
+    -- An event halted the server. Nothing of what it sent waits, and its turn may have called the disk once.
     pub record Halts (before after : ServerCore S) (old new : D) : Type 0 where
       pub alive_before : IsAlive before
       pub halted : after.halted ≡ true
       pub waiting : waiting_of after ≡ waiting_of before
       pub survives : kind.honest old → Survives kind old new (on_its_way before) (on_its_way after) []
+      pub calls : CallsAtMostOnce kind old new
 
     -- A run took the first `done` events.
     pub record Ran (before after : ServerCore S) (old new : D) (events : List given.Event) (done : ℕ) : Type 0 where

@@ -1,6 +1,6 @@
 //! The start of a life: a server, and the text of the world that it begins from.
 ghost use Rattle.std.specs.Prelude.{◌≡◌, ◌↔◌, IfOk, IfErr};
-ghost use Rattle.moo_disk.specs.Disk.{KeepsMain, KeepsSpare};
+ghost use Rattle.moo_disk.specs.Disk.{KeepsMain, KeepsSpare, OnlyReads};
 ghost use Rattle.moo_dbtext_read.specs.Saved.{Saved};
 ghost use Rattle.moo_checkpoint.specs.Recovering.{CountsDevice};
 ghost use Rattle.moo_server_core.specs.Lives.{IsOpen, IsSound};
@@ -22,6 +22,7 @@ pub(crate) fn open<S: StartApplication, D: Disk>(
     ensures device { CountsDevice (D.kind.honest disk.old) (D.kind.failures disk.old) (D.kind.failures disk.new) result }
     ensures main { D.kind.honest disk.old → KeepsMain (D.kind.view disk.old) (D.kind.view disk.new) }
     ensures spare { D.kind.honest disk.old → KeepsSpare (D.kind.view disk.old) (D.kind.view disk.new) }
+    ensures reads { OnlyReads D.kind disk.old disk.new }
     ensures honest { D.kind.honest disk.old ↔ D.kind.honest disk.new }
 {
     let saved = recover(alloc, disk)?;

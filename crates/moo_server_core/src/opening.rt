@@ -2,7 +2,7 @@
 ghost use Rattle.std.specs.Prelude.{◌≡◌, ◌≢◌, ◌↔◌, IfOk, IfErr, None};
 ghost use Rattle.moo_dbtext_record.specs.declared.fault.DbFault.{DbFault};
 ghost use Rattle.moo_dbtext_record.specs.declared.fault.DbFaultKind.TheVariants as kind;
-ghost use Rattle.moo_disk.specs.Disk.{KeepsMain, KeepsSpare};
+ghost use Rattle.moo_disk.specs.Disk.{KeepsMain, KeepsSpare, OnlyReads};
 ghost use Rattle.moo_dbtext_read.specs.Saved as saving;
 ghost use Rattle.moo_dbtext_read.specs.Saved.{saved_of, SpellsSavedWithin};
 ghost use Rattle.moo_server_core.specs.Application.{silence};
@@ -38,7 +38,8 @@ impl<S: StartApplication> ServerCore<S> {
             → IfErr result (λ e. (f : DbFault) → e ≢ OpenFault.Db f) }
         // The fault is the device's exactly if the device failed in this call.
         ensures device { CountsDevice (D.kind.honest disk.old) (D.kind.failures disk.old) (D.kind.failures disk.new) result }
-        // Nothing is written.
+        // Nothing is written, and no call is made but `read_main`.
+        ensures reads { OnlyReads D.kind disk.old disk.new }
         ensures main { D.kind.honest disk.old → KeepsMain (D.kind.view disk.old) (D.kind.view disk.new) }
         ensures spare { D.kind.honest disk.old → KeepsSpare (D.kind.view disk.old) (D.kind.view disk.new) }
         ensures stands { D.kind.stands disk.old → D.kind.stands disk.new }

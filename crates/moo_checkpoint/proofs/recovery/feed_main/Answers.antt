@@ -1,6 +1,7 @@
 use Rattle.std.proofs.Common.{◌<◌, ◌^◌, ℕ, Option, IfSome, Some, None, arith, sym, subst, refl, ◌∙◌}
 use Rattle.std.proofs.lemmas.Result.{err_from_is_err_and}
 use Rattle.std.specs.List.{length_refill}
+use Rattle.moo_disk.specs.Disk.{no_call, one_more}
 use Rattle.moo_checkpoint.proofs.Answered.{counts_on, fed_on, fed_to, keeps_still, keeps_then, tells_on}
 use Rattle.moo_checkpoint.proofs.recovery.feed_main.Goals as goal
 
@@ -11,6 +12,7 @@ loop-buffer-init g c = record {
   fed = λ honest h. h;
   count = refl;
   keeps = keeps_still g.D.Disk.kind c.args.disk.now;
+  reads = no_call c.args.disk.now;
 }
 
 pub returns-in_err-after-clause-told : goal.returns-in_err-after-clause-told
@@ -31,6 +33,9 @@ returns-in_err-after-clause-device g c =
 pub returns-in_err-after-clause-keeps : goal.returns-in_err-after-clause-keeps
 returns-in_err-after-clause-keeps g c = keeps_then g.D.Disk.kind c.args.disk.now c.loop-buffer.disk c.feed_at.new.disk c.loop-buffer.invariant.keeps c.in_err-after.ensures.keeps
 
+pub returns-in_err-after-clause-reads : goal.returns-in_err-after-clause-reads
+returns-in_err-after-clause-reads g c = one_more c.args.disk.now c.loop-buffer.disk c.feed_at.new.disk c.loop-buffer.invariant.reads c.feed_at.ensures.made
+
 pub loop-buffer-preserved : goal.loop-buffer-preserved
 loop-buffer-preserved g c =
     let i = c.loop-buffer.invariant in
@@ -44,6 +49,7 @@ loop-buffer-preserved g c =
           fed_to c.feed_at.new.reader old mid c.in_ok-after.field-0 (Some c.in-Some.after) same c.in-Some.is (c.in_ok-after.ensures.fed (i.keeps.honest.0 honest) (fed_on c.loop-buffer.reader old mid c.loop-buffer.at same (i.fed honest fed)));
       count = c.in_ok-after.ensures.device ∙ i.count;
       keeps = keeps_then g.D.Disk.kind c.args.disk.now c.loop-buffer.disk c.feed_at.new.disk i.keeps c.in_ok-after.ensures.keeps;
+      reads = one_more c.args.disk.now c.loop-buffer.disk c.feed_at.new.disk i.reads c.feed_at.ensures.made;
     }
 
 pub returns-clause-fed : goal.returns-clause-fed
@@ -56,3 +62,6 @@ returns-clause-fed g c = λ honest fed.
 
 pub returns-clause-keeps : goal.returns-clause-keeps
 returns-clause-keeps g c = keeps_then g.D.Disk.kind c.args.disk.now c.loop-buffer.disk c.feed_at.new.disk c.loop-buffer.invariant.keeps c.in_ok-after.ensures.keeps
+
+pub returns-clause-reads : goal.returns-clause-reads
+returns-clause-reads g c = one_more c.args.disk.now c.loop-buffer.disk c.feed_at.new.disk c.loop-buffer.invariant.reads c.feed_at.ensures.made

@@ -1,5 +1,6 @@
 use Rattle.std.proofs.Common.{◌≡◌, ℕ, ◌-◌, ◌<◌, ◌^◌, [], length, take}
 use Rattle.moo_dbtext_read.specs.Feeding.{HasFed}
+use Rattle.moo_disk.specs.Disk.{OnlyReads}
 use Rattle.moo_checkpoint.specs.Recovering.{Keeps}
 use Rattle.moo_checkpoint.proofs.recovery.feed_main.Given as goal
 
@@ -10,6 +11,7 @@ invariant-loop-buffer g l = record {
   fed : g.D.Disk.kind.honest l.fn.disk → HasFed l.fn.reader [] → HasFed l.reader (take l.at (g.D.Disk.kind.view l.fn.disk).main_text);
   count : g.D.Disk.kind.failures l.disk ≡ g.D.Disk.kind.failures l.fn.disk;
   keeps : Keeps g.D.Disk.kind l.fn.disk l.disk;
+  reads : OnlyReads g.D.Disk.kind l.fn.disk l.disk;
 }
 
 abbrev pub decreases-loop-buffer : goal.decreases-loop-buffer

@@ -5,7 +5,7 @@ use Rattle.std.proofs.lemmas.Option.{slice_get-get_or}
 use Rattle.moo_server_core.specs.declared.life.Life.{Life}
 use Rattle.moo_server_core.specs.declared.life.LifeBegin.{LifeBegin}
 use Rattle.moo_server_core.specs.Lives.{SoFar}
-use Rattle.moo_server_core.proofs.Living.{so_far_more, so_far_none, meets_of}
+use Rattle.moo_server_core.proofs.Living.{so_far_more, so_far_none}
 use Rattle.moo_server_core.proofs.lives.run_lives.Goals as goal
 
 pub loop-place-init : goal.loop-place-init
@@ -35,13 +35,17 @@ returns-clause-lives g c = λ h s spells only. (
 )
 
 pub returns-then-is_err-clause-fault : goal.returns-then-is_err-clause-fault
-returns-then-is_err-clause-fault g c = λ h s spells only. record {
-  place = c.loop-place-test.true;
-  begins = c.loop-place.begins.items;
-  disk = c.loop-place.disk;
-  so_far = c.loop-place.invariant h s spells only;
-  meets = tt;
-}
+returns-then-is_err-clause-fault g c = λ h s spells only.
+    let lived = c.in-Ok.ensures.lived in
+    record {
+      place = c.loop-place-test.true;
+      begins = c.loop-place.begins.items;
+      disk = c.loop-place.disk;
+      so_far = c.loop-place.invariant h s spells only;
+      life = c.index-lives-place.result;
+      life_is = slice_get-get_or c.args.lives.now c.loop-place.place c.index-lives-place.result c.loop-place-test.true ∙ ap Some (sym c.index-lives-place.is);
+      meets = (lived.0, c.in-Ok.left, c.in-Ok.begin, lived.1, lived.2);
+    }
 
 pub returns-in-Err-clause-fault : goal.returns-in-Err-clause-fault
 returns-in-Err-clause-fault g c = λ h s spells only. record {
@@ -49,7 +53,7 @@ returns-in-Err-clause-fault g c = λ h s spells only. record {
   begins = c.loop-place.begins.items;
   disk = c.loop-place.disk;
   so_far = c.loop-place.invariant h s spells only;
-  meets = meets_of g.S.Application.layer g.D.Disk.kind g.D.CrashDisk.images c.args.lives.now c.loop-place.place c.index-lives-place.result c.loop-place.disk c.in-Err.cause
-      (slice_get-get_or c.args.lives.now c.loop-place.place c.index-lives-place.result c.loop-place-test.true ∙ ap Some (sym c.index-lives-place.is))
-      c.in-Err.ensures.met;
+  life = c.index-lives-place.result;
+  life_is = slice_get-get_or c.args.lives.now c.loop-place.place c.index-lives-place.result c.loop-place-test.true ∙ ap Some (sym c.index-lives-place.is);
+  meets = c.in-Err.ensures.met;
 }

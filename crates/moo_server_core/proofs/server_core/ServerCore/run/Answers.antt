@@ -23,7 +23,7 @@ loop-done-preserved g c =
     let lt = c.loop-done-test.true in
     record {
       goes = goes_more g.S.Application.layer g.D.Disk.kind c.args.self.now c.loop-done.self c.take.new.self c.args.disk.now c.loop-done.disk c.take.new.disk c.args.events.now c.loop-done.done
-          c.index-events-done.result lt c.index-events-done.is inv.alive (λ nothing. ⊎_elim facts.still facts.idle nothing) facts.honest.0 inv.goes facts.takes;
+          c.index-events-done.result lt c.index-events-done.is inv.alive (λ nothing. ⊎_elim facts.still facts.idle nothing) facts.call facts.honest.0 inv.goes facts.takes;
       follows = facts.follows;
       alive = facts.takes.5;
       still = λ all. facts.still (λ flush. all c.loop-done.done c.index-events-done.result lt (ap seen (sym c.index-events-done.is) ∙ flush)) ∙ inv.still all;
@@ -40,7 +40,7 @@ pub returns-in-Err-clause-ran : goal.returns-in-Err-clause-ran
 returns-in-Err-clause-ran g c =
     let inv = c.loop-done.invariant in
     run_stops g.S.Application.layer g.D.Disk.kind c.args.self.now c.loop-done.self c.take.new.self c.args.disk.now c.loop-done.disk c.take.new.disk c.args.events.now c.loop-done.done
-    c.index-events-done.result c.in-Err.cause c.loop-done-test.true c.index-events-done.is (cc) inv.alive c.take.ensures.at_most_once (λ nothing. ⊎_elim c.take.ensures.still c.take.ensures.idle nothing)
+    c.index-events-done.result c.in-Err.cause c.loop-done-test.true c.index-events-done.is (cc) inv.alive c.take.ensures.at_most_once c.take.ensures.calls (λ nothing. ⊎_elim c.take.ensures.still c.take.ensures.idle nothing)
     (λ is. c.in-Err.ensures.memory (ap Err is)) (λ is. c.in-Err.ensures.wanting (ap Err is)) c.in-Err.ensures.refused inv.goes
 
 pub returns-clause-halted : goal.returns-clause-halted

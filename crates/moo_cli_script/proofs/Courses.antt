@@ -10,7 +10,7 @@ use Rattle.moo_dbtext_read.specs.Saved.{Saved}
 use Rattle.moo_server_core.specs.Application.{Layer, Output, silence, then_out}
 use Rattle.moo_server_core.specs.Meaning.{Entry}
 use Rattle.moo_server_core.specs.Seen.{Event, seen}
-use Rattle.moo_server_core.specs.Server.{Hands, Runs, entries_of}
+use Rattle.moo_server_core.specs.Server.{Hands, Runs, entries_of, with_disk}
 use Rattle.moo_server_core.specs.Calls.{Call, Calls, HandsOn, IsCallOf, Lent, One, Other, lent}
 use Rattle.moo_server_core.specs.declared.event.Event as given
 use Rattle.moo_server_core.specs.declared.server_core.ServerCore.{ServerCore}
@@ -71,7 +71,7 @@ module _ {S Application : Type 0} (l : Layer S Application Saved) where
   LentCall = Call S LentDisk
 
   abbrev Chain : ServerCore S → LentDisk → List LentCall → ServerCore S → LentDisk → List (Entry Saved) → Type 0
-  Chain before old calls after new entries = Calls l script_kind script_kind before old calls after new entries
+  Chain before old calls after new entries = Calls l script_kind script_kind (with_disk before old) calls (with_disk after new) entries
 
   course_none : (server : ServerCore S) (disk : ScriptDisk) → Course l server disk [] server disk
   course_none server disk = record {
@@ -121,7 +121,7 @@ module _ {S Application : Type 0} (l : Layer S Application Saved) where
 
   -- one call of one event
   course_one : (before after : ServerCore S) (old new : ScriptDisk) (event : given.Event)
-      → Runs l script_kind before after old new (event ∷ []) (Ok 1) → Course l before old (seen event ∷ []) after new
+      → Runs l script_kind (with_disk before old) (with_disk after new) (event ∷ []) (Ok 1) → Course l before old (seen event ∷ []) after new
   course_one before after old new event runs = record {
     calls = record { handed = silence; before = before; old = One old; events = event ∷ []; done = 1; entries = entries_of runs.ran.taken; server = after; disk = One new } ∷ [];
     entries = entries_of runs.ran.taken;

@@ -6,7 +6,7 @@ use Rattle.moo_disk.specs.Disk.{DiskKind}
 use Rattle.moo_server_core.specs.declared.server_core.Open.{Open}
 use Rattle.moo_server_core.specs.declared.server_core.ServerCore.{ServerCore}
 use Rattle.moo_server_core.specs.Meaning.{State}
-use Rattle.moo_server_core.specs.Server.{Follows, Hands, OpenFollows, Same, waiting_of}
+use Rattle.moo_server_core.specs.Server.{Follows, Hands, OpenFollows, Same, waiting_of, with_disk}
 use Rattle.std.specs.Prelude.{Result, Ok, Err, OnOk}
 use Rattle.std.proofs.lemmas.Bool.{cases_lt}
 use Rattle.std.proofs.KnownBytes.{Appends-trans}
@@ -48,7 +48,7 @@ module _ {S Application : Type 0} (l : Layer S Application Saved) where
   }
 
   pub follows_same : {D : Type 0} (kind : DiskKind D) (one other : ServerCore S) (disk : D) → Same l one other
-      → Follows l kind one disk → Follows l kind other disk
+      → Follows l kind (with_disk one disk) → Follows l kind (with_disk other disk)
   follows_same kind one other disk same follows = record {
     still = same.under_way follows.still;
     continues = subst (λ (w : Option Open). OpenFollows kind w disk) (sym same.writing) follows.continues;
@@ -100,7 +100,7 @@ module _ {S Application : Type 0} (l : Layer S Application Saved) where
 
   pub fits_handed : (old new : Script S) → Fits l old → HandsOut l old new → new.moment ≡ old.moment → Fits l new
   fits_handed old new fits hands moment = record {
-    follows = subst (λ (d : ScriptDisk). Follows l script_kind new.server d) (sym hands.disk)
+    follows = subst (λ (d : ScriptDisk). Follows l script_kind (with_disk new.server d)) (sym hands.disk)
         (follows_same script_kind old.server new.server old.disk hands.same fits.follows);
     alive = hands.same.halted ∙ fits.alive;
     moment_is = moment ∙ fits.moment_is ∙ sym (ap (λ (s : State Application). s.moment) hands.same.state);

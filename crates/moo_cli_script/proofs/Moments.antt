@@ -8,7 +8,7 @@ use Rattle.moo_server_core.specs.Courses.{is_closing}
 use Rattle.moo_server_core.specs.Traces.{Report}
 use Rattle.moo_server_core.specs.Seen.{Event, Open, Bytes, Hangup, Moment, Flush, is_flush, seen}
 use Rattle.moo_server_core.specs.Meaning.{Acts, Entry, Hears, Marks, Passes, Reports, Run, State, Steps, Takes, is_done, refusal_in}
-use Rattle.moo_server_core.specs.Server.{IsAlive, Runs, entries_of, state_of}
+use Rattle.moo_server_core.specs.Server.{IsAlive, Runs, entries_of, state_of, with_disk}
 use Rattle.moo_server_core.proofs.Running.{lived_of}
 use Rattle.moo_server_core.specs.declared.event.Course.{Course}
 use Rattle.moo_server_core.specs.declared.event.Course.TheVariants.{Running, Closing, Closed}
@@ -76,7 +76,7 @@ module _ {Application Saved : Type 0} (m : Meaning Application Saved) where
 
 -- a run of one event that was taken
 pub run_at : {S Application D : Type 0} (l : Layer S Application Saved) (kind : DiskKind D) (before after : ServerCore S) (old new : D) (e : given.Event)
-    → Runs l kind before after old new (e ∷ []) (Ok 1) → IsAlive after → after.moment ≡ moment_at before.course (seen e) before.moment
+    → Runs l kind (with_disk before old) (with_disk after new) (e ∷ []) (Ok 1) → IsAlive after → after.moment ≡ moment_at before.course (seen e) before.moment
 run_at l kind before after old new e runs alive =
     let lived = lived_of l kind before after old new (e ∷ []) 1 runs.ran in
     ap (λ s. s.moment) (lived.state alive)

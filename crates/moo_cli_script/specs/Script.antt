@@ -13,7 +13,7 @@ use Rattle.moo_checkpoint.specs.declared.open_fault.OpenFault.{OpenFault}
 use Rattle.moo_checkpoint.specs.declared.open_fault.OpenFault.TheVariants as opening_fault
 use Rattle.moo_server_core.specs.Application.{Layer, Output}
 use Rattle.moo_server_core.specs.Seen.{Event, Open, Bytes, Hangup, Moment, Flush, seen}
-use Rattle.moo_server_core.specs.Server.{Follows, Hands, IsAlive, Runs, Same, waiting_of}
+use Rattle.moo_server_core.specs.Server.{Follows, Hands, IsAlive, Runs, Same, waiting_of, with_disk}
 use Rattle.moo_server_core.specs.Calls.{Opened}
 use Rattle.moo_server_core.specs.declared.event.Event as given
 use Rattle.moo_server_core.specs.declared.event.Cause.{Cause}
@@ -77,7 +77,7 @@ top_behind event top = top
 module _ {S Application : Type 0} (l : Layer S Application Saved) where
   -- the server isn't halted and goes on with its disk, and its moment is known
   pub record Fits (script : Script S) : Type 0 where
-    pub follows : Follows l script_kind script.server script.disk
+    pub follows : Follows l script_kind (with_disk script.server script.disk)
     pub alive : IsAlive script.server
     pub moment_is : script.moment ≡ script.server.moment
     pub top_fits : script.top ≤ 65536
@@ -86,7 +86,7 @@ module _ {S Application : Type 0} (l : Layer S Application Saved) where
   pub record IsRun (event : Event) (old new : Script S) (result : Result ℕ RunFault) : Type 0 where
     pub given_event : given.Event
     pub event_is : seen given_event ≡ event
-    pub runs : Runs l script_kind old.server new.server old.disk new.disk (given_event ∷ []) result
+    pub runs : Runs l script_kind (with_disk old.server old.disk) (with_disk new.server new.disk) (given_event ∷ []) result
     pub still : event ≢ Flush → new.disk ≡ old.disk
 
   -- an event was taken

@@ -8,7 +8,7 @@ use Rattle.moo_server_core.specs.Application.{Layer, Output, silence, then_out}
 use Rattle.moo_server_core.specs.Meaning.{Entry, out_of}
 use Rattle.moo_server_core.specs.Seen.{seen as seen_event}
 use Rattle.moo_server_core.specs.Seen as seen
-use Rattle.moo_server_core.specs.Server.{Follows, Hands, OpenFollows, Ran, Runs, Same, entries_of, waiting_of}
+use Rattle.moo_server_core.specs.Server.{Follows, Hands, OpenFollows, Ran, Runs, Same, entries_of, waiting_of, with_disk}
 use Rattle.moo_server_core.specs.Calls.{Call, Calls, IsCallOf, Lent, One, Other}
 use Rattle.moo_server_core.specs.declared.event.Event.{Event}
 use Rattle.moo_server_core.specs.declared.event.Event.TheVariants as the
@@ -58,7 +58,7 @@ module _ {S Application : Type 0} (l : Layer S Application Saved) where
 
   -- a server goes on with its disk where some of what waits was handed out
   pub follows_on : {D : Type 0} (kind : DiskKind D) (h : Output) (one other : ServerCore S) (disk : D)
-      → Hands l h one other → Follows l kind one disk → Follows l kind other disk
+      → Hands l h one other → Follows l kind (with_disk one disk) → Follows l kind (with_disk other disk)
   follows_on kind h one other disk hands f = record {
     still = hands.same.under_way f.still;
     continues = subst (λ (w : Option Open). OpenFollows kind w disk) (sym hands.same.writing) f.continues;
@@ -69,7 +69,7 @@ module _ {S Application : Type 0} (l : Layer S Application Saved) where
     LentCall = Call S (Lent D D)
 
     abbrev Chain : ServerCore S → Lent D D → List LentCall → ServerCore S → Lent D D → List (Entry Saved) → Type 0
-    Chain before old calls after new entries = Calls l kind kind before old calls after new entries
+    Chain before old calls after new entries = Calls l kind kind (with_disk before old) calls (with_disk after new) entries
 
     pub course_none : (server : ServerCore S) (disk : D) → Course l kind server disk [] server disk
     course_none server disk = record {
@@ -102,7 +102,7 @@ module _ {S Application : Type 0} (l : Layer S Application Saved) where
 
     -- one call of one event
     pub course_one : (before after : ServerCore S) (old new : D) (event : Event) (done : ℕ)
-        → (ran : Ran l kind before after old new (event ∷ []) done) → (kind.honest old → kind.honest new)
+        → (ran : Ran l kind (with_disk before old) (with_disk after new) (event ∷ []) done) → (kind.honest old → kind.honest new)
         → Course l kind before old (take done (event ∷ [])) after new
     course_one before after old new event done ran still = record {
       calls = record { handed = silence; before = before; old = One old; events = event ∷ []; done = done; entries = entries_of ran.taken; server = after; disk = One new } ∷ [];
@@ -125,9 +125,9 @@ module _ {S Application : Type 0} (l : Layer S Application Saved) where
     -- a run that refused it
     pub course_refused : (before after : ServerCore S) (old new : D) (event : Event) (events : List Event) (fault : RunFault)
         → events ≡ event ∷ [] → (kind.honest old → kind.honest new)
-        → Runs l kind before after old new events (Err fault) → Course l kind before old (take fault.done (event ∷ [])) after new
+        → Runs l kind (with_disk before old) (with_disk after new) events (Err fault) → Course l kind before old (take fault.done (event ∷ [])) after new
     course_refused before after old new event events fault is still runs =
-        course_one before after old new event fault.done (subst (λ (es : List Event). Runs l kind before after old new es (Err fault)) is runs).ran still
+        course_one before after old new event fault.done (subst (λ (es : List Event). Runs l kind (with_disk before old) (with_disk after new) es (Err fault)) is runs).ran still
 
     -- ---- two, one behind the other
 
@@ -252,7 +252,7 @@ module _ {S Application : Type 0} (l : Layer S Application Saved) where
 
     -- a run that took its only event; then what waited for one who hung up is dropped
     given_ran : (before mid after : ServerCore S) (old new : D) (event : Event) (done : ℕ)
-        → (ran : Ran l kind before mid old new (event ∷ []) done) → done ≡ 1 → (kind.honest old → kind.honest new) → ((h : Output) × Hands l h mid after)
+        → (ran : Ran l kind (with_disk before old) (with_disk mid new) (event ∷ []) done) → done ≡ 1 → (kind.honest old → kind.honest new) → ((h : Output) × Hands l h mid after)
         → ((c : ℕ) → (waiting_of l after).sent c ≡ (if hangs_up c (seen_event event) then [] else (waiting_of l mid).sent c))
         → (waiting_of l after).logged ≡ (waiting_of l mid).logged
         → Given l kind before old (take done (event ∷ [])) after new
@@ -270,11 +270,11 @@ module _ {S Application : Type 0} (l : Layer S Application Saved) where
 
     pub given_one : (before mid after : ServerCore S) (old new : D) (event : Event) (events : List Event) (done : ℕ)
         → events ≡ event ∷ [] → done ≡ length events → (kind.honest old → kind.honest new)
-        → Runs l kind before mid old new events (Ok done) → ((h : Output) × Hands l h mid after)
+        → Runs l kind (with_disk before old) (with_disk mid new) events (Ok done) → ((h : Output) × Hands l h mid after)
         → ((c : ℕ) → (waiting_of l after).sent c ≡ (if hangs_up c (seen_event event) then [] else (waiting_of l mid).sent c))
         → (waiting_of l after).logged ≡ (waiting_of l mid).logged
         → Given l kind before old (event ∷ []) after new
     given_one before mid after old new event events done is all still runs dropped left log =
         let one : done ≡ 1 = all ∙ ap (λ (es : List Event). length es) is in
         subst (λ (n : ℕ). Given l kind before old (take n (event ∷ [])) after new) one
-        (given_ran before mid after old new event done (subst (λ (es : List Event). Runs l kind before mid old new es (Ok done)) is runs).ran one still dropped left log)
+        (given_ran before mid after old new event done (subst (λ (es : List Event). Runs l kind (with_disk before old) (with_disk mid new) es (Ok done)) is runs).ran one still dropped left log)

@@ -5,7 +5,7 @@ use Rattle.moo_dbtext_read.specs.Saved.{Saved, SpellsSavedWithin}
 use Rattle.moo_server_core.specs.Application.{Layer}
 use Rattle.moo_server_core.specs.Meaning.{Entry}
 use Rattle.moo_server_core.specs.Calls.{Call, Calls, Lent, One, Opened, StartsAgain, lent}
-use Rattle.moo_server_core.specs.Server.{state_of}
+use Rattle.moo_server_core.specs.Server.{state_of, with_disk}
 use Rattle.moo_server_core.specs.declared.server_core.ServerCore.{ServerCore}
 use Rattle.moo_cli_serve.specs.Found.{FindsAgain, ServedTo, clock_after, entries_in}
 
@@ -14,7 +14,7 @@ module _ {S Application D : Type 0} (l : Layer S Application Saved) (kind : Disk
   LentCall = Call S (Lent D D)
 
   abbrev Chain : ServerCore S → Lent D D → List LentCall → ServerCore S → Lent D D → List (Entry Saved) → Type 0
-  Chain before old calls after new entries = Calls l kind kind before old calls after new entries
+  Chain before old calls after new entries = Calls l kind kind (with_disk before old) calls (with_disk after new) entries
 
   all_entries : (calls : List LentCall) (before after : ServerCore S) (old new : Lent D D) (entries : List (Entry Saved))
       → Chain before old calls after new entries → entries ≡ entries_in calls

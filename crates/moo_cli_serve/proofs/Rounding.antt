@@ -7,7 +7,7 @@ use Rattle.moo_cli_sockets.proofs.Counting.{each_map}
 use Rattle.moo_disk.specs.Disk.{DiskKind}
 use Rattle.moo_dbtext_read.specs.Saved.{Saved}
 use Rattle.moo_server_core.specs.Application.{Layer, Output}
-use Rattle.moo_server_core.specs.Server.{Follows, Hands}
+use Rattle.moo_server_core.specs.Server.{Follows, Hands, with_disk}
 use Rattle.moo_server_core.specs.declared.event.Event.{Event}
 use Rattle.moo_server_core.specs.declared.event.Event.TheVariants as the
 use Rattle.moo_server_core.specs.declared.server_core.ServerCore.{ServerCore}
@@ -60,7 +60,7 @@ module _ {S Application D : Type 0} (l : Layer S Application Saved) (kind : Disk
       → ((h : Output) × Hands l h one two) → (events : List Event) × Course l kind before old events two new
   course_end before one two old new first handed = (first.0, course_hands l kind before one two old new first.0 handed.0 first.1 handed.1)
 
-  pub follows_end : (one two : ServerCore S) (disk : D) → Follows l kind one disk → ((h : Output) × Hands l h one two) → Follows l kind two disk
+  pub follows_end : (one two : ServerCore S) (disk : D) → Follows l kind (with_disk one disk) → ((h : Output) × Hands l h one two) → Follows l kind (with_disk two disk)
   follows_end one two disk follows handed = follows_on l kind handed.0 one two disk handed.1 follows
 
   -- events behind others, and a server and a disk that are then the same
@@ -84,6 +84,6 @@ module _ {S Application D : Type 0} (l : Layer S Application Saved) (kind : Disk
         (subst (λ (d : D). Course l kind before old course.0 after d) (sym same') course.1),
   )
 
-  pub follows_steps : (after : ServerCore S) (new : D) (server : ServerCore S) (disk : D) → server ≡ after → disk ≡ new → Follows l kind after new → Follows l kind server disk
+  pub follows_steps : (after : ServerCore S) (new : D) (server : ServerCore S) (disk : D) → server ≡ after → disk ≡ new → Follows l kind (with_disk after new) → Follows l kind (with_disk server disk)
   follows_steps after new server disk same same' follows =
-      subst (λ (s : ServerCore S). Follows l kind s disk) (sym same) (subst (λ (d : D). Follows l kind after d) (sym same') follows)
+      subst (λ (s : ServerCore S). Follows l kind (with_disk s disk)) (sym same) (subst (λ (d : D). Follows l kind (with_disk after d)) (sym same') follows)

@@ -5,7 +5,7 @@ use Rattle.moo_dbtext_read.specs.Saved.{Saved}
 use Rattle.moo_server_core.specs.Application.{Layer, Output}
 use Rattle.moo_server_core.specs.Meaning.{Entry, out_of}
 use Rattle.moo_server_core.specs.Seen as seen
-use Rattle.moo_server_core.specs.Server.{Hands, waiting_of}
+use Rattle.moo_server_core.specs.Server.{Hands, waiting_of, with_disk}
 use Rattle.moo_server_core.specs.Calls.{Call, Calls, Lent, One}
 use Rattle.moo_server_core.specs.declared.event.Event.{Event}
 use Rattle.moo_server_core.specs.declared.server_core.ServerCore.{ServerCore}
@@ -28,7 +28,7 @@ pub record Course {S Application D : Type 0} (l : Layer S Application Saved) (ki
   pub entries : List (Entry Saved)
   pub last : ServerCore S
   pub handed : Output
-  pub chain : Calls l kind kind before (One old) calls last (One new) entries
+  pub chain : Calls l kind kind (with_disk before (One old)) calls (with_disk last (One new)) entries
   pub single : AreSingle calls
   pub taken : events ≡ taken_in calls
   pub hands : Hands l handed last after

@@ -13,7 +13,7 @@ use Rattle.moo_server_core.specs.Application.{Layer, Output}
 use Rattle.moo_cli_sockets.specs.declared.socket.Socket.{Socket}
 use Rattle.moo_cli_sockets.specs.Coming.{held}
 use Rattle.moo_server_core.specs.Calls.{Opened}
-use Rattle.moo_server_core.specs.Server.{Hands, Runs}
+use Rattle.moo_server_core.specs.Server.{Hands, Runs, with_disk}
 use Rattle.moo_server_core.specs.declared.event.Cause.{Cause}
 use Rattle.moo_server_core.specs.declared.event.Event.{Event}
 use Rattle.moo_server_core.specs.declared.event.RunFault.{RunFault}
@@ -117,7 +117,7 @@ module _ {S Application D : Type 0} (l : Layer S Application Saved) (kind : Disk
     pub gives : Given l kind before old taken mid between
     pub fault : RunFault
     pub left : inner.ServerCore S
-    pub runs : Runs l kind mid left between new (event ∷ []) (Err fault)
+    pub runs : Runs l kind (with_disk mid between) (with_disk left new) (event ∷ []) (Err fault)
     pub cause_is : fault.cause ≡ cause
     pub handed : (handed : Output) × Hands l handed left after
 

@@ -57,7 +57,7 @@ pub struct Serving<S: StartApplication, D: Disk> {
 
 impl<S: StartApplication, D: Disk + Watched> Serving<S, D> {
     ghost use Rattle.std.specs.Prelude.{◌⊎◌, ◌↔◌, List, IfErr, IfOk, IsTrue, OnOk, false};
-    ghost use Rattle.moo_server_core.specs.Server.{Follows};
+    ghost use Rattle.moo_server_core.specs.Server.{Follows, with_disk};
     ghost use Rattle.moo_server_core.specs.declared.event.Event as given;
     ghost use Rattle.moo_cli_serve.specs.Course.{Course};
     ghost use Rattle.moo_cli_serve.specs.Rounds.{IsClosed, Rounds};
@@ -79,7 +79,7 @@ impl<S: StartApplication, D: Disk + Watched> Serving<S, D> {
     where
         D: Drop,
         ensures begun { IfOk result (Begun S.layer D.kind disk most_waiting) }
-        ensures follows { IfOk result (λ serving. Follows S.layer D.kind serving.server serving.disk) }
+        ensures follows { IfOk result (λ serving. Follows S.layer D.kind (with_disk serving.server serving.disk)) }
         ensures refused { IfErr result (NotStarted S.layer D.kind disk) }
     {
         let mut disk = disk;
@@ -111,8 +111,8 @@ impl<S: StartApplication, D: Disk + Watched> Serving<S, D> {
     /// Makes at most so many rounds, and waits after each that found nothing. Ends early once the server is closed, or with the
     /// reason of a fault.
     pub fn serve<L: Clock + Log>(&mut self, rt: &L, rounds: u64) -> Result<(), ServeFault>
-        requires { Follows S.layer D.kind self.old.server self.old.disk }
-        ensures follows { Follows S.layer D.kind self.new.server self.new.disk }
+        requires { Follows S.layer D.kind (with_disk self.old.server self.old.disk) }
+        ensures follows { Follows S.layer D.kind (with_disk self.new.server self.new.disk) }
         ensures course { (events : List given.Event) × Course S.layer D.kind self.old.server self.old.disk events self.new.server self.new.disk }
         ensures served { OnOk result (IsServed S.layer D.kind rounds self.old self.new) }
         ensures ended { IfErr result (λ fault. BreaksOff S.layer D.kind rounds fault self.old self.new) }
@@ -128,8 +128,8 @@ impl<S: StartApplication, D: Disk + Watched> Serving<S, D> {
 
     // Makes a round, and waits if it found nothing. Returns whether the server goes on.
     fn step<L: Clock + Log>(&mut self, rt: &L) -> Result<bool, ServeFault>
-        requires { Follows S.layer D.kind self.old.server self.old.disk }
-        ensures follows { Follows S.layer D.kind self.new.server self.new.disk }
+        requires { Follows S.layer D.kind (with_disk self.old.server self.old.disk) }
+        ensures follows { Follows S.layer D.kind (with_disk self.new.server self.new.disk) }
         ensures course { (events : List given.Event) × Course S.layer D.kind self.old.server self.old.disk events self.new.server self.new.disk }
         ensures goes { IfOk result (λ goes. goes ≡ true → Steps S.layer D.kind self.old self.new) }
         ensures over { IfOk result (λ goes. goes ≡ false → IsClosed self.new.server × ((self.new ≡ self.old) ⊎ Steps S.layer D.kind self.old self.new)) }
@@ -151,8 +151,8 @@ impl<S: StartApplication, D: Disk + Watched> Serving<S, D> {
     /// Does nothing once the server is closed.
     #[tactic(none)]
     pub fn round<L: Clock + Log>(&mut self, rt: &L) -> Result<Round, ServeFault>
-        requires { Follows S.layer D.kind self.old.server self.old.disk }
-        ensures follows { Follows S.layer D.kind self.new.server self.new.disk }
+        requires { Follows S.layer D.kind (with_disk self.old.server self.old.disk) }
+        ensures follows { Follows S.layer D.kind (with_disk self.new.server self.new.disk) }
         ensures course { (events : List given.Event) × Course S.layer D.kind self.old.server self.old.disk events self.new.server self.new.disk }
         ensures round { OnOk result ((IsClosed self.old.server × (self.new ≡ self.old)) ⊎ Turns S.layer D.kind self.old self.new) }
         ensures over { IfOk result (λ found. (found ≡ Round.Over) ↔ IsClosed self.new.server) }
@@ -171,8 +171,8 @@ impl<S: StartApplication, D: Disk + Watched> Serving<S, D> {
     // Makes a round of a server that isn't closed.
     #[tactic(none)]
     fn turn<L: Clock + Log>(&mut self, rt: &L) -> Result<(), ServeFault>
-        requires { Follows S.layer D.kind self.old.server self.old.disk }
-        ensures follows { Follows S.layer D.kind self.new.server self.new.disk }
+        requires { Follows S.layer D.kind (with_disk self.old.server self.old.disk) }
+        ensures follows { Follows S.layer D.kind (with_disk self.new.server self.new.disk) }
         ensures course { (events : List given.Event) × Course S.layer D.kind self.old.server self.old.disk events self.new.server self.new.disk }
         ensures round { OnOk result (Rounds S.layer D.kind self.old.most_waiting self.old.moment self.new.moment self.old.server self.new.server self.old.disk self.new.disk
             self.old.sockets.sockets self.new.sockets.sockets) }

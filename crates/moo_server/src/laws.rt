@@ -2,7 +2,7 @@
 ghost use Rattle.std.specs.Prelude.{◌≡◌, ℕ, List, []};
 ghost use Rattle.moo_dbtext_read.specs.Saved.{Saved, SpellsSavedWithin};
 ghost use Rattle.moo_server_core.specs.Meaning.{Entry};
-ghost use Rattle.moo_server_core.specs.Server.{state_of};
+ghost use Rattle.moo_server_core.specs.Server.{state_of, with_disk};
 ghost use Rattle.moo_server_core.specs.Calls.{Call, Calls, Lent, One, Opened, StartsAgain, Stopped, lent};
 ghost use Rattle.moo_server_core.specs.declared.server_core.ServerCore.{ServerCore};
 ghost use Rattle.moo_server.specs.Live.{live_layer};
@@ -33,7 +33,7 @@ pub fn starting_again_reads_a_prefix_since_the_start<D: Disk, E: Disk, F: Disk>(
         (entries : List (Entry Saved)) (saved : Saved) (moment : ℕ)
         → D.kind.honest first → Opened live_layer D.kind start first opened saved moment
         → ((c : List ℕ) → (D.kind.view first).may_leave c → SpellsSavedWithin c saved)
-        → Calls live_layer D.kind E.kind start (One opened) calls end last entries
+        → Calls live_layer D.kind E.kind (with_disk start (One opened)) calls (with_disk end last) entries
         → (found : F) → F.kind.honest found
         → ((lent D.kind E.kind).view last).left_since (D.kind.view first).clock (F.kind.view found).main_text
         → StartsAgain live_layer F.kind (state_of live_layer start) saved [] entries found }

@@ -10,7 +10,7 @@ use Rattle.moo_server_core.specs.Crash.{IsOneOf, texts_of_marks, last_of, since_
 use Rattle.moo_server_core.specs.Meaning.{Entry, State, out_of}
 use Rattle.moo_server_core.specs.declared.server_core.Open as declared
 use Rattle.moo_server_core.specs.declared.server_core.ServerCore.{ServerCore}
-use Rattle.moo_server_core.specs.Server.{Hands, IsAlive, Lived, on_its_way, state_of, text_of_open, traces_under, waiting_of}
+use Rattle.moo_server_core.specs.Server.{Hands, IsAlive, Lived, on_its_way, state_of, text_of_open, traces_under, waiting_of, with_disk}
 use Rattle.moo_server_core.specs.Calls.{Call, Calls, HandsOn, IsCallOf, IsKept, LeavesMarked, Lent, One, Other, StartsAgain, handed_in, lent}
 use Rattle.moo_server_core.proofs.Joining.{Texts, gains_join, gains_less, one_of_left, one_of_right, one_of_either, one_of_last}
 use Rattle.moo_server_core.proofs.Marked.{mark_at, mark_is_prefix}
@@ -54,7 +54,7 @@ module _ {S Application : Type 0} (l : Layer S Application Saved) where
 
   -- what a disk of either type shows is what it shows as one of both
   lived_one : {D E : Type 0} (kind : DiskKind D) (kind' : DiskKind E) (before after : ServerCore S) (old new : D) (es : List (Entry Saved))
-      → Lived l kind before after old new es → Lived l (lent kind kind') before after (One old) (One new) es
+      → Lived l kind (with_disk before old) (with_disk after new) es → Lived l (lent kind kind') (with_disk before (One old)) (with_disk after (One new)) es
   lived_one kind kind' before after old new es lived = record {
     end = lived.end;
     run = lived.run;
@@ -67,7 +67,7 @@ module _ {S Application : Type 0} (l : Layer S Application Saved) where
   }
 
   lived_other : {D E : Type 0} (kind : DiskKind D) (kind' : DiskKind E) (before after : ServerCore S) (old new : E) (es : List (Entry Saved))
-      → Lived l kind' before after old new es → Lived l (lent kind kind') before after (Other old) (Other new) es
+      → Lived l kind' (with_disk before old) (with_disk after new) es → Lived l (lent kind kind') (with_disk before (Other old)) (with_disk after (Other new)) es
   lived_other kind kind' before after old new es lived = record {
     end = lived.end;
     run = lived.run;
@@ -82,7 +82,7 @@ module _ {S Application : Type 0} (l : Layer S Application Saved) where
   module _ {X : Type 0} (kind : DiskKind X) where
     -- what a call did
     pub record Went (call : Call S X) : Type 0 where
-      pub lived : Lived l kind call.before call.server call.old call.disk call.entries
+      pub lived : Lived l kind (with_disk call.before call.old) (with_disk call.server call.disk) call.entries
       pub waiting : waiting_of l call.server ≡ then_out (waiting_of l call.before) (out_of call.entries)
       pub durable : IsAlive call.server → kind.honest call.old → (entry : Entry Saved) → call.entries ≡ entry ∷ [] → entry.report ≡ Some Done
           → (c : List ℕ) → (kind.view call.disk).may_leave c → IsOneOf (on_its_way call.before) c
@@ -95,7 +95,7 @@ module _ {S Application : Type 0} (l : Layer S Application Saved) where
         × (rest : List (Entry Saved)) × Chain call.server call.disk calls after new rest × (entries ≡ call.entries ++ rest)
 
     lived_step : (before after : ServerCore S) (old mid new : X) (es : List (Entry Saved)) → (kind.honest old → kind.honest mid) → HandsOn kind mid new
-        → Lived l kind before after old mid es → Lived l kind before after old new es
+        → Lived l kind (with_disk before old) (with_disk after mid) es → Lived l kind (with_disk before old) (with_disk after new) es
     lived_step before after old mid new es keeps step lived = record {
       end = lived.end;
       run = lived.run;
@@ -114,21 +114,21 @@ module _ {S Application : Type 0} (l : Layer S Application Saved) where
         chain_honest calls call.server after call.disk new chain.3 (chain.2.honest_still (chain.1.honest_still h)) chain.4
 
     pub chain_lived : (calls : List (Call S X)) (before after : ServerCore S) (old new : X) (entries : List (Entry Saved))
-        → Chain before old calls after new entries → Lived l kind before after old new entries
+        → Chain before old calls after new entries → Lived l kind (with_disk before old) (with_disk after new) entries
     chain_lived [] before after old new entries chain =
-        subst (λ (es : List (Entry Saved)). Lived l kind before after old new es) (sym chain.2)
-        (subst (λ (s : ServerCore S). Lived l kind before s old new []) (sym chain.0)
-        (subst (λ (d : X). Lived l kind before before old d []) (sym chain.1) (lived_none l kind before old)))
+        subst (λ (es : List (Entry Saved)). Lived l kind (with_disk before old) (with_disk after new) es) (sym chain.2)
+        (subst (λ (s : ServerCore S). Lived l kind (with_disk before old) (with_disk s new) []) (sym chain.0)
+        (subst (λ (d : X). Lived l kind (with_disk before old) (with_disk before d) []) (sym chain.1) (lived_none l kind before old)))
     chain_lived (call ∷ calls) before after old new entries chain =
         let handed = lived_step before call.before old old call.old [] (λ h. h) chain.1
         (lived_same l kind before before call.before old old [] chain.0.same (lived_none l kind before old)) in
-        subst (λ (es : List (Entry Saved)). Lived l kind before after old new es) (sym chain.5)
+        subst (λ (es : List (Entry Saved)). Lived l kind (with_disk before old) (with_disk after new) es) (sym chain.5)
         (lived_join l kind before call.before after old call.old new [] (call.entries ++ chain.3) chain.1.honest_still handed
         (lived_join l kind call.before call.server after call.old call.disk new call.entries chain.3 chain.2.honest_still chain.2.lived
         (chain_lived calls call.server after call.disk new chain.3 chain.4)))
 
     chain_join : (xs ys : List (Call S X)) (s m e : ServerCore S) (ds dm de : X) (es es' : List (Entry Saved))
-        → Chain s ds xs m dm es → Chain m dm ys e de es' → Lived l kind s e ds de (es ++ es')
+        → Chain s ds xs m dm es → Chain m dm ys e de es' → Lived l kind (with_disk s ds) (with_disk e de) (es ++ es')
     chain_join xs ys s m e ds dm de es es' chain chain' =
         lived_join l kind s m e ds dm de es es' (λ h. chain_honest xs s m ds dm es h chain) (chain_lived xs s m ds dm es chain) (chain_lived ys m e dm de es' chain')
 
@@ -157,7 +157,7 @@ module _ {S Application : Type 0} (l : Layer S Application Saved) where
         one_of_last (since_done [] ts) c (subst (λ (xs : Texts). IsOneOf xs c) (sym (survives.latest (text_of o.checkpoint) refl)) one)
 
     from_none : (start end : ServerCore S) (opened disk : X) (es : List (Entry Saved)) → start.writing ≡ None → kind.honest opened
-        → Lived l kind start end opened disk es → Survives kind opened disk [] (on_its_way end) (traces_under l.meaning es)
+        → Lived l kind (with_disk start opened) (with_disk end disk) es → Survives kind opened disk [] (on_its_way end) (traces_under l.meaning es)
     from_none start end opened disk es none h lived =
         subst (λ (xs : Texts). Survives kind opened disk xs (on_its_way end) (traces_under l.meaning es)) (ap text_of_open none) (lived.survives h)
 
@@ -269,7 +269,7 @@ module _ {S Application : Type 0} (l : Layer S Application Saved) where
     went_of : (call : LentCall) (old new : Lent D E) → IsCallOf l kind kind' call old new
         → Went (lent kind kind') (record call { old = old; disk = new })
     went_of call (One old) (One new) run =
-        let lived = subst (λ (es : List (Entry Saved)). Lived l kind call.before call.server old new es) run.entries
+        let lived = subst (λ (es : List (Entry Saved)). Lived l kind (with_disk call.before old) (with_disk call.server new) es) run.entries
         (lived_of l kind call.before call.server old new call.events call.done run.ran) in
         record {
           lived = lived_one kind kind' call.before call.server old new call.entries lived;
@@ -280,7 +280,7 @@ module _ {S Application : Type 0} (l : Layer S Application Saved) where
           honest_still = run.honest_still;
         }
     went_of call (Other old) (Other new) run =
-        let lived = subst (λ (es : List (Entry Saved)). Lived l kind' call.before call.server old new es) run.entries
+        let lived = subst (λ (es : List (Entry Saved)). Lived l kind' (with_disk call.before old) (with_disk call.server new) es) run.entries
         (lived_of l kind' call.before call.server old new call.events call.done run.ran) in
         record {
           lived = lived_other kind kind' call.before call.server old new call.entries lived;
@@ -294,7 +294,7 @@ module _ {S Application : Type 0} (l : Layer S Application Saved) where
     went_of call (Other old) (One new) run = absurd run
 
     pub chain_of : (calls : List LentCall) (before after : ServerCore S) (old new : Lent D E) (entries : List (Entry Saved))
-        → Calls l kind kind' before old calls after new entries
+        → Calls l kind kind' (with_disk before old) calls (with_disk after new) entries
         → Chain (lent kind kind') before old calls after new entries
     chain_of [] before after old new entries chain = chain
     chain_of (call ∷ calls) before after old new entries chain = (

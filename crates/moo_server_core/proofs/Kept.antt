@@ -7,7 +7,7 @@ use Rattle.moo_server_core.specs.Application.{Layer}
 use Rattle.moo_server_core.specs.Traces.{Trace}
 use Rattle.moo_server_core.specs.Crash.{Survives, since_done}
 use Rattle.moo_server_core.specs.Meaning.{Entry}
-use Rattle.moo_server_core.specs.Server.{Lived, done_of, on_its_way, state_of, text_of_open, traces_under}
+use Rattle.moo_server_core.specs.Server.{Lived, done_of, on_its_way, state_of, text_of_open, traces_under, with_disk}
 use Rattle.moo_server_core.proofs.Joining.{Texts, one_of_left}
 use Rattle.moo_server_core.proofs.Running.{lived_of}
 use Rattle.moo_server_core.proofs.Marked.{IsMarkAt, mark_at, mark_is_prefix, place_done}
@@ -43,8 +43,8 @@ module _ {S Application D : Type 0} (l : Layer S Application Saved) (kind : Disk
       traces : List Trace
       traces = traces_under l.meaning run.entries
 
-      lived : Lived l kind run.start run.end run.opened run.new run.entries
-      lived = subst (λ (es : List (Entry Saved)). Lived l kind run.start run.end run.opened run.new es) is.entries
+      lived : Lived l kind (with_disk run.start run.opened) (with_disk run.end run.new) run.entries
+      lived = subst (λ (es : List (Entry Saved)). Lived l kind (with_disk run.start run.opened) (with_disk run.end run.new) es) is.entries
           (lived_of l kind run.start run.end run.opened run.new run.events (done_of run.result) is.runs.ran)
 
       at_first : (kind.view run.opened).may_leave c → (kind.view run.old).may_leave c

@@ -13,7 +13,7 @@ use Rattle.moo_server_core.specs.Meaning.{Entry, trace_of}
 use Rattle.moo_server_core.specs.declared.event.Event as given
 use Rattle.moo_server_core.specs.declared.event.RunFault.{RunFault}
 use Rattle.moo_server_core.specs.declared.server_core.ServerCore.{ServerCore}
-use Rattle.moo_server_core.specs.Server.{IsAlive, Lived, MarkSpells, MarksSpell, done_of, on_its_way, text_of_open, traces_under}
+use Rattle.moo_server_core.specs.Server.{IsAlive, Lived, MarkSpells, MarksSpell, done_of, on_its_way, text_of_open, traces_under, with_disk}
 use Rattle.moo_server_core.proofs.Joining.{Texts, keeps_all, no_others, one_of_either, over}
 use Rattle.moo_server_core.proofs.Running.{lived_of}
 use Rattle.moo_server_core.specs.declared.life.Life.{Life}
@@ -83,8 +83,8 @@ module _ {S Application : Type 0} (l : Layer S Application Saved) where
     traces_in : LifeRun S D → List Trace
     traces_in run = traces_under l.meaning run.entries
 
-    lived_in : (run : LifeRun S D) → IsLife l kind run → Lived l kind run.start run.end run.opened run.new run.entries
-    lived_in run is = subst (λ (es : List (Entry Saved)). Lived l kind run.start run.end run.opened run.new es) is.entries
+    lived_in : (run : LifeRun S D) → IsLife l kind run → Lived l kind (with_disk run.start run.opened) (with_disk run.end run.new) run.entries
+    lived_in run is = subst (λ (es : List (Entry Saved)). Lived l kind (with_disk run.start run.opened) (with_disk run.end run.new) es) is.entries
         (lived_of l kind run.start run.end run.opened run.new run.events (done_of run.result) is.runs.ran)
 
     -- what a crash leaves behind a life

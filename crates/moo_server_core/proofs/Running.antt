@@ -15,7 +15,7 @@ use Rattle.moo_server_core.specs.declared.event.Cause.{Cause}
 use Rattle.moo_server_core.specs.declared.event.Cause.TheVariants.{NoSuchConnection, ConnectionInUse, ClockBack, Memory}
 use Rattle.moo_server_core.specs.declared.event.Cause.TheVariants.{Halted as halted_cause, Closed as closed_cause}
 use Rattle.moo_server_core.specs.declared.server_core.ServerCore.{ServerCore}
-use Rattle.moo_server_core.specs.Server.{Does, DoesTo, EachDoes, FailsAsReported, Halts, HasCause, IsAlive, Lived, MarksSpell, Ran, Runs, Same, TakenEvent, entries_of, is_refused, on_its_way, state_of, text_of_open, traces_under, turns_of, waiting_of, wants_memory, was_halted}
+use Rattle.moo_server_core.specs.Server.{Does, DoesTo, EachDoes, FailsAsReported, Halts, HasCause, IsAlive, Lived, MarksSpell, Ran, Runs, Same, TakenEvent, entries_of, is_refused, on_its_way, state_of, text_of_open, traces_under, turns_of, waiting_of, wants_memory, was_halted, with_disk}
 use Rattle.moo_server_core.proofs.Joining.{Texts, survives_none, survives_join, gains_less, one_of_left}
 use Rattle.moo_server_core.proofs.Taken.{one_or_none}
 use Rattle.moo_server_core.proofs.Out.{then_silence, then_then}
@@ -57,7 +57,7 @@ module _ {S Application Saved : Type 0} (l : Layer S Application Saved) where
   traces-append es es' = map-append (trace_of l.meaning.text_of) es es'
 
   module _ {D : Type 0} (kind : DiskKind D) where
-    pub lived_none : (server : ServerCore S) (disk : D) → Lived l kind server server disk disk []
+    pub lived_none : (server : ServerCore S) (disk : D) → Lived l kind (with_disk server disk) (with_disk server disk) []
     lived_none server disk = record {
       end = state_of l server;
       run = refl;
@@ -71,8 +71,8 @@ module _ {S Application Saved : Type 0} (l : Layer S Application Saved) where
 
     -- events, and then events
     pub lived_join : (before mid after : ServerCore S) (old between new : D) (es es' : List (Entry Saved)) → (kind.honest old → kind.honest between)
-        → Lived l kind before mid old between es → Lived l kind mid after between new es'
-        → Lived l kind before after old new (es ++ es')
+        → Lived l kind (with_disk before old) (with_disk mid between) es → Lived l kind (with_disk mid between) (with_disk after new) es'
+        → Lived l kind (with_disk before old) (with_disk after new) (es ++ es')
     lived_join before mid after old between new es es' keeps first second = elim (true_or_false mid.halted) [
       | inl halted ↦
           let rests = second.rests halted in
@@ -115,7 +115,7 @@ module _ {S Application Saved : Type 0} (l : Layer S Application Saved) where
 
     -- then nothing but what waits is another
     pub lived_same : (before mid after : ServerCore S) (old new : D) (es : List (Entry Saved)) → Same l mid after
-        → Lived l kind before mid old new es → Lived l kind before after old new es
+        → Lived l kind (with_disk before old) (with_disk mid new) es → Lived l kind (with_disk before old) (with_disk after new) es
     lived_same before mid after old new es same lived = record {
       end = lived.end;
       run = lived.run;
@@ -128,8 +128,8 @@ module _ {S Application Saved : Type 0} (l : Layer S Application Saved) where
     }
 
     -- one event
-    lived_one : (before : ServerCore S) (old : D) (one : TakenEvent S Saved D) → DoesTo l kind before old one
-        → Lived l kind before one.server old one.disk (one.entry ∷ [])
+    lived_one : (before : ServerCore S) (old : D) (one : TakenEvent S Saved D) → DoesTo l kind (with_disk before old) one
+        → Lived l kind (with_disk before old) (with_disk one.server one.disk) (one.entry ∷ [])
     lived_one before old one does_to =
         let does = does_to.does in
         record {
@@ -145,7 +145,7 @@ module _ {S Application Saved : Type 0} (l : Layer S Application Saved) where
 
     -- an event that halts the server
     lived_halt : (before mid after : ServerCore S) (old between new : D) (es : List (Entry Saved)) → (kind.honest old → kind.honest between)
-        → Halts l kind mid after between new → Lived l kind before mid old between es → Lived l kind before after old new es
+        → Halts l kind (with_disk mid between) (with_disk after new) → Lived l kind (with_disk before old) (with_disk mid between) es → Lived l kind (with_disk before old) (with_disk after new) es
     lived_halt before mid after old between new es keeps halts lived = record {
       end = lived.end;
       run = lived.run;
@@ -161,27 +161,27 @@ module _ {S Application Saved : Type 0} (l : Layer S Application Saved) where
 
     -- ---- events, one after another
 
-    honest_each : (taken : List (TakenEvent S Saved D)) (before after : ServerCore S) (old new : D) → EachDoes l kind before old taken after new → kind.honest old → kind.honest new
+    honest_each : (taken : List (TakenEvent S Saved D)) (before after : ServerCore S) (old new : D) → EachDoes l kind (with_disk before old) taken (with_disk after new) → kind.honest old → kind.honest new
     honest_each [] before after old new each h = subst kind.honest (sym each.1) h
     honest_each (one ∷ taken) before after old new each h = honest_each taken one.server after one.disk new each.1 (each.0.honest_still h)
 
-    lived_each : (taken : List (TakenEvent S Saved D)) (before after : ServerCore S) (old new : D) → EachDoes l kind before old taken after new
-        → Lived l kind before after old new (entries_of taken)
+    lived_each : (taken : List (TakenEvent S Saved D)) (before after : ServerCore S) (old new : D) → EachDoes l kind (with_disk before old) taken (with_disk after new)
+        → Lived l kind (with_disk before old) (with_disk after new) (entries_of taken)
     lived_each [] before after old new each =
-        subst (λ (s : ServerCore S). Lived l kind before s old new []) (sym each.0)
-        (subst (λ (d : D). Lived l kind before before old d []) (sym each.1) (lived_none before old))
+        subst (λ (s : ServerCore S). Lived l kind (with_disk before old) (with_disk s new) []) (sym each.0)
+        (subst (λ (d : D). Lived l kind (with_disk before old) (with_disk before d) []) (sym each.1) (lived_none before old))
     lived_each (one ∷ taken) before after old new each =
         lived_join before one.server after old one.disk new (one.entry ∷ []) (entries_of taken) each.0.honest_still
         (lived_one before old one each.0) (lived_each taken one.server after one.disk new each.1)
 
-    waits_each : (taken : List (TakenEvent S Saved D)) (before after : ServerCore S) (old new : D) → EachDoes l kind before old taken after new
+    waits_each : (taken : List (TakenEvent S Saved D)) (before after : ServerCore S) (old new : D) → EachDoes l kind (with_disk before old) taken (with_disk after new)
         → waiting_of l after ≡ then_out (waiting_of l before) (out_of (entries_of taken))
     waits_each [] before after old new each = ap (λ (s : ServerCore S). waiting_of l s) each.0 ∙ sym (then_silence (waiting_of l before))
     waits_each (one ∷ taken) before after old new each =
         waits_each taken one.server after one.disk new each.1 ∙ ap (λ (o : Output). then_out o (out_of (entries_of taken))) each.0.waiting
         ∙ then_then (waiting_of l before) one.entry.out (out_of (entries_of taken))
 
-    done_each : (taken : List (TakenEvent S Saved D)) (before after : ServerCore S) (old new : D) → EachDoes l kind before old taken after new → kind.honest old
+    done_each : (taken : List (TakenEvent S Saved D)) (before after : ServerCore S) (old new : D) → EachDoes l kind (with_disk before old) taken (with_disk after new) → kind.honest old
         → (entry : Entry Saved) → entries_of taken ≡ entry ∷ [] → entry.report ≡ Some Done
         → (c : List ℕ) → (kind.view new).may_leave c → IsOneOf (on_its_way before) c
     done_each [] before after old new each h entry is done_is c left = absurd (cc)
@@ -193,28 +193,28 @@ module _ {S Application Saved : Type 0} (l : Layer S Application Saved) where
     -- ---- a run
 
     -- a run's events are one life
-    pub lived_of : (before after : ServerCore S) (old new : D) (events : List given.Event) (done : ℕ) → (ran : Ran l kind before after old new events done)
-        → Lived l kind before after old new (entries_of ran.taken)
+    pub lived_of : (before after : ServerCore S) (old new : D) (events : List given.Event) (done : ℕ) → (ran : Ran l kind (with_disk before old) (with_disk after new) events done)
+        → Lived l kind (with_disk before old) (with_disk after new) (entries_of ran.taken)
     lived_of before after old new events done ran =
         ⊎_elim
-        (λ same. subst (λ (s : ServerCore S). Lived l kind before s old new (entries_of ran.taken)) (sym same.0)
-        (subst (λ (d : D). Lived l kind before ran.reached old d (entries_of ran.taken)) (sym same.1) so_far))
+        (λ same. subst (λ (s : ServerCore S). Lived l kind (with_disk before old) (with_disk s new) (entries_of ran.taken)) (sym same.0)
+        (subst (λ (d : D). Lived l kind (with_disk before old) (with_disk ran.reached d) (entries_of ran.taken)) (sym same.1) so_far))
         (λ halts. lived_halt before ran.reached after old ran.disk new (entries_of ran.taken)
         (honest_each ran.taken before ran.reached old ran.disk ran.each) halts so_far)
         ran.ends
       where
-        so_far : Lived l kind before ran.reached old ran.disk (entries_of ran.taken)
+        so_far : Lived l kind (with_disk before old) (with_disk ran.reached ran.disk) (entries_of ran.taken)
         so_far = lived_each ran.taken before ran.reached old ran.disk ran.each
 
     -- what its events sent waits
-    pub waits_of : (before after : ServerCore S) (old new : D) (events : List given.Event) (done : ℕ) → (ran : Ran l kind before after old new events done)
+    pub waits_of : (before after : ServerCore S) (old new : D) (events : List given.Event) (done : ℕ) → (ran : Ran l kind (with_disk before old) (with_disk after new) events done)
         → waiting_of l after ≡ then_out (waiting_of l before) (out_of (entries_of ran.taken))
     waits_of before after old new events done ran =
         ⊎_elim (λ same. ap (λ (s : ServerCore S). waiting_of l s) same.0) (λ halts. halts.waiting) ran.ends
         ∙ waits_each ran.taken before ran.reached old ran.disk ran.each
 
     -- after a report done in a run of one event, a crash leaves that checkpoint's text alone
-    pub done_of_one : (before after : ServerCore S) (old new : D) (events : List given.Event) (done : ℕ) → (ran : Ran l kind before after old new events done)
+    pub done_of_one : (before after : ServerCore S) (old new : D) (events : List given.Event) (done : ℕ) → (ran : Ran l kind (with_disk before old) (with_disk after new) events done)
         → IsAlive after → kind.honest old → (entry : Entry Saved) → entries_of ran.taken ≡ entry ∷ [] → entry.report ≡ Some Done
         → (c : List ℕ) → (kind.view new).may_leave c → IsOneOf (on_its_way before) c
     done_of_one before after old new events done ran alive h entry is done_is c left =
@@ -224,15 +224,15 @@ module _ {S Application Saved : Type 0} (l : Layer S Application Saved) where
         ran.ends
 
     -- one event more
-    each_more : (taken : List (TakenEvent S Saved D)) (before mid : ServerCore S) (old between : D) (one : TakenEvent S Saved D) → EachDoes l kind before old taken mid between
-        → DoesTo l kind mid between one → EachDoes l kind before old (taken ++ one ∷ []) one.server one.disk
+    each_more : (taken : List (TakenEvent S Saved D)) (before mid : ServerCore S) (old between : D) (one : TakenEvent S Saved D) → EachDoes l kind (with_disk before old) taken (with_disk mid between)
+        → DoesTo l kind (with_disk mid between) one → EachDoes l kind (with_disk before old) (taken ++ one ∷ []) (with_disk one.server one.disk)
     each_more [] before mid old between one each does = (
-      subst (λ (s : ServerCore S). DoesTo l kind s old one) each.0 (subst (λ (d : D). DoesTo l kind mid d one) each.1 does),
+      subst (λ (s : ServerCore S). DoesTo l kind (with_disk s old) one) each.0 (subst (λ (d : D). DoesTo l kind (with_disk mid d) one) each.1 does),
       (refl, refl),
     )
     each_more (first ∷ taken) before mid old between one each does = (each.0, each_more taken first.server mid first.disk between one each.1 does)
 
-    fails_more : (taken : List (TakenEvent S Saved D)) (before mid : ServerCore S) (old between : D) (one : TakenEvent S Saved D) → EachDoes l kind before old taken mid between
+    fails_more : (taken : List (TakenEvent S Saved D)) (before mid : ServerCore S) (old between : D) (one : TakenEvent S Saved D) → EachDoes l kind (with_disk before old) taken (with_disk mid between)
         → FailsAsReported kind old taken → CountsReport one.entry.report (kind.failures between) (kind.failures one.disk) → FailsAsReported kind old (taken ++ one ∷ [])
     fails_more [] before mid old between one each fails counts =
         (subst (λ (d : D). CountsReport one.entry.report (kind.failures d) (kind.failures one.disk)) each.1 counts, tt)
@@ -243,7 +243,7 @@ module _ {S Application Saved : Type 0} (l : Layer S Application Saved) where
     pub record Goes (before after : ServerCore S) (old new : D) (events : List given.Event) (done : ℕ) : Type 0 where
       pub taken : List (TakenEvent S Saved D)
       pub events_are : map (λ entry. entry.event) (entries_of taken) ≡ map seen (take done events)
-      pub each : EachDoes l kind before old taken after new
+      pub each : EachDoes l kind (with_disk before old) taken (with_disk after new)
       pub fails : FailsAsReported kind old taken
 
     -- what is known of an event that was taken
@@ -273,7 +273,7 @@ module _ {S Application Saved : Type 0} (l : Layer S Application Saved) where
 
     -- all events were taken
     pub runs_all : (before after : ServerCore S) (old new : D) (events : List given.Event) (done : ℕ) → length events ≤ done
-        → Goes before after old new events done → Runs l kind before after old new events (Ok (length events))
+        → Goes before after old new events done → Runs l kind (with_disk before old) (with_disk after new) events (Ok (length events))
     runs_all before after old new events done le goes = record {
       ran = record {
         taken = goes.taken;
@@ -291,7 +291,7 @@ module _ {S Application Saved : Type 0} (l : Layer S Application Saved) where
 
     -- a halted server takes none
     pub runs_halted : (server : ServerCore S) (disk : D) (events : List given.Event) → server.halted ≡ true
-        → Runs l kind server server disk disk events (Err (record { done = 0; cause = halted_cause }))
+        → Runs l kind (with_disk server disk) (with_disk server disk) events (Err (record { done = 0; cause = halted_cause }))
     runs_halted server disk events halted = record {
       ran = record { taken = []; events_are = refl; reached = server; disk = disk; each = (refl, refl); ends = inl (refl, refl) };
       fails = tt;
@@ -303,7 +303,7 @@ module _ {S Application Saved : Type 0} (l : Layer S Application Saved) where
   module _ {D : Type 0} (kind : DiskKind D) (before mid after : ServerCore S) (old between new : D) (events : List given.Event) (done : ℕ) (d : given.Event) where
     -- a run that ends before its last event
     abbrev Ends : Cause → Type 0
-    Ends cause = Runs l kind before after old new events (Err (record { done = done; cause = cause }))
+    Ends cause = Runs l kind (with_disk before old) (with_disk after new) events (Err (record { done = done; cause = cause }))
 
     -- a refused event leaves the run as it was, and a halt all that a crash may leave
     pub run_stops : (cause : Cause) → done < length events → d ≡ get_or events done d → IsAlive before → IsAlive mid
@@ -318,7 +318,7 @@ module _ {S Application Saved : Type 0} (l : Layer S Application Saved) where
         next : slice_get events done ≡ Some d
         next = slice_get-get_or events done d lt ∙ ap Some (sym event_is)
 
-        ended : (cause : Cause) → ((after ≡ mid) × (new ≡ between)) ⊎ Halts l kind mid after between new → HasCause l before mid after (Some d) cause → Ends cause
+        ended : (cause : Cause) → ((after ≡ mid) × (new ≡ between)) ⊎ Halts l kind (with_disk mid between) (with_disk after new) → HasCause l before mid after (Some d) cause → Ends cause
         ended cause ends has = record {
           ran = record { taken = goes.taken; events_are = goes.events_are; reached = mid; disk = between; each = goes.each; ends = ends };
           fails = goes.fails;

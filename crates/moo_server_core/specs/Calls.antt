@@ -8,7 +8,7 @@ use Rattle.moo_server_core.specs.Application.{Layer, Output, silence, then_out}
 use Rattle.moo_server_core.specs.Meaning.{State, Entry, Begins, Run}
 use Rattle.moo_server_core.specs.declared.event.Event as given
 use Rattle.moo_server_core.specs.declared.server_core.ServerCore.{ServerCore}
-use Rattle.moo_server_core.specs.Server.{Hands, IsAlive, Ran, entries_of, state_of, traces_under, waiting_of}
+use Rattle.moo_server_core.specs.Server.{Hands, IsAlive, Ran, WithDisk, entries_of, state_of, traces_under, waiting_of, with_disk}
 
 -- The disk of a call has one of two types. The second may be a wrapper of the first, such as one that makes a call fail.
 pub data Lent (D E : Type 0) : Type 0 where
@@ -78,7 +78,7 @@ module _ {S Application : Type 0} (l : Layer S Application Saved) where
 
   -- the call was a run over such a disk
   pub record IsRun {D : Type 0} (kind : DiskKind D) {X : Type 0} (call : Call S X) (old new : D) : Type 0 where
-    pub ran : Ran l kind call.before call.server old new call.events call.done
+    pub ran : Ran l kind (with_disk call.before old) (with_disk call.server new) call.events call.done
     pub entries : entries_of ran.taken ≡ call.entries
     pub honest_still : kind.honest old → kind.honest new
 
@@ -90,12 +90,12 @@ module _ {S Application : Type 0} (l : Layer S Application Saved) where
 
     -- These calls lead from a server and its disk to another state of both. Between two calls output may be taken, and the disk
     -- be handed on. The entries are those of all their events.
-    abbrev pub Calls : ServerCore S → Lent D E → List (Call S (Lent D E)) → ServerCore S → Lent D E → List (Entry Saved) → Type 0
-    Calls before old [] after new entries = (after ≡ before) × (new ≡ old) × (entries ≡ [])
-    Calls before old (call ∷ calls) after new entries =
-        Hands l call.handed before call.before × HandsOn (lent kind kind') old call.old
+    abbrev pub Calls : WithDisk S (Lent D E) → List (Call S (Lent D E)) → WithDisk S (Lent D E) → List (Entry Saved) → Type 0
+    Calls from [] to entries = (to.server ≡ from.server) × (to.disk ≡ from.disk) × (entries ≡ [])
+    Calls from (call ∷ calls) to entries =
+        Hands l call.handed from.server call.before × HandsOn (lent kind kind') from.disk call.old
         × IsCallOf call call.old call.disk
-        × (rest : List (Entry Saved)) × Calls call.server call.disk calls after new rest × (entries ≡ call.entries ++ rest)
+        × (rest : List (Entry Saved)) × Calls (with_disk call.server call.disk) calls to rest × (entries ≡ call.entries ++ rest)
 
     -- A server was opened over an honest disk and was given calls, and all of it stopped at some moment.
     pub record Stopped : Type 0 where
@@ -114,13 +114,13 @@ module _ {S Application : Type 0} (l : Layer S Application Saved) where
       pub entries : List (Entry Saved)
       pub server : ServerCore S
       pub disk : Lent D E
-      pub before : Calls start (One opened_disk) returned server disk entries
+      pub before : Calls (with_disk start (One opened_disk)) returned (with_disk server disk) entries
       -- the calls after those, in one of which the stop came or after them, the events that they took, and what they left
       pub further : List (Call S (Lent D E))
       pub later : List (Entry Saved)
       pub end : ServerCore S
       pub last : Lent D E
-      pub after : Calls server disk further end last later
+      pub after : Calls (with_disk server disk) further (with_disk end last) later
       -- a text that a crash since the first of these calls may have left under main
       pub left : List ℕ
       pub leaves : ((lent kind kind').view last).left_since ((lent kind kind').view disk).clock left

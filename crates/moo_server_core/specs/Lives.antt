@@ -12,7 +12,7 @@ use Rattle.moo_server_core.specs.Meaning.{Entry}
 use Rattle.moo_server_core.specs.declared.event.Event as given
 use Rattle.moo_server_core.specs.declared.event.RunFault.{RunFault}
 use Rattle.moo_server_core.specs.declared.server_core.ServerCore.{ServerCore}
-use Rattle.moo_server_core.specs.Server.{Follows, IsAlive, Runs, done_of, entries_of, traces_under}
+use Rattle.moo_server_core.specs.Server.{Follows, IsAlive, Runs, done_of, entries_of, traces_under, with_disk}
 use Rattle.moo_server_core.specs.Calls.{Opened}
 use Rattle.moo_server_core.specs.declared.life.Life.{Life}
 use Rattle.moo_server_core.specs.declared.life.LifeBegin.{LifeBegin}
@@ -74,7 +74,7 @@ module _ {S Application : Type 0} (l : Layer S Application Saved) where
     pub saved : Saved
     pub opened : Opened l kind server old new saved moment
     pub text_is : text ≡ l.meaning.text_of saved
-    pub follows : Follows l kind server new
+    pub follows : Follows l kind (with_disk server new)
 
   -- what is returned of a life
   pub record IsTold {D : Type 0} (life : Life) (run : LifeRun S D) (begin : LifeBegin) : Type 0 where
@@ -96,7 +96,7 @@ module _ {S Application : Type 0} (l : Layer S Application Saved) where
       pub opened : Opened l kind life.start life.old life.opened life.saved life.moment
       pub open_counts : kind.failures life.opened ≡ kind.failures life.old
       pub open_spare : kind.honest life.old → KeepsSpare (kind.view life.old) (kind.view life.opened)
-      pub runs : Runs l kind life.start life.end life.opened life.new life.events life.result
+      pub runs : Runs l kind (with_disk life.start life.opened) (with_disk life.end life.new) life.events life.result
       pub entries : entries_of runs.ran.taken ≡ life.entries
       pub all : RanAll life.result life.events life.end
       -- without a `Flush` the disk is as the start left it

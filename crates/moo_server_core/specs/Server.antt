@@ -46,6 +46,14 @@ abbrev pub done_of : Result ℕ RunFault → ℕ
 done_of (Ok done) = done
 done_of (Err fault) = fault.done
 
+-- a server with its disk
+pub record WithDisk (S D : Type 0) : Type 0 where
+  pub server : ServerCore S
+  pub disk : D
+
+abbrev pub with_disk : {S D : Type 0} → ServerCore S → D → WithDisk S D
+with_disk server disk = record { server = server; disk = disk }
+
 -- an event that a run took, with the server and the disk as it left them
 pub record TakenEvent (S Saved D : Type 0) : Type 0 where
   pub entry : Entry Saved
@@ -131,62 +139,62 @@ module _ {S Application Saved : Type 0} (l : Layer S Application Saved) where
   under_way_of server = l.under_way server.sessions
 
   -- No event is being taken, and the disk is as the last call left it, perhaps in a wrapper now.
-  pub record Follows {D : Type 0} (kind : DiskKind D) (server : ServerCore S) (disk : D) : Type 0 where
-    pub still : under_way_of server ≡ silence
-    pub continues : OpenFollows kind server.writing disk
+  pub record Follows {D : Type 0} (kind : DiskKind D) (now : WithDisk S D) : Type 0 where
+    pub still : under_way_of now.server ≡ silence
+    pub continues : OpenFollows kind now.server.writing now.disk
 
   -- What events did, one after another, in however many calls they came, and what a crash may leave.
-  pub record Lived {D : Type 0} (kind : DiskKind D) (before after : ServerCore S) (old new : D) (entries : List (Entry Saved)) : Type 0 where
+  pub record Lived {D : Type 0} (kind : DiskKind D) (from to : WithDisk S D) (entries : List (Entry Saved)) : Type 0 where
     pub end : State Application
-    pub run : Run l.meaning (state_of before) entries end
-    pub state : IsAlive after → state_of after ≡ end
+    pub run : Run l.meaning (state_of from.server) entries end
+    pub state : IsAlive to.server → state_of to.server ≡ end
     -- each mark's text spells the world that is marked
     pub spelled : MarksSpell l.meaning entries
     -- what a crash may leave, at the end and at any moment since the start
-    pub survives : kind.honest old → Survives kind old new (on_its_way before) (on_its_way after) (traces_under l.meaning entries)
+    pub survives : kind.honest from.disk → Survives kind from.disk to.disk (on_its_way from.server) (on_its_way to.server) (traces_under l.meaning entries)
     -- the report of a checkpoint comes in its last turn, or in an earlier one in which the device failed
-    pub in_time : IsInTime (turns_of before.writing) (traces_under l.meaning entries)
-    pub turns : IsAlive after → turns_of after.writing ≡ turns_left_after (turns_of before.writing) (traces_under l.meaning entries)
+    pub in_time : IsInTime (turns_of from.server.writing) (traces_under l.meaning entries)
+    pub turns : IsAlive to.server → turns_of to.server.writing ≡ turns_left_after (turns_of from.server.writing) (traces_under l.meaning entries)
     -- a halted server does nothing
-    pub rests : before.halted ≡ true → (entries ≡ []) × (after.halted ≡ true)
+    pub rests : from.server.halted ≡ true → (entries ≡ []) × (to.server.halted ≡ true)
 
   module _ {D : Type 0} (kind : DiskKind D) where
     -- What one event did to a server and its disk.
-    pub record DoesTo (before : ServerCore S) (old : D) (one : TakenEvent S Saved D) : Type 0 where
-      pub alive_before : IsAlive before
+    pub record DoesTo (from : WithDisk S D) (one : TakenEvent S Saved D) : Type 0 where
+      pub alive_before : IsAlive from.server
       pub alive_after : IsAlive one.server
-      pub does : Does l.meaning kind (state_of before) (state_of one.server) before.writing one.server.writing old one.disk one.entry
+      pub does : Does l.meaning kind (state_of from.server) (state_of one.server) from.server.writing one.server.writing from.disk one.disk one.entry
       -- what it sent waits, after what waited before, and nothing else does
-      pub waiting : waiting_of one.server ≡ then_out (waiting_of before) one.entry.out
+      pub waiting : waiting_of one.server ≡ then_out (waiting_of from.server) one.entry.out
       -- only a `Flush` makes a call of the disk, and only while a checkpoint is open; then it makes one
-      pub still : (one.entry.event ≢ Flush) ⊎ (before.writing ≡ None) → one.disk ≡ old
-      pub call : one.entry.event ≡ Flush → before.writing ≢ None → MakesOneCall kind old one.disk
-      pub honest_still : kind.honest old → kind.honest one.disk
+      pub still : (one.entry.event ≢ Flush) ⊎ (from.server.writing ≡ None) → one.disk ≡ from.disk
+      pub call : one.entry.event ≡ Flush → from.server.writing ≢ None → MakesOneCall kind from.disk one.disk
+      pub honest_still : kind.honest from.disk → kind.honest one.disk
 
     -- Each of these events did so, one after another: they lead from a server and its disk to another state of both.
-    abbrev pub EachDoes : ServerCore S → D → List (TakenEvent S Saved D) → ServerCore S → D → Type 0
-    EachDoes before old [] after new = (after ≡ before) × (new ≡ old)
-    EachDoes before old (one ∷ taken) after new = DoesTo before old one × EachDoes one.server one.disk taken after new
+    abbrev pub EachDoes : WithDisk S D → List (TakenEvent S Saved D) → WithDisk S D → Type 0
+    EachDoes from [] to = (to.server ≡ from.server) × (to.disk ≡ from.disk)
+    EachDoes from (one ∷ taken) to = DoesTo from one × EachDoes (with_disk one.server one.disk) taken to
 
     -- An event halted the server. Nothing of what it sent waits, and its turn may have called the disk once.
-    pub record Halts (before after : ServerCore S) (old new : D) : Type 0 where
-      pub alive_before : IsAlive before
-      pub halted : after.halted ≡ true
-      pub waiting : waiting_of after ≡ waiting_of before
-      pub survives : kind.honest old → Survives kind old new (on_its_way before) (on_its_way after) []
-      pub calls : CallsAtMostOnce kind old new
+    pub record Halts (from to : WithDisk S D) : Type 0 where
+      pub alive_before : IsAlive from.server
+      pub halted : to.server.halted ≡ true
+      pub waiting : waiting_of to.server ≡ waiting_of from.server
+      pub survives : kind.honest from.disk → Survives kind from.disk to.disk (on_its_way from.server) (on_its_way to.server) []
+      pub calls : CallsAtMostOnce kind from.disk to.disk
 
     -- A run took the first `done` events.
-    pub record Ran (before after : ServerCore S) (old new : D) (events : List given.Event) (done : ℕ) : Type 0 where
+    pub record Ran (from to : WithDisk S D) (events : List given.Event) (done : ℕ) : Type 0 where
       -- the events that were taken, with their reports and marks, what went out, and what the server and the disk then were
       pub taken : List (TakenEvent S Saved D)
       pub events_are : map (λ entry. entry.event) (entries_of taken) ≡ map seen (take done events)
       -- the server and the disk as the last of them left them
       pub reached : ServerCore S
       pub disk : D
-      pub each : EachDoes before old taken reached disk
+      pub each : EachDoes from taken (with_disk reached disk)
       -- nothing else was done, or a further event halted the server
-      pub ends : ((after ≡ reached) × (new ≡ disk)) ⊎ Halts reached after disk new
+      pub ends : ((to.server ≡ reached) × (to.disk ≡ disk)) ⊎ Halts (with_disk reached disk) to
 
   -- nothing but the output that waits differs
   pub record Same (one other : ServerCore S) : Type 0 where
@@ -212,11 +220,11 @@ module _ {S Application Saved : Type 0} (l : Layer S Application Saved) where
         → HasCause before reached after (Some event) cause
 
   -- A run returns this result: it took so many events, the device failed in those that report a failure, and this is why it ended.
-  pub record Runs {D : Type 0} (kind : DiskKind D) (before after : ServerCore S) (old new : D) (events : List given.Event) (result : Result ℕ RunFault) : Type 0 where
-    pub ran : Ran kind before after old new events (done_of result)
-    pub fails : FailsAsReported kind old ran.taken
+  pub record Runs {D : Type 0} (kind : DiskKind D) (from to : WithDisk S D) (events : List given.Event) (result : Result ℕ RunFault) : Type 0 where
+    pub ran : Ran kind from to events (done_of result)
+    pub fails : FailsAsReported kind from.disk ran.taken
     -- in an event that halted the server the device may have failed once more
-    pub at_most_once : FailsAtMostOnce (kind.failures ran.disk) (kind.failures new)
+    pub at_most_once : FailsAtMostOnce (kind.failures ran.disk) (kind.failures to.disk)
     -- the event after those that were taken makes a call of the disk only if it is a `Flush` and a checkpoint is open
-    pub still : (event : given.Event) → slice_get events (done_of result) ≡ Some event → (seen event ≢ Flush) ⊎ (ran.reached.writing ≡ None) → new ≡ ran.disk
-    pub refused : IfErr result (λ fault. HasCause before ran.reached after (slice_get events fault.done) fault.cause)
+    pub still : (event : given.Event) → slice_get events (done_of result) ≡ Some event → (seen event ≢ Flush) ⊎ (ran.reached.writing ≡ None) → to.disk ≡ ran.disk
+    pub refused : IfErr result (λ fault. HasCause from.server ran.reached to.server (slice_get events fault.done) fault.cause)

@@ -10,7 +10,7 @@ ghost use Rattle.moo_server_core.specs.Traces.{Done};
 ghost use Rattle.moo_server_core.specs.Crash.{IsOneOf, last_of, since_done, texts_of_marks};
 ghost use Rattle.moo_server_core.specs.Turns.{HasReport, flushes};
 ghost use Rattle.moo_server_core.specs.Meaning.{Entry, out_of};
-ghost use Rattle.moo_server_core.specs.Server.{Follows, IsAlive, Lived, Same, state_of, traces_under, waiting_of};
+ghost use Rattle.moo_server_core.specs.Server.{Follows, IsAlive, Lived, Same, state_of, traces_under, waiting_of, with_disk};
 ghost use Rattle.moo_server_core.specs.Calls.{Call, Calls, IsKept, LeavesMarked, Lent, One, Opened, StartsAgain, Stopped, handed_in, lent};
 ghost use Rattle.moo_server_core.specs.declared.server_core.ServerCore.{ServerCore};
 
@@ -21,15 +21,15 @@ use moo_disk::Disk;
 /// holds of the state, the marks, what a crash may leave, and the turns in which reports come.
 pub fn calls_are_one_life<S: Application, D: Disk, E: Disk>()
     ensures { (before after : ServerCore S) (old new : Lent D E) (calls : List (Call S (Lent D E))) (entries : List (Entry Saved))
-        → Calls S.layer D.kind E.kind before old calls after new entries
-        → Lived S.layer (lent D.kind E.kind) before after old new entries }
+        → Calls S.layer D.kind E.kind (with_disk before old) calls (with_disk after new) entries
+        → Lived S.layer (lent D.kind E.kind) (with_disk before old) (with_disk after new) entries }
 {}
 
 /// Shows that no output is lost. What waited before the calls, followed by what their events sent, is what was handed
 /// out before each of them, followed by what waits after them. This holds for each number and for the log.
 pub fn all_output_is_handed_out<S: Application, D: Disk, E: Disk>()
     ensures { (before after : ServerCore S) (old new : Lent D E) (calls : List (Call S (Lent D E))) (entries : List (Entry Saved))
-        → Calls S.layer D.kind E.kind before old calls after new entries
+        → Calls S.layer D.kind E.kind (with_disk before old) calls (with_disk after new) entries
         → then_out (waiting_of S.layer before) (out_of entries) ≡ then_out (handed_in calls) (waiting_of S.layer after) }
 {}
 
@@ -40,8 +40,8 @@ pub fn a_stop_at_any_moment<S: Application, D: Disk, E: Disk>()
     ensures { (start server end : ServerCore S) (first opened : D) (disk last : Lent D E) (before after : List (Call S (Lent D E)))
         (entries later : List (Entry Saved)) (saved : Saved) (moment : ℕ)
         → D.kind.honest first → Opened S.layer D.kind start first opened saved moment
-        → Calls S.layer D.kind E.kind start (One opened) before server disk entries
-        → Calls S.layer D.kind E.kind server disk after end last later
+        → Calls S.layer D.kind E.kind (with_disk start (One opened)) before (with_disk server disk) entries
+        → Calls S.layer D.kind E.kind (with_disk server disk) after (with_disk end last) later
         → (c : List ℕ) → ((lent D.kind E.kind).view last).left_since ((lent D.kind E.kind).view disk).clock c
         → LeavesMarked S.layer (D.kind.view first).may_leave entries later c }
 {}
@@ -51,7 +51,7 @@ pub fn a_stop_since_the_start<S: Application, D: Disk, E: Disk>()
     ensures { (start end : ServerCore S) (first opened : D) (last : Lent D E) (calls : List (Call S (Lent D E)))
         (entries : List (Entry Saved)) (saved : Saved) (moment : ℕ)
         → D.kind.honest first → Opened S.layer D.kind start first opened saved moment
-        → Calls S.layer D.kind E.kind start (One opened) calls end last entries
+        → Calls S.layer D.kind E.kind (with_disk start (One opened)) calls (with_disk end last) entries
         → (c : List ℕ) → ((lent D.kind E.kind).view last).left_since (D.kind.view first).clock c
         → (D.kind.view first).may_leave c ⊎ IsOneOf (texts_of_marks (traces_under S.layer.meaning entries)) c }
 {}
@@ -68,8 +68,8 @@ pub fn a_report_done_is_durable<S: Application, D: Disk, E: Disk>()
     ensures { (start server end : ServerCore S) (first opened : D) (disk last : Lent D E) (before : List (Call S (Lent D E)))
         (call : Call S (Lent D E)) (entries later : List (Entry Saved)) (saved : Saved) (moment : ℕ)
         → D.kind.honest first → Opened S.layer D.kind start first opened saved moment
-        → Calls S.layer D.kind E.kind start (One opened) before server disk entries
-        → Calls S.layer D.kind E.kind server disk (call ∷ []) end last later → IsAlive end
+        → Calls S.layer D.kind E.kind (with_disk start (One opened)) before (with_disk server disk) entries
+        → Calls S.layer D.kind E.kind (with_disk server disk) (call ∷ []) (with_disk end last) later → IsAlive end
         → (entry : Entry Saved) → call.entries ≡ entry ∷ [] → entry.report ≡ Some Done
         → (c : List ℕ) → ((lent D.kind E.kind).view last).may_leave c
         → last_of (since_done [] (traces_under S.layer.meaning entries)) ≡ c ∷ [] }
@@ -79,7 +79,7 @@ pub fn a_report_done_is_durable<S: Application, D: Disk, E: Disk>()
 pub fn a_report_comes<S: Application, D: Disk, E: Disk>()
     ensures { (before after : ServerCore S) (old new : Lent D E) (calls : List (Call S (Lent D E)))
         (entries front rest : List (Entry Saved)) (e : Entry Saved) (saved : Saved)
-        → Calls S.layer D.kind E.kind before old calls after new entries
+        → Calls S.layer D.kind E.kind (with_disk before old) calls (with_disk after new) entries
         → entries ≡ (front ++ e ∷ []) ++ rest → e.mark ≡ Some saved
         → length (S.layer.meaning.text_of saved) / 65536 + 6 ≤ flushes (traces_under S.layer.meaning rest)
         → HasReport (traces_under S.layer.meaning rest) }
@@ -93,8 +93,8 @@ pub fn a_start_reads_a_prefix<S: Application, D: Disk, E: Disk>()
         (entries later : List (Entry Saved)) (saved : Saved) (moment : ℕ)
         → D.kind.honest first → Opened S.layer D.kind start first opened saved moment
         → ((c : List ℕ) → (D.kind.view first).may_leave c → S.layer.meaning.Spells c saved)
-        → Calls S.layer D.kind E.kind start (One opened) before server disk entries
-        → Calls S.layer D.kind E.kind server disk after end last later
+        → Calls S.layer D.kind E.kind (with_disk start (One opened)) before (with_disk server disk) entries
+        → Calls S.layer D.kind E.kind (with_disk server disk) after (with_disk end last) later
         → (c : List ℕ) → ((lent D.kind E.kind).view last).left_since ((lent D.kind E.kind).view disk).clock c
         → IsKept S.layer (state_of S.layer start) saved entries later c }
 {}
@@ -106,7 +106,7 @@ pub fn a_start_reads_a_prefix_since_the_start<S: Application, D: Disk, E: Disk>(
         (entries : List (Entry Saved)) (saved : Saved) (moment : ℕ)
         → D.kind.honest first → Opened S.layer D.kind start first opened saved moment
         → ((c : List ℕ) → (D.kind.view first).may_leave c → S.layer.meaning.Spells c saved)
-        → Calls S.layer D.kind E.kind start (One opened) calls end last entries
+        → Calls S.layer D.kind E.kind (with_disk start (One opened)) calls (with_disk end last) entries
         → (c : List ℕ) → ((lent D.kind E.kind).view last).left_since (D.kind.view first).clock c
         → IsKept S.layer (state_of S.layer start) saved [] entries c }
 {}
@@ -119,8 +119,8 @@ pub fn starting_again_reads_a_prefix<S: StartApplication, D: Disk, E: Disk, F: D
         (entries later : List (Entry Saved)) (saved : Saved) (moment : ℕ)
         → D.kind.honest first → Opened S.layer D.kind start first opened saved moment
         → ((c : List ℕ) → (D.kind.view first).may_leave c → SpellsSavedWithin c saved)
-        → Calls S.layer D.kind E.kind start (One opened) before server disk entries
-        → Calls S.layer D.kind E.kind server disk after end last later
+        → Calls S.layer D.kind E.kind (with_disk start (One opened)) before (with_disk server disk) entries
+        → Calls S.layer D.kind E.kind (with_disk server disk) after (with_disk end last) later
         → (found : F) → F.kind.honest found
         → ((lent D.kind E.kind).view last).left_since ((lent D.kind E.kind).view disk).clock (F.kind.view found).main_text
         → StartsAgain S.layer F.kind (state_of S.layer start) saved entries later found }
@@ -147,7 +147,7 @@ pub fn starting_again_reads_a_prefix_since_the_start<
         (entries : List (Entry Saved)) (saved : Saved) (moment : ℕ)
         → D.kind.honest first → Opened S.layer D.kind start first opened saved moment
         → ((c : List ℕ) → (D.kind.view first).may_leave c → SpellsSavedWithin c saved)
-        → Calls S.layer D.kind E.kind start (One opened) calls end last entries
+        → Calls S.layer D.kind E.kind (with_disk start (One opened)) calls (with_disk end last) entries
         → (found : F) → F.kind.honest found
         → ((lent D.kind E.kind).view last).left_since (D.kind.view first).clock (F.kind.view found).main_text
         → StartsAgain S.layer F.kind (state_of S.layer start) saved [] entries found }
@@ -156,14 +156,14 @@ pub fn starting_again_reads_a_prefix_since_the_start<
 /// Shows that a server whose output was taken between two calls goes on with its disk.
 pub fn output_may_be_taken<S: Application, D: Disk>()
     ensures { (one other : ServerCore S) (disk : D) → Same S.layer one other
-        → Follows S.layer D.kind one disk → Follows S.layer D.kind other disk }
+        → Follows S.layer D.kind (with_disk one disk) → Follows S.layer D.kind (with_disk other disk) }
 {}
 
 /// Shows that between two calls a disk may be wrapped in one that makes a call fail, and be taken out of it.
 pub fn a_failing_disk_goes_on<S: Application, D: Disk>()
     ensures { (server : ServerCore S) (disk : FailAt D)
-        → Follows S.layer D.kind server (inner_of disk)
-        ↔ Follows S.layer (failing_kind D.kind) server disk }
+        → Follows S.layer D.kind (with_disk server (inner_of disk))
+        ↔ Follows S.layer (failing_kind D.kind) (with_disk server disk) }
 {}
 
 pub use crate::disk_laws::{a_failing_disk_is_handed_on, a_stopping_disk_is_handed_on};

@@ -4,7 +4,7 @@ ghost use Rattle.moo_disk.specs.Disk.{LeavesOnly};
 ghost use Rattle.moo_disk.specs.Memory.{memory_kind};
 ghost use Rattle.moo_disk.specs.StopAt.{inner_of, stopping_kind};
 ghost use Rattle.moo_disk.specs.declared.stop_at.StopAt.{StopAt};
-ghost use Rattle.moo_server_core.specs.Server.{Follows};
+ghost use Rattle.moo_server_core.specs.Server.{Follows, with_disk};
 ghost use Rattle.moo_server_core.specs.declared.server_core.ServerCore.{ServerCore};
 ghost use Rattle.moo_server_core.specs.Lives.{LifeRun, Lives};
 ghost use Rattle.moo_server_core.specs.Runs.{HaveOneResult, OneRun};
@@ -37,6 +37,6 @@ pub fn lives_begin_from_marks<S: Application, D: CrashDisk>()
 #[tactic(none)]
 pub fn a_stopping_disk_goes_on<S: Application>()
     ensures { (server : ServerCore S) (disk : StopAt)
-        → Follows S.layer memory_kind server (inner_of disk)
-        ↔ Follows S.layer stopping_kind server disk }
+        → Follows S.layer memory_kind (with_disk server (inner_of disk))
+        ↔ Follows S.layer stopping_kind (with_disk server disk) }
 {}

@@ -18,7 +18,7 @@ use moo_disk::Disk;
 use std::alloc::{AllocError, Global};
 
 impl<S: StartApplication> ServerCore<S> {
-    ghost use Rattle.moo_server_core.specs.Server.{Follows, IsAlive, state_of, under_way_of, waiting_of};
+    ghost use Rattle.moo_server_core.specs.Server.{Follows, IsAlive, state_of, under_way_of, waiting_of, with_disk};
 
     /// Opens a server that starts from the world that a disk's main text spells. `moment` is in seconds. Writes nothing.
     pub fn open<D: Disk>(
@@ -29,7 +29,7 @@ impl<S: StartApplication> ServerCore<S> {
         // It begins from a saved world that main spells within the limits of database texts.
         ensures opened { IfOk result (λ server. (s : saving.Saved) × (D.kind.honest disk.old → SpellsSavedWithin (D.kind.view disk.old).main_text s)
             × Opened S.layer D.kind server disk.old disk.new s moment) }
-        ensures follows { IfOk result (λ server. Follows S.layer D.kind server disk.new) }
+        ensures follows { IfOk result (λ server. Follows S.layer D.kind (with_disk server disk.new)) }
         // If the text is refused, the fault says why. Running out of memory is a fault of its own.
         ensures refused { D.kind.honest disk.old → IfErr result (λ e. (f : DbFault) → e ≡ OpenFault.Db f
             → RefusesText (D.kind.view disk.old).main_text f × (f.kind ≢ kind.Memory)) }

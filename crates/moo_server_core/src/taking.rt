@@ -16,7 +16,7 @@ use moo_disk::Disk;
 use std::alloc::AllocError;
 
 impl<S: Application> ServerCore<S> {
-    ghost use Rattle.moo_server_core.specs.Server.{IsAlive, Does, Follows, OpenFollows, Opens, MarkSpells, Turns, on_its_way, state_of, under_way_of, waiting_of};
+    ghost use Rattle.moo_server_core.specs.Server.{Does, Follows, IsAlive, MarkSpells, OpenFollows, Opens, Turns, on_its_way, state_of, under_way_of, waiting_of, with_disk};
 
     // Gives the application an input, and notes the requests that result.
     fn apply(&mut self, happening: Input) -> Result<(), AllocError>
@@ -201,7 +201,7 @@ impl<S: Application> ServerCore<S> {
 
     // Takes an event that isn't refused.
     fn try_take<D: Disk>(&mut self, disk: &mut D, event: &Event) -> Result<(), AllocError>
-        requires follows { Follows S.layer D.kind self.old disk.old }
+        requires follows { Follows S.layer D.kind (with_disk self.old disk.old) }
         requires accepted { refusal S.layer.meaning (state_of S.layer self.old) (seen event.now) ≡ None }
         requires counts { is_passed_over S.layer.meaning (state_of S.layer self.old) (seen event.now) ≡ false }
         ensures takes { OnOk result ((entry : Entry Saved) × (entry.event ≡ seen event.now)
@@ -231,7 +231,7 @@ impl<S: Application> ServerCore<S> {
 
     // Takes one event. If memory runs out, the server halts. A refused event changes nothing.
     pub(crate) fn take<D: Disk>(&mut self, disk: &mut D, event: &Event) -> Result<(), Cause>
-        requires follows { Follows S.layer D.kind self.old disk.old }
+        requires follows { Follows S.layer D.kind (with_disk self.old disk.old) }
         requires alive { IsAlive self.old }
         ensures takes { OnOk result ((entry : Entry Saved) × (entry.event ≡ seen event.now)
             × Does S.layer.meaning D.kind (state_of S.layer self.old) (state_of S.layer self.new)
@@ -245,7 +245,7 @@ impl<S: Application> ServerCore<S> {
         ensures wanting { result ≡ Err Cause.Memory → MayWant S.layer.meaning (state_of S.layer self.old) (seen event.now) }
         ensures refused { IfErr result (λ cause. cause ≢ Cause.Memory
             → (refusal S.layer.meaning (state_of S.layer self.old) (seen event.now) ≡ Some cause) × (self.new ≡ self.old) × (disk.new ≡ disk.old)) }
-        ensures follows { Follows S.layer D.kind self.new disk.new }
+        ensures follows { Follows S.layer D.kind (with_disk self.new disk.new) }
         ensures at_most_once { FailsAtMostOnce (D.kind.failures disk.old) (D.kind.failures disk.new) }
         ensures call { OnOk result (seen event.now ≡ Flush → self.old.writing ≢ None → MakesOneCall D.kind disk.old disk.new) }
         ensures calls { CallsAtMostOnce D.kind disk.old disk.new }

@@ -1,7 +1,7 @@
 use Rattle.std.proofs.Common.{◌≡◌, List, [], ◌∷◌, ◌++◌, ◌+◌, take, drop, Err, refl, sym, ◌∙◌, ap, subst, append_assoc, arith}
 use Rattle.std.proofs.lemmas.List.{take-append-drop, take_more, take_all}
 use Rattle.moo_server_core.specs.Application.{silence}
-use Rattle.moo_server_core.specs.Server.{Runs}
+use Rattle.moo_server_core.specs.Server.{Runs, with_disk}
 use Rattle.moo_server_core.specs.declared.event.Event.{Event}
 use Rattle.moo_cli_serve.specs.Course.{Given}
 use Rattle.moo_cli_serve.proofs.Coursing.{course_join, course_refused, follows_on, given_join, given_none, given_one, hands_none}
@@ -63,7 +63,7 @@ returns-in-Err-clause-refused g c = record {
   fault = c.in-Err.fault;
   left = c.run.new.self;
   runs = subst
-      (λ (es : List Event). Runs g.S.Application.layer g.D.Disk.kind c.loop-event.server c.run.new.self c.loop-event.disk c.run.new.disk es (Err c.in-Err.fault))
+      (λ (es : List Event). Runs g.S.Application.layer g.D.Disk.kind (with_disk c.loop-event.server c.loop-event.disk) (with_disk c.run.new.self c.run.new.disk) es (Err c.in-Err.fault))
       c.from_ref.ensures.value c.in-Err.ensures.ran;
   cause_is = refl;
   handed = (silence, hands_none g.S.Application.layer c.run.new.self);

@@ -1,6 +1,6 @@
 -- What a step of a script does to a server over a disk in memory, and what is printed of it.
 use Rattle.std.specs.Prelude.{◌≡◌, ◌≢◌, ℕ, zero, suc, ◌+◌, ◌<◌, ◌≤◌, max, Bool, List, [], ◌∷◌, ◌++◌, codes, length, slice_get, Option, Some, None, Result, Ok, Err, MatchOption}
-use Rattle.moo_disk.specs.Disk.{DiskKind, DiskView}
+use Rattle.moo_disk.specs.Disk.{DiskKind, DiskView, OnlyReads}
 use Rattle.moo_disk.specs.FailAt.{failing_kind, has_effect, inner_of, left_of}
 use Rattle.moo_disk.specs.Memory.{images, memory_kind}
 use Rattle.moo_disk.specs.declared.fail_at.FailAt.{FailAt}
@@ -9,6 +9,7 @@ use Rattle.moo_dbtext_record.specs.declared.fault.DbFault.{DbFault}
 use Rattle.moo_dbtext_record.specs.declared.fault.DbFaultKind.TheVariants as kind
 use Rattle.moo_dbtext_read.specs.Saved.{Saved, SpellsSavedWithin}
 use Rattle.moo_dbtext_read.specs.Refusals.{Refuses as RefusesText}
+use Rattle.moo_checkpoint.specs.Recovering.{CountsFault}
 use Rattle.moo_checkpoint.specs.declared.open_fault.OpenFault.{OpenFault}
 use Rattle.moo_checkpoint.specs.declared.open_fault.OpenFault.TheVariants as opening_fault
 use Rattle.moo_server_core.specs.Application.{Layer, Output}
@@ -49,10 +50,13 @@ pub record IsCrashed (i : ℕ) (old new : ScriptDisk) : Type 0 where
   pub call : left_of new ≡ 0
 
 -- Why there is no server over a disk: if the text is refused, this is the fault that is reported, and it spells no saved world within the
--- limits.
+-- limits. The device is reported if it failed in a read, and in no other case. No other call was made.
 pub record NotOpened (disk : ScriptDisk) (fault : OpenFault) : Type 0 where
   pub text : (f : DbFault) → fault ≡ opening_fault.Db f → RefusesText (disk_view disk).main_text f × (f.kind ≢ kind.Memory)
   pub none : (f : DbFault) → fault ≡ opening_fault.Db f → (saved : Saved) → ¬ SpellsSavedWithin (disk_view disk).main_text saved
+  pub left : ScriptDisk
+  pub reads : OnlyReads script_kind disk left
+  pub device : CountsFault (Unit {0}) (script_kind.failures disk) (script_kind.failures left) fault
 
 -- ---- events
 

@@ -1,9 +1,9 @@
 -- A server over a disk from its start to its end: how it is begun, the rounds that it makes, and why it ends.
 use Rattle.std.specs.Prelude.{◌≡◌, ◌≢◌, ◌⊎◌, ℕ, zero, suc, ◌<◌, ◌≤◌, List, [], ◌∷◌, ◌++◌, None, Err}
 use Rattle.slab.specs.Slab.{Slab}
-use Rattle.moo_disk.specs.Disk.{DiskKind, KeepsMain, KeepsSpare}
+use Rattle.moo_disk.specs.Disk.{DiskKind, KeepsMain, KeepsSpare, OnlyReads}
 use Rattle.moo_dbtext_record.specs.declared.fault.DbFault.{DbFault}
-use Rattle.moo_dbtext_record.specs.declared.fault.DbFaultKind.TheVariants as kind
+use Rattle.moo_dbtext_record.specs.declared.fault.DbFaultKind.TheVariants as fault_kind
 use Rattle.moo_dbtext_read.specs.Saved.{Saved, SpellsSavedWithin}
 use Rattle.moo_dbtext_read.specs.Refusals.{Refuses as RefusesText}
 use Rattle.moo_checkpoint.specs.Recovering.{CountsFault}
@@ -86,13 +86,14 @@ module _ {S Application D : Type 0} (l : Layer S Application Saved) (kind : Disk
 
 module _ {D : Type 0} (kind : DiskKind D) where
   -- Why no server was begun over a disk, which was left so. Where its text is refused, this is what is told of it, and it spells no saved
-  -- world within the limits; where the device is told it has failed. Nothing was written.
+  -- world within the limits; where the device is told it has failed. The disk was read, no other call was made, and nothing was written.
   pub record NotBegun (disk left : D) (fault : OpenFault) : Type 0 where
-    pub text : kind.honest disk → (f : DbFault) → fault ≡ opening.Db f → RefusesText (kind.view disk).main_text f × (f.kind ≢ kind.Memory)
+    pub text : kind.honest disk → (f : DbFault) → fault ≡ opening.Db f → RefusesText (kind.view disk).main_text f × (f.kind ≢ fault_kind.Memory)
     pub none : kind.honest disk → (f : DbFault) → fault ≡ opening.Db f → (saved : Saved) → ¬ SpellsSavedWithin (kind.view disk).main_text saved
     pub device : CountsFault (kind.honest disk) (kind.failures disk) (kind.failures left) fault
     pub main : kind.honest disk → KeepsMain (kind.view disk) (kind.view left)
     pub spare : kind.honest disk → KeepsSpare (kind.view disk) (kind.view left)
+    pub reads : OnlyReads kind disk left
 
   abbrev pub LeavesUnbegun : D → D → ServeFault → Type 0
   LeavesUnbegun disk left (the.Open fault) = NotBegun disk left fault

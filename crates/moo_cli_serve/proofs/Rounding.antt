@@ -18,7 +18,7 @@ use Rattle.moo_cli_serve.proofs.Coursing.{course_hands, course_join, follows_on}
 -- what was free after a look was free before it
 opens_on : (old new : Slab Socket) → ((c : ℕ) → held new c ≡ held old c) → (opened : Option Event) → IsOpening new opened → IsOpening old opened
 opens_on old new same None opens = opens
-opens_on old new same (Some (the.Open c)) opens = sym (same c) ∙ opens
+opens_on old new same (Some (the.Open c)) opens = (sym (same c) ∙ opens.0, opens.1)
 opens_on old new same (Some (the.Bytes c piece)) opens = absurd opens
 opens_on old new same (Some (the.Hangup c)) opens = absurd opens
 opens_on old new same (Some (the.Moment moment)) opens = absurd opens

@@ -9,5 +9,5 @@ pub returns : goal.returns
 returns c k none = (
   c.in_ok-numbers.ensures k (none_first c.in_ok-numbers.numbers.items c.leaving.result.now c.extend_from_slice.new.self.items k c.in_ok-extend_from_slice.ensures.items none),
   ap (λ (ns : List ℕ). list_any (is_number k) ns) (sym (c.leaving.ensures ∙ ap (λ (s : Connections). s.leaving) c.connections.ensures))
-  ∙ none_leaves c.in_ok-numbers.numbers.items c.leaving.result.now c.extend_from_slice.new.self.items k c.in_ok-extend_from_slice.ensures.items none,
+      ∙ none_leaves c.in_ok-numbers.numbers.items c.leaving.result.now c.extend_from_slice.new.self.items k c.in_ok-extend_from_slice.ensures.items none,
 )

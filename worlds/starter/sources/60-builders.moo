@@ -255,7 +255,7 @@ fault = $recycler:fault(player, length(ways) + fresh);
 fault = fault || !ways ? fault | here:exit_fault(player);
 fault = fault || length(ways) < 2 || fresh ? fault | room:exit_fault(player);
 fault = fault || !ways || !(n = here:taken_name(ways[1], #-1)) ? fault | tostr("There is an exit ", $string:quoted(n), " here already.");
-fault = fault || length(ways) < 2 || fresh || !(n = room:taken_name(ways[2], #-1)) ? fault | tostr("There is an exit ", $string:quoted(n), " there already.");
+fault = fault || length(ways) < 2 || fresh || !(n = room:taken_name(ways[2], #-1)) ? fault | tostr("There is an exit ", $string:quoted(n), " in ", room.name, " already.");
 if (fault)
   player:tell(fault);
   return;

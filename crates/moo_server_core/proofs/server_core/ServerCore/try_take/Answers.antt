@@ -1,4 +1,4 @@
-use Rattle.std.proofs.Common.{◌≡◌, Option, None, false, refl, sym, ◌∙◌, ap, subst}
+use Rattle.std.proofs.Common.{◌≡◌, Option, None, false, inl, refl, sym, ◌∙◌, ap, subst}
 use Rattle.moo_server_core.specs.Seen.{Event, Flush, is_flush, seen}
 use Rattle.moo_server_core.specs.Application.{Output, then_out}
 use Rattle.moo_server_core.specs.Meaning.{is_passed_over, refusal}
@@ -7,7 +7,7 @@ use Rattle.moo_server_core.specs.declared.server_core.Open.{Open}
 use Rattle.moo_server_core.proofs.Heard.{if_err_any, if_err_map, not_ok}
 use Rattle.moo_server_core.proofs.Idle.{flush_leaves, idle_if}
 use Rattle.moo_server_core.proofs.Reported.{on_ok_map, opens_follow}
-use Rattle.moo_server_core.proofs.Taken.{acted, flush_is, flushed}
+use Rattle.moo_server_core.proofs.Taken.{acted, flush_is, flushed, isnt_flush}
 use Rattle.moo_server_core.proofs.server_core.ServerCore.try_take.Goals as goal
 
 pub returns-then-is_flush-clause-takes : goal.returns-then-is_flush-clause-takes
@@ -20,7 +20,7 @@ returns-then-is_flush-clause-takes g c =
     (λ marks. (
       record { event = Flush; report = turns.0; mark = marks.0; out = then_out turns.1 marks.1 },
       sym flush,
-      flushed l.meaning g.D.Disk.view g.D.Disk.honest g.D.Disk.failures before (state_of l c.flush.new.self) (state_of l c.begin_due_checkpoint.new.self)
+      flushed l.meaning g.D.Disk.kind before (state_of l c.flush.new.self) (state_of l c.begin_due_checkpoint.new.self)
           c.args.self.now.writing c.flush.new.self.writing c.begin_due_checkpoint.new.self.writing c.args.disk.now c.flush.new.disk turns.0 marks.0 turns.1 marks.1
           (subst (λ (event : Event). refusal l.meaning before event ≡ None) flush c.requires.accepted)
           (subst (λ (event : Event). is_passed_over l.meaning before event ≡ false) flush c.requires.counts)
@@ -33,7 +33,7 @@ returns-then-is_flush-clause-takes g c =
 pub returns-then-is_flush-clause-follows : goal.returns-then-is_flush-clause-follows
 returns-then-is_flush-clause-follows g c =
     on_ok_map c.begin_due_checkpoint.result
-    (λ marks. opens_follow g.S.Application.layer.meaning g.D.Disk.view g.D.Disk.honest g.D.Disk.stands marks.0 c.flush.new.self.writing c.begin_due_checkpoint.new.self.writing c.flush.new.disk marks.3 c.in_ok-flush.ensures.follows)
+    (λ marks. opens_follow g.S.Application.layer.meaning g.D.Disk.kind marks.0 c.flush.new.self.writing c.begin_due_checkpoint.new.self.writing c.flush.new.disk marks.3 c.in_ok-flush.ensures.follows)
     c.begin_due_checkpoint.ensures.marks
 
 pub returns-clause-takes : goal.returns-clause-takes
@@ -47,7 +47,7 @@ returns-clause-takes g c =
     (λ marks. (
       record { event = event; report = None; mark = marks.0; out = then_out acts.0 marks.1 },
       refl,
-      acted l.meaning g.D.Disk.view g.D.Disk.honest before (state_of l c.act.new.self) (state_of l c.begin_due_checkpoint-2.new.self)
+      acted l.meaning g.D.Disk.kind before (state_of l c.act.new.self) (state_of l c.begin_due_checkpoint-2.new.self)
           c.args.self.now.writing c.act.new.self.writing c.begin_due_checkpoint-2.new.self.writing c.args.disk.now event marks.0 acts.0 marks.1 other
           c.requires.accepted c.requires.counts acts.1 c.act.ensures.writing marks.2 marks.3 marks.4,
       refl,
@@ -58,8 +58,8 @@ returns-clause-takes g c =
 pub returns-clause-follows : goal.returns-clause-follows
 returns-clause-follows g c =
     on_ok_map c.begin_due_checkpoint-2.result
-    (λ marks. opens_follow g.S.Application.layer.meaning g.D.Disk.view g.D.Disk.honest g.D.Disk.stands marks.0 c.act.new.self.writing c.begin_due_checkpoint-2.new.self.writing c.args.disk.now marks.3
-    (subst (λ (w : Option Open). OpenFollows g.D.Disk.view g.D.Disk.honest g.D.Disk.stands w c.args.disk.now) (sym c.act.ensures.writing) c.requires.follows.continues))
+    (λ marks. opens_follow g.S.Application.layer.meaning g.D.Disk.kind marks.0 c.act.new.self.writing c.begin_due_checkpoint-2.new.self.writing c.args.disk.now marks.3
+    (subst (λ (w : Option Open). OpenFollows g.D.Disk.kind w c.args.disk.now) (sym c.act.ensures.writing) c.requires.follows.continues))
     c.begin_due_checkpoint-2.ensures.marks
 
 pub returns-in_err-flush-clause-memory : goal.returns-in_err-flush-clause-memory
@@ -93,3 +93,27 @@ returns-clause-memory g c =
       idle_if l.meaning (state_of l c.args.self.now) (seen c.args.event.now) (λ leaving. sym (c.in_ok-act.ensures.dropped leaving).1 ∙ due),
     ))
     c.begin_due_checkpoint-2.ensures.due
+
+pub returns-in_err-flush-clause-call : goal.returns-in_err-flush-clause-call
+returns-in_err-flush-clause-call g c = λ _. c.flush.ensures.call
+
+pub returns-in_err-flush-clause-calls : goal.returns-in_err-flush-clause-calls
+returns-in_err-flush-clause-calls g c = c.flush.ensures.calls
+
+pub returns-then-is_flush-clause-call : goal.returns-then-is_flush-clause-call
+returns-then-is_flush-clause-call g c = λ _. c.flush.ensures.call
+
+pub returns-then-is_flush-clause-calls : goal.returns-then-is_flush-clause-calls
+returns-then-is_flush-clause-calls g c = c.flush.ensures.calls
+
+pub returns-in_err-act-clause-call : goal.returns-in_err-act-clause-call
+returns-in_err-act-clause-call g c = λ flush. absurd (isnt_flush (seen c.args.event.now) (sym c.is_flush.ensures ∙ c.if-is_flush.false) flush)
+
+pub returns-in_err-act-clause-calls : goal.returns-in_err-act-clause-calls
+returns-in_err-act-clause-calls g c = inl refl
+
+pub returns-clause-call : goal.returns-clause-call
+returns-clause-call g c = λ flush. absurd (isnt_flush (seen c.args.event.now) (sym c.is_flush.ensures ∙ c.if-is_flush.false) flush)
+
+pub returns-clause-calls : goal.returns-clause-calls
+returns-clause-calls g c = inl refl
